@@ -1,0 +1,29 @@
+-- The lines after an edit, place by place.
+use Rattle.std.proofs.Common.{◌≡◌, ℕ, suc, ◌+◌, ◌-◌, ◌<◌, ◌≤◌, List, [], ◌∷◌, ◌++◌, map, length, take, drop, set, get_or, slice_get, insert, remove, refl, ap, sym, ◌∙◌, arith, Option, Some, None, option_map, length-append, length-drop, length-set, min}
+use Rattle.std.proofs.lemmas.List.{length-take, length-map}
+use Rattle.std.proofs.lemmas.Option.{slice_get-get_or, slice_get-map}
+use Rattle.chip_lang.specs.Line.{Reading}
+use Rattle.chip_asm.specs.declared.kept_line.KeptLine.{KeptLine}
+use Rattle.chip_asm.specs.declared.edit.Edit.{Edit}
+use Rattle.chip_asm.specs.declared.edit.Edit.TheVariants.{Insert, Replace, Delete, Keep}
+use Rattle.chip_asm.specs.Records.{reading_in, readings_in, texts_in, IsPlaceWithin, lines_after, count_after}
+
+pub length-lines_after : (lines : List KeptLine) (edit : Edit) → IsPlaceWithin (length lines) edit → length (lines_after lines edit) ≡ count_after (length lines) edit
+length-lines_after lines (Insert at line) h =
+    omega (arith, length-append (take at lines) (line ∷ drop at lines), length-drop at lines, length-take at lines)
+length-lines_after lines (Replace at line) h = length-set lines at line
+length-lines_after lines (Delete at) h =
+    omega (arith, length-append (take at lines) (drop (suc at) lines), length-drop (suc at) lines, length-take at lines)
+length-lines_after lines Keep h = refl
+
+pub length-readings_after : (lines : List KeptLine) (edit : Edit) → IsPlaceWithin (length lines) edit → length (readings_in (lines_after lines edit)) ≡ count_after (length lines) edit
+length-readings_after lines edit h = length-map (lines_after lines edit) reading_in ∙ length-lines_after lines edit h
+
+pub reading-at : (xs : List KeptLine) (i : ℕ) (x : KeptLine) → i < length xs → get_or xs i x ≡ x → slice_get (readings_in xs) i ≡ Some (reading_in x)
+reading-at xs i x h e = slice_get-map reading_in xs i ∙ ap (option_map reading_in) (slice_get-get_or xs i x h ∙ ap Some e)
+
+-- the line at a place after the edit
+pub after-at : (lines : List KeptLine) (edit : Edit) (place : ℕ) (x y : KeptLine) → IsPlaceWithin (length lines) edit → place < count_after (length lines) edit
+    → get_or (lines_after lines edit) place x ≡ x → x ≡ y → slice_get (readings_in (lines_after lines edit)) place ≡ Some (reading_in y)
+after-at lines edit place x y within inside e same =
+    reading-at (lines_after lines edit) place x (let n = length-lines_after lines edit within in omega arith) e ∙ ap (λ (z : KeptLine). Some (reading_in z)) same

@@ -1,0 +1,88 @@
+-- The listing, line by line.
+use Rattle.std.proofs.Common.{◌≡◌, ℕ, suc, zero, ◌+◌, ◌-◌, ◌<◌, ◌≤◌, ℤ, Bool, true, false, cond, not, List, [], ◌∷◌, ◌++◌, map, reverse, length, take, get_or, slice_get, zip, refl, ap, sym, ◌∙◌, arith, add-one, Option, Some, None, option_map, replicate}
+use Rattle.std.specs.List.{flat_map, range_with_len}
+use Rattle.std.proofs.lemmas.List.{map-append, append-nil, take_all, length-map}
+use Rattle.std.proofs.lemmas.Grind.{flat_map-append}
+use Rattle.std.proofs.lemmas.Option.{slice_get-get_or, slice_get-map}
+use Rattle.chip_lang.specs.declared.fault.Fault.{Fault}
+use Rattle.chip_lang.specs.Show.{hex_byte}
+use Rattle.chip_lang.specs.Line.{Body, Reading}
+use Rattle.chip_asm.specs.declared.kept_line.KeptLine.{KeptLine}
+use Rattle.chip_asm.specs.declared.placement.Placement.{Placement}
+use Rattle.chip_asm.specs.Layout.{Placed, placed, body_of}
+use Rattle.chip_asm.specs.Listing.{bytes_shown, field_shown, more_shown, shown, line_shown, lines_shown}
+use Rattle.chip_asm.specs.Program.{fault_of, code_under, bytes_in_code}
+use Rattle.chip_asm.specs.Records.{reading_in, readings_in, texts_in}
+use Rattle.chip_asm.specs.KeptCodes.{kept_fault, kept_bytes}
+use Rattle.chip_asm.proofs.ImageSteps.{About, fault-kept, bytes-kept}
+use Rattle.chip_asm.proofs.NeedsSteps.{length-numbered}
+
+one-byte : (b : ℕ) → flat_map hex_byte (b ∷ []) ≡ hex_byte b
+one-byte b = append-nil (hex_byte b)
+
+-- one byte more
+pub bytes-more : (n : ℕ) (bytes : List ℕ) → bytes_shown (n + 1) bytes ≡ bytes_shown n bytes ++ hex_byte (get_or bytes n 0)
+bytes-more n bytes =
+    ap (λ r. flat_map hex_byte (map (λ i. get_or bytes i 0) r)) (range-more n)
+    ∙ ap (flat_map hex_byte) (map-append (λ i. get_or bytes i 0) (range_with_len 0 n) (n ∷ []))
+    ∙ flat_map-append hex_byte (map (λ i. get_or bytes i 0) (range_with_len 0 n)) (get_or bytes n 0 ∷ [])
+    ∙ ap (λ l. bytes_shown n bytes ++ l) (one-byte (get_or bytes n 0))
+  where
+    from : (a n : ℕ) → range_with_len a (suc n) ≡ range_with_len a n ++ (a + n) ∷ []
+    from a zero = let e : a + 0 ≡ a = omega arith in rw e refl
+    from a (suc n) =
+        let e : a + 1 + n ≡ a + suc n = omega arith in
+        ap (λ l. a ∷ l) (from (a + 1) n ∙ ap (λ k. range_with_len (a + 1) n ++ k ∷ []) e)
+
+    range-more : (n : ℕ) → range_with_len 0 (n + 1) ≡ range_with_len 0 n ++ n ∷ []
+    range-more n = let e : 0 + n ≡ n = omega arith in ap (range_with_len 0) (add-one n) ∙ from 0 n ∙ ap (λ k. range_with_len 0 n ++ k ∷ []) e
+
+field-by : (fault : Option Fault) (live : Bool) (body : Body) (here : ℕ) (value : ℤ) (size : ℕ) (kept own : List ℕ) → (fault ≡ None → live ≡ true → kept ≡ own)
+    → field_shown fault live body here value size kept ≡ field_shown fault live body here value size own
+field-by (Some f) live body here value size kept own k = refl
+field-by None false body here value size kept own k = refl
+field-by None true body here value size kept own k = rw (k refl refl) refl
+
+same-line : (lines : List KeptLine) (q : Placement) (kept : KeptLine) (i : ℕ) (a : About lines q kept i)
+    → shown q.number q.live q.here (field_shown (kept_fault q kept) q.live (body_of (reading_in kept)) q.here q.value q.size (kept_bytes kept)) (more_shown (kept_fault q kept) q.size) kept.text
+    ≡ line_shown (placed (readings_in lines)) a.x kept.text
+same-line lines q kept i a =
+    ap (λ (p : Placement). shown p.number p.live p.here (field_shown (kept_fault q kept) p.live (body_of (reading_in kept)) p.here p.value p.size (kept_bytes kept)) (more_shown (kept_fault q kept) p.size) kept.text) a.placement
+    ∙ ap (λ f. shown a.x.number a.x.live a.x.here (field_shown f a.x.live (body_of (reading_in kept)) a.x.here a.x.value a.x.size (kept_bytes kept)) (more_shown f a.x.size) kept.text) (fault-kept lines q kept i a)
+    ∙ ap (λ r. shown a.x.number a.x.live a.x.here (field_shown (fault_of (placed (readings_in lines)) a.x) a.x.live (body_of r) a.x.here a.x.value a.x.size (kept_bytes kept)) (more_shown (fault_of (placed (readings_in lines)) a.x) a.x.size) kept.text) a.line
+    ∙ ap (λ f. shown a.x.number a.x.live a.x.here f (more_shown (fault_of (placed (readings_in lines)) a.x) a.x.size) kept.text)
+    (field-by (fault_of (placed (readings_in lines)) a.x) a.x.live (body_of a.x.line) a.x.here a.x.value a.x.size (kept_bytes kept) (bytes_in_code (code_under (placed (readings_in lines)) a.x)) (λ n l. bytes-kept lines q kept i a n l))
+
+some-is : {X : Type 0} (x y : X) → Some x ≡ Some y → x ≡ y
+some-is x y e = cc
+
+zip-more : (xs : List Placed) (ys : List (List ℕ)) (i : ℕ) (x : Placed) (y : List ℕ) → slice_get xs i ≡ Some x → slice_get ys i ≡ Some y → take (suc i) (zip xs ys) ≡ take i (zip xs ys) ++ (x, y) ∷ []
+zip-more [] ys i x y a b = cc
+zip-more (p ∷ xs) [] i x y a b = cc
+zip-more (p ∷ xs) (t ∷ ys) zero x y a b = rw (some-is p x a, some-is t y b) refl
+zip-more (p ∷ xs) (t ∷ ys) (suc i) x y a b = ap (λ l. (p, t) ∷ l) (zip-more xs ys i x y a b)
+
+-- the lines of the listing so far
+abbrev pub listed : List KeptLine → ℕ → List ℕ
+listed lines n = flat_map (λ e. line_shown (placed (readings_in lines)) e.0 e.1) (take n (zip (reverse (placed (readings_in lines))) (texts_in lines)))
+
+pub listed-more : (lines : List KeptLine) (q : Placement) (kept : KeptLine) (i : ℕ) (a : About lines q kept i) → i < length lines → kept ≡ get_or lines i kept
+    → listed lines (i + 1)
+    ≡ listed lines i ++ shown q.number q.live q.here (field_shown (kept_fault q kept) q.live (body_of (reading_in kept)) q.here q.value q.size (kept_bytes kept)) (more_shown (kept_fault q kept) q.size) kept.text
+listed-more lines q kept i a inside is =
+    let text : slice_get (texts_in lines) i ≡ Some kept.text
+    = slice_get-map (λ (k : KeptLine). k.text) lines i ∙ ap (option_map (λ (k : KeptLine). k.text)) (slice_get-get_or lines i kept inside ∙ ap Some (sym is)) in
+    rw add-one
+    (ap (flat_map (λ e. line_shown (placed (readings_in lines)) e.0 e.1)) (zip-more (reverse (placed (readings_in lines))) (texts_in lines) i a.x kept.text a.at text)
+    ∙ flat_map-append (λ e. line_shown (placed (readings_in lines)) e.0 e.1) (take i (zip (reverse (placed (readings_in lines))) (texts_in lines))) ((a.x, kept.text) ∷ [])
+    ∙ ap (λ l. listed lines i ++ l) (append-nil (line_shown (placed (readings_in lines)) a.x kept.text) ∙ sym (same-line lines q kept i a)))
+
+length-zip-le : (xs : List Placed) (ys : List (List ℕ)) → length (zip xs ys) ≤ length ys
+length-zip-le [] ys = omega arith
+length-zip-le (x ∷ xs) [] = omega arith
+length-zip-le (x ∷ xs) (y ∷ ys) = let k = length-zip-le xs ys in omega arith
+
+pub listed-all : (lines : List KeptLine) (n : ℕ) → length lines ≤ n → listed lines n ≡ lines_shown (placed (readings_in lines)) (texts_in lines)
+listed-all lines n h =
+    ap (flat_map (λ e. line_shown (placed (readings_in lines)) e.0 e.1))
+    (take_all n (zip (reverse (placed (readings_in lines))) (texts_in lines)) (omega (arith, length-zip-le (reverse (placed (readings_in lines))) (texts_in lines), length-map lines (λ (k : KeptLine). k.text))))

@@ -1,0 +1,83 @@
+-- What is encoded again is needed.
+use Rattle.std.proofs.Common.{◌≡◌, ℕ, suc, zero, ◌+◌, ◌<◌, ◌≤◌, Bool, true, false, cond, not, ◌&&◌, List, [], ◌∷◌, ◌++◌, map, reverse, length, count_by, slice_get, fold, refl, ap, sym, ◌∙◌, arith, Option, Some, None, option_map, append_assoc}
+use Rattle.std.specs.List.{enumerate_from}
+use Rattle.std.specs.Option.{option_map_or}
+use Rattle.std.proofs.lemmas.Bool.{and_parts, and_from, false≢true}
+use Rattle.std.proofs.lemmas.List.{map-append, append-nil, length-map}
+use Rattle.std.proofs.lemmas.List.Sums.{sum_by-cons}
+use Rattle.std.proofs.lemmas.Option.{slice_get-map}
+use Rattle.chip_lang.specs.Line.{Reading}
+use Rattle.chip_lang.specs.Uses.{agree_on}
+use Rattle.chip_asm.specs.Names.{values_of}
+use Rattle.chip_asm.specs.Layout.{Placed, placed, place, body_of}
+use Rattle.chip_asm.specs.Layouts.{placements_of, final_placement}
+use Rattle.chip_asm.specs.Placements.{is_placed}
+use Rattle.chip_asm.specs.Program.{names_of_lines}
+use Rattle.chip_asm.specs.Work.{needs, needs_count, is_accepted_at, is_accepted_in, accepted_lines}
+use Rattle.chip_asm.specs.Recode.{count_again, is_encoded_again, is_placed_at, has_code}
+use Rattle.chip_asm.proofs.BlockSteps.{reverse-cons}
+use Rattle.chip_asm.proofs.Placing.{onto}
+
+count-le : {X : Type 0} (p q : X → Bool) → ((x : X) → p x ≡ true → q x ≡ true) → (xs : List X) → count_by p xs ≤ count_by q xs
+count-le p q h [] = omega arith
+count-le {X} p q h (x ∷ xs) =
+    let by_p = sum_by-cons (λ y. cond (p y) 1 0) x xs in
+    let by_q = sum_by-cons (λ y. cond (q y) 1 0) x xs in
+    let rest = count-le p q h xs in
+    let first = step (p x) (q x) (h x) in
+    omega (arith, by_p, by_q, rest, first)
+  where
+    step : (a b : Bool) → (a ≡ true → b ≡ true) → cond a 1 0 ≤ cond b 1 0
+    step false b e = omega arith
+    step true true e = omega arith
+    step true false e = absurd (false≢true (e refl))
+
+lines-fold : (before : List Placed) (lines : List Reading) → map (λ (p : Placed). p.line) (reverse (fold onto before lines)) ≡ map (λ (p : Placed). p.line) (reverse before) ++ lines
+unfolding place
+lines-fold before [] = sym (append-nil (map (λ (p : Placed). p.line) (reverse before)))
+lines-fold before (line ∷ lines) =
+    lines-fold (onto before line) lines
+    ∙ ap (λ xs. map (λ (p : Placed). p.line) xs ++ lines) (reverse-cons (place before line) before)
+    ∙ ap (λ xs. xs ++ lines) (map-append (λ (p : Placed). p.line) (reverse before) (place before line ∷ []))
+    ∙ append_assoc (map (λ (p : Placed). p.line) (reverse before)) (line ∷ []) lines
+
+-- each placed line is the line at its place
+pub lines-placed : (lines : List Reading) → map (λ (p : Placed). p.line) (reverse (placed lines)) ≡ lines
+unfolding placed
+lines-placed lines = lines-fold [] lines
+
+pub length-numbered : (lines : List Reading) → length (reverse (placed lines)) ≡ length lines
+length-numbered lines = sym (length-map (reverse (placed lines)) (λ (p : Placed). p.line)) ∙ ap length (lines-placed lines)
+
+-- what the pass keeps says which lines are accepted
+pub placed-at : (lines : List Reading) (i : ℕ) → is_placed_at (placements_of lines) i ≡ is_accepted_at lines i
+unfolding placements_of
+placed-at lines i = rw (slice_get-map (final_placement (placed lines)) (reverse (placed lines)) i) (inner (slice_get (reverse (placed lines)) i))
+  where
+    inner : (o : Option Placed) → option_map_or is_placed (option_map (final_placement (placed lines)) o) false ≡ option_map_or (is_accepted_in (placed lines)) o false
+    inner None = refl
+    inner (Some p) = refl
+
+stands : (old new : List Reading) (r : Reading) (o : Option ℕ)
+    → option_map_or (λ before. is_placed_at (placements_of old) before && agree_on (values_of (names_of_lines old)) (values_of (names_of_lines new)) r) o false
+    ≡ option_map_or (λ before. is_accepted_at old before && agree_on (values_of (names_of_lines old)) (values_of (names_of_lines new)) r) o false
+stands old new r None = refl
+stands old new r (Some j) = ap (λ b. b && agree_on (values_of (names_of_lines old)) (values_of (names_of_lines new)) r) (placed-at old j)
+
+again-needed : (old new : List Reading) (origin : ℕ → Option ℕ) (at : ℕ × Reading) → is_encoded_again old new origin at ≡ true → needs old new origin at ≡ true
+unfolding is_encoded_again needs
+again-needed old new origin at h =
+    let second = and_parts _ _ (and_parts _ _ h).1 in
+    and_from _ _ (sym (placed-at new at.0) ∙ second.0) (ap not (sym (stands old new at.1 (origin at.0))) ∙ second.1)
+
+-- no more lines are encoded again than need it
+pub count-needed : (old new : List Reading) (origin : ℕ → Option ℕ) → count_again old new origin ≤ needs_count old new origin
+count-needed old new origin = count-le (is_encoded_again old new origin) (needs old new origin) (again-needed old new origin) (enumerate_from 0 new)
+
+needs-accepted : (old new : List Reading) (origin : ℕ → Option ℕ) (at : ℕ × Reading) → needs old new origin at ≡ true → is_accepted_at new at.0 ≡ true
+unfolding needs
+needs-accepted old new origin at h = (and_parts _ _ h).0
+
+-- no more lines need it than are accepted
+pub count-accepted : (old new : List Reading) (origin : ℕ → Option ℕ) → needs_count old new origin ≤ accepted_lines new
+count-accepted old new origin = count-le (needs old new origin) (λ (at : ℕ × Reading). is_accepted_at new at.0) (needs-accepted old new origin) (enumerate_from 0 new)

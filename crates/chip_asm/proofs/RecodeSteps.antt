@@ -1,0 +1,67 @@
+-- Counting and collecting the lines that are encoded again.
+use Rattle.std.proofs.Common.{◌≡◌, ℕ, suc, zero, ◌+◌, ◌<◌, ◌≤◌, ◌^◌, Bool, true, false, cond, List, [], ◌∷◌, ◌++◌, map, length, take, get_or, count_by, slice_get, refl, ap, sym, ◌∙◌, arith, Option, Some, None, min}
+use Rattle.std.specs.List.{enumerate_from}
+use Rattle.std.proofs.lemmas.List.{map-append, take_more}
+use Rattle.std.proofs.lemmas.List.Sums.{sum_by-cons, count_by_more_yes, count_by_more_no}
+use Rattle.std.proofs.lemmas.List.FromFn.{length-enumerate_from, get_or-enumerate_from}
+use Rattle.std.proofs.lemmas.Option.{get_or_from_slice_get}
+use Rattle.chip_lang.specs.Line.{Reading}
+use Rattle.std.proofs.lemmas.Bool.{and_parts}
+use Rattle.chip_lang.specs.Line.{bad, read}
+use Rattle.chip_lang.specs.Value.{Symbols}
+use Rattle.chip_lang.specs.Code.{own_bytes, coded, code_of}
+use Rattle.chip_asm.specs.Names.{values_of}
+use Rattle.chip_asm.specs.Layout.{body_of}
+use Rattle.chip_asm.specs.Program.{names_of_lines}
+use Rattle.chip_asm.specs.Recode.{has_code, is_encoded_again, code_among, new_code}
+
+pub count_by-take : {X : Type 0} (p : X → Bool) (xs : List X) (i : ℕ) → count_by p (take i xs) ≤ count_by p xs
+count_by-take p xs zero = omega arith
+count_by-take p [] (suc i) = omega arith
+count_by-take p (x ∷ xs) (suc i) =
+    let part = sum_by-cons (λ y. cond (p y) 1 0) x (take i xs) in
+    let whole = sum_by-cons (λ y. cond (p y) 1 0) x xs in
+    omega (arith, count_by-take p xs i, part, whole)
+
+-- the next numbered line
+pub numbered-at : (xs : List Reading) (i : ℕ) (x : Reading) → i < length xs → slice_get xs i ≡ Some x → get_or (enumerate_from 0 xs) i (i, x) ≡ (i, x)
+numbered-at xs i x h e =
+    let at : get_or (enumerate_from 0 xs) i (i, x) ≡ (0 + i, get_or xs i x) = get_or-enumerate_from 0 xs i (i, x) h in
+    let place : 0 + i ≡ i = omega arith in
+    at ∙ (rw (place, get_or_from_slice_get xs i x x e) refl)
+
+pub take-numbered : (xs : List Reading) (i : ℕ) (x : Reading) → i < length xs → slice_get xs i ≡ Some x → take (i + 1) (enumerate_from 0 xs) ≡ take i (enumerate_from 0 xs) ++ (i, x) ∷ []
+take-numbered xs i x h e =
+    let inside : i < length (enumerate_from 0 xs) = omega (arith, length-enumerate_from 0 xs) in
+    take_more (enumerate_from 0 xs) i (i, x) inside ∙ ap (λ y. take i (enumerate_from 0 xs) ++ y ∷ []) (numbered-at xs i x h e)
+
+-- the count after one line more
+pub count-numbered : (p : ℕ × Reading → Bool) (xs : List Reading) (i : ℕ) (x : Reading) → i < length xs → slice_get xs i ≡ Some x
+    → count_by p (take (i + 1) (enumerate_from 0 xs)) ≡ count_by p (take i (enumerate_from 0 xs)) + cond (p (i, x)) 1 0
+count-numbered p xs i x h e = by_test (p (i, x)) refl
+  where
+    inside : i < length (enumerate_from 0 xs)
+    inside = omega (arith, length-enumerate_from 0 xs)
+
+    by_test : (b : Bool) → p (i, x) ≡ b → count_by p (take (i + 1) (enumerate_from 0 xs)) ≡ count_by p (take i (enumerate_from 0 xs)) + cond b 1 0
+    by_test true k = count_by_more_yes p (enumerate_from 0 xs) i (i, x) inside (ap p (numbered-at xs i x h e) ∙ k)
+    by_test false k = count_by_more_no p (enumerate_from 0 xs) i (i, x) inside (ap p (numbered-at xs i x h e) ∙ k) ∙ (let z : count_by p (take i (enumerate_from 0 xs)) ≡ count_by p (take i (enumerate_from 0 xs)) + 0 = omega arith in z)
+
+-- where a line has code, its code is that of its statement
+code-stated : (r : Reading) (symbols : Symbols) → has_code (body_of r) ≡ true → code_of r symbols ≡ coded (own_bytes (body_of r) symbols)
+code-stated (bad f) symbols h = cc
+code-stated (read label body) symbols h = refl
+
+pub code-among : (lines : List Reading) (r : Reading) → has_code (body_of r) ≡ true → code_of r (values_of (names_of_lines lines)) ≡ code_among lines r
+unfolding code_among
+code-among lines r h = code-stated r (values_of (names_of_lines lines)) h
+
+again-has_code : (old new : List Reading) (origin : ℕ → Option ℕ) (at : ℕ × Reading) → is_encoded_again old new origin at ≡ true → has_code (body_of at.1) ≡ true
+unfolding is_encoded_again
+again-has_code old new origin at e = (and_parts _ _ e).0
+
+-- what is encoded is the new code
+pub code-again : (old new : List Reading) (origin : ℕ → Option ℕ) (i : ℕ) (r : Reading) (b : Bool) → is_encoded_again old new origin (i, r) ≡ b
+    → cond b (Some (code_of r (values_of (names_of_lines new)))) None ≡ new_code old new origin (i, r)
+code-again old new origin i r true e = ap Some (code-among new r (again-has_code old new origin (i, r) e)) ∙ (rw e refl)
+code-again old new origin i r false e = rw e refl

@@ -1,0 +1,126 @@
+-- A kept code stands where the names that the line uses keep their values.
+use Rattle.std.proofs.Common.{◌≡◌, ℕ, suc, zero, ◌+◌, ◌-◌, ◌<◌, ◌≤◌, Bool, true, false, cond, not, ◌&&◌, nat_lt, nat_eq, List, [], ◌∷◌, ◌++◌, map, length, get_or, set, insert, remove, refl, ap, sym, subst, ◌∙◌, arith, Option, Some, None, if◌then◌else◌}
+use Rattle.std.specs.Prelude.{unwrap_or}
+use Rattle.std.specs.List.{enumerate_from}
+use Rattle.std.specs.Option.{option_map_or}
+use Rattle.std.proofs.lemmas.Bool.{and_parts, not-false, false≢true, ltb-true, ltb-false, eqb-true, eqb-false}
+use Rattle.std.proofs.lemmas.List.{get_or-map, length-map, get_or-set_other}
+use Rattle.std.proofs.lemmas.List.Edits.{get_or-insert_below, get_or-insert_above, get_or-remove_below, get_or-remove_above}
+use Rattle.std.proofs.lemmas.List.FromFn.{length-enumerate_from, get_or-enumerate_from}
+use Rattle.chip_lang.specs.declared.code.Coded.{Coded}
+use Rattle.chip_lang.specs.Line.{Reading}
+use Rattle.chip_lang.specs.Value.{Symbols}
+use Rattle.chip_lang.specs.Code.{code_of}
+use Rattle.chip_lang.specs.Uses.{agree_on}
+use Rattle.chip_asm.specs.declared.kept_line.KeptLine.{KeptLine}
+use Rattle.chip_asm.specs.declared.edit.Edit.{Edit}
+use Rattle.chip_asm.specs.declared.edit.Edit.TheVariants.{Insert, Replace, Delete, Keep}
+use Rattle.chip_asm.specs.Names.{values_of}
+use Rattle.chip_asm.specs.Layout.{body_of}
+use Rattle.chip_asm.specs.Layouts.{placements_of}
+use Rattle.chip_asm.specs.Program.{names_of_lines}
+use Rattle.chip_asm.specs.Records.{reading_in, readings_in, IsPlaceWithin, lines_after, count_after, place_before}
+use Rattle.chip_asm.specs.Recode.{has_code, is_placed_at, is_encoded_again, code_among, new_code, new_codes}
+use Rattle.chip_asm.specs.Kept.{AreCurrent, IsMerged}
+use Rattle.chip_asm.proofs.RecodeSteps.{code-among}
+
+some-same : (x y : ℕ) → Some x ≡ Some y → x ≡ y
+some-same x y e = cc
+
+-- a line that had a place before the edit
+pub record Stood (lines : List KeptLine) (edit : Edit) (place before : ℕ) : Type 0 where
+  pub inside : before < length lines
+  pub line : (d : KeptLine) → get_or (lines_after lines edit) place d ≡ get_or lines before d
+
+stood-insert : (lines : List KeptLine) (at : ℕ) (line : KeptLine) (place before : ℕ) (below here : Bool) → nat_lt place at ≡ below → nat_eq place at ≡ here
+    → at ≤ length lines → place < length lines + 1
+    → cond below (Some place) (cond here None (Some (place - 1))) ≡ Some before → Stood lines (Insert at line) place before
+stood-insert lines at line place before true here lt eq within inside e =
+    let same_place : place ≡ before = some-same place before e in
+    let k : place < at = ltb-true place at lt in
+    record {
+      inside = omega arith;
+      line = λ d. get_or-insert_below lines at line d place k within ∙ ap (λ i. get_or lines i d) same_place;
+    }
+stood-insert lines at line place before false true lt eq within inside e = cc
+stood-insert lines at line place before false false lt eq within inside e =
+    let same_place : place - 1 ≡ before = some-same (place - 1) before e in
+    let not_below : at ≤ place = ltb-false place at lt in
+    let not_here : place ≡ at → ⊥ = eqb-false place at eq in
+    let shifted : place ≡ before + 1 = (let k = later place at not_below not_here in omega arith) in
+    let above : at ≤ before = (let k = later place at not_below not_here in omega arith) in
+    record {
+      inside = omega arith;
+      line = λ d. rw shifted (get_or-insert_above lines at line d before above within);
+    }
+  where
+    later : (p a : ℕ) → a ≤ p → (p ≡ a → ⊥) → a < p
+    later p a h n = omega arith
+
+stood-replace : (lines : List KeptLine) (at : ℕ) (line : KeptLine) (place before : ℕ) (here : Bool) → nat_eq place at ≡ here → place < length lines
+    → cond here None (Some place) ≡ Some before → Stood lines (Replace at line) place before
+stood-replace lines at line place before true eq inside e = cc
+stood-replace lines at line place before false eq inside e =
+    let same_place : place ≡ before = some-same place before e in
+    record {
+      inside = omega arith;
+      line = λ d. get_or-set_other lines at place line d (eqb-false place at eq) ∙ ap (λ i. get_or lines i d) same_place;
+    }
+
+stood-delete : (lines : List KeptLine) (at place before : ℕ) (below : Bool) → nat_lt place at ≡ below → at < length lines → place < length lines - 1
+    → cond below (Some place) (Some (place + 1)) ≡ Some before → Stood lines (Delete at) place before
+stood-delete lines at place before true lt within inside e =
+    let same_place : place ≡ before = some-same place before e in
+    let k : place < at = ltb-true place at lt in
+    record {
+      inside = omega arith;
+      line = λ d. get_or-remove_below lines at d place k within ∙ ap (λ i. get_or lines i d) same_place;
+    }
+stood-delete lines at place before false lt within inside e =
+    let same_place : place + 1 ≡ before = some-same (place + 1) before e in
+    let k : at ≤ place = ltb-false place at lt in
+    record {
+      inside = omega arith;
+      line = λ d. get_or-remove_above lines at d place k within ∙ ap (λ i. get_or lines i d) same_place;
+    }
+
+pub stood : (lines : List KeptLine) (edit : Edit) (place before : ℕ) → IsPlaceWithin (length lines) edit → place < count_after (length lines) edit
+    → place_before edit place ≡ Some before → Stood lines edit place before
+stood lines (Insert at line) place before within inside e = stood-insert lines at line place before (nat_lt place at) (nat_eq place at) refl refl within inside e
+stood lines (Replace at line) place before within inside e = stood-replace lines at line place before (nat_eq place at) refl inside e
+stood lines (Delete at) place before within inside e = stood-delete lines at place before (nat_lt place at) refl within inside e
+stood lines Keep place before within inside e =
+    let same_place : place ≡ before = some-same place before e in
+    record { inside = omega arith; line = λ d. ap (λ i. get_or lines i d) same_place }
+
+-- a line that isn't encoded again stood before, accepted, with the same values
+pub record Stayed (old new : List Reading) (origin : ℕ → Option ℕ) (at : ℕ × Reading) : Type 0 where
+  pub before : ℕ
+  pub from : origin at.0 ≡ Some before
+  pub was_placed : is_placed_at (placements_of old) before ≡ true
+  pub same : agree_on (values_of (names_of_lines old)) (values_of (names_of_lines new)) at.1 ≡ true
+
+stayed-from : (old new : List Reading) (origin : ℕ → Option ℕ) (at : ℕ × Reading) (o : Option ℕ) → origin at.0 ≡ o
+    → option_map_or (λ before. is_placed_at (placements_of old) before && agree_on (values_of (names_of_lines old)) (values_of (names_of_lines new)) at.1) o false ≡ true
+    → Stayed old new origin at
+stayed-from old new origin at None e h = absurd (false≢true h)
+stayed-from old new origin at (Some before) e h =
+    let parts = and_parts _ _ h in
+    record { before = before; from = e; was_placed = parts.0; same = parts.1 }
+
+pub stayed : (old new : List Reading) (origin : ℕ → Option ℕ) (at : ℕ × Reading) → is_encoded_again old new origin at ≡ false → has_code (body_of at.1) ≡ true
+    → is_placed_at (placements_of new) at.0 ≡ true → Stayed old new origin at
+unfolding is_encoded_again
+stayed old new origin at n c p = stayed-from old new origin at (origin at.0) refl (not-false _ (rw (c, p) at n))
+
+pub fresh-at : (old new : List Reading) (origin : ℕ → Option ℕ) (place : ℕ) (r : Reading) → place < length new → get_or new place r ≡ r
+    → get_or (new_codes old new origin) place None ≡ new_code old new origin (place, r)
+fresh-at old new origin place r h e =
+    let inside : place < length (enumerate_from 0 new) = omega (arith, length-enumerate_from 0 new) in
+    let zero_more : 0 + place ≡ place = omega arith in
+    get_or-map (new_code old new origin) (enumerate_from 0 new) place (place, r) None inside
+    ∙ ap (new_code old new origin) (get_or-enumerate_from 0 new place (place, r) h ∙ (rw (zero_more, e) refl))
+
+-- tables that agree on the names of a line give it the same code
+abbrev pub SameCode : Type 0
+SameCode = (r : Reading) (S T : Symbols) → agree_on S T r ≡ true → code_of r S ≡ code_of r T

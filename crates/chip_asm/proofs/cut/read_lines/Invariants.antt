@@ -1,0 +1,18 @@
+use Rattle.std.proofs.Common.{◌≡◌, ℕ, ◌≤◌, ◌++◌, length, map}
+use Rattle.chip_lang.specs.Line.{reading_of}
+use Rattle.chip_asm.specs.Lines.{lines_of}
+use Rattle.chip_asm.specs.Records.{readings_in, texts_in}
+use Rattle.chip_asm.proofs.CutSteps.{AllShort}
+use Rattle.chip_asm.proofs.cut.read_lines.Given as goal
+
+abbrev pub invariant-loop-rest : goal.invariant-loop-rest
+invariant-loop-rest l =
+    (texts_in l.lines.items ++ lines_of l.rest ≡ lines_of l.fn.source)
+    × (readings_in l.lines.items ≡ map reading_of (texts_in l.lines.items))
+    × AllShort (texts_in l.lines.items)
+    × (length l.lines.items ≤ 4000)
+    × (l.meter.parsed ≡ length l.lines.items)
+    × (l.meter.encoded ≡ 0)
+
+abbrev pub decreases-loop-rest : goal.decreases-loop-rest
+decreases-loop-rest l = length l.rest

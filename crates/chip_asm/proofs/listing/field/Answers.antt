@@ -1,0 +1,20 @@
+use Rattle.std.proofs.Common.{◌≡◌, ◌∙◌, ◌++◌, ◌∷◌, ap, sym, arith, refl, true, w32, to_z, of_z}
+use Rattle.std.proofs.lemmas.Int.{to_z-of_z}
+use Rattle.std.specs.Fmt.{signed_decimal}
+use Rattle.chip_asm.specs.Layout.{body_of, value_given}
+use Rattle.chip_asm.specs.Listing.{is_definition}
+use Rattle.chip_asm.specs.Records.{reading_in}
+use Rattle.chip_asm.proofs.listing.field.Goals as goal
+
+pub returns-then-is_definition : goal.returns-then-is_definition
+returns-then-is_definition c =
+    let defines : is_definition (body_of (reading_in c.args.kept.now)) ≡ true = sym c.is_definition.ensures ∙ c.if-is_definition.true in
+    let given = c.value_given-value.ensures c.args.placement.now.here in
+    let same : to_z w32 (of_z w32 c.value_given-value.result) ≡ c.value_given-value.result = grind (arith, to_z-of_z) in
+    let passed : to_z w32 (of_z w32 c.args.placement.now.value) ≡ c.args.placement.now.value = grind (arith, to_z-of_z) in
+    rw (c.in_default.is, c.if-not-placement.false, defines)
+    (c.in_ok-push_value.ensures
+    ∙ ap (λ v. c.new-field.result.items ++ 61 ∷ signed_decimal v) same
+    ∙ ap (λ l. l ++ 61 ∷ signed_decimal c.value_given-value.result) c.new-field.ensures.items
+    ∙ ap (λ v. 61 ∷ signed_decimal v) given
+    ∙ ap (λ v. 61 ∷ signed_decimal (value_given c.args.placement.now.here v (body_of (reading_in c.args.kept.now)))) passed)

@@ -1,0 +1,12 @@
+use Rattle.std.proofs.Common.{◌≡◌, ◌∙◌, ap, sym, List, ℕ}
+use Rattle.chip_asm.specs.Program.{faults_of_lines, faults_of}
+use Rattle.chip_asm.specs.Records.{readings_in}
+use Rattle.chip_asm.proofs.Views.{faults-view}
+use Rattle.chip_asm.proofs.source.Source.faults.Goals as goal
+
+pub returns : goal.returns
+returns c =
+    let same : faults_of_lines (readings_in c.deref.result.now) ≡ faults_of c.args.self.now.lines
+    = ap (λ lines. faults_of_lines (readings_in lines)) c.deref.ensures.value
+    ∙ faults-view c.self.inside.lines.items c.args.self.now.lines c.self.invariant.are_read (ap (λ t. t.lines) c.self.view_is) in
+    rw (← same) c.faults_in.ensures

@@ -1,0 +1,9 @@
+use Rattle.std.proofs.Common.{◌∙◌, ap}
+use Rattle.chip_asm.specs.Names.{lookup_name}
+use Rattle.chip_asm.proofs.Views.{symbols-view}
+use Rattle.chip_asm.proofs.source.Source.symbol.Goals as goal
+
+pub returns : goal.returns
+returns c =
+    c.symbol.ensures
+    ∙ ap (λ names. lookup_name names c.args.name.now) (c.self.invariant.laid_out.names ∙ symbols-view c.self.inside.lines.items c.args.self.now.lines c.self.invariant.are_read (ap (λ t. t.lines) c.self.view_is))

@@ -1,0 +1,29 @@
+-- What the running state of the pass means: it stands after these lines (own).
+use Rattle.std.specs.Prelude.{◌≡◌, ℕ, ◌+◌, ℤ, Bool, true, false, not, ◌&&◌, ◌||◌, List, [], ◌∷◌, reverse, map, Option, length, if◌then◌else◌, unsigned_abs}
+use Rattle.chip_lang.specs.Line.{Body, align}
+use Rattle.chip_asm.specs.Layout.{Placed, is_if, address, is_aligning, has_ended, enclosing, holds, has_else, symbols, is_org_body, is_end_body}
+use Rattle.chip_asm.specs.declared.block.Block.{Block}
+use Rattle.chip_asm.specs.declared.placement.Placement.{Placement}
+use Rattle.chip_asm.specs.declared.pass.Pass.{Pass}
+
+-- an open block, as the lines before say
+abbrev pub block_of : List Placed → Placed → Block
+block_of before opener = record { number = opener.number; live = opener.live; holds = holds before opener; has_else = has_else before opener }
+
+-- the first-pass result of a line
+abbrev pub placement_of : Placed → Placement
+placement_of p = record { number = p.number; is_if = is_if p; live = p.live; here = p.here; fault = p.fault; value = p.value; size = p.size }
+
+pub record Follows (pass : Pass) (before : List Placed) : Type 0 where
+  pub at_address : pass.here ≡ address before
+  pub aligning : pass.aligning ≡ is_aligning before
+  pub ended : pass.ended ≡ has_ended before
+  pub open_blocks : pass.blocks.items ≡ reverse (map (block_of before) (enclosing before))
+  pub names : pass.names ≡ symbols before
+
+abbrev pub next_address : Bool → ℕ → Body → ℤ → ℕ → ℕ
+next_address accepted here body value size = if accepted && is_org_body body then unsigned_abs value else here + size
+
+abbrev pub next_aligning : Bool → Bool → Body → Bool
+next_aligning accepted aligning (align on) = if accepted then on else aligning
+next_aligning accepted aligning _ = aligning

@@ -1,0 +1,270 @@
+-- Where each line of a source stands, what is wrong with it, and which names it gives (Chipper manual; own where it is silent).
+-- The lines before a line are listed from the nearest one back. What holds of a line follows from it and from what holds of the
+-- lines before it.
+use Rattle.std.specs.Prelude.{◌≡◌, ℕ, ◌+◌, ◌-◌, ◌*◌, ◌%◌, ℤ, pos, negsuc, unsigned_abs, int_lt, Bool, true, false, not, ◌&&◌, ◌||◌, List, [], ◌∷◌, ◌++◌, reverse, map, length, Option, Some, None, is_some, is_none, Result, Ok, Err, if◌then◌else◌, nat_eq, nat_lt, nat_le, ◌==◌, fold, sum_by, count_by, filter, find, take_while, filter_map, option_map}
+use Rattle.std.specs.List.{list_any, list_all}
+use Rattle.std.specs.Option.{option_map_or}
+use Rattle.std.specs.Str.{bytes_eq}
+use Rattle.std.specs.Map.{lookup}
+use Rattle.chip_lang.specs.declared.fault.Fault.{Fault}
+use Rattle.chip_lang.specs.declared.fault.Fault.TheVariants.{DefinedTwice, OutOfRange, OrgBelowHere, PastMemory, StrayBranch}
+use Rattle.chip_lang.specs.Line.{Body, empty, equ, org, ds, db, dw, da, code, define, ifdef, ifund, else_line, endif, end_line, align, Reading, bad, read}
+use Rattle.chip_lang.specs.Value.{Symbols, value}
+use Rattle.chip_lang.specs.Uses.{name_defined}
+use Rattle.chip_asm.specs.declared.table.Symbol.{Symbol}
+use Rattle.chip_asm.specs.Names.{Name, lookup_name, values_of}
+
+-- what holds of a line in its source
+pub record Placed : Type 0 where
+  pub number : ℕ
+  pub line : Reading
+  -- the number of the last IF line that encloses it
+  pub block : Option ℕ
+  -- of an IF line: whether its condition holds
+  pub condition : Bool
+  pub live : Bool
+  pub here : ℕ
+  -- the value of its expression, where it is an EQU, ORG or DS line
+  pub value : ℤ
+  pub fault : Option Fault
+  pub size : ℕ
+
+-- kinds of lines
+
+-- what the line says; one with a reading fault says nothing
+abbrev pub body_of : Reading → Body
+body_of (bad fault) = empty
+body_of (read label body) = body
+
+abbrev pub is_if_body : Body → Bool
+is_if_body (ifdef n) = true
+is_if_body (ifund n) = true
+is_if_body _ = false
+
+abbrev pub is_else_body : Body → Bool
+is_else_body else_line = true
+is_else_body _ = false
+
+abbrev pub is_endif_body : Body → Bool
+is_endif_body endif = true
+is_endif_body _ = false
+
+abbrev pub is_end_body : Body → Bool
+is_end_body end_line = true
+is_end_body _ = false
+
+abbrev pub is_org_body : Body → Bool
+is_org_body (org e) = true
+is_org_body _ = false
+
+abbrev pub is_equ_body : Body → Bool
+is_equ_body (equ e) = true
+is_equ_body _ = false
+
+abbrev pub is_if : Placed → Bool
+is_if p = is_if_body (body_of p.line)
+
+abbrev pub is_else : Placed → Bool
+is_else p = is_else_body (body_of p.line)
+
+abbrev pub is_endif : Placed → Bool
+is_endif p = is_endif_body (body_of p.line)
+
+abbrev pub is_accepted : Placed → Bool
+is_accepted p = p.live && is_none p.fault
+
+-- names
+
+abbrev pub value_given : ℕ → ℤ → Body → ℤ
+value_given here value (equ e) = value
+value_given here value define = pos 0
+value_given here value _ = pos here
+
+-- the name that a line gives, with its value and the line's number
+abbrev pub symbol_given : ℕ → ℕ → ℤ → Reading → Option (Name × Symbol)
+symbol_given number here value line =
+    option_map (λ name. (name, record { value = value_given here value (body_of line); line = number })) (name_defined line)
+
+abbrev pub symbol_of : Placed → Option (Name × Symbol)
+symbol_of p = if is_accepted p then symbol_given p.number p.here p.value p.line else None
+
+-- the names given by the lines so far, in line order
+unfoldable pub symbols : List Placed → List (Name × Symbol)
+symbols before = filter_map symbol_of (reverse before)
+
+-- blocks
+
+-- the earlier lines, each with the lines between
+abbrev pub with_between : List Placed → List (List Placed × Placed)
+with_between [] = []
+with_between (p ∷ before) = ([], p) ∷ map (λ s. (p ∷ s.0, s.1)) (with_between before)
+
+-- in no run of these lines from the first on are there more ENDIF lines than IF lines
+abbrev pub closes_no_more : List Placed → Bool
+closes_no_more [] = true
+closes_no_more (p ∷ earlier) =
+    nat_le (count_by is_endif (p ∷ earlier)) (count_by is_if (p ∷ earlier)) && closes_no_more earlier
+
+-- an IF line encloses what follows while no run of lines after it closes more than it opens
+abbrev pub encloses : List Placed × Placed → Bool
+encloses s = is_if s.1 && closes_no_more s.0
+
+-- the IF lines that enclose the next line, the last one first
+unfoldable pub enclosing : List Placed → List Placed
+enclosing before = map (λ s. s.1) (filter encloses (with_between before))
+
+abbrev pub first_of : {X : Type 0} → List X → Option X
+first_of [] = None
+first_of (x ∷ xs) = Some x
+
+abbrev pub is_number : ℕ → Option ℕ → Bool
+is_number n None = false
+is_number n (Some m) = m == n
+
+-- an ELSE that belongs to the IF stands before
+unfoldable pub has_else : List Placed → Placed → Bool
+has_else before opener = list_any (λ p. is_else p && is_number opener.number p.block) before
+
+-- the condition of the IF holds on the side that is reached
+abbrev pub holds : List Placed → Placed → Bool
+holds before opener = if has_else before opener then not opener.condition else opener.condition
+
+-- what the next line is, after the lines before it
+
+abbrev pub condition_of : List (Name × Symbol) → Body → Bool
+condition_of names (ifdef n) = is_some (lookup_name names n)
+condition_of names (ifund n) = is_none (lookup_name names n)
+condition_of names _ = false
+
+unfoldable pub has_ended : List Placed → Bool
+has_ended before = list_any (λ p. p.live && is_end_body (body_of p.line)) before
+
+abbrev pub is_side_or_end : Body → Bool
+is_side_or_end body = is_else_body body || is_endif_body body
+
+unfoldable pub is_live : List Placed → Body → Bool
+is_live before body =
+    not (has_ended before)
+    && (if is_side_or_end body
+    then option_map_or (λ opener. opener.live) (first_of (enclosing before)) true
+    else list_all (holds before) (enclosing before))
+
+abbrev pub is_origin : Placed → Bool
+is_origin p = is_accepted p && is_org_body (body_of p.line)
+
+-- the value of the last accepted ORG, or 512, and the sizes since
+unfoldable pub address : List Placed → ℕ
+address before =
+    option_map_or (λ p. unsigned_abs p.value) (find is_origin before) 512
+    + sum_by (λ p. p.size) (take_while (λ p. not (is_origin p)) before)
+
+abbrev pub is_align_body : Body → Bool
+is_align_body (align on) = true
+is_align_body _ = false
+
+abbrev pub is_align : Placed → Bool
+is_align p = is_accepted p && is_align_body (body_of p.line)
+
+abbrev pub is_align_off_body : Body → Bool
+is_align_off_body (align on) = not on
+is_align_off_body _ = false
+
+-- the last accepted ALIGN is not OFF
+unfoldable pub is_aligning : List Placed → Bool
+is_aligning before = option_map_or (λ p. not (is_align_off_body (body_of p.line))) (find is_align before) true
+
+-- the value of the expression of an EQU, ORG or DS line; 0 for another line
+unfoldable pub value_at : List (Name × Symbol) → Body → Result ℤ Fault
+value_at names (equ e) = value e (values_of names)
+value_at names (org e) = value e (values_of names)
+value_at names (ds e) = value e (values_of names)
+value_at names _ = Ok (pos 0)
+
+-- the bytes of the line itself
+abbrev pub own_size : Body → ℤ → ℕ
+own_size (code form operands) value = 2
+own_size (db es) value = length es
+own_size (dw es) value = 2 * length es
+own_size (da bytes) value = length bytes
+own_size (ds e) value = unsigned_abs value
+own_size _ value = 0
+
+abbrev pub is_padded : Body → Bool
+is_padded (db es) = true
+is_padded (da bytes) = true
+is_padded (ds e) = true
+is_padded _ = false
+
+-- with one zero byte more where data would end at an odd address
+abbrev pub padding : Bool → ℕ → Body → ℤ → ℕ
+padding aligning here body value =
+    if aligning && is_padded body && nat_eq ((here + own_size body value) % 2) 1 then 1 else 0
+
+abbrev pub full_size : Bool → ℕ → Body → ℤ → ℕ
+full_size aligning here body value = own_size body value + padding aligning here body value
+
+-- faults of the first pass, in the order in which they are looked for
+
+-- an ELSE or ENDIF that no IF encloses, or an ELSE after another one of its IF
+abbrev pub is_misplaced : List Placed → Body → Bool
+is_misplaced before else_line = option_map_or (has_else before) (first_of (enclosing before)) true
+is_misplaced before endif = is_none (first_of (enclosing before))
+is_misplaced before _ = false
+
+abbrev pub is_redefinition : List (Name × Symbol) → Option Name → Bool
+is_redefinition names None = false
+is_redefinition names (Some name) = is_some (lookup_name names name)
+
+abbrev pub is_negative_space : Body → ℤ → Bool
+is_negative_space (ds e) value = int_lt value (pos 0)
+is_negative_space _ value = false
+
+abbrev pub is_backwards : ℕ → Body → ℤ → Bool
+is_backwards here (org e) value = int_lt value (pos here)
+is_backwards here _ value = false
+
+abbrev pub is_past_end : Bool → ℕ → Body → ℤ → Bool
+is_past_end aligning here (org e) value = int_lt (pos 4096) value
+is_past_end aligning here body value = nat_lt 4096 (here + full_size aligning here body value)
+
+unfoldable pub fault_of_value : Bool → ℕ → Body → Result ℤ Fault → Option Fault
+fault_of_value aligning here body (Err fault) = Some fault
+fault_of_value aligning here body (Ok value) =
+    if is_negative_space body value then Some OutOfRange
+    else (if is_backwards here body value then Some OrgBelowHere
+    else (if is_past_end aligning here body value then Some PastMemory else None))
+
+-- the first fault of a live line, but for an IF without ENDIF
+unfoldable pub first_fault : List Placed → Reading → Option Fault
+first_fault before (bad fault) = Some fault
+first_fault before (read label body) =
+    if is_misplaced before body then Some StrayBranch
+    else (if is_redefinition (symbols before) label then Some DefinedTwice
+    else fault_of_value (is_aligning before) (address before) body (value_at (symbols before) body))
+
+abbrev pub value_or_zero : Result ℤ Fault → ℤ
+value_or_zero (Ok value) = value
+value_or_zero (Err fault) = pos 0
+
+-- what holds of a line that follows these
+unfoldable pub place : List Placed → Reading → Placed
+place before line =
+    let body = body_of line in
+    let live = is_live before body in
+    let number_value = value_or_zero (value_at (symbols before) body) in
+    let fault = if live then first_fault before line else None in
+    record {
+      number = length before + 1;
+      line = line;
+      block = option_map (λ opener. opener.number) (first_of (enclosing before));
+      condition = condition_of (symbols before) body;
+      live = live;
+      here = address before;
+      value = number_value;
+      fault = fault;
+      size = if live && is_none fault then full_size (is_aligning before) (address before) body number_value else 0;
+    }
+
+-- what holds of each line, the last one first
+unfoldable pub placed : List Reading → List Placed
+placed lines = fold (λ before line. place before line ∷ before) [] lines

@@ -1,0 +1,35 @@
+-- The lines of a source, and whether it opens (own).
+use Rattle.std.specs.Prelude.{ℕ, ◌+◌, ◌&&◌, ◌==◌, Bool, List, length, nat_lt, Option, Some, None, if◌then◌else◌}
+use Rattle.std.specs.List.{position_or_len, before_first}
+use Rattle.std.specs.Str.Lines.{lines, strip_carriage_return}
+use Rattle.chip_asm.specs.declared.refusal.OpenError.{OpenError}
+use Rattle.chip_asm.specs.declared.refusal.OpenError.TheVariants.{LineTooLong, TooManyLines}
+
+-- the lines of some bytes: a newline ends a line, a carriage return directly before it is dropped, and what stands after the last
+-- newline is a line if it isn't empty
+abbrev pub lines_of : List ℕ → List (List ℕ)
+lines_of bytes = lines bytes
+
+abbrev pub is_long : List ℕ → Bool
+is_long text = nat_lt 200 (length text)
+
+-- the fault of lines of which `first` is the index of the first that is too long, or their number where none is
+abbrev pub fault_of_lines : ℕ → ℕ → Option OpenError
+fault_of_lines first count =
+    if nat_lt first count && nat_lt first 4000 then Some (LineTooLong (first + 1))
+    else if nat_lt 4000 count then Some TooManyLines
+    else None
+
+-- a source opens to its lines, unless one of them is the 4,001st or is over 200 bytes: the first such line decides
+abbrev pub open_fault : List ℕ → Option OpenError
+open_fault source = fault_of_lines (position_or_len is_long (lines_of source)) (length (lines_of source))
+
+-- What the functions inside say:
+
+abbrev pub is_newline : ℕ → Bool
+is_newline byte = byte == 10
+
+-- the text of the first line of bytes that aren't empty
+abbrev pub first_text : List ℕ → List ℕ
+first_text bytes =
+    if nat_lt (position_or_len is_newline bytes) (length bytes) then strip_carriage_return (before_first is_newline bytes) else bytes

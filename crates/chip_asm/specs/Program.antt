@@ -1,0 +1,90 @@
+-- The names, the faults and the image of a whole source (Chipper manual; own where it is silent).
+use Rattle.std.specs.Prelude.{◌≡◌, ℕ, ◌+◌, ◌-◌, Bool, not, ◌&&◌, List, [], ◌∷◌, reverse, map, Option, Some, None, is_some, is_none, Result, Ok, Err, if◌then◌else◌, nat_eq, nat_lt, nat_le, find, filter_map, option_map, option_and_then, slice_get, slice_index}
+use Rattle.std.specs.List.{list_any, range_with_len}
+use Rattle.std.specs.Option.{option_map_or}
+use Rattle.chip_lang.specs.declared.fault.Fault.{Fault}
+use Rattle.chip_lang.specs.declared.fault.Fault.TheVariants.{UnclosedIf}
+use Rattle.chip_lang.specs.Line.{Reading, reading_of}
+use Rattle.chip_lang.specs.Code.{own_bytes}
+use Rattle.chip_asm.specs.declared.table.Symbol.{Symbol}
+use Rattle.chip_asm.specs.Names.{Name, values_of}
+use Rattle.chip_asm.specs.Layout.{Placed, placed, symbols, is_if, enclosing, has_ended, address, body_of}
+
+-- the table of names of some lines
+abbrev pub names_of_lines : List Reading → List (Name × Symbol)
+names_of_lines lines = symbols (placed lines)
+
+-- a live IF that would enclose one line more, in a source that no END ends
+abbrev pub is_unclosed : List Placed → Placed → Bool
+is_unclosed all p = is_if p && p.live && not (has_ended all) && list_any (λ opener. nat_eq opener.number p.number) (enclosing all)
+
+-- the fault of the first pass
+abbrev pub first_pass_fault : List Placed → Placed → Option Fault
+first_pass_fault all p = if is_unclosed all p then Some UnclosedIf else p.fault
+
+-- the line's own bytes under all names, or its fault of the second pass
+abbrev pub code_under : List Placed → Placed → Result (List ℕ) Fault
+code_under all p = own_bytes (body_of p.line) (values_of (symbols all))
+
+abbrev pub fault_in_code : Result (List ℕ) Fault → Option Fault
+fault_in_code (Ok bytes) = None
+fault_in_code (Err fault) = Some fault
+
+abbrev pub bytes_in_code : Result (List ℕ) Fault → List ℕ
+bytes_in_code (Ok bytes) = bytes
+bytes_in_code (Err fault) = []
+
+-- the fault of a line of the source: a line that isn't live has none
+abbrev pub fault_of : List Placed → Placed → Option Fault
+fault_of all p =
+    if p.live
+    then (if is_some (first_pass_fault all p) then first_pass_fault all p else fault_in_code (code_under all p))
+    else None
+
+abbrev pub fault_of_line : List Reading → ℕ → Option Fault
+fault_of_line lines number =
+    if nat_eq number 0 then None else option_and_then (fault_of (placed lines)) (slice_get (reverse (placed lines)) (number - 1))
+
+-- the line's number with its fault
+abbrev pub numbered_fault : List Placed → Placed → Option (ℕ × Fault)
+numbered_fault all p = option_map (λ fault. (p.number, fault)) (fault_of all p)
+
+abbrev pub faults_of_lines : List Reading → List (ℕ × Fault)
+faults_of_lines lines = filter_map (numbered_fault (placed lines)) (reverse (placed lines))
+
+-- the line covers the address
+abbrev pub covers : ℕ → Placed → Bool
+covers at p = nat_le p.here at && nat_lt at (p.here + p.size)
+
+-- the byte at an address: that of the line that covers it, zero past the line's own bytes or where no line does
+unfoldable pub byte_at : List Placed → ℕ → ℕ
+byte_at all at = option_map_or (λ p. slice_index (bytes_in_code (code_under all p)) (at - p.here)) (find (covers at) all) 0
+
+-- the bytes from 512 up to the address after the last line
+abbrev pub bytes_of_lines : List Placed → List ℕ
+bytes_of_lines all = map (byte_at all) (range_with_len 512 (address all - 512))
+
+abbrev pub unless_faulty : List (ℕ × Fault) → List ℕ → Option (List ℕ)
+unless_faulty [] bytes = Some bytes
+unless_faulty (fault ∷ faults) bytes = None
+
+abbrev pub image_of_lines : List Reading → Option (List ℕ)
+image_of_lines lines = unless_faulty (faults_of_lines lines) (bytes_of_lines (placed lines))
+
+-- Of the texts of a source:
+
+-- the names that it gives, in line order, each with its value and the number of its line
+unfoldable pub symbols_of : List (List ℕ) → List (Name × Symbol)
+symbols_of texts = names_of_lines (map reading_of texts)
+
+-- all faults, in line order
+unfoldable pub faults_of : List (List ℕ) → List (ℕ × Fault)
+faults_of texts = faults_of_lines (map reading_of texts)
+
+-- the fault of the line of a number
+unfoldable pub fault_at : List (List ℕ) → ℕ → Option Fault
+fault_at texts number = fault_of_line (map reading_of texts) number
+
+-- the image, where no line has a fault
+unfoldable pub image_of : List (List ℕ) → Option (List ℕ)
+image_of texts = image_of_lines (map reading_of texts)

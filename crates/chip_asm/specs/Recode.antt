@@ -1,0 +1,45 @@
+-- Which lines are encoded anew, by what is kept (own).
+use Rattle.std.specs.Prelude.{◌≡◌, ℕ, ◌<◌, Bool, true, false, not, ◌&&◌, List, map, length, count_by, Option, Some, None, if◌then◌else◌, slice_get}
+use Rattle.std.specs.List.{enumerate_from}
+use Rattle.std.specs.Option.{option_map_or}
+use Rattle.chip_lang.specs.declared.code.Coded.{Coded}
+use Rattle.chip_lang.specs.Line.{Body, db, dw, da, code, Reading}
+use Rattle.chip_lang.specs.Code.{own_bytes, coded}
+use Rattle.chip_lang.specs.Uses.{agree_on}
+use Rattle.chip_asm.specs.Names.{values_of}
+use Rattle.chip_asm.specs.Layout.{body_of}
+use Rattle.chip_asm.specs.Program.{names_of_lines}
+use Rattle.chip_asm.specs.Layouts.{placements_of}
+use Rattle.chip_asm.specs.Placements.{is_placed}
+use Rattle.chip_asm.specs.declared.placement.Placement.{Placement}
+
+-- the line has bytes of its own
+abbrev pub has_code : Body → Bool
+has_code (db es) = true
+has_code (dw es) = true
+has_code (da bytes) = true
+has_code (code form operands) = true
+has_code _ = false
+
+abbrev pub is_placed_at : List Placement → ℕ → Bool
+is_placed_at placements place = option_map_or is_placed (slice_get placements place) false
+
+unfoldable pub is_encoded_again : (old new : List Reading) → (ℕ → Option ℕ) → ℕ × Reading → Bool
+is_encoded_again old new origin at =
+    has_code (body_of at.1)
+    && (is_placed_at (placements_of new) at.0
+    && not (option_map_or (λ before. is_placed_at (placements_of old) before && agree_on (values_of (names_of_lines old)) (values_of (names_of_lines new)) at.1) (origin at.0) false))
+
+-- the code of a line of some lines
+unfoldable pub code_among : List Reading → Reading → Coded
+code_among lines line = coded (own_bytes (body_of line) (values_of (names_of_lines lines)))
+
+-- the new code of a line, where it is encoded again
+abbrev pub new_code : (old new : List Reading) → (ℕ → Option ℕ) → ℕ × Reading → Option Coded
+new_code old new origin at = if is_encoded_again old new origin at then Some (code_among new at.1) else None
+
+abbrev pub new_codes : (old new : List Reading) → (ℕ → Option ℕ) → List (Option Coded)
+new_codes old new origin = map (new_code old new origin) (enumerate_from 0 new)
+
+abbrev pub count_again : (old new : List Reading) → (ℕ → Option ℕ) → ℕ
+count_again old new origin = count_by (is_encoded_again old new origin) (enumerate_from 0 new)

@@ -1,0 +1,7 @@
+-- What contracts see of a source: the texts of its lines, and the work done so far (own).
+use Rattle.std.specs.Prelude.{ℕ, List}
+use Rattle.chip_lang.specs.declared.meter.Meter.{Meter}
+
+pub record Text : Type 0 where
+  pub lines : List (List ℕ)
+  pub work : Meter

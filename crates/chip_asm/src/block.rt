@@ -1,0 +1,65 @@
+//! The open blocks.
+ghost use Rattle.std.specs.Prelude.{◌≡◌, List, OnOk, reverse};
+ghost use Rattle.std.specs.List.{list_all};
+ghost use Rattle.chip_asm.specs.Turns.{turned as turned_block, moved};
+ghost use Rattle.chip_lang.specs.SeenLine.{seen_body};
+ghost use Rattle.chip_asm.specs.declared.block.Block.{Block};
+
+use chip_lang::Body;
+use std::alloc::AllocError;
+
+/// An open block: the number of its IF line; that line was live; its condition holds on this side; an ELSE came.
+#[derive(Clone, Copy, Debug)]
+pub(crate) struct Block {
+    pub(crate) number: usize,
+    pub(crate) live: bool,
+    pub(crate) holds: bool,
+    pub(crate) has_else: bool,
+}
+
+/// Whether every block holds on its side.
+pub(crate) fn all_hold(blocks: &[Block]) -> bool
+    ensures { result ≡ list_all (λ b. b.holds) blocks.now }
+{
+    blocks.iter().all(|block| block.holds)
+}
+
+/// The other side of a block, once.
+fn turned(block: Block) -> Block
+    ensures { result ≡ turned_block block }
+{
+    if block.has_else {
+        block
+    } else {
+        Block {
+            number: block.number,
+            live: block.live,
+            holds: !block.holds,
+            has_else: true,
+        }
+    }
+}
+
+/// An IF opens a block, an ELSE turns to its other side, an ENDIF closes it. The last block stands last.
+pub(crate) fn move_blocks(
+    blocks: &mut Vec<Block>,
+    body: &Body,
+    opened: Block,
+) -> Result<(), AllocError>
+    ensures { (nearest : List Block) → blocks.old.items ≡ reverse nearest → OnOk result (blocks.new.items ≡ reverse (moved (seen_body body.now) opened nearest)) }
+{
+    match body {
+        Body::Ifdef(_) | Body::Ifund(_) => blocks.push(opened)?,
+        Body::Else => {
+            let count = blocks.len();
+            if count > 0 {
+                blocks[count - 1] = turned(blocks[count - 1]);
+            }
+        }
+        Body::Endif => {
+            blocks.pop();
+        }
+        _ => {}
+    }
+    Ok(())
+}

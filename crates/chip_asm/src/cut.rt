@@ -1,0 +1,109 @@
+//! Bytes cut into lines.
+ghost use Rattle.std.specs.Prelude.{◌≡◌, ◌+◌, ◌<◌, ◌≤◌, ◌==◌, ◌++◌, ◌∷◌, [], ◌⊎◌, IfOk, IfErr, OnOk, length, None, Some, map, drop};
+ghost use Rattle.std.specs.List.{position_or_len, after_first};
+ghost use Rattle.std.specs.Str.Lines.{strip_carriage_return};
+ghost use Rattle.chip_lang.specs.Line.{reading_of};
+ghost use Rattle.chip_lang.specs.Meter.{one_more};
+ghost use Rattle.chip_asm.specs.Lines.{lines_of, open_fault, is_newline, first_text};
+ghost use Rattle.chip_asm.specs.Records.{readings_in, texts_in};
+ghost use Rattle.chip_asm.specs.declared.refusal.OpenError.{OpenError};
+
+use crate::kept_line::{KeptLine, read_kept};
+use crate::refusal::{MAX_LINES, MAX_TEXT, OpenError};
+use chip_lang::Meter;
+use std::alloc::{AllocError, Global};
+
+/// How many bytes stand before the first newline, or how many there are.
+fn line_length(bytes: &[u8]) -> usize
+    ensures length { result ≡ position_or_len is_newline bytes.now }
+    ensures bound { result ≤ length bytes.now }
+{
+    for index in 0..bytes.len() {
+        if bytes[index] == b'\n' {
+            return index;
+        }
+    }
+    bytes.len()
+}
+
+/// A text without the carriage return at its end, if it has one.
+fn without_return(text: &[u8]) -> &[u8]
+    ensures { result.now ≡ strip_carriage_return text.now }
+{
+    match text {
+        [front @ .., b'\r'] => front,
+        _ => text,
+    }
+}
+
+/// The first line's text, where the first line has this many bytes.
+fn first_text(bytes: &[u8], end: usize) -> &[u8]
+    requires end { end ≡ position_or_len is_newline bytes.now }
+    ensures { result.now ≡ first_text bytes.now }
+{
+    if end < bytes.len() {
+        without_return(&bytes[..end])
+    } else {
+        bytes
+    }
+}
+
+/// What follows the first line, where that has this many bytes.
+fn after_line(bytes: &[u8], end: usize) -> &[u8]
+    requires end { end ≡ position_or_len is_newline bytes.now }
+    ensures { result.now ≡ after_first is_newline bytes.now }
+{
+    if end < bytes.len() {
+        &bytes[end + 1..]
+    } else {
+        &[]
+    }
+}
+
+/// Reads a text, as one more line.
+fn push_line(
+    alloc: Global,
+    meter: &mut Meter,
+    lines: &mut Vec<KeptLine>,
+    text: &[u8],
+) -> Result<(), AllocError>
+    ensures texts { OnOk result (texts_in lines.new.items ≡ texts_in lines.old.items ++ text.now ∷ []) }
+    ensures readings { OnOk result (readings_in lines.new.items ≡ readings_in lines.old.items ++ reading_of text.now ∷ []) }
+    ensures count { OnOk result (length lines.new.items ≡ length lines.old.items + 1) }
+    ensures counted { meter.new ≡ record meter.old { parsed = one_more meter.old.parsed } }
+{
+    let kept = read_kept(alloc, meter, text)?;
+    lines.push(kept)?;
+    Ok(())
+}
+
+/// Reads the lines of a source, in order, until one is over 200 bytes or the 4,001st.
+pub(crate) fn read_lines(
+    alloc: Global,
+    meter: &mut Meter,
+    source: &[u8],
+) -> Result<Vec<KeptLine>, OpenError>
+    requires { meter.old ≡ record { parsed = 0; encoded = 0 } }
+    ensures ok { IfOk result (λ lines. (open_fault source.now ≡ None) × (texts_in lines.items ≡ lines_of source.now)) }
+    ensures read { IfOk result (λ lines. readings_in lines.items ≡ map reading_of (texts_in lines.items)) }
+    ensures few { IfOk result (λ lines. length lines.items ≤ 4000) }
+    ensures parsed { IfOk result (λ lines. meter.new.parsed ≡ length lines.items) }
+    ensures encoded { meter.new.encoded ≡ 0 }
+    ensures err { IfErr result (λ e. (e ≡ OpenError.OutOfMemory) ⊎ (open_fault source.now ≡ Some e)) }
+{
+    let mut lines: Vec<KeptLine> = Vec::new(alloc);
+    let mut rest = source;
+    while !rest.is_empty() {
+        let end = line_length(rest);
+        let text = first_text(rest, end);
+        if lines.len() == MAX_LINES {
+            return Err(OpenError::TooManyLines);
+        }
+        if text.len() > MAX_TEXT {
+            return Err(OpenError::LineTooLong(lines.len() + 1));
+        }
+        push_line(alloc, meter, &mut lines, text)?;
+        rest = after_line(rest, end);
+    }
+    Ok(lines)
+}

@@ -1,0 +1,117 @@
+//! A change of one line, seen before it is made.
+ghost use Rattle.std.specs.Prelude.{◌≡◌, ◌<◌, ◌≤◌, length, slice_get, Some, vec_len, vec_capacity};
+ghost use Rattle.chip_asm.specs.Records.{IsPlaceWithin, lines_after, readings_in, count_after, place_before};
+ghost use Rattle.chip_lang.specs.SeenLine.{seen_line};
+
+use crate::kept_line::KeptLine;
+use chip_lang::Line;
+
+/// A change of one line; places count from 0.
+#[derive(Drop)]
+pub(crate) enum Edit {
+    /// The line comes before the one at the place.
+    Insert(usize, KeptLine),
+    /// The line takes the place of the one there.
+    Replace(usize, KeptLine),
+    /// The line at the place goes.
+    Delete(usize),
+    /// All lines stay.
+    Keep,
+}
+
+/// The reading of the line at a place after the edit.
+pub(crate) fn line_after<'a>(lines: &'a [KeptLine], edit: &'a Edit, place: usize) -> &'a Line
+    requires within { IsPlaceWithin (length lines.now) edit.now }
+    requires place { place < count_after (length lines.now) edit.now }
+    ensures { slice_get (readings_in (lines_after lines.now edit.now)) place ≡ Some (seen_line result.now) }
+{
+    match edit {
+        Edit::Insert(at, added) => {
+            if place < *at {
+                &lines[place].line
+            } else if place == *at {
+                &added.line
+            } else {
+                &lines[place - 1].line
+            }
+        }
+        Edit::Replace(at, added) => {
+            if place == *at {
+                &added.line
+            } else {
+                &lines[place].line
+            }
+        }
+        Edit::Delete(at) => {
+            if place < *at {
+                &lines[place].line
+            } else {
+                &lines[place + 1].line
+            }
+        }
+        Edit::Keep => &lines[place].line,
+    }
+}
+
+/// How many lines there are after the edit.
+pub(crate) fn count_after(count: usize, edit: &Edit) -> usize
+    requires { count < 4096 }
+    ensures { result ≡ count_after count edit.now }
+{
+    match edit {
+        Edit::Insert(_, _) => count + 1,
+        Edit::Delete(_) => count.saturating_sub(1),
+        Edit::Replace(_, _) | Edit::Keep => count,
+    }
+}
+
+/// Where the line at a place stood before the edit; none for the new line.
+pub(crate) fn place_before(edit: &Edit, place: usize) -> Option<usize>
+    requires { place < 4096 }
+    ensures { result ≡ place_before edit.now place }
+{
+    match edit {
+        Edit::Insert(at, _) => {
+            if place < *at {
+                Some(place)
+            } else if place == *at {
+                None
+            } else {
+                Some(place - 1)
+            }
+        }
+        Edit::Replace(at, _) => {
+            if place == *at {
+                None
+            } else {
+                Some(place)
+            }
+        }
+        Edit::Delete(at) => {
+            if place < *at {
+                Some(place)
+            } else {
+                Some(place + 1)
+            }
+        }
+        Edit::Keep => Some(place),
+    }
+}
+
+/// Makes the edit in a list with room for one line more.
+pub(crate) fn make_edit(lines: &mut Vec<KeptLine>, edit: Edit)
+    requires within { IsPlaceWithin (vec_len lines.old) edit }
+    requires room { vec_len lines.old < vec_capacity lines.old }
+    ensures { lines.new.items ≡ lines_after lines.old.items edit }
+{
+    match edit {
+        Edit::Insert(at, added) => {
+            let _ = lines.insert(at, added);
+        }
+        Edit::Replace(at, added) => lines[at] = added,
+        Edit::Delete(at) => {
+            let _ = lines.remove(at);
+        }
+        Edit::Keep => {}
+    }
+}

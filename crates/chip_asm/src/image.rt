@@ -1,0 +1,159 @@
+//! The image, and the faults of lines, from what is kept.
+ghost use Rattle.std.specs.Prelude.{◌≡◌, ℕ, ◌+◌, ◌-◌, ◌<◌, ◌≤◌, ◌&&◌, nat_le, nat_lt, true, false, length, replicate, slice_index, if◌then◌else◌, [], option_map, reverse, IfOk, OnOk, ◌++◌, option_to_list, IfSome, vec_len};
+ghost use Rattle.chip_asm.specs.Layout.{placed};
+ghost use Rattle.chip_asm.specs.Layouts.{IsLayoutOf};
+ghost use Rattle.chip_asm.specs.Program.{faults_of_lines, image_of_lines, byte_at, fault_of_line};
+ghost use Rattle.chip_asm.specs.Records.{readings_in};
+ghost use Rattle.chip_asm.specs.Kept.{AreCurrent, HasFault};
+ghost use Rattle.chip_asm.specs.KeptCodes.{kept_fault, kept_bytes};
+
+use crate::kept_line::KeptLine;
+use crate::layout::Layout;
+use crate::placement::Placement;
+use crate::recode::has_code;
+use chip_lang::Coded;
+use chip_lang::Fault;
+use std::alloc::{AllocError, Global};
+
+/// An image has no more bytes than this: from address 512 to the end of memory.
+pub(crate) const MAX_IMAGE: usize = 3584;
+
+/// The fault of a line, from what is kept of it.
+pub(crate) fn kept_fault(placement: &Placement, kept: &KeptLine) -> Option<Fault>
+    ensures { result ≡ kept_fault placement.now kept.now }
+{
+    if !placement.live {
+        return None;
+    }
+    if placement.fault.is_some() {
+        return placement.fault;
+    }
+    if !has_code(&kept.line) {
+        return None;
+    }
+    match &kept.code {
+        Coded::Bytes(_) => None,
+        Coded::Faulty(fault) => Some(*fault),
+    }
+}
+
+/// The bytes of a line, from what is kept of it.
+pub(crate) fn kept_bytes(kept: &KeptLine) -> &[u8]
+    ensures { result.now ≡ kept_bytes kept.now }
+{
+    if !has_code(&kept.line) {
+        return &[];
+    }
+    match &kept.code {
+        Coded::Bytes(bytes) => bytes.get(),
+        Coded::Faulty(_) => &[],
+    }
+}
+
+/// The byte at an index, or 0 past the end.
+pub(crate) fn byte_or_zero(bytes: &[u8], index: usize) -> u8
+    ensures { result ≡ slice_index bytes.now index }
+{
+    match bytes.get(index) {
+        Some(byte) => *byte,
+        None => 0,
+    }
+}
+
+/// Writes the bytes of a line at its address, and zeros up to its size.
+fn write_line(image: &mut [u8], here: usize, size: usize, bytes: &[u8])
+    requires low { 512 ≤ here }
+    requires high { here + size ≤ length image.old + 512 }
+    requires memory { length image.old + 512 ≤ 4096 }
+    ensures { (index : ℕ) → slice_index image.new index
+        ≡ (if nat_le here (512 + index) && nat_lt (512 + index) (here + size) then slice_index bytes.now (512 + index - here) else slice_index image.old index) }
+{
+    for index in 0..size {
+        image[here - 512 + index] = byte_or_zero(bytes, index);
+    }
+}
+
+/// Writes the bytes of all lines into zeros, unless a line has a fault. Whether none has.
+fn write_lines(image: &mut [u8], lines: &[KeptLine], layout: &Layout) -> bool
+    requires zeros { image.old ≡ replicate 3584 0 }
+    requires laid_out { IsLayoutOf layout.now (readings_in lines.now) }
+    requires current { AreCurrent lines.now }
+    ensures sound { result ≡ true → faults_of_lines (readings_in lines.now) ≡ [] }
+    ensures bytes { result ≡ true → (index : ℕ) → index < 3584 → slice_index image.new index ≡ byte_at (placed (readings_in lines.now)) (512 + index) }
+    ensures faulty { result ≡ false → HasFault (readings_in lines.now) }
+{
+    for place in 0..lines.len() {
+        let placement = layout.placements[place];
+        let kept = &lines[place];
+        if kept_fault(&placement, kept).is_some() {
+            return false;
+        }
+        write_line(image, placement.here, placement.size, kept_bytes(kept));
+    }
+    true
+}
+
+/// The fault of the line with this number.
+pub(crate) fn fault_of_number(lines: &[KeptLine], layout: &Layout, number: usize) -> Option<Fault>
+    requires laid_out { IsLayoutOf layout.now (readings_in lines.now) }
+    requires current { AreCurrent lines.now }
+    ensures { result ≡ fault_of_line (readings_in lines.now) number }
+{
+    if number == 0 {
+        return None;
+    }
+    if number > lines.len() {
+        return None;
+    }
+    let placement = layout.placements[number - 1];
+    kept_fault(&placement, &lines[number - 1])
+}
+
+/// Appends the fault of a line, if it has one.
+fn push_fault(
+    faults: &mut Vec<(usize, Fault)>,
+    number: usize,
+    fault: Option<Fault>,
+) -> Result<(), AllocError>
+    ensures { OnOk result (faults.new.items ≡ faults.old.items ++ option_to_list (option_map (λ f. (number, f)) fault)) }
+{
+    if let Some(fault) = fault {
+        faults.push((number, fault))?;
+    }
+    Ok(())
+}
+
+/// The faults of the lines, in line order, each with the line's number.
+pub(crate) fn faults_in(
+    alloc: Global,
+    lines: &[KeptLine],
+    layout: &Layout,
+) -> Result<Vec<(usize, Fault)>, AllocError>
+    requires laid_out { IsLayoutOf layout.now (readings_in lines.now) }
+    requires current { AreCurrent lines.now }
+    ensures { IfOk result (λ faults. faults.items ≡ faults_of_lines (readings_in lines.now)) }
+{
+    let mut faults = Vec::new(alloc);
+    for place in 0..lines.len() {
+        let placement = layout.placements[place];
+        let fault = kept_fault(&placement, &lines[place]);
+        push_fault(&mut faults, placement.number, fault)?;
+    }
+    Ok(faults)
+}
+
+/// The image of the lines, made in zeros; none where a line has a fault.
+pub(crate) fn image_of(zeros: Vec<u8>, lines: &[KeptLine], layout: &Layout) -> Option<Vec<u8>>
+    requires zeros { zeros.items ≡ replicate 3584 0 }
+    requires laid_out { IsLayoutOf layout.now (readings_in lines.now) }
+    requires current { AreCurrent lines.now }
+    ensures value { option_map (λ bytes. bytes.items) result ≡ image_of_lines (readings_in lines.now) }
+    ensures short { IfSome result (λ bytes. vec_len bytes ≤ 3584) }
+{
+    let mut image = zeros;
+    if !write_lines(&mut image, lines, layout) {
+        return None;
+    }
+    image.truncate(layout.end - 512);
+    Some(image)
+}

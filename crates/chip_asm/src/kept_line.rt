@@ -1,0 +1,38 @@
+//! What is kept of a line.
+ghost use Rattle.std.specs.Prelude.{◌≡◌, IfOk};
+ghost use Rattle.chip_lang.specs.Line.{reading_of};
+ghost use Rattle.chip_lang.specs.SeenLine.{seen_line};
+ghost use Rattle.chip_lang.specs.Meter.{one_more};
+
+use chip_lang::Bytes;
+use chip_lang::Coded;
+use chip_lang::{Line, read_line};
+use chip_lang::Meter;
+use std::alloc::{AllocError, Global};
+
+/// A line of the source: its text, its reading, and its code as it was last encoded.
+#[derive(Drop)]
+pub(crate) struct KeptLine {
+    pub(crate) text: Bytes,
+    pub(crate) line: Line,
+    pub(crate) code: Coded,
+}
+
+/// Reads a text. It is not encoded yet.
+pub(crate) fn read_kept(
+    alloc: Global,
+    meter: &mut Meter,
+    text: &[u8],
+) -> Result<KeptLine, AllocError>
+    ensures text { IfOk result (λ kept. kept.text ≡ text.now) }
+    ensures reading { IfOk result (λ kept. seen_line kept.line ≡ reading_of text.now) }
+    ensures counted { meter.new ≡ record meter.old { parsed = one_more meter.old.parsed } }
+{
+    let line = read_line(alloc, meter, text)?;
+    let text = Bytes::new(Vec::from_slice(alloc, text)?);
+    Ok(KeptLine {
+        text,
+        line,
+        code: Coded::Bytes(Bytes::new(Vec::new(alloc))),
+    })
+}

@@ -1,0 +1,220 @@
+//! The listing of a source.
+ghost use Rattle.std.specs.Prelude.{◌≡◌, ◌+◌, ◌-◌, ◌≤◌, ◌++◌, ◌∷◌, [], ℕ, true, OnOk, IfOk, length, replicate, codes};
+ghost use Rattle.chip_lang.specs.SeenLine.{seen_line};
+ghost use Rattle.std.specs.Fmt.{decimal, signed_decimal};
+ghost use Rattle.chip_lang.specs.Show.{hex_byte, hex_word, hex_digit};
+ghost use Rattle.chip_asm.specs.Layout.{placed, value_given, body_of};
+ghost use Rattle.chip_asm.specs.Layouts.{IsLayoutOf};
+ghost use Rattle.chip_asm.specs.Listing.{at_right, at_left, address_shown, bytes_shown, field_shown, more_shown, is_definition, shown, lines_shown};
+ghost use Rattle.chip_asm.specs.Records.{reading_in, readings_in, texts_in};
+ghost use Rattle.chip_asm.specs.Kept.{AreCurrent};
+ghost use Rattle.chip_asm.specs.KeptCodes.{kept_fault, kept_bytes};
+
+use crate::image::{byte_or_zero, kept_bytes, kept_fault};
+use crate::kept_line::KeptLine;
+use crate::layout::Layout;
+use crate::placement::Placement;
+use chip_lang::{Body, Fault, Line};
+use std::alloc::{AllocError, Global};
+
+/// Appends spaces.
+fn push_spaces(out: &mut Vec<u8>, count: usize) -> Result<(), AllocError>
+    ensures { OnOk result (out.new.items ≡ out.old.items ++ replicate count 32) }
+{
+    for _index in 0..count {
+        out.push(b' ')?;
+    }
+    Ok(())
+}
+
+/// Appends a text at the right of so many places.
+fn push_right(out: &mut Vec<u8>, places: usize, text: &[u8]) -> Result<(), AllocError>
+    ensures { OnOk result (out.new.items ≡ out.old.items ++ at_right places text.now) }
+{
+    push_spaces(out, places.saturating_sub(text.len()))?;
+    out.extend_from_slice(text)?;
+    Ok(())
+}
+
+/// Appends a number in decimal, at the right of four places.
+fn push_number(out: &mut Vec<u8>, alloc: Global, number: usize) -> Result<(), AllocError>
+    ensures { OnOk result (out.new.items ≡ out.old.items ++ at_right 4 (decimal number)) }
+{
+    let digits = number.to_string(alloc)?;
+    push_right(out, 4, digits.as_bytes())?;
+    Ok(())
+}
+
+/// Appends a text at the left of so many places.
+fn push_left(out: &mut Vec<u8>, places: usize, text: &[u8]) -> Result<(), AllocError>
+    ensures { OnOk result (out.new.items ≡ out.old.items ++ at_left places text.now) }
+{
+    out.extend_from_slice(text)?;
+    push_spaces(out, places.saturating_sub(text.len()))?;
+    Ok(())
+}
+
+/// A digit below 16, in lower case.
+fn hex_digit(digit: usize) -> u8
+    requires { digit ≤ 15 }
+    ensures { result ≡ hex_digit digit }
+{
+    if digit < 10 {
+        b'0' + digit as u8
+    } else {
+        b'a' - 10 + digit as u8
+    }
+}
+
+/// Appends the last two digits of a number to the base 16.
+fn push_byte(out: &mut Vec<u8>, number: usize) -> Result<(), AllocError>
+    ensures { OnOk result (out.new.items ≡ out.old.items ++ hex_byte number) }
+{
+    out.push(hex_digit(number / 16 % 16))?;
+    out.push(hex_digit(number % 16))?;
+    Ok(())
+}
+
+/// Appends the address of a line.
+fn push_address(out: &mut Vec<u8>, live: bool, here: usize) -> Result<(), AllocError>
+    ensures { OnOk result (out.new.items ≡ out.old.items ++ address_shown live here) }
+{
+    if live {
+        out.push(hex_digit(here / 4096 % 16))?;
+        out.push(hex_digit(here / 256 % 16))?;
+        push_byte(out, here)?;
+        return Ok(());
+    }
+    out.extend_from_slice(b"----")?;
+    Ok(())
+}
+
+/// Appends so many of the first bytes, with zeros past the last one.
+fn push_bytes(out: &mut Vec<u8>, count: usize, bytes: &[u8]) -> Result<(), AllocError>
+    ensures { OnOk result (out.new.items ≡ out.old.items ++ bytes_shown count bytes.now) }
+{
+    for index in 0..count {
+        push_byte(out, byte_or_zero(bytes, index) as usize)?;
+    }
+    Ok(())
+}
+
+/// Whether the line gives its name a value of its own.
+fn is_definition(line: &Line) -> bool
+    ensures { result ≡ is_definition (body_of (seen_line line.now)) }
+{
+    matches!(
+        line,
+        Line::Read {
+            body: Body::Equ(_) | Body::Define,
+            ..
+        }
+    )
+}
+
+/// The value that a definition gives: that of EQU, and 0 of DEFINE.
+fn value_given(line: &Line, value: i32) -> i32
+    requires { is_definition (body_of (seen_line line.now)) ≡ true }
+    ensures { (here : ℕ) → result ≡ value_given here value (body_of (seen_line line.now)) }
+{
+    match line {
+        Line::Read {
+            body: Body::Define, ..
+        } => 0,
+        _ => value,
+    }
+}
+
+/// Appends the value that a definition gives.
+fn push_value(alloc: Global, out: &mut Vec<u8>, value: i32) -> Result<(), AllocError>
+    ensures { OnOk result (out.new.items ≡ out.old.items ++ (codes "=" ++ signed_decimal value)) }
+{
+    out.push(b'=')?;
+    out.extend_from_slice(value.to_string(alloc)?.as_bytes())?;
+    Ok(())
+}
+
+/// What stands in the field of a line.
+fn field(
+    alloc: Global,
+    fault: Option<Fault>,
+    placement: &Placement,
+    kept: &KeptLine,
+) -> Result<Vec<u8>, AllocError>
+    ensures { IfOk result (λ field. field.items
+        ≡ field_shown fault placement.now.live (body_of (reading_in kept.now)) placement.now.here placement.now.value placement.now.size (kept_bytes kept.now)) }
+{
+    let mut field = Vec::new(alloc);
+    if let Some(fault) = fault {
+        field.push(b'F')?;
+        field.extend_from_slice(fault.number().to_string(alloc)?.as_bytes())?;
+        return Ok(field);
+    }
+    if !placement.live {
+        return Ok(field);
+    }
+    if is_definition(&kept.line) {
+        let value = value_given(&kept.line, placement.value);
+        push_value(alloc, &mut field, value)?;
+        return Ok(field);
+    }
+    push_bytes(&mut field, placement.size.min(6), kept_bytes(kept))?;
+    Ok(field)
+}
+
+/// The sign of a line with more than six bytes.
+fn more_sign(fault: Option<Fault>, size: usize) -> u8
+    ensures { result ≡ more_shown fault size }
+{
+    if fault.is_none() && size > 6 {
+        b'+'
+    } else {
+        b' '
+    }
+}
+
+/// Appends one line of the listing.
+#[tactic(auto, unfolding(crate::specs::Listing::shown))]
+fn push_line(
+    out: &mut Vec<u8>,
+    alloc: Global,
+    placement: &Placement,
+    field: &[u8],
+    more: u8,
+    text: &[u8],
+) -> Result<(), AllocError>
+    ensures { OnOk result (out.new.items ≡ out.old.items ++ shown placement.now.number placement.now.live placement.now.here field.now more text.now) }
+{
+    push_number(out, alloc, placement.number)?;
+    out.push(b' ')?;
+    push_address(out, placement.live, placement.here)?;
+    out.push(b' ')?;
+    push_left(out, 12, field)?;
+    out.push(more)?;
+    out.push(b' ')?;
+    out.extend_from_slice(text)?;
+    out.push(b'\n')?;
+    Ok(())
+}
+
+/// The listing of all lines.
+pub(crate) fn listing_in(
+    alloc: Global,
+    lines: &[KeptLine],
+    layout: &Layout,
+) -> Result<Vec<u8>, AllocError>
+    requires laid_out { IsLayoutOf layout.now (readings_in lines.now) }
+    requires current { AreCurrent lines.now }
+    ensures { IfOk result (λ listing. listing.items ≡ lines_shown (placed (readings_in lines.now)) (texts_in lines.now)) }
+{
+    let mut listing = Vec::new(alloc);
+    for place in 0..lines.len() {
+        let placement = layout.placements[place];
+        let kept = &lines[place];
+        let fault = kept_fault(&placement, kept);
+        let field = field(alloc, fault, &placement, kept)?;
+        let more = more_sign(fault, placement.size);
+        push_line(&mut listing, alloc, &placement, &field, more, kept.text.get())?;
+    }
+    Ok(listing)
+}

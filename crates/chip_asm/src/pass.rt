@@ -1,0 +1,386 @@
+//! The first pass: one line after another.
+ghost use Rattle.std.specs.Prelude.{◌≡◌, ℕ, ◌+◌, ◌-◌, ◌≤◌, ◌<◌, ◌^◌, List, [], ◌∷◌, ◌++◌, OnOk, IfOk, length, reverse, is_some, is_none, unsigned_abs, int_lt, pos, nat_lt, Option, None, Ok, true, false, ◌&&◌, ◌||◌, if◌then◌else◌, option_to_list};
+ghost use Rattle.chip_asm.specs.Layout.{value_at, own_size, is_padded, full_size, is_negative_space, is_backwards, is_past_end, fault_of_value, is_redefinition, is_if_body, body_of, value_or_zero, condition_of, is_org_body, is_end_body, symbol_given};
+ghost use Rattle.chip_lang.specs.SeenLine.{seen_line, seen_body};
+ghost use Rattle.chip_lang.specs.Line.{Reading, empty as empty_body};
+ghost use Rattle.chip_lang.specs.Uses.{name_defined};
+
+use crate::block::{Block, all_hold, move_blocks};
+use crate::placement::{Placement, is_passed};
+use crate::table::{Symbol, Table};
+use chip_lang::eval;
+use chip_lang::Fault;
+use chip_lang::{Body, Line};
+use chip_lang::defines;
+use std::alloc::{AllocError, Global};
+
+/// The state of the pass between two lines.
+#[derive(Drop)]
+pub(crate) struct Pass {
+    pub(crate) here: usize,
+    pub(crate) aligning: bool,
+    pub(crate) ended: bool,
+    pub(crate) blocks: Vec<Block>,
+    pub(crate) names: Table,
+    ghost within: { here ≤ 4096 },
+}
+
+/// The statement of a line; that of an unreadable one is the empty one, which is handed in.
+fn body_or<'a>(line: &'a Line, empty: &'a Body) -> &'a Body
+    requires { seen_body empty.now ≡ empty_body }
+    ensures { seen_body result.now ≡ body_of (seen_line line.now) }
+{
+    match line {
+        Line::Bad(_) => empty,
+        Line::Read { body, .. } => body,
+    }
+}
+
+/// The value, or 0 where there is none.
+fn or_zero(value: Result<i32, Fault>) -> i32
+    ensures { result ≡ value_or_zero value }
+{
+    match value {
+        Ok(value) => value,
+        Err(_) => 0,
+    }
+}
+
+/// The bytes of a line itself.
+fn size_of_body(body: &Body, value: i32) -> usize
+    ensures size { result ≡ own_size (seen_body body.now) value }
+    ensures bound { result < 2 ^ 64 - 1 }
+{
+    match body {
+        Body::Code(_, _) => 2,
+        Body::Db(exprs) => exprs.len(),
+        Body::Dw(exprs) => 2 * exprs.len(),
+        Body::Da(bytes) => bytes.get().len(),
+        Body::Ds(_) => value.unsigned_abs() as usize,
+        _ => 0,
+    }
+}
+
+fn is_if(body: &Body) -> bool
+    ensures { result ≡ is_if_body (seen_body body.now) }
+{
+    matches!(body, Body::Ifdef(_) | Body::Ifund(_))
+}
+
+fn is_data(body: &Body) -> bool
+    ensures { result ≡ is_padded (seen_body body.now) }
+{
+    matches!(body, Body::Db(_) | Body::Da(_) | Body::Ds(_))
+}
+
+impl Pass {
+    ghost use Rattle.chip_asm.specs.Layout.{Placed, is_live, is_misplaced, first_fault, symbols, place, placed};
+    ghost use Rattle.chip_asm.specs.Placements.{is_placed};
+    ghost use Rattle.chip_asm.specs.Follows.{Follows, placement_of, next_address, next_aligning};
+
+    /// Before the first line.
+    #[tactic(auto, unfolding(crate::specs::Layout::address, crate::specs::Layout::is_aligning, crate::specs::Layout::has_ended, crate::specs::Layout::enclosing, crate::specs::Layout::symbols))]
+    pub(crate) fn new(alloc: Global) -> Self
+        ensures { Follows result [] }
+    {
+        Pass {
+            here: 512,
+            aligning: true,
+            ended: false,
+            blocks: Vec::new(alloc),
+            names: Table::new(alloc),
+        }
+    }
+
+    #[tactic(auto, unfolding(crate::specs::Layout::is_live))]
+    fn is_live(&self, body: &Body) -> bool
+        ensures { (before : List Placed) → Follows self.now before → result ≡ is_live before (seen_body body.now) }
+    {
+        if self.ended {
+            return false;
+        }
+        match body {
+            Body::Else | Body::Endif => match self.blocks.last() {
+                Some(block) => block.live,
+                None => true,
+            },
+            _ => all_hold(&self.blocks),
+        }
+    }
+
+    fn is_misplaced(&self, body: &Body) -> bool
+        ensures { (before : List Placed) → Follows self.now before → result ≡ is_misplaced before (seen_body body.now) }
+    {
+        match body {
+            Body::Else => match self.blocks.last() {
+                Some(block) => block.has_else,
+                None => true,
+            },
+            Body::Endif => self.blocks.is_empty(),
+            _ => false,
+        }
+    }
+
+    /// The value of the expression of an EQU, ORG or DS line, under the names so far.
+    #[tactic(auto, unfolding(crate::specs::Layout::value_at))]
+    fn value_at(&self, body: &Body) -> Result<i32, Fault>
+        ensures { result ≡ value_at self.now.names (seen_body body.now) }
+    {
+        match body {
+            Body::Equ(expr) | Body::Org(expr) | Body::Ds(expr) => eval(expr, &self.names),
+            _ => Ok(0),
+        }
+    }
+
+    /// Whether the line gives a name that is there already.
+    fn is_redefinition(&self, line: &Line) -> bool
+        ensures { result ≡ is_redefinition self.now.names (name_defined (seen_line line.now)) }
+    {
+        match defines(line) {
+            Some(name) => self.names.symbol(name).is_some(),
+            None => false,
+        }
+    }
+
+    fn full_size(&self, body: &Body, value: i32) -> usize
+        ensures size { result ≡ full_size self.now.aligning self.now.here (seen_body body.now) value }
+        ensures bound { result < 2 ^ 64 }
+    {
+        let size = size_of_body(body, value);
+        if self.aligning && is_data(body) && (self.here + size % 2) % 2 == 1 {
+            size + 1
+        } else {
+            size
+        }
+    }
+
+    fn is_past_end(&self, body: &Body, value: i32) -> bool
+        ensures { result ≡ is_past_end self.now.aligning self.now.here (seen_body body.now) value }
+    {
+        match body {
+            Body::Org(_) => value > 4096,
+            _ => self.full_size(body, value) > 4096 - self.here,
+        }
+    }
+
+    fn is_backwards(&self, body: &Body, value: i32) -> bool
+        ensures { result ≡ is_backwards self.now.here (seen_body body.now) value }
+    {
+        match body {
+            Body::Org(_) => value < self.here as i32,
+            _ => false,
+        }
+    }
+
+    #[tactic(auto, unfolding(crate::specs::Layout::fault_of_value))]
+    fn fault_of_value(&self, body: &Body, value: Result<i32, Fault>) -> Option<Fault>
+        ensures { result ≡ fault_of_value self.now.aligning self.now.here (seen_body body.now) value }
+    {
+        match value {
+            Err(fault) => Some(fault),
+            Ok(value) => {
+                if matches!(body, Body::Ds(_)) && value < 0 {
+                    Some(Fault::OutOfRange)
+                } else if self.is_backwards(body, value) {
+                    Some(Fault::OrgBelowHere)
+                } else if self.is_past_end(body, value) {
+                    Some(Fault::PastMemory)
+                } else {
+                    None
+                }
+            }
+        }
+    }
+
+    /// The first fault of a live line, but for an IF without ENDIF.
+    #[tactic(auto, unfolding(crate::specs::Layout::first_fault))]
+    fn first_fault(&self, line: &Line, value: Result<i32, Fault>) -> Option<Fault>
+        ensures fault { (before : List Placed) → Follows self.now before → value ≡ value_at (symbols before) (body_of (seen_line line.now))
+            → result ≡ first_fault before (seen_line line.now) }
+        ensures new_name { result ≡ None → is_redefinition self.now.names (name_defined (seen_line line.now)) ≡ false }
+        ensures fits { result ≡ None → fault_of_value self.now.aligning self.now.here (body_of (seen_line line.now)) value ≡ None }
+    {
+        match line {
+            Line::Bad(fault) => Some(*fault),
+            Line::Read { body, .. } => {
+                if self.is_misplaced(body) {
+                    Some(Fault::StrayBranch)
+                } else if self.is_redefinition(line) {
+                    Some(Fault::DefinedTwice)
+                } else {
+                    self.fault_of_value(body, value)
+                }
+            }
+        }
+    }
+
+    /// The fault of the line, where it is live.
+    fn fault_of(&self, live: bool, line: &Line, value: Result<i32, Fault>) -> Option<Fault>
+        ensures fault { (before : List Placed) → Follows self.now before → value ≡ value_at (symbols before) (body_of (seen_line line.now))
+            → result ≡ (if live then first_fault before (seen_line line.now) else None) }
+        ensures new_name { live ≡ true → result ≡ None → is_redefinition self.now.names (name_defined (seen_line line.now)) ≡ false }
+        ensures fits { live ≡ true → result ≡ None → fault_of_value self.now.aligning self.now.here (body_of (seen_line line.now)) value ≡ None }
+    {
+        if live {
+            self.first_fault(line, value)
+        } else {
+            None
+        }
+    }
+
+    /// The size of the line, where it is accepted.
+    fn size_of(&self, accepted: bool, body: &Body, value: i32) -> usize
+        ensures { result ≡ (if accepted then full_size self.now.aligning self.now.here (seen_body body.now) value else 0) }
+    {
+        if accepted {
+            self.full_size(body, value)
+        } else {
+            0
+        }
+    }
+
+    /// What holds of the next line.
+    fn place(&self, number: usize, line: &Line) -> Placement
+        ensures placed { (before : List Placed) → Follows self.now before → number ≡ length before + 1 → result ≡ placement_of (place before (seen_line line.now)) }
+        ensures new_name { is_placed result ≡ true → is_redefinition self.now.names (name_defined (seen_line line.now)) ≡ false }
+        ensures fits { is_placed result ≡ true → fault_of_value self.now.aligning self.now.here (body_of (seen_line line.now)) (Ok result.value) ≡ None }
+        ensures size { result.size ≡ (if is_placed result then full_size self.now.aligning self.now.here (body_of (seen_line line.now)) result.value else 0) }
+    {
+        let empty = Body::Empty;
+        let body = body_or(line, &empty);
+        let live = self.is_live(body);
+        let read = self.value_at(body);
+        let value = or_zero(read);
+        let fault = self.fault_of(live, line, read);
+        let size = self.size_of(is_passed(live, fault), body, value);
+        Placement {
+            number,
+            is_if: is_if(body),
+            live,
+            here: self.here,
+            fault,
+            value,
+            size,
+        }
+    }
+
+    /// Goes on by one line, and says what holds of it.
+    pub(crate) fn step(&mut self, alloc: Global, number: usize, line: &Line) -> Result<Placement, AllocError>
+        ensures found { (lines : List Reading) → Follows self.old (placed lines) → number ≡ length lines + 1
+            → IfOk result (λ placement. placement ≡ placement_of (place (placed lines) (seen_line line.now))) }
+        ensures follows { (lines : List Reading) → Follows self.old (placed lines) → number ≡ length lines + 1
+            → OnOk result (Follows self.new (placed (lines ++ seen_line line.now ∷ []))) }
+    {
+        let empty = Body::Empty;
+        let body = body_or(line, &empty);
+        let placement = self.place(number, line);
+        let accepted = placement.is_accepted();
+        let opened = Block {
+            number,
+            live: placement.live,
+            holds: self.condition(body),
+            has_else: false,
+        };
+        self.define(alloc, accepted, number, line, placement.value)?;
+        move_blocks(&mut self.blocks, body, opened)?;
+        self.advance(
+            body,
+            placement.live,
+            accepted,
+            placement.value,
+            placement.size,
+        );
+        Ok(placement)
+    }
+
+    /// Whether the condition of an IF line holds.
+    fn condition(&self, body: &Body) -> bool
+        ensures { result ≡ condition_of self.now.names (seen_body body.now) }
+    {
+        match body {
+            Body::Ifdef(name) => self.names.symbol(name.get()).is_some(),
+            Body::Ifund(name) => self.names.symbol(name.get()).is_none(),
+            _ => false,
+        }
+    }
+
+    /// Notes the name that a line gives, where it is accepted.
+    fn define(
+        &mut self,
+        alloc: Global,
+        accepted: bool,
+        number: usize,
+        line: &Line,
+        value: i32,
+    ) -> Result<(), AllocError>
+        requires { accepted ≡ true → is_redefinition self.old.names (name_defined (seen_line line.now)) ≡ false }
+        ensures names { OnOk result (self.new.names
+            ≡ self.old.names ++ option_to_list (if accepted then symbol_given number self.old.here value (seen_line line.now) else None)) }
+        ensures here { self.new.here ≡ self.old.here }
+        ensures aligning { self.new.aligning ≡ self.old.aligning }
+        ensures ended { self.new.ended ≡ self.old.ended }
+        ensures blocks { self.new.blocks ≡ self.old.blocks }
+    {
+        if !accepted {
+            return Ok(());
+        }
+        let empty = Body::Empty;
+        let value = match body_or(&*line, &empty) {
+            Body::Equ(_) => value,
+            Body::Define => 0,
+            _ => self.here as i32,
+        };
+        match defines(line) {
+            Some(name) => self.names.define(
+                alloc,
+                name,
+                Symbol {
+                    value,
+                    line: number,
+                },
+            ),
+            None => Ok(()),
+        }
+    }
+
+    /// Moves past a line of this size.
+    #[tactic(auto, unfolding(crate::specs::Layout::fault_of_value))]
+    fn advance(&mut self, body: &Body, live: bool, accepted: bool, value: i32, size: usize)
+        requires fits { accepted ≡ true → fault_of_value self.old.aligning self.old.here (seen_body body.now) (Ok value) ≡ None }
+        requires size { size ≡ (if accepted then full_size self.old.aligning self.old.here (seen_body body.now) value else 0) }
+        ensures here { self.new.here ≡ next_address accepted self.old.here (seen_body body.now) value size }
+        ensures aligning { self.new.aligning ≡ next_aligning accepted self.old.aligning (seen_body body.now) }
+        ensures ended { self.new.ended ≡ ((live && is_end_body (seen_body body.now)) || self.old.ended) }
+        ensures blocks { self.new.blocks ≡ self.old.blocks }
+        ensures names { self.new.names ≡ self.old.names }
+    {
+        match body {
+            Body::Org(_) => {
+                if accepted {
+                    self.here = value.unsigned_abs() as usize;
+                }
+            }
+            Body::Align(on) => {
+                if accepted {
+                    self.aligning = *on;
+                }
+            }
+            Body::End => self.ended = self.ended || live,
+            _ => self.here += size,
+        }
+    }
+
+    /// The names found.
+    pub(crate) fn into_names(self) -> Table
+        ensures { result ≡ self.names }
+    {
+        let Pass {
+            here: _,
+            aligning: _,
+            ended: _,
+            blocks: _,
+            names,
+        } = self;
+        names
+    }
+}

@@ -1,0 +1,127 @@
+//! The lines that an edit makes encode again.
+ghost use Rattle.std.specs.Prelude.{◌≡◌, ◌<◌, ◌≤◌, ◌+◌, ℕ, List, IfOk, OnErr, Option, Result, Ok, Err, length, Some, None, if◌then◌else◌, vec_len};
+ghost use Rattle.chip_lang.specs.Line.{Reading};
+ghost use Rattle.chip_lang.specs.SeenLine.{seen_line};
+ghost use Rattle.chip_lang.specs.Code.{code_of};
+ghost use Rattle.chip_asm.specs.Recode.{has_code, is_placed_at, is_encoded_again, new_codes, count_again};
+ghost use Rattle.chip_asm.specs.Records.{IsPlaceWithin, lines_after, readings_in, place_before};
+ghost use Rattle.chip_asm.specs.Layout.{body_of};
+ghost use Rattle.chip_asm.specs.Layouts.{IsLayoutOf};
+ghost use Rattle.chip_asm.specs.Names.{values_of};
+ghost use Rattle.chip_asm.specs.Kept.{IsMerged};
+
+use crate::edit::{Edit, count_after, line_after, place_before};
+use crate::kept_line::KeptLine;
+use crate::layout::Layout;
+use crate::placement::Placement;
+use crate::table::Table;
+use chip_lang::{Coded, encode};
+use chip_lang::{Body, Line};
+use chip_lang::Meter;
+use chip_lang::agree_on;
+use std::alloc::{AllocError, Global};
+
+/// Whether the line has bytes of its own.
+pub(crate) fn has_code(line: &Line) -> bool
+    ensures { result ≡ has_code (body_of (seen_line line.now)) }
+{
+    matches!(
+        line,
+        Line::Read {
+            body: Body::Db(_) | Body::Dw(_) | Body::Da(_) | Body::Code(_, _),
+            ..
+        }
+    )
+}
+
+fn is_placed_at(placements: &[Placement], place: usize) -> bool
+    ensures { result ≡ is_placed_at placements.now place }
+{
+    match placements.get(place) {
+        Some(placement) => placement.is_accepted(),
+        None => false,
+    }
+}
+
+/// Whether the line at a place of the new source has to be encoded again.
+#[tactic(auto, unfolding(crate::specs::Recode::is_encoded_again))]
+fn is_encoded_again(old: &Layout, new: &Layout, edit: &Edit, place: usize, line: &Line) -> bool
+    requires { place < 4096 }
+    ensures { (before after : List Reading) → IsLayoutOf old.now before → IsLayoutOf new.now after
+        → result ≡ is_encoded_again before after (place_before edit.now) (place, seen_line line.now) }
+{
+    if !has_code(line) || !is_placed_at(&new.placements, place) {
+        return false;
+    }
+    match place_before(edit, place) {
+        Some(before) => {
+            !(is_placed_at(&old.placements, before) && agree_on(line, &old.names, &new.names))
+        }
+        None => true,
+    }
+}
+
+/// The line's code, where it is wanted.
+fn encode_if(
+    wanted: bool,
+    alloc: Global,
+    meter: &mut Meter,
+    line: &Line,
+    names: &Table,
+) -> Result<Option<Coded>, AllocError>
+    ensures code { IfOk result (λ code. code ≡ (if wanted then Some (code_of (seen_line line.now) (values_of names.now)) else None)) }
+    ensures encoded { meter.new.encoded ≤ meter.old.encoded + (if wanted then 1 else 0) }
+    ensures parsed { meter.new.parsed ≡ meter.old.parsed }
+{
+    if wanted {
+        Ok(Some(encode(alloc, meter, line, names)?))
+    } else {
+        Ok(None)
+    }
+}
+
+/// The new codes, and none for a line whose code stands.
+pub(crate) fn recode(
+    alloc: Global,
+    meter: &mut Meter,
+    lines: &[KeptLine],
+    edit: &Edit,
+    old: &Layout,
+    new: &Layout,
+) -> Result<Vec<Option<Coded>>, AllocError>
+    requires within { IsPlaceWithin (length lines.now) edit.now }
+    requires few { length lines.now ≤ 4000 }
+    requires new { IsLayoutOf new.now (readings_in (lines_after lines.now edit.now)) }
+    ensures codes { (before : List Reading) → IsLayoutOf old.now before → IfOk result (λ codes. codes.items ≡ new_codes before (readings_in (lines_after lines.now edit.now)) (place_before edit.now)) }
+    ensures encoded { (before : List Reading) → IsLayoutOf old.now before → meter.new.encoded ≤ meter.old.encoded + count_again before (readings_in (lines_after lines.now edit.now)) (place_before edit.now) }
+    ensures parsed { meter.new.parsed ≡ meter.old.parsed }
+{
+    let mut codes = Vec::new(alloc);
+    for place in 0..count_after(lines.len(), edit) {
+        let line = line_after(lines, edit, place);
+        let again = is_encoded_again(old, new, edit, place, line);
+        codes.push(encode_if(again, alloc, meter, line, &new.names)?)?;
+    }
+    Ok(codes)
+}
+
+fn write_code(kept: &mut KeptLine, code: Coded)
+    ensures { kept.new ≡ record kept.old { code = code } }
+{
+    kept.code = code;
+}
+
+/// Writes the new codes over the kept ones.
+pub(crate) fn write_codes(lines: &mut [KeptLine], fresh: Vec<Option<Coded>>)
+    requires { vec_len fresh ≡ length lines.old }
+    ensures { IsMerged lines.old fresh.items lines.new }
+{
+    let mut place = lines.len();
+    let mut fresh = fresh;
+    while let Some(code) = fresh.pop() {
+        place -= 1;
+        if let Some(code) = code {
+            write_code(&mut lines[place], code);
+        }
+    }
+}

@@ -1,0 +1,72 @@
+//! Why an edit is refused, or a source does not open.
+ghost use Rattle.std.specs.Prelude.{◌≡◌};
+ghost use Rattle.std.specs.List.{list_any};
+
+use std::alloc::AllocError;
+use thiserror::Error;
+
+/// Why an edit is refused.
+#[derive(Clone, Copy, Debug, PartialEq, Eq, Error)]
+pub enum Refusal {
+    /// N1: there is no line of this number.
+    #[error("no such line")]
+    NoSuchLine,
+    /// N2: the text has over 200 bytes.
+    #[error("text too long")]
+    TextTooLong,
+    /// N3: there are 4,000 lines already.
+    #[error("too many lines")]
+    TooManyLines,
+    /// N4: the text holds a carriage return or a newline.
+    #[error("line break in the text")]
+    LineBreak,
+    /// N10: memory was refused.
+    #[error("out of memory")]
+    OutOfMemory,
+}
+
+/// Why a source does not open.
+#[derive(Clone, Copy, Debug, PartialEq, Eq, Error)]
+pub enum OpenError {
+    /// O1: the line of this number, counted from 1, has over 200 bytes.
+    #[error("line {0} is too long")]
+    LineTooLong(usize),
+    /// O2: there is a 4,001st line.
+    #[error("too many lines")]
+    TooManyLines,
+    /// O3: memory was refused.
+    #[error("out of memory")]
+    OutOfMemory,
+}
+
+impl From<AllocError> for Refusal {
+    ghost use Rattle.std.specs.Prelude.{◌≡◌};
+    ghost use Rattle.chip_asm.specs.declared.refusal.Refusal.{Refusal};
+
+    ghost from_gives = { λ _ r. r ≡ Refusal.OutOfMemory };
+
+    fn from(_: AllocError) -> Self {
+        Refusal::OutOfMemory
+    }
+}
+
+impl From<AllocError> for OpenError {
+    ghost use Rattle.std.specs.Prelude.{◌≡◌};
+    ghost use Rattle.chip_asm.specs.declared.refusal.OpenError.{OpenError};
+
+    ghost from_gives = { λ _ r. r ≡ OpenError.OutOfMemory };
+
+    fn from(_: AllocError) -> Self {
+        OpenError::OutOfMemory
+    }
+}
+
+/// A line of a source has no more bytes than this.
+pub(crate) const MAX_TEXT: usize = 200;
+
+/// A source has no more lines than this.
+pub(crate) const MAX_LINES: usize = 4000;
+
+mod checks;
+
+pub(crate) use checks::{delete_refusal, insert_refusal, replace_refusal};

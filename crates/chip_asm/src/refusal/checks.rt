@@ -1,0 +1,56 @@
+//! The first reason to refuse an edit.
+ghost use Rattle.std.specs.Prelude.{◌≡◌};
+ghost use Rattle.chip_asm.specs.Edits.{has_line_break, insert_refusal, replace_refusal, delete_refusal};
+
+use crate::refusal::{MAX_LINES, MAX_TEXT, Refusal};
+
+fn has_line_break(text: &[u8]) -> bool
+    ensures { result ≡ has_line_break text.now }
+{
+    text.iter().any(|byte| *byte == b'\n' || *byte == b'\r')
+}
+
+/// Why a text can't be put before the line of this number, among so many lines.
+pub(crate) fn insert_refusal(count: usize, number: usize, text: &[u8]) -> Option<Refusal>
+    ensures { result ≡ insert_refusal count number text.now }
+{
+    if number == 0 || number - 1 > count {
+        return Some(Refusal::NoSuchLine);
+    }
+    if text.len() > MAX_TEXT {
+        return Some(Refusal::TextTooLong);
+    }
+    if count >= MAX_LINES {
+        return Some(Refusal::TooManyLines);
+    }
+    if has_line_break(text) {
+        return Some(Refusal::LineBreak);
+    }
+    None
+}
+
+/// Why a text can't be put in the place of the line of this number.
+pub(crate) fn replace_refusal(count: usize, number: usize, text: &[u8]) -> Option<Refusal>
+    ensures { result ≡ replace_refusal count number text.now }
+{
+    if number == 0 || number > count {
+        return Some(Refusal::NoSuchLine);
+    }
+    if text.len() > MAX_TEXT {
+        return Some(Refusal::TextTooLong);
+    }
+    if has_line_break(text) {
+        return Some(Refusal::LineBreak);
+    }
+    None
+}
+
+/// Why the line of this number can't be taken out.
+pub(crate) fn delete_refusal(count: usize, number: usize) -> Option<Refusal>
+    ensures { result ≡ delete_refusal count number }
+{
+    if number == 0 || number > count {
+        return Some(Refusal::NoSuchLine);
+    }
+    None
+}

@@ -1,0 +1,228 @@
+//! A source that is edited, with its layout, codes and image kept.
+ghost use Rattle.std.specs.Prelude.{◌≡◌, ◌+◌, ◌-◌, ◌<◌, ◌≤◌, ◌⊎◌, ℕ, List, OnOk, OnErr, IfOk, IfErr, IsSome, IfSome, [], length, insert, remove, slice_set, vec_len, Option, Some, None, map};
+ghost use Rattle.std.specs.Option.{option_copied};
+ghost use Rattle.chip_lang.specs.Meter.{one_more};
+ghost use Rattle.chip_asm.specs.Edits.{insert_refusal, replace_refusal, delete_refusal, before_insert, before_replace, before_delete};
+ghost use Rattle.chip_asm.specs.Work.{lines_to_encode, accepted_of};
+ghost use Rattle.chip_asm.specs.Names.{lookup_name};
+ghost use Rattle.chip_asm.specs.Listing.{listing_of};
+ghost use Rattle.chip_asm.specs.Program.{symbols_of, fault_at, faults_of, image_of};
+
+use crate::apply::{Prepared, apply, prepare};
+use crate::cut::read_lines;
+use crate::edit::Edit;
+use crate::image::{fault_of_number, faults_in, image_of};
+use crate::kept_line::{KeptLine, read_kept};
+use crate::layout::Layout;
+use crate::listing::listing_in;
+use crate::recode::write_codes;
+use crate::refusal::{OpenError, Refusal, delete_refusal, insert_refusal, replace_refusal};
+use crate::table::Symbol;
+use chip_lang::{Bytes, Fault};
+use chip_lang::laws::same_code;
+use chip_lang::Meter;
+use std::alloc::{AllocError, Global};
+use std::marker::Model;
+
+/// The lines of a source, with all that is known of them kept under edits.
+#[derive(Drop)]
+pub struct Source {
+    lines: Vec<KeptLine>,
+    layout: Layout,
+    image: Option<Vec<u8>>,
+    meter: Meter,
+}
+
+impl Model for Source {
+    ghost use Rattle.chip_asm.specs.Sources.{Text};
+
+    ghost Value = { Text };
+
+    ghost use Rattle.chip_asm.specs.Records.{texts_in};
+    ghost use Rattle.chip_asm.specs.Kept.{IsKept};
+
+    ghost view = { λ s. record { lines = texts_in s.lines.items; work = s.meter } };
+
+    ghost invariant = { λ s. IsKept s.lines.items s.layout s.image };
+}
+
+impl Source {
+    ghost use Rattle.chip_asm.specs.declared.refusal.Refusal.{Refusal};
+    ghost use Rattle.chip_asm.specs.declared.refusal.OpenError.{OpenError};
+    ghost use Rattle.chip_asm.specs.Lines.{lines_of, open_fault};
+
+    /// The source without lines.
+    pub fn new(alloc: Global) -> Self
+        ensures lines { result.lines ≡ [] }
+        ensures parsed { result.work.parsed ≡ 0 }
+        ensures encoded { result.work.encoded ≡ 0 }
+    {
+        Source {
+            lines: Vec::new(alloc),
+            layout: Layout::new(alloc),
+            image: Some(Vec::new(alloc)),
+            meter: Meter::new(),
+        }
+    }
+
+    /// Opens a source, by its bytes. A line ends at a newline, a carriage return directly before which is dropped; the first line that is over
+    /// 200 bytes or the 4,001st is answered as a fault.
+    pub fn open(alloc: Global, source: &[u8]) -> Result<Source, OpenError>
+        ensures ok { IfOk result (λ s. (open_fault source.now ≡ None) × (s.lines ≡ lines_of source.now)) }
+        ensures err { IfErr result (λ e. (e ≡ OpenError.OutOfMemory) ⊎ (open_fault source.now ≡ Some e)) }
+        ensures parsed { IfOk result (λ s. s.work.parsed ≡ length s.lines) }
+        ensures encoded { IfOk result (λ s. s.work.encoded ≤ accepted_of s.lines) }
+    {
+        let mut meter = Meter::new();
+        let mut lines = read_lines(alloc, &mut meter, source)?;
+        let before = Layout::new(alloc);
+        let prepared = prepare(alloc, &mut lines, &before, &mut meter, &Edit::Keep)?;
+        let Prepared {
+            layout,
+            codes,
+            zeros,
+        } = prepared;
+        same_code();
+        write_codes(&mut lines, codes);
+        let image = image_of(zeros, &lines, &layout);
+        Ok(Source {
+            lines,
+            layout,
+            image,
+            meter,
+        })
+    }
+
+    /// How many lines there are.
+    pub fn lines(&self) -> usize
+        ensures { result ≡ length self.now.lines }
+    {
+        self.lines.len()
+    }
+
+    /// What was read and encoded so far, by opening and by edits.
+    pub fn work(&self) -> Meter
+        ensures { result ≡ self.now.work }
+    {
+        self.meter
+    }
+
+    /// The bytes from address 512 on; none where a line has a fault.
+    pub fn image(&self) -> Option<&[u8]>
+        ensures value { option_copied result ≡ image_of self.now.lines }
+        ensures fits { IfSome result (λ image. length image.now ≤ 3584) }
+    {
+        match &self.image {
+            Some(bytes) => Some(bytes),
+            None => None,
+        }
+    }
+
+    /// The value of a name and the number of the line that gives it. The name is in upper case.
+    pub fn symbol(&self, name: &[u8]) -> Option<Symbol>
+        ensures { result ≡ lookup_name (symbols_of self.now.lines) name.now }
+    {
+        self.layout.names.symbol(name)
+    }
+
+    /// The fault of the line of this number, counted from 1; none where the line has none or there is no such line.
+    pub fn fault(&self, number: usize) -> Option<Fault>
+        ensures { result ≡ fault_at self.now.lines number }
+    {
+        fault_of_number(&self.lines, &self.layout, number)
+    }
+
+    /// The names that the source gives, in line order, each with its value and the number of its line. Err where memory ran out.
+    pub fn symbols(&self, alloc: Global) -> Result<Vec<(Bytes, Symbol)>, AllocError>
+        ensures { IfOk result (λ symbols. symbols.items ≡ symbols_of self.now.lines) }
+    {
+        self.layout.names.symbols(alloc)
+    }
+
+    /// All faults, in line order, each with the number of its line. Err where memory ran out.
+    pub fn faults(&self, alloc: Global) -> Result<Vec<(usize, Fault)>, AllocError>
+        ensures { IfOk result (λ faults. faults.items ≡ faults_of self.now.lines) }
+    {
+        faults_in(alloc, &self.lines, &self.layout)
+    }
+
+    /// The listing: a line for each line, with its number, its address, its bytes or value or fault, and its text. Err where memory
+    /// ran out.
+    pub fn listing(&self, alloc: Global) -> Result<Vec<u8>, AllocError>
+        ensures { IfOk result (λ listing. listing.items ≡ listing_of self.now.lines) }
+    {
+        listing_in(alloc, &self.lines, &self.layout)
+    }
+
+    /// Puts a line before line `number`, counted from 1, or after the last one. A refused edit changes nothing but the work, where
+    /// memory ran out.
+    pub fn insert(&mut self, alloc: Global, number: usize, text: &[u8]) -> Result<(), Refusal>
+        ensures ok { OnOk result ((insert_refusal (length self.old.lines) number text.now ≡ None) × (self.new.lines ≡ insert self.old.lines (number - 1) text.now)) }
+        ensures err { IfErr result (λ e. (insert_refusal (length self.old.lines) number text.now ≡ Some e) ⊎ ((e ≡ Refusal.OutOfMemory) × (insert_refusal (length self.old.lines) number text.now ≡ None))) }
+        ensures same { OnErr result (self.new.lines ≡ self.old.lines) }
+        ensures refused { IsSome (insert_refusal (length self.old.lines) number text.now) → self.new.work ≡ self.old.work }
+        ensures parsed { insert_refusal (length self.old.lines) number text.now ≡ None → self.new.work.parsed ≡ one_more self.old.work.parsed }
+        ensures encoded { self.new.work.encoded ≤ self.old.work.encoded + lines_to_encode self.old.lines (insert self.old.lines (number - 1) text.now) (before_insert (number - 1)) }
+    {
+        if let Some(refusal) = insert_refusal(self.lines.len(), number, text) {
+            return Err(refusal);
+        }
+        let added = read_kept(alloc, &mut self.meter, text)?;
+        apply(
+            alloc,
+            &mut self.lines,
+            &mut self.layout,
+            &mut self.image,
+            &mut self.meter,
+            Edit::Insert(number - 1, added),
+        )?;
+        Ok(())
+    }
+
+    /// Puts a text in the place of line `number`, counted from 1. A refused edit changes nothing but the work, where memory ran out.
+    pub fn replace(&mut self, alloc: Global, number: usize, text: &[u8]) -> Result<(), Refusal>
+        ensures ok { OnOk result ((replace_refusal (length self.old.lines) number text.now ≡ None) × (self.new.lines ≡ slice_set self.old.lines (number - 1) text.now)) }
+        ensures err { IfErr result (λ e. (replace_refusal (length self.old.lines) number text.now ≡ Some e) ⊎ ((e ≡ Refusal.OutOfMemory) × (replace_refusal (length self.old.lines) number text.now ≡ None))) }
+        ensures same { OnErr result (self.new.lines ≡ self.old.lines) }
+        ensures refused { IsSome (replace_refusal (length self.old.lines) number text.now) → self.new.work ≡ self.old.work }
+        ensures parsed { replace_refusal (length self.old.lines) number text.now ≡ None → self.new.work.parsed ≡ one_more self.old.work.parsed }
+        ensures encoded { self.new.work.encoded ≤ self.old.work.encoded + lines_to_encode self.old.lines (slice_set self.old.lines (number - 1) text.now) (before_replace (number - 1)) }
+    {
+        if let Some(refusal) = replace_refusal(self.lines.len(), number, text) {
+            return Err(refusal);
+        }
+        let added = read_kept(alloc, &mut self.meter, text)?;
+        apply(
+            alloc,
+            &mut self.lines,
+            &mut self.layout,
+            &mut self.image,
+            &mut self.meter,
+            Edit::Replace(number - 1, added),
+        )?;
+        Ok(())
+    }
+
+    /// Takes out line `number`, counted from 1. A refused edit changes nothing but the work, where memory ran out.
+    pub fn delete(&mut self, alloc: Global, number: usize) -> Result<(), Refusal>
+        ensures ok { OnOk result ((delete_refusal (length self.old.lines) number ≡ None) × (self.new.lines ≡ remove self.old.lines (number - 1))) }
+        ensures err { IfErr result (λ e. (delete_refusal (length self.old.lines) number ≡ Some e) ⊎ ((e ≡ Refusal.OutOfMemory) × (delete_refusal (length self.old.lines) number ≡ None))) }
+        ensures same { OnErr result (self.new.lines ≡ self.old.lines) }
+        ensures refused { IsSome (delete_refusal (length self.old.lines) number) → self.new.work ≡ self.old.work }
+        ensures parsed { self.new.work.parsed ≡ self.old.work.parsed }
+        ensures encoded { self.new.work.encoded ≤ self.old.work.encoded + lines_to_encode self.old.lines (remove self.old.lines (number - 1)) (before_delete (number - 1)) }
+    {
+        if let Some(refusal) = delete_refusal(self.lines.len(), number) {
+            return Err(refusal);
+        }
+        apply(
+            alloc,
+            &mut self.lines,
+            &mut self.layout,
+            &mut self.image,
+            &mut self.meter,
+            Edit::Delete(number - 1),
+        )?;
+        Ok(())
+    }
+}

@@ -1,0 +1,98 @@
+//! The names of a source.
+ghost use Rattle.std.specs.Prelude.{◌≡◌, ◌++◌, [], ◌∷◌, OnOk, IfOk, None, Some, length, slice_get, ◌<◌};
+ghost use Rattle.chip_asm.specs.Names.{lookup_name, values_of};
+
+use chip_lang::{Bytes, Names};
+use indexmap::IndexMap;
+use std::alloc::{AllocError, Global};
+use std::marker::Model;
+
+/// The value of a name, and the number of the line that gives it.
+#[derive(Clone, Copy, Debug, PartialEq, Eq)]
+pub struct Symbol {
+    /// The value of the name.
+    pub value: i32,
+    /// The number of the line, counted from 1.
+    pub line: usize,
+}
+
+/// The names in line order, each with its value and line. Names are in upper case.
+#[derive(Drop)]
+pub(crate) struct Table {
+    pub(crate) symbols: IndexMap<Vec<u8>, Symbol>,
+}
+
+impl Model for Table {
+    ghost use Rattle.std.specs.Prelude.{List, map};
+    ghost use Rattle.chip_asm.specs.declared.table.Symbol.{Symbol};
+    ghost use Rattle.chip_asm.specs.Names.{Name};
+
+    ghost Value = { List (Name × Symbol) };
+
+    ghost view = { λ t. map (λ e. (e.0.items, e.1)) t.symbols.entries };
+}
+
+impl Table {
+    pub(crate) fn new(alloc: Global) -> Self
+        ensures { result ≡ [] }
+    {
+        Table {
+            symbols: IndexMap::new(alloc),
+        }
+    }
+
+    /// The value and the line of a name.
+    pub(crate) fn symbol(&self, name: &[u8]) -> Option<Symbol>
+        ensures { result ≡ lookup_name self.now name.now }
+    {
+        self.symbols.get(name).copied()
+    }
+
+    /// The names in line order, each with its value and line.
+    pub(crate) fn symbols(&self, alloc: Global) -> Result<Vec<(Bytes, Symbol)>, AllocError>
+        ensures { IfOk result (λ symbols. symbols.items ≡ self.now) }
+    {
+        let mut symbols = Vec::new(alloc);
+        for index in 0..self.symbols.len() {
+            symbols.push(self.entry(alloc, index)?)?;
+        }
+        Ok(symbols)
+    }
+
+    /// The name at an index, with its value and line.
+    fn entry(&self, alloc: Global, index: usize) -> Result<(Bytes, Symbol), AllocError>
+        requires { index < length self.now }
+        ensures { IfOk result (λ entry. slice_get self.now index ≡ Some entry) }
+    {
+        match self.symbols.get_index(index) {
+            Some((name, symbol)) => Ok((Bytes::new(Vec::from_slice(alloc, name)?), *symbol)),
+            None => unreachable!(),
+        }
+    }
+
+    /// Adds a name that is not there yet, after the others.
+    pub(crate) fn define(
+        &mut self,
+        alloc: Global,
+        name: &[u8],
+        symbol: Symbol,
+    ) -> Result<(), AllocError>
+        requires { lookup_name self.old name.now ≡ None }
+        ensures { OnOk result (self.new ≡ self.old ++ (name.now, symbol) ∷ []) }
+    {
+        let key = Vec::from_slice(alloc, name)?;
+        self.symbols.insert(key, symbol)?;
+        Ok(())
+    }
+}
+
+impl Names for Table {
+    ghost symbols = { λ t. values_of t };
+
+    fn value(&self, name: &[u8]) -> Option<i32> {
+        match self.symbol(name) {
+            Some(symbol) => Some(symbol.value),
+            None => None,
+        }
+    }
+}

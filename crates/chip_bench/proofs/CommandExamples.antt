@@ -1,0 +1,34 @@
+-- Worked examples: command lines with the kinds of fault that `clap` finds in them.
+use Rattle.std.proofs.Common.{◌≡◌, [], ◌∷◌, codes, true, refl, Some, option_map}
+use Rattle.clap.specs.Words.{fault_of, is_simple_and_free, subcommand_of, one_of}
+use Rattle.clap.specs.declared.error.kind.ErrorKind.TheVariants as kind
+use Rattle.clap.proofs.OnLiterals.{clap_on_literals}
+use Rattle.chip_bench.specs.CommandLine.{chipbench}
+
+pub is_exact : is_simple_and_free chipbench ≡ true
+unfolding clap_on_literals
+is_exact = refl
+
+pub no_words : fault_of chipbench [] ≡ []
+unfolding clap_on_literals
+no_words = refl
+
+steps_are_needed : fault_of chipbench (codes "run" ∷ codes "a" ∷ []) ≡ kind.MissingRequiredArgument ∷ []
+unfolding clap_on_literals
+steps_are_needed = refl
+
+rate_is_positive : fault_of chipbench (codes "debug" ∷ codes "--rate" ∷ codes "0" ∷ []) ≡ kind.ValueValidation ∷ []
+unfolding clap_on_literals
+rate_is_positive = refl
+
+options_want_a_command : fault_of chipbench (codes "--rate" ∷ codes "5" ∷ []) ≡ kind.UnknownArgument ∷ []
+unfolding clap_on_literals
+options_want_a_command = refl
+
+shows_help : fault_of chipbench (codes "--help" ∷ []) ≡ kind.DisplayHelp ∷ []
+unfolding clap_on_literals
+shows_help = refl
+
+default_rate : option_map (λ p. one_of (codes "rate") p.1) (subcommand_of chipbench (codes "debug" ∷ [])) ≡ Some (Some (codes "10"))
+unfolding clap_on_literals
+default_rate = refl

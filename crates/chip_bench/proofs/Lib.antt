@@ -1,0 +1,13 @@
+pub mod NumberLemmas
+pub mod LineLemmas
+pub mod ScriptLemmas
+pub mod WriteLemmas
+pub mod ProgressLemmas
+pub mod ServeLemmas
+pub mod RunningLemmas
+pub mod CommandLemmas
+pub mod CommandExamples
+pub mod AnswerLemmas
+pub mod ImageLemmas
+pub mod Parts
+pub mod TapeLemmas

@@ -1,0 +1,220 @@
+-- How far a script has been carried out, after one more byte, after more bytes, and at the end.
+use Rattle.std.proofs.Common.{◌≡◌, ◌≢◌, ◌⊎◌, inl, inr, ⊎_elim, ℕ, ◌+◌, ◌<◌, ◌≤◌, ◌==◌, Bool, true, false, cond, List, [], ◌∷◌, ◌++◌, length, take, drop, Option, Some, Result, Ok, Err, OnOk, refl, sym, ◌∙◌, ap, subst, append_assoc, arith}
+use Rattle.std.specs.Io.KnownBytes.{Appends}
+use Rattle.std.specs.Str.Lines.{strip_carriage_return}
+use Rattle.std.proofs.Common.{get_or}
+use Rattle.std.proofs.lemmas.List.{take_more, take-append-drop, append-nil, length-append, length-take, take_all, take-append-le}
+use Rattle.std.proofs.lemmas.Bool.{cases_lt}
+use Rattle.chip_bench.specs.Lines.{lines, is_newline, complete_lines, unfinished_line}
+use Rattle.chip_bench.specs.Session.{Session}
+use Rattle.chip_bench.specs.Transcript.{reply, after, transcript_of, session_after}
+use Rattle.chip_bench.specs.Serving.{WithinBounds, BeginsWith}
+use Rattle.chip_bench.specs.Progress.{Says, Reached, StoppedAt, Stopped, Went, Carries, Ended}
+use Rattle.chip_bench.specs.declared.server.Conversation.{Conversation}
+use Rattle.chip_bench.specs.declared.server.Stop.{Stop}
+use Rattle.chip_bench.specs.declared.server.Stop.TheVariants as stop
+use Rattle.chip_bench.proofs.LineLemmas.{complete_byte, unfinished_byte, complete_newline, unfinished_newline, last_line, last_filled, lines_is, complete_none, unfinished_none}
+use Rattle.chip_bench.proofs.ScriptLemmas.{transcript_push, session_after_push, reply_stripped, after_stripped, reply_kept}
+use Rattle.chip_bench.proofs.WriteLemmas.{appends_known, keeps_known}
+
+length_chosen : (t : Bool) (x : List ℕ) → length (cond t [] (x ∷ [])) ≤ 1
+length_chosen true x = omega arith
+length_chosen false x = omega arith
+
+lines_length : (xs : List ℕ) → length (lines xs) ≤ length (complete_lines xs) + 1
+lines_length xs = rw (lines_is xs, length-append) (omega (arith, length_chosen (length (unfinished_line xs) == 0) (unfinished_line xs)))
+
+lines_newline : (xs : List ℕ) → length (lines (xs ++ 10 ∷ [])) ≡ length (complete_lines xs) + 1
+lines_newline xs =
+    ap length (lines_is (xs ++ 10 ∷ []) ∙ ap (λ u. complete_lines (xs ++ 10 ∷ []) ++ last_line u) (unfinished_newline xs) ∙ append-nil (complete_lines (xs ++ 10 ∷ [])) ∙ complete_newline xs)
+    ∙ length-append (complete_lines xs) (strip_carriage_return (unfinished_line xs) ∷ [])
+
+within_newline : (xs : List ℕ) (b : ℕ) → b ≡ 10 → WithinBounds xs → length xs < 50000000 → length (complete_lines xs) < 100000 → WithinBounds (xs ++ b ∷ [])
+within_newline xs b e w few h = record {
+  bytes = omega (arith, length-append xs (b ∷ []));
+  line_count = rw e (omega (arith, lines_newline xs));
+}
+
+within_byte : (xs : List ℕ) (b : ℕ) → is_newline b ≡ false → length xs < 50000000 → length (complete_lines xs) < 100000 → WithinBounds (xs ++ b ∷ [])
+within_byte xs b e few h = record {
+  bytes = omega (arith, length-append xs (b ∷ []));
+  line_count = omega (arith, lines_length (xs ++ b ∷ []), ap length (complete_byte xs b e));
+}
+
+take_byte_more : (u : List ℕ) (b : ℕ) → take 402 (take 402 u ++ b ∷ []) ≡ take 402 (u ++ b ∷ [])
+take_byte_more u b = ⊎_elim
+    (λ (long : 402 < length u). take-append-le 402 (take 402 u) (b ∷ []) (omega (arith, length-take 402 u)) ∙ take_all 402 (take 402 u) (omega (arith, length-take 402 u)) ∙ sym (take-append-le 402 u (b ∷ []) (omega arith)))
+    (λ (short : length u ≤ 402). ap (λ l. take 402 (l ++ b ∷ [])) (take_all 402 u short)) (cases_lt 402 (length u))
+
+-- a byte that is kept
+pub reached_byte : {start : Session} {before given : List ℕ} {old new : Conversation} {held : Option (List ℕ)} (b : ℕ) → Reached start before given old held →
+    is_newline b ≡ false → old.taken < 50000000 → old.complete < 100000 →
+    new.bench.session ≡ old.bench.session → new.line.items ≡ take 402 (old.line.items ++ b ∷ []) → new.complete ≡ old.complete → new.taken ≡ old.taken + 1 →
+    Reached start before (given ++ b ∷ []) new held
+reached_byte {start} {before} {given} {old} {new} {held} b r e few h bench line complete taken = record {
+  session = bench ∙ r.session ∙ ap (session_after start) (sym (complete_byte given b e));
+  line = line ∙ ap (λ l. take 402 (l ++ b ∷ [])) r.line ∙ take_byte_more (unfinished_line given) b ∙ ap (take 402) (sym (unfinished_byte given b e));
+  complete = complete ∙ r.complete ∙ ap length (sym (complete_byte given b e));
+  taken = taken ∙ ap (λ n. n + 1) r.taken ∙ sym (length-append given (b ∷ []));
+  within = within_byte given b e (subst (λ n. n < 50000000) r.taken few) (subst (λ n. n < 100000) r.complete h);
+  told = r.told ∙ ap (λ l. Some (before ++ transcript_of start l)) (sym (complete_byte given b e));
+}
+
+-- the transcript of one more complete line
+transcript_newline : (start : Session) (before given : List ℕ) (bench : Session) → bench ≡ session_after start (complete_lines given) → (kept : List ℕ) → kept ≡ take 402 (unfinished_line given) →
+    transcript_of start (complete_lines given) ++ reply bench (strip_carriage_return kept) ≡ transcript_of start (complete_lines (given ++ 10 ∷ []))
+transcript_newline start before given bench e kept k =
+    ap (λ s. transcript_of start (complete_lines given) ++ reply s (strip_carriage_return kept)) e
+    ∙ ap (λ l. transcript_of start (complete_lines given) ++ reply (session_after start (complete_lines given)) (strip_carriage_return l)) k
+    ∙ ap (λ t. transcript_of start (complete_lines given) ++ t) (reply_stripped (session_after start (complete_lines given)) (unfinished_line given))
+    ∙ sym (transcript_push start (complete_lines given) (strip_carriage_return (unfinished_line given)))
+    ∙ ap (transcript_of start) (sym (complete_newline given))
+
+-- a newline, after which the answer was written
+pub reached_newline : {start : Session} {before given : List ℕ} {old new : Conversation} {held holds : Option (List ℕ)} → Reached start before given old held →
+    old.taken < 50000000 → old.complete < 100000 →
+    Appends held holds (reply old.bench.session (strip_carriage_return old.line.items)) →
+    new.bench.session ≡ after old.bench.session (strip_carriage_return old.line.items) → new.line.items ≡ [] → new.complete ≡ old.complete + 1 → new.taken ≡ old.taken + 1 →
+    Reached start before (given ++ 10 ∷ []) new holds
+reached_newline {start} {before} {given} {old} {new} {held} {holds} r few h said bench line complete taken = record {
+  session = bench ∙ ap (λ s. after s (strip_carriage_return old.line.items)) r.session
+      ∙ ap (λ l. after (session_after start (complete_lines given)) (strip_carriage_return l)) r.line
+      ∙ after_stripped (session_after start (complete_lines given)) (unfinished_line given)
+      ∙ sym (session_after_push start (complete_lines given) (strip_carriage_return (unfinished_line given)))
+      ∙ ap (session_after start) (sym (complete_newline given));
+  line = line ∙ ap (take 402) (sym (unfinished_newline given));
+  complete = complete ∙ ap (λ n. n + 1) r.complete ∙ sym (ap length (complete_newline given) ∙ length-append (complete_lines given) (strip_carriage_return (unfinished_line given) ∷ []));
+  taken = taken ∙ ap (λ n. n + 1) r.taken ∙ sym (length-append given (10 ∷ []));
+  within = within_newline given 10 refl r.within (subst (λ n. n < 50000000) r.taken few) (subst (λ n. n < 100000) r.complete h);
+  told = appends_known held holds _ _ r.told said ∙ ap Some (append_assoc before (transcript_of start (complete_lines given)) _ ∙ ap (λ t. before ++ t) (transcript_newline start before given old.bench.session r.session old.line.items r.line));
+}
+
+-- a front of the answer, where the writer failed
+front_newline : {start : Session} {before given : List ℕ} {old : Conversation} {held holds : Option (List ℕ)} → Reached start before given old held →
+    ((front : List ℕ) × BeginsWith (reply old.bench.session (strip_carriage_return old.line.items)) front × Appends held holds front) →
+    StoppedAt stop.WriterFailed start before (given ++ 10 ∷ []) [] holds
+front_newline {start} {before} {given} {old} {held} {holds} r (front, (back, e), said) = (
+  transcript_of start (complete_lines given) ++ front,
+  (back, sym (transcript_newline start before given old.bench.session r.session old.line.items r.line) ∙ ap (λ t. transcript_of start (complete_lines given) ++ t) e ∙ sym (append_assoc (transcript_of start (complete_lines given)) front back)),
+  appends_known held holds _ _ r.told said ∙ ap Some (append_assoc before (transcript_of start (complete_lines given)) front),
+)
+
+pub went_newline : {start : Session} {before given : List ℕ} {old : Conversation} {held : Option (List ℕ)} (new : Conversation) (holds : Option (List ℕ)) (result : Result Unit Stop) → Reached start before given old held →
+    old.taken < 50000000 → old.complete < 100000 →
+    Says result held holds (reply old.bench.session (strip_carriage_return old.line.items)) →
+    OnOk result (new.bench.session ≡ after old.bench.session (strip_carriage_return old.line.items)) → OnOk result (new.line.items ≡ []) → OnOk result (new.complete ≡ old.complete + 1) → new.taken ≡ old.taken + 1 →
+    Went result start before (given ++ 10 ∷ []) new holds
+went_newline new holds (Ok _) r few h said bench line complete taken = reached_newline r few h said bench line complete taken
+went_newline {given = given} new holds (Err stop.WriterFailed) r few h said bench line complete taken =
+    record { done = given ++ 10 ∷ []; more = []; split = sym (append-nil (given ++ 10 ∷ [])); stopped = front_newline r said }
+went_newline {given = given} {held = held} new holds (Err stop.OutOfMemory) r few h said bench line complete taken =
+    record { done = given; more = 10 ∷ []; split = refl; stopped = keeps_known held holds _ r.told said }
+went_newline new holds (Err stop.TooMuchInput) r few h said bench line complete taken = absurd said
+
+pub complete_within : (xs : List ℕ) → length (complete_lines xs) ≤ length (lines xs)
+complete_within xs = omega (arith, ap length (lines_is xs), length-append (complete_lines xs) (last_line (unfinished_line xs)))
+
+at_bound : {start : Session} {before given : List ℕ} {old : Conversation} {held : Option (List ℕ)} → Reached start before given old held →
+    ((50000000 ≤ old.taken) ⊎ (100000 ≤ old.complete)) → (length given ≡ 50000000) ⊎ (length (complete_lines given) ≡ 100000)
+at_bound r (inl p) = inl (omega (arith, r.within.bytes, r.taken))
+at_bound {given = given} r (inr p) = inr (omega (arith, r.within.line_count, r.complete, complete_within given))
+
+-- a byte past a bound
+pub stopped_bound : {start : Session} {before given : List ℕ} {old : Conversation} {held : Option (List ℕ)} (b : ℕ) → Reached start before given old held →
+    ((50000000 ≤ old.taken) ⊎ (100000 ≤ old.complete)) → Stopped stop.TooMuchInput start before (given ++ b ∷ []) held
+stopped_bound {given = given} b r past = record {
+  done = given;
+  more = b ∷ [];
+  split = refl;
+  stopped = (r.within, at_bound r past, omega arith, r.told);
+}
+
+pub kept_length : {start : Session} {before given : List ℕ} {old : Conversation} {held : Option (List ℕ)} → Reached start before given old held → length old.line.items ≤ 402
+kept_length {given = given} r = omega (arith, ap length r.line, length-take 402 (unfinished_line given))
+
+pub other_byte : (b : ℕ) → b ≢ 10 → is_newline b ≡ false
+other_byte b h = grind arith
+
+-- nothing taken
+pub carries_none : (c : Conversation) (held : Option (List ℕ)) → Carries c held [] (Ok tt) c held
+carries_none c held start before given r = subst (λ l. Reached start before l c held) (sym (append-nil given)) r
+
+-- more taken
+pub carries_more : {old : Conversation} {held : Option (List ℕ)} (mid : Conversation) (kept : Option (List ℕ)) (new : Conversation) (holds : Option (List ℕ)) (xs ys : List ℕ) (result : Result Unit Stop) →
+    Carries old held xs (Ok tt) mid kept → Carries mid kept ys result new holds → Carries old held (xs ++ ys) result new holds
+carries_more mid kept new holds xs ys result one two start before given r =
+    subst (λ l. Went result start before l new holds) (append_assoc given xs ys) (two start before (given ++ xs) (one start before given r))
+
+-- more bytes at hand, after a stop
+pub carries_stop : {old : Conversation} {held : Option (List ℕ)} (new : Conversation) (holds : Option (List ℕ)) (xs ys : List ℕ) (e : Stop) →
+    Carries old held xs (Err e) new holds → Carries old held (xs ++ ys) (Err e) new holds
+carries_stop new holds xs ys e one start before given r =
+    let s = one start before given r in
+    record {
+      done = s.done;
+      more = s.more ++ ys;
+      split = sym (append_assoc given xs ys) ∙ ap (λ l. l ++ ys) s.split ∙ append_assoc s.done s.more ys;
+      stopped = stopped_longer e start before s.done s.more ys holds s.stopped;
+    }
+  where
+    stopped_longer : (e : Stop) (start : Session) (before done more ys : List ℕ) (holds : Option (List ℕ)) → StoppedAt e start before done more holds → StoppedAt e start before done (more ++ ys) holds
+    stopped_longer stop.WriterFailed start before done more ys holds h = h
+    stopped_longer stop.OutOfMemory start before done more ys holds h = h
+    stopped_longer stop.TooMuchInput start before done more ys holds h = (h.0, h.1, omega (arith, h.2, length-append more ys), h.3)
+
+last_kept : (u : List ℕ) → 0 < length (take 402 u) → last_line u ≡ u ∷ []
+last_kept u h = last_filled u (omega (arith, h, length-take 402 u))
+
+none_kept : (u : List ℕ) → length (take 402 u) ≡ 0 → last_line u ≡ []
+none_kept [] h = refl
+none_kept (x ∷ xs) h = absurd (omega (arith, h, length-take 402 (x ∷ xs)))
+
+-- the end, with no line unfinished
+pub ended_empty : {start : Session} {before given : List ℕ} {old : Conversation} {held : Option (List ℕ)} → Reached start before given old held → length old.line.items ≡ 0 →
+    held ≡ Some (before ++ transcript_of start (lines given))
+ended_empty {start} {before} {given} {old} {held} r h = r.told ∙ ap (λ l. Some (before ++ transcript_of start l))
+    (sym (lines_is given ∙ ap (λ l. complete_lines given ++ l) (none_kept (unfinished_line given) (sym (ap length r.line) ∙ h)) ∙ append-nil (complete_lines given)))
+
+transcript_end : {start : Session} {before given : List ℕ} {old : Conversation} {held : Option (List ℕ)} → Reached start before given old held → 0 < length old.line.items →
+    transcript_of start (lines given) ≡ transcript_of start (complete_lines given) ++ reply old.bench.session old.line.items
+transcript_end {start} {before} {given} {old} {held} r h =
+    ap (transcript_of start) (lines_is given ∙ ap (λ l. complete_lines given ++ l) (last_kept (unfinished_line given) (subst (λ l. 0 < length l) r.line h)))
+    ∙ transcript_push start (complete_lines given) (unfinished_line given)
+    ∙ ap (λ t. transcript_of start (complete_lines given) ++ t)
+    (sym (reply_kept (session_after start (complete_lines given)) (unfinished_line given)) ∙ sym (ap (λ s. reply s (take 402 (unfinished_line given))) r.session) ∙ sym (ap (reply old.bench.session) r.line))
+
+-- the end, with the answer to the last line
+pub ended_said : {start : Session} {before given : List ℕ} {old : Conversation} {held : Option (List ℕ)} (holds : Option (List ℕ)) (result : Result Unit Stop) → Reached start before given old held →
+    0 < length old.line.items → Says result held holds (reply old.bench.session old.line.items) → Ended result start before given holds
+ended_said {start} {before} {given} {old} {held} holds (Ok _) r h said =
+    appends_known held holds _ _ r.told said ∙ ap Some (append_assoc before (transcript_of start (complete_lines given)) (reply old.bench.session old.line.items) ∙ ap (λ t. before ++ t) (sym (transcript_end r h)))
+ended_said {start} {before} {given} {old} {held} holds (Err stop.WriterFailed) r h (front, (back, e), said) = (
+  transcript_of start (complete_lines given) ++ front,
+  (back, transcript_end r h ∙ ap (λ t. transcript_of start (complete_lines given) ++ t) e ∙ sym (append_assoc (transcript_of start (complete_lines given)) front back)),
+  appends_known held holds _ _ r.told said ∙ ap Some (append_assoc before (transcript_of start (complete_lines given)) front),
+)
+ended_said {held = held} holds (Err stop.OutOfMemory) r h said = keeps_known held holds _ r.told said
+ended_said holds (Err stop.TooMuchInput) r h said = absurd said
+
+-- before the first byte
+pub reached_none : (start : Session) (before : List ℕ) (c : Conversation) (held : Option (List ℕ)) → c.bench.session ≡ start → c.line.items ≡ [] → c.complete ≡ 0 → c.taken ≡ 0 → held ≡ Some before → Reached start before [] c held
+reached_none start before c held bench line complete taken h = record {
+  session = bench ∙ sym (ap (session_after start) complete_none);
+  line = line ∙ sym (ap (take 402) unfinished_none);
+  complete = complete ∙ sym (ap length complete_none);
+  taken = taken;
+  within = record { bytes = omega arith; line_count = omega arith };
+  told = h ∙ ap Some (sym (append-nil before)) ∙ sym (ap (λ l. Some (before ++ transcript_of start l)) complete_none);
+}
+
+-- one more byte of a piece, and a stop in the midst of it
+pub carries_byte : {old : Conversation} {held : Option (List ℕ)} (mid : Conversation) (kept : Option (List ℕ)) (new : Conversation) (holds : Option (List ℕ)) (piece : List ℕ) (i : ℕ) → i < length piece →
+    Carries old held (take i piece) (Ok tt) mid kept → Carries mid kept (get_or piece i 0 ∷ []) (Ok tt) new holds → Carries old held (take (i + 1) piece) (Ok tt) new holds
+carries_byte mid kept new holds piece i h one two start before given r =
+    subst (λ l. Reached start before (given ++ l) new holds) (sym (take_more piece i 0 h)) (carries_more mid kept new holds (take i piece) (get_or piece i 0 ∷ []) (Ok tt) one two start before given r)
+
+pub carries_break : {old : Conversation} {held : Option (List ℕ)} (mid : Conversation) (kept : Option (List ℕ)) (new : Conversation) (holds : Option (List ℕ)) (piece : List ℕ) (i : ℕ) (e : Stop) → i < length piece →
+    Carries old held (take i piece) (Ok tt) mid kept → Carries mid kept (get_or piece i 0 ∷ []) (Err e) new holds → Carries old held piece (Err e) new holds
+carries_break mid kept new holds piece i e h one two start before given r =
+    let stop = carries_stop new holds (take i piece ++ get_or piece i 0 ∷ []) (drop (i + 1) piece) e (carries_more mid kept new holds (take i piece) (get_or piece i 0 ∷ []) (Err e) one two) start before given r in
+    subst (λ l. Stopped e start before (given ++ l) holds) (ap (λ l. l ++ drop (i + 1) piece) (sym (take_more piece i 0 h)) ∙ take-append-drop (i + 1) piece) stop

@@ -1,0 +1,21 @@
+use Rattle.std.proofs.Common.{◌≡◌, ◌-◌, ◌≤◌, List, ℕ, Some, None, length}
+use Rattle.chip_asm.specs.Lines.{open_fault}
+use Rattle.chip_bench.specs.Session.{session_of}
+use Rattle.chip_bench.proofs.ServeLemmas.{Underway}
+use Rattle.chip_bench.proofs.server.serve.Given as goal
+
+-- what was written is the transcript of the complete lines that were read
+abbrev pub invariant-loop-conversation : goal.invariant-loop-conversation
+invariant-loop-conversation g l = record {
+  told : (all before : List ℕ) → g.R.Read.remaining l.fn.reader.inner ≡ Some all → g.W.Write.contents l.fn.writer.inner ≡ Some before →
+      Underway all (g.R.Read.remaining l.reader.inner) (session_of l.fn.settings l.fn.source) before l.conversation (g.W.Write.contents l.writer.inner);
+  opens : open_fault l.fn.source ≡ None;
+  bound : l.conversation.taken ≤ 50000000;
+  reader_same : l.reader.failures ≡ l.fn.reader.failures;
+  writer_same : l.writer.failures ≡ l.fn.writer.failures;
+  room : length l.piece ≡ 4096;
+}
+
+-- how many bytes may still be taken
+abbrev pub decreases-loop-conversation : goal.decreases-loop-conversation
+decreases-loop-conversation g l = 50000000 - l.conversation.taken

@@ -1,0 +1,105 @@
+-- The answer to each question, from the lines, the key events and the settings of the session alone (own).
+use Rattle.std.specs.Prelude.{ℕ, ◌+◌, ◌*◌, Bool, false, List, [], ◌∷◌, ◌++◌, nat_lt, if◌then◌else◌, codes, Option, Some, None, Result, Ok, Err}
+use Rattle.std.specs.List.{flat_map}
+use Rattle.std.specs.Fmt.{decimal, signed_decimal}
+use Rattle.hex.specs.Hex.{encode_lower}
+use Rattle.chip_lang.specs.declared.fault.Fault.{Fault}
+use Rattle.chip_lang.specs.FaultNumber.{number_of_fault}
+use Rattle.chip_asm.specs.declared.table.Symbol.{Symbol}
+use Rattle.chip_asm.specs.Program.{image_of, symbols_of, faults_of}
+use Rattle.chip_asm.specs.Listing.{listing_of}
+use Rattle.chip_machine.specs.declared.stop.Profile.TheVariants.{Schip}
+use Rattle.chip_machine.specs.State.{State}
+use Rattle.chip_machine.specs.Start.{start_of}
+use Rattle.chip_machine.specs.Step.{step_of}
+use Rattle.chip_replay.specs.Limits.{last_step}
+use Rattle.chip_replay.specs.Keys.{held}
+use Rattle.chip_replay.specs.Run.{run}
+use Rattle.chip_bench.specs.Session.{Session}
+use Rattle.chip_bench.specs.MachineAnswers.{registers_of, memory_of, screen_of, disassembly_of}
+use Rattle.chip_bench.specs.declared.refusal.Refusal.{Refusal}
+use Rattle.chip_bench.specs.declared.refusal.Refusal.TheVariants.{NoImage, StepPastLast, AddressPastEnd}
+use Rattle.chip_bench.specs.declared.question.Question.{Question}
+use Rattle.chip_bench.specs.declared.question.Question.TheVariants.{Image, Symbols, Listing, Faults, Registers, Memory, Screen, Disassembly}
+
+-- a line of bytes in lower case hexadecimal
+abbrev pub hex_line : List ℕ → List ℕ
+hex_line bytes = encode_lower bytes ++ 10 ∷ []
+
+abbrev pub image_answer : Option (List ℕ) → Result (List ℕ) Refusal
+image_answer None = Err NoImage
+image_answer (Some bytes) = Ok (hex_line bytes)
+
+-- the line that ends an answer of many lines
+abbrev pub full_stop : List ℕ
+full_stop = codes "." ++ 10 ∷ []
+
+-- a name, its value and its line
+abbrev pub symbol_line : List ℕ × Symbol → List ℕ
+symbol_line named = named.0 ++ codes " " ++ signed_decimal named.1.value ++ codes " " ++ decimal named.1.line ++ 10 ∷ []
+
+abbrev pub symbols_text : List (List ℕ × Symbol) → List ℕ
+symbols_text symbols = flat_map symbol_line symbols ++ full_stop
+
+-- a line's number and its fault
+abbrev pub fault_line : ℕ × Fault → List ℕ
+fault_line numbered = decimal numbered.0 ++ codes " F" ++ decimal (number_of_fault numbered.1) ++ 10 ∷ []
+
+abbrev pub faults_text : List (ℕ × Fault) → List ℕ
+faults_text faults = flat_map fault_line faults ++ full_stop
+
+abbrev pub listing_text : List ℕ → List ℕ
+listing_text listing = listing ++ full_stop
+
+-- the step that a question is about
+abbrev pub step_asked : Question → Option ℕ
+step_asked (Registers step) = Some step
+step_asked (Memory step at count) = Some step
+step_asked (Screen step) = Some step
+step_asked (Disassembly step at count) = Some step
+step_asked question = None
+
+-- the bytes asked for pass the end of the memory
+abbrev pub is_past_end : Question → Bool
+is_past_end (Memory step at count) = nat_lt 4096 (at + count)
+is_past_end (Disassembly step at count) = nat_lt 4096 (at + 2 * count)
+is_past_end question = false
+
+-- what a question asks of a state
+abbrev pub state_answer : Question → State → List ℕ
+state_answer (Registers step) state = registers_of state
+state_answer (Memory step at count) state = memory_of state at count
+state_answer (Screen step) state = screen_of state
+state_answer (Disassembly step at count) state = disassembly_of state at count
+state_answer question state = []
+
+-- the machine with this image after so many steps from step 0, under the keys and the settings of the session
+unfoldable pub machine_at : Session → List ℕ → ℕ → State
+machine_at session image step =
+    run step_of session.settings.rate (held session.keys) (start_of image session.settings.tape Schip) step
+
+-- the first refusal of a question about a step, if there is one
+abbrev pub step_refusal : Question → ℕ → Option Refusal
+step_refusal question step =
+    if nat_lt last_step step then Some StepPastLast else if is_past_end question then Some AddressPastEnd else None
+
+abbrev pub unless_refused : Option Refusal → List ℕ → Result (List ℕ) Refusal
+unless_refused (Some why) bytes = Err why
+unless_refused None bytes = Ok bytes
+
+-- the answer to a question about a step of the image's run
+abbrev pub answer_at : Session → Question → ℕ → Option (List ℕ) → Result (List ℕ) Refusal
+answer_at session question step None = Err NoImage
+answer_at session question step (Some image) =
+    unless_refused (step_refusal question step) (state_answer question (machine_at session image step))
+
+-- the bytes that answer a question, or the first refusal that applies
+abbrev pub answer_to : Session → Question → Result (List ℕ) Refusal
+answer_to session Image = image_answer (image_of session.lines)
+answer_to session Symbols = Ok (symbols_text (symbols_of session.lines))
+answer_to session Listing = Ok (listing_text (listing_of session.lines))
+answer_to session Faults = Ok (faults_text (faults_of session.lines))
+answer_to session (Registers step) = answer_at session (Registers step) step (image_of session.lines)
+answer_to session (Memory step at count) = answer_at session (Memory step at count) step (image_of session.lines)
+answer_to session (Screen step) = answer_at session (Screen step) step (image_of session.lines)
+answer_to session (Disassembly step at count) = answer_at session (Disassembly step at count) step (image_of session.lines)

@@ -1,0 +1,40 @@
+-- What the contracts of chip_bench speak of (own).
+--     Tally        a reader or a writer with the number of its failures
+--     Lines        the lines of a script, and which of them a newline has ended
+--     Settings     the settings of a session
+--     Session      a session: its lines, key events and settings; an edit of it, and the first refusal that applies
+--     Refusals     the codes of refusals
+--     Changes      the edits of the code, seen by the bytes that they hold
+--     Text, MachineAnswers, Answers      the answer to each question
+--     IsAnswer     when a result is the answer, or why there is none
+--     Workbench, Kept                    what contracts see of a bench, and what an edit or a question keeps of the run
+--     Commands     the command that a line of a script spells
+--     CommandView  the commands of the code, seen by the bytes that they hold
+--     Transcript   the reply to each line of a script, and the transcript of all
+--     Serving      what a call of `serve` reads and writes, for each way in which it ends
+--     CommandLine  the words that the program takes
+--     Running      what a run of the program reads, writes and answers
+--     SettingWords what the words of the command line say of settings
+--     Tape         the tape of a seed
+--     Progress     how far a script has been carried out, for the private contracts behind `serve`
+pub mod Tally
+pub mod Lines
+pub mod Settings
+pub mod Refusals
+pub mod Session
+pub mod Changes
+pub mod Answers
+pub mod Commands
+pub mod CommandView
+pub mod Transcript
+pub mod Serving
+pub mod Progress
+pub mod CommandLine
+pub mod Running
+pub mod IsAnswer
+pub mod Kept
+pub mod MachineAnswers
+pub mod Text
+pub mod Workbench
+pub mod Tape
+pub mod SettingWords

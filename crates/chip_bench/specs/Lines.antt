@@ -1,0 +1,31 @@
+-- The lines of a script, and which of them a newline has ended (own).
+use Rattle.std.specs.Prelude.{ℕ, Bool, ◌==◌, List, [], ◌∷◌, map}
+use Rattle.std.specs.List.{slice_split}
+use Rattle.std.specs.Str.Lines.{lines as text_lines, strip_carriage_return}
+
+-- the lines, as `str::lines` cuts them: a newline ends a line, a carriage return directly before it is dropped,
+-- and what stands after the last newline is a line if it isn't empty
+abbrev pub lines : List ℕ → List (List ℕ)
+lines bytes = text_lines bytes
+
+abbrev pub is_newline : ℕ → Bool
+is_newline byte = byte == 10
+
+-- all parts but the last
+abbrev pub all_but_last : List (List ℕ) → List (List ℕ)
+all_but_last [] = []
+all_but_last (part ∷ []) = []
+all_but_last (part ∷ next ∷ parts) = part ∷ all_but_last (next ∷ parts)
+
+abbrev pub last_part : List (List ℕ) → List ℕ
+last_part [] = []
+last_part (part ∷ []) = part
+last_part (part ∷ next ∷ parts) = last_part (next ∷ parts)
+
+-- the complete lines: those that a newline ends
+unfoldable pub complete_lines : List ℕ → List (List ℕ)
+complete_lines bytes = map strip_carriage_return (all_but_last (slice_split is_newline bytes))
+
+-- what stands after the last newline
+unfoldable pub unfinished_line : List ℕ → List ℕ
+unfinished_line bytes = last_part (slice_split is_newline bytes)

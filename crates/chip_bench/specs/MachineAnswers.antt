@@ -1,0 +1,119 @@
+-- The answers to questions about the machine's state (own; the state is that of the COSMAC VIP manual and the SUPER-CHIP 1.1 documentation).
+use Rattle.std.specs.Prelude.{ℕ, ◌+◌, ◌*◌, Bool, List, [], ◌∷◌, ◌++◌, map, Option, Some, None, if◌then◌else◌, slice_index, codes, nat_lt}
+use Rattle.std.specs.List.{flat_map, list_any, range_with_len}
+use Rattle.std.specs.Fmt.{decimal}
+use Rattle.hex.specs.Hex.{encode_lower}
+use Rattle.chip_lang.specs.Show.{show_of}
+use Rattle.chip_machine.specs.declared.stop.Stop.{Stop}
+use Rattle.chip_machine.specs.Numbers.{stop_number}
+use Rattle.chip_machine.specs.Points.{Points, is_lit}
+use Rattle.chip_machine.specs.State.{Core, State}
+use Rattle.chip_machine.specs.Step.{word_at}
+use Rattle.chip_bench.specs.Text.{hex_byte, hex_word, spaced}
+
+-- the numbers from a first one on, so many
+abbrev pub from_on : ℕ → ℕ → List ℕ
+from_on first count = range_with_len first count
+
+-- ---- regs
+
+abbrev pub size_name : Bool → List ℕ
+size_name high = if high then codes "high" else codes "low"
+
+abbrev pub state_name : Option Stop → List ℕ
+state_name None = codes "run"
+state_name (Some stop) = 83 ∷ decimal (stop_number stop)
+
+-- V0 to VF
+unfoldable pub register_values : Core → List ℕ
+register_values c = map (slice_index c.registers) (from_on 0 16)
+
+-- the eight flag registers
+unfoldable pub flag_values : Core → List ℕ
+flag_values c = map (slice_index c.flags) (from_on 0 8)
+
+-- `v` and V0 to VF
+abbrev pub register_line : Core → List ℕ
+register_line c = codes "v" ++ spaced hex_byte (register_values c) ++ 10 ∷ []
+
+-- where the machine stands
+abbrev pub place_part : Core → List ℕ
+place_part c = codes "pc " ++ hex_word c.pc ++ codes " i " ++ hex_word c.index
+
+abbrev pub timer_part : Core → List ℕ
+timer_part c = codes " dt " ++ hex_byte c.delay ++ codes " st " ++ hex_byte c.sound
+
+-- the draws, the size of the screen, and why the machine stopped
+abbrev pub condition_part : Core → List ℕ
+condition_part c = codes " draws " ++ decimal c.draws ++ codes " " ++ size_name c.high ++ codes " " ++ state_name c.stopped ++ 10 ∷ []
+
+-- pc, I, the timers, the draws, the size of the screen, and why the machine stopped
+abbrev pub state_line : Core → List ℕ
+state_line c = place_part c ++ timer_part c ++ condition_part c
+
+-- the eight flag registers, and the frames, the oldest first
+abbrev pub flag_line : Core → List ℕ
+flag_line c =
+    codes "flags" ++ spaced hex_byte (flag_values c) ++ codes " stack" ++ spaced hex_word c.frames ++ 10 ∷ []
+
+unfoldable pub registers_of : State → List ℕ
+registers_of s = register_line s.core ++ state_line s.core ++ flag_line s.core
+
+-- ---- mem
+
+-- so many bytes from an address
+abbrev pub bytes_at : State → ℕ → ℕ → List ℕ
+bytes_at s at count = map (slice_index s.memory) (from_on at count)
+
+unfoldable pub memory_of : State → ℕ → ℕ → List ℕ
+memory_of s at count = encode_lower (bytes_at s at count) ++ 10 ∷ []
+
+-- ---- dis
+
+-- an address, the word there, and its text
+abbrev pub word_line : State → ℕ → List ℕ
+word_line s at =
+    hex_word at ++ codes " " ++ hex_word (word_at s.memory at) ++ codes " " ++ show_of (word_at s.memory at) ++ 10 ∷ []
+
+-- so many words from an address
+unfoldable pub disassembly_of : State → ℕ → ℕ → List ℕ
+disassembly_of s at count = flat_map (λ place. word_line s (at + 2 * place)) (from_on 0 count) ++ codes "." ++ 10 ∷ []
+
+-- ---- screen
+
+abbrev pub bit : Bool → ℕ
+bit lit = if lit then 1 else 0
+
+-- 1 for a lit point, else 0
+abbrev pub point : Points → ℕ → ℕ → ℕ
+point lit row column = bit (is_lit lit column row)
+
+-- eight points of a row as a byte, the leftmost the highest bit
+unfoldable pub row_byte : Points → ℕ → ℕ → ℕ
+row_byte lit row place =
+    let left = 8 * place in
+    128 * point lit row left + 64 * point lit row (left + 1) + 32 * point lit row (left + 2) + 16 * point lit row (left + 3)
+    + 8 * point lit row (left + 4) + 4 * point lit row (left + 5) + 2 * point lit row (left + 6) + point lit row (left + 7)
+
+-- the 128 points of a row as 16 bytes
+unfoldable pub row_bytes : Points → ℕ → List ℕ
+row_bytes lit row = map (row_byte lit row) (from_on 0 16)
+
+unfoldable pub has_lit : Points → ℕ → Bool
+has_lit lit row = list_any (λ column. is_lit lit column row) (from_on 0 128)
+
+-- a number below 100 in two decimal digits
+abbrev pub two_digits : ℕ → List ℕ
+two_digits n = if nat_lt n 10 then 48 ∷ decimal n else decimal n
+
+-- a stored row with a lit point: its number, and its points in hexadecimal
+unfoldable pub row_line : Points → ℕ → List ℕ
+row_line lit row =
+    if has_lit lit row then two_digits row ++ codes " " ++ encode_lower (row_bytes lit row) ++ 10 ∷ [] else []
+
+-- the rows with a lit point, from the top
+unfoldable pub row_lines : Points → List ℕ
+row_lines lit = flat_map (row_line lit) (from_on 0 64)
+
+unfoldable pub screen_of : State → List ℕ
+screen_of s = size_name s.core.high ++ 10 ∷ [] ++ row_lines s.core.lit ++ codes "." ++ 10 ∷ []

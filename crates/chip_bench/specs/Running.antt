@@ -1,0 +1,65 @@
+-- What a run of the program reads, writes and answers (own).
+use Rattle.std.specs.Prelude.{◌≡◌, ◌⊎◌, ℕ, List, [], Result, Ok, Err}
+use Rattle.chip_bench.specs.Settings.{default_settings}
+use Rattle.chip_bench.specs.Session.{session_of}
+use Rattle.chip_bench.specs.Serving.{Served}
+use Rattle.chip_bench.specs.declared.entry.Ending.{Ending}
+use Rattle.chip_bench.specs.declared.entry.Ending.TheVariants.{Done, Faulty}
+use Rattle.chip_bench.specs.declared.entry.Failure.{Failure}
+use Rattle.chip_bench.specs.declared.entry.Failure.TheVariants as failure
+use Rattle.chip_bench.specs.declared.server.ServeError.{ServeError}
+use Rattle.chip_bench.specs.declared.server.ServeError.TheVariants as fault
+use Rattle.chip_bench.specs.declared.settings.SetError.{SetError}
+use Rattle.chip_bench.specs.declared.settings.SetError.TheVariants as set
+
+-- the status that the program has after a way to end `serve`; 3 after a whole script where the flush at the end failed
+abbrev pub Ends : Result Unit ServeError → ℕ → Type 0
+Ends (Ok _) status = (status ≡ 0) ⊎ (status ≡ 3)
+Ends (Err fault.ReaderFailed) status = status ≡ 3
+Ends (Err fault.WriterFailed) status = status ≡ 3
+Ends (Err fault.TooMuchInput) status = status ≡ 3
+Ends (Err fault.OutOfMemory) status = status ≡ 4
+Ends (Err (fault.Source e)) status = status ≡ 4
+
+-- The program without words, where the reader gave `given` and has `rest` left and this was written: it is a session on
+-- the empty source, which opens unless there is no memory.
+abbrev pub Ran : ℕ → List ℕ → List ℕ → List ℕ → Type 0
+Ran status given rest written = (served : Result Unit ServeError) × Ends served status × Served served (session_of default_settings []) given rest written
+
+-- for private contracts: what hinders the program after a way to end `serve` on the empty source
+abbrev pub failure_of : ServeError → Failure
+failure_of fault.ReaderFailed = failure.Input
+failure_of fault.WriterFailed = failure.Output
+failure_of fault.TooMuchInput = failure.TooMuchInput
+failure_of fault.OutOfMemory = failure.OutOfMemory
+failure_of (fault.Source e) = failure.OutOfMemory
+
+abbrev pub settings_failure : SetError → Failure
+settings_failure set.RateOutOfRange = failure.BadTape
+settings_failure set.TapeLength = failure.BadTape
+settings_failure set.OutOfMemory = failure.OutOfMemory
+
+abbrev pub no_memory : Failure
+no_memory = failure.OutOfMemory
+
+abbrev pub ending_status : Ending → ℕ
+ending_status Done = 0
+ending_status Faulty = 1
+
+abbrev pub failure_status : Failure → ℕ
+failure_status (failure.Usage error) = 2
+failure_status failure.BadTape = 2
+failure_status (failure.CannotRead name) = 3
+failure_status (failure.CannotWrite name) = 3
+failure_status failure.Input = 3
+failure_status failure.Output = 3
+failure_status failure.TooMuchInput = 3
+failure_status failure.OutOfMemory = 4
+
+-- for private contracts: the same as `Ran`, before the flush at the end
+abbrev pub CarriedAs : Result Ending Failure → Result Unit ServeError → Type 0
+CarriedAs result (Ok _) = result ≡ Ok Done
+CarriedAs result (Err e) = result ≡ Err (failure_of e)
+
+abbrev pub Carried : Result Ending Failure → List ℕ → List ℕ → List ℕ → Type 0
+Carried result given rest written = (served : Result Unit ServeError) × CarriedAs result served × Served served (session_of default_settings []) given rest written

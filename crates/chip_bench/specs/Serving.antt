@@ -1,0 +1,92 @@
+-- What a call of `serve` reads and writes, for each way in which it ends (own).
+use Rattle.std.specs.Prelude.{◌≡◌, ◌⊎◌, ℕ, ◌<◌, ◌≤◌, List, [], ◌++◌, length, take, Option, Some, None, IfSome, Result, Ok, Err}
+use Rattle.chip_bench.specs.Lines.{lines, complete_lines}
+use Rattle.chip_bench.specs.Session.{Session}
+use Rattle.chip_bench.specs.Transcript.{transcript_of}
+use Rattle.chip_bench.specs.Tally.{one_more}
+use Rattle.chip_asm.specs.declared.refusal.OpenError.{OpenError}
+use Rattle.chip_asm.specs.declared.refusal.OpenError.TheVariants.{OutOfMemory as memory}
+use Rattle.chip_bench.specs.declared.server.ServeError.{ServeError}
+use Rattle.chip_bench.specs.declared.server.ServeError.TheVariants as fault
+
+-- a script within the bounds: 50,000,000 bytes and 100,000 lines
+pub record WithinBounds (script : List ℕ) : Type 0 where
+  pub bytes : length script ≤ 50000000
+  pub line_count : length (lines script) ≤ 100000
+
+-- a script past a bound
+abbrev pub PassesBound : List ℕ → Type 0
+PassesBound script = (50000000 < length script) ⊎ (100000 < length (lines script))
+
+-- the complete lines among the first 50,000,000 bytes, at most 100,000
+abbrev pub lines_in_bounds : List ℕ → List (List ℕ)
+lines_in_bounds script = take 100000 (complete_lines (take 50000000 script))
+
+-- text begins with front
+abbrev pub BeginsWith : List ℕ → List ℕ → Type 0
+BeginsWith text front = (back : List ℕ) × (text ≡ front ++ back)
+
+-- Where the reader gave `given` and has `rest` left, this is what was written.
+abbrev pub Served : Result Unit ServeError → Session → List ℕ → List ℕ → List ℕ → Type 0
+-- the reader has ended within the bounds: the whole transcript
+Served (Ok _) start given rest written = (rest ≡ []) × WithinBounds given × (written ≡ transcript_of start (lines given))
+-- the source doesn't open: nothing, and nothing was read
+Served (Err (fault.Source e)) start given rest written = (given ≡ []) × (written ≡ [])
+-- the reader failed: the answers to all complete lines that were read
+Served (Err fault.ReaderFailed) start given rest written = WithinBounds given × (written ≡ transcript_of start (complete_lines given))
+-- the writer failed: some front of the transcript
+Served (Err fault.WriterFailed) start given rest written = BeginsWith (transcript_of start (lines (given ++ rest))) written
+-- want of memory: the answers to a number of first complete lines
+Served (Err fault.OutOfMemory) start given rest written = (n : ℕ) × (written ≡ transcript_of start (take n (complete_lines given)))
+-- more input than the bounds allow: the answers to the complete lines within them
+Served (Err fault.TooMuchInput) start given rest written = PassesBound given × (written ≡ transcript_of start (lines_in_bounds given))
+
+-- A reader that had `all` has `left` now, a writer that held `before` holds `holds` now, and P says what was read,
+-- what is left to read and what was written.
+pub record Exchanged (all : List ℕ) (left : Option (List ℕ)) (before : List ℕ) (holds : Option (List ℕ)) (P : List ℕ → List ℕ → List ℕ → Type 0) : Type 0 where
+  pub given : List ℕ
+  pub rest : List ℕ
+  pub written : List ℕ
+  pub read : all ≡ given ++ rest
+  pub left_is : left ≡ Some rest
+  pub wrote : holds ≡ Some (before ++ written)
+  pub outcome : P given rest written
+
+-- The same, where the reader and the writer tell their bytes.
+abbrev pub Exchanges : Option (List ℕ) → Option (List ℕ) → Option (List ℕ) → Option (List ℕ) → (List ℕ → List ℕ → List ℕ → Type 0) → Type 0
+Exchanges had left held holds P = IfSome had (λ all. IfSome held (λ before. Exchanged all left before holds P))
+
+-- how many failures of the reader are counted after a call that ended so
+abbrev pub reader_failures : Result Unit ServeError → ℕ → ℕ
+reader_failures (Ok _) failures = failures
+reader_failures (Err fault.ReaderFailed) failures = one_more failures
+reader_failures (Err fault.WriterFailed) failures = failures
+reader_failures (Err (fault.Source e)) failures = failures
+reader_failures (Err fault.OutOfMemory) failures = failures
+reader_failures (Err fault.TooMuchInput) failures = failures
+
+abbrev pub writer_failures : Result Unit ServeError → ℕ → ℕ
+writer_failures (Ok _) failures = failures
+writer_failures (Err fault.WriterFailed) failures = one_more failures
+writer_failures (Err fault.ReaderFailed) failures = failures
+writer_failures (Err (fault.Source e)) failures = failures
+writer_failures (Err fault.OutOfMemory) failures = failures
+writer_failures (Err fault.TooMuchInput) failures = failures
+
+-- a source fault is the source's own, or want of memory; anything else comes of a source that opens
+abbrev pub Opens : Option OpenError → Result Unit ServeError → Type 0
+Opens found (Err (fault.Source e)) = (e ≡ memory) ⊎ (found ≡ Some e)
+Opens found (Ok _) = found ≡ None
+Opens found (Err fault.ReaderFailed) = found ≡ None
+Opens found (Err fault.WriterFailed) = found ≡ None
+Opens found (Err fault.OutOfMemory) = found ≡ None
+Opens found (Err fault.TooMuchInput) = found ≡ None
+
+-- at a source that doesn't open, these facts hold
+abbrev pub UnlessOpened : Result Unit ServeError → Type 0 → Type 0
+UnlessOpened (Err (fault.Source e)) P = P
+UnlessOpened (Ok _) P = Unit {0}
+UnlessOpened (Err fault.ReaderFailed) P = Unit {0}
+UnlessOpened (Err fault.WriterFailed) P = Unit {0}
+UnlessOpened (Err fault.OutOfMemory) P = Unit {0}
+UnlessOpened (Err fault.TooMuchInput) P = Unit {0}

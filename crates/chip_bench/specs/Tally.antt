@@ -1,0 +1,22 @@
+-- A reader or a writer with the number of its failures (own).
+use Rattle.std.specs.Prelude.{ℕ, ◌+◌, ◌-◌, ◌^◌, ◌&&◌, min, Bool, true, List, length, nat_lt, nat_eq, Result, Ok, Err, is_err, if◌then◌else◌}
+
+pub record Tally (T : Type 0) : Type 0 where
+  pub inner : T
+  pub failures : ℕ
+
+-- one more failure, up to the greatest `u64`
+abbrev pub one_more : ℕ → ℕ
+one_more failures = min (failures + 1) (2 ^ 64 - 1)
+
+-- a read fails where it answers an error of any kind
+abbrev pub failures_after_read : {E : Type 0} → ℕ → Result ℕ E → ℕ
+failures_after_read failures result = if is_err result then one_more failures else failures
+
+-- a write fails where it answers an error of any kind, or takes none of some bytes
+abbrev pub write_failed : {E : Type 0} → Result ℕ E → List ℕ → Bool
+write_failed (Ok count) bytes = nat_eq count 0 && nat_lt 0 (length bytes)
+write_failed (Err e) bytes = true
+
+abbrev pub failures_after_write : {E : Type 0} → ℕ → Result ℕ E → List ℕ → ℕ
+failures_after_write failures result bytes = if write_failed result bytes then one_more failures else failures

@@ -1,0 +1,90 @@
+//! The answers to questions about the source, as bytes.
+ghost use Rattle.std.specs.Prelude.{◌≡◌, ◌++◌, IfOk, OnOk};
+ghost use Rattle.chip_asm.specs.Program.{symbols_of, faults_of};
+ghost use Rattle.chip_asm.specs.Listing.{listing_of};
+ghost use Rattle.chip_bench.specs.Answers.{hex_line, symbol_line, symbols_text, fault_line, faults_text, listing_text};
+
+use chip_asm::{Source, Symbol};
+use chip_lang::{Bytes, Fault};
+use std::alloc::{AllocError, Global};
+
+/// A line of bytes in lower case hexadecimal.
+pub(crate) fn hex_line(alloc: Global, bytes: &[u8]) -> Result<Vec<u8>, AllocError>
+    ensures { IfOk result (λ text. text.items ≡ hex_line bytes.now) }
+{
+    let mut text = hex::encode(alloc, bytes)?.into_bytes();
+    text.push(b'\n')?;
+    Ok(text)
+}
+
+/// A line for each name, with its value and its line.
+pub(crate) fn symbols_answer(alloc: Global, source: &Source) -> Result<Vec<u8>, AllocError>
+    ensures { IfOk result (λ text. text.items ≡ symbols_text (symbols_of source.now.lines)) }
+{
+    let symbols = source.symbols(alloc)?;
+    symbols_text(alloc, &symbols)
+}
+
+fn symbols_text(alloc: Global, symbols: &[(Bytes, Symbol)]) -> Result<Vec<u8>, AllocError>
+    ensures { IfOk result (λ text. text.items ≡ symbols_text symbols.now) }
+{
+    let mut text = Vec::new(alloc);
+    for (name, symbol) in symbols {
+        push_symbol(alloc, &mut text, name, symbol)?;
+    }
+    text.extend_from_slice(b".\n")?;
+    Ok(text)
+}
+
+fn push_symbol(
+    alloc: Global,
+    text: &mut Vec<u8>,
+    name: &Bytes,
+    symbol: &Symbol,
+) -> Result<(), AllocError>
+    ensures { OnOk result (text.new.items ≡ text.old.items ++ symbol_line (name.now, symbol.now)) }
+{
+    let rest = format!(in alloc; " {} {}\n", symbol.value, symbol.line)?;
+    text.extend_from_slice(name.get())?;
+    text.extend_from_slice(rest.as_bytes())
+}
+
+/// A line for each line with a fault.
+pub(crate) fn faults_answer(alloc: Global, source: &Source) -> Result<Vec<u8>, AllocError>
+    ensures { IfOk result (λ text. text.items ≡ faults_text (faults_of source.now.lines)) }
+{
+    let faults = source.faults(alloc)?;
+    faults_text(alloc, &faults)
+}
+
+fn faults_text(alloc: Global, faults: &[(usize, Fault)]) -> Result<Vec<u8>, AllocError>
+    ensures { IfOk result (λ text. text.items ≡ faults_text faults.now) }
+{
+    let mut text = Vec::new(alloc);
+    for (line, fault) in faults {
+        push_fault(alloc, &mut text, *line, *fault)?;
+    }
+    text.extend_from_slice(b".\n")?;
+    Ok(text)
+}
+
+fn push_fault(
+    alloc: Global,
+    text: &mut Vec<u8>,
+    line: usize,
+    fault: Fault,
+) -> Result<(), AllocError>
+    ensures { OnOk result (text.new.items ≡ text.old.items ++ fault_line (line, fault)) }
+{
+    let code = format!(in alloc; "{} F{}\n", line, fault.number())?;
+    text.extend_from_slice(code.as_bytes())
+}
+
+/// The listing, and a line with a full stop.
+pub(crate) fn listing_answer(alloc: Global, source: &Source) -> Result<Vec<u8>, AllocError>
+    ensures { IfOk result (λ text. text.items ≡ listing_text (listing_of source.now.lines)) }
+{
+    let mut text = source.listing(alloc)?;
+    text.extend_from_slice(b".\n")?;
+    Ok(text)
+}

@@ -1,0 +1,156 @@
+//! The answers to questions about the machine at a step.
+ghost use Rattle.std.specs.Prelude.{◌≡◌, ◌∷◌, [], ◌++◌, ℕ, List, false, Ok, IfOk, IfErr};
+ghost use Rattle.std.specs.Option.{option_copied};
+ghost use Rattle.chip_asm.specs.Program.{image_of};
+ghost use Rattle.chip_bench.specs.Session.{session_with};
+ghost use Rattle.chip_bench.specs.Kept.{Replays, IsLastImage};
+ghost use Rattle.chip_bench.specs.Answers.{is_past_end, state_answer, step_refusal, answer_at, image_answer, answer_to, step_asked};
+ghost use Rattle.chip_bench.specs.Workbench.{ReachesStep, ReusesRun};
+ghost use Rattle.chip_bench.specs.IsAnswer.{IsAnswered, IsUnanswered};
+
+use crate::answer::{faults_answer, hex_line, listing_answer, symbols_answer};
+use crate::machine_answer::{disassembly, memory_line, registers, screen};
+use crate::question::Question;
+use crate::refusal::Refusal;
+use crate::settings::Settings;
+use chip_asm::Source;
+use chip_machine::Machine;
+use chip_replay::{LAST_STEP, Replay};
+use std::alloc::{AllocError, Global};
+
+/// What a question asks of a machine.
+fn state_answer(
+    alloc: Global,
+    question: &Question,
+    machine: &Machine,
+) -> Result<Vec<u8>, AllocError>
+    requires { is_past_end question.now ≡ false }
+    ensures { IfOk result (λ answer. answer.items ≡ state_answer question.now machine.now) }
+{
+    match *question {
+        Question::Registers { .. } => registers(alloc, machine),
+        Question::Memory { at, count, .. } => memory_line(alloc, machine, at as u16, count as u16),
+        Question::Screen { .. } => screen(alloc, machine),
+        Question::Disassembly { at, count, .. } => {
+            disassembly(alloc, machine, at as u16, count as u16)
+        }
+        Question::Image | Question::Symbols | Question::Listing | Question::Faults => {
+            Ok(Vec::new(alloc))
+        }
+    }
+}
+
+/// Whether the bytes asked for pass the end of the memory.
+fn is_past_end(question: &Question) -> bool
+    ensures { result ≡ is_past_end question.now }
+{
+    match *question {
+        Question::Memory { at, count, .. } => u64::from(at) + u64::from(count) > 4096,
+        Question::Disassembly { at, count, .. } => u64::from(at) + 2 * u64::from(count) > 4096,
+        _ => false,
+    }
+}
+
+/// The first refusal of a question about a step, if there is one.
+fn step_refusal(question: &Question, step: u32) -> Option<Refusal>
+    ensures { result ≡ step_refusal question.now step }
+{
+    if step > LAST_STEP {
+        Some(Refusal::StepPastLast)
+    } else if is_past_end(question) {
+        Some(Refusal::AddressPastEnd)
+    } else {
+        None
+    }
+}
+
+/// The answer to a question about the machine at a step of the run of the image.
+fn answer_at(
+    alloc: Global,
+    image: Option<&[u8]>,
+    settings: &Settings,
+    last: &[u8],
+    replay: &mut Replay<Machine>,
+    question: &Question,
+    step: u32,
+) -> Result<Vec<u8>, Refusal>
+    requires replays { Replays settings.now last.now replay.old }
+    requires is_last { IsLastImage (option_copied image) last.now }
+    ensures ok { (lines : List (List ℕ)) → IfOk result (λ v. IsAnswered (answer_at (session_with lines replay.old.keys settings.now) question.now step (option_copied image.entry)) v.items) }
+    ensures err { (lines : List (List ℕ)) → IfErr result (IsUnanswered (answer_at (session_with lines replay.old.keys settings.now) question.now step (option_copied image.entry))) }
+    ensures replays { Replays settings.now last.now replay.new }
+    ensures keys { replay.new.keys ≡ replay.old.keys }
+    ensures reuses { ReachesStep step result replay.old.reach replay.old.ran replay.new.reach replay.new.ran }
+{
+    if image.is_none() {
+        return Err(Refusal::NoImage);
+    }
+    if let Some(why) = step_refusal(question, step) {
+        return Err(why);
+    }
+    match replay.at(step) {
+        Ok(machine) => match state_answer(alloc, question, machine) {
+            Ok(answer) => Ok(answer),
+            Err(_) => Err(Refusal::AnswerMemory),
+        },
+        Err(_) => Err(Refusal::AnswerMemory),
+    }
+}
+
+/// The answer to a question.
+pub(crate) fn answer(
+    alloc: Global,
+    source: &Source,
+    settings: &Settings,
+    last: &[u8],
+    replay: &mut Replay<Machine>,
+    question: &Question,
+) -> Result<Vec<u8>, Refusal>
+    requires replays { Replays settings.now last.now replay.old }
+    requires is_last { IsLastImage (image_of source.now.lines) last.now }
+    ensures ok { IfOk result (λ v. IsAnswered (answer_to (session_with source.now.lines replay.old.keys settings.now) question.now) v.items) }
+    ensures err { IfErr result (IsUnanswered (answer_to (session_with source.now.lines replay.old.keys settings.now) question.now)) }
+    ensures replays { Replays settings.now last.now replay.new }
+    ensures keys { replay.new.keys ≡ replay.old.keys }
+    ensures reuses { ReusesRun (step_asked question.now) result replay.old.reach replay.old.ran replay.new.reach replay.new.ran }
+{
+    match *question {
+        Question::Image => image_answer(alloc, source.image()),
+        Question::Symbols => told(symbols_answer(alloc, source)),
+        Question::Listing => told(listing_answer(alloc, source)),
+        Question::Faults => told(faults_answer(alloc, source)),
+        Question::Registers { step }
+        | Question::Memory { step, .. }
+        | Question::Screen { step }
+        | Question::Disassembly { step, .. } => answer_at(
+            alloc,
+            source.image(),
+            settings,
+            last,
+            replay,
+            question,
+            step,
+        ),
+    }
+}
+
+fn image_answer(alloc: Global, image: Option<&[u8]>) -> Result<Vec<u8>, Refusal>
+    ensures ok { IfOk result (λ v. IsAnswered (image_answer (option_copied image.entry)) v.items) }
+    ensures err { IfErr result (IsUnanswered (image_answer (option_copied image.entry))) }
+{
+    let Some(bytes) = image else {
+        return Err(Refusal::NoImage);
+    };
+    match hex_line(alloc, bytes) {
+        Ok(text) => Ok(text),
+        Err(_) => Err(Refusal::AnswerMemory),
+    }
+}
+
+/// An answer that only memory can refuse.
+fn told(answer: Result<Vec<u8>, AllocError>) -> Result<Vec<u8>, Refusal>
+    ensures ok { (bytes : List ℕ) → IfOk answer (λ v. v.items ≡ bytes) → IfOk result (λ v. IsAnswered (Ok bytes) v.items) }
+    ensures err { IfErr result (λ e. e ≡ Refusal.AnswerMemory) }
+{
+    answer.map_err(|_| Refusal::AnswerMemory)
+}

@@ -1,0 +1,316 @@
+//! A session: edits of the source and of the key events, and questions about both.
+ghost use Rattle.std.specs.Prelude.{◌≡◌, ◌≤◌, ◌⊎◌, ℕ, List, min, None, Some, Ok, Err, OnOk, OnErr, IfOk, IfErr, IsOkAnd, ◌++◌, vec_capacity};
+ghost use Rattle.chip_bench.specs.Answers.{answer_to, step_asked};
+ghost use Rattle.chip_bench.specs.IsAnswer.{IsUnanswered};
+ghost use Rattle.chip_asm.specs.Lines.{open_fault};
+ghost use Rattle.chip_bench.specs.Settings.{SessionSettings};
+ghost use Rattle.chip_bench.specs.Session.{session_of, session_with, edited, IsRefused, insert_line, replace_line, delete_line, insert_event, replace_event, delete_event};
+ghost use Rattle.chip_bench.specs.Changes.{change_of};
+ghost use Rattle.chip_bench.specs.Workbench.{workbench, IsInStep, Follows, FollowsLines, FollowsEvent, Reuses};
+
+use crate::ask::answer;
+use crate::edit::Edit;
+use crate::image_kept::follow_image;
+use crate::question::Question;
+use crate::refusal::Refusal;
+use crate::settings::Settings;
+use chip_asm::{OpenError, Source};
+use chip_lang::Meter;
+use chip_machine::{Machine, Profile};
+use chip_replay::Replay;
+use std::alloc::Global;
+use std::marker::Model;
+
+/// How many bytes an image has at most.
+const IMAGE_ROOM: usize = 3584;
+
+/// Puts a text before a line.
+fn insert_line(
+    alloc: Global,
+    source: &mut Source,
+    settings: &Settings,
+    replay: &mut Replay<Machine>,
+    last: &mut Vec<u8>,
+    line: u32,
+    text: &[u8],
+) -> Result<(), Refusal>
+    requires { IsInStep source.old.lines settings.now replay.old last.old.items (vec_capacity last.old) }
+    ensures in_step { IsInStep source.new.lines settings.now replay.new last.new.items (vec_capacity last.new) }
+    ensures ok { OnOk result (edited (session_with source.old.lines replay.old.keys settings.now) (insert_line line text.now)
+        ≡ Ok (session_with source.new.lines replay.new.keys settings.now)) }
+    ensures err { IfErr result (IsRefused (session_with source.old.lines replay.old.keys settings.now) (insert_line line text.now)) }
+    ensures lines { OnErr result (source.new.lines ≡ source.old.lines) }
+    ensures replay { OnErr result (replay.new ≡ replay.old) }
+    ensures last { OnErr result (last.new.items ≡ last.old.items) }
+    ensures follows { OnOk result (FollowsLines (workbench source.old settings.now replay.old last.old.items)
+        (workbench source.new settings.now replay.new last.new.items)) }
+    ensures ran { replay.new.ran ≡ replay.old.ran }
+{
+    source.insert(alloc, line as usize, text)?;
+    follow_image(settings, replay, last, source.image());
+    Ok(())
+}
+
+/// Puts a text in the place of a line.
+fn replace_line(
+    alloc: Global,
+    source: &mut Source,
+    settings: &Settings,
+    replay: &mut Replay<Machine>,
+    last: &mut Vec<u8>,
+    line: u32,
+    text: &[u8],
+) -> Result<(), Refusal>
+    requires { IsInStep source.old.lines settings.now replay.old last.old.items (vec_capacity last.old) }
+    ensures in_step { IsInStep source.new.lines settings.now replay.new last.new.items (vec_capacity last.new) }
+    ensures ok { OnOk result (edited (session_with source.old.lines replay.old.keys settings.now) (replace_line line text.now)
+        ≡ Ok (session_with source.new.lines replay.new.keys settings.now)) }
+    ensures err { IfErr result (IsRefused (session_with source.old.lines replay.old.keys settings.now) (replace_line line text.now)) }
+    ensures lines { OnErr result (source.new.lines ≡ source.old.lines) }
+    ensures replay { OnErr result (replay.new ≡ replay.old) }
+    ensures last { OnErr result (last.new.items ≡ last.old.items) }
+    ensures follows { OnOk result (FollowsLines (workbench source.old settings.now replay.old last.old.items)
+        (workbench source.new settings.now replay.new last.new.items)) }
+    ensures ran { replay.new.ran ≡ replay.old.ran }
+{
+    source.replace(alloc, line as usize, text)?;
+    follow_image(settings, replay, last, source.image());
+    Ok(())
+}
+
+/// Takes a line out.
+fn delete_line(
+    alloc: Global,
+    source: &mut Source,
+    settings: &Settings,
+    replay: &mut Replay<Machine>,
+    last: &mut Vec<u8>,
+    line: u32,
+) -> Result<(), Refusal>
+    requires { IsInStep source.old.lines settings.now replay.old last.old.items (vec_capacity last.old) }
+    ensures in_step { IsInStep source.new.lines settings.now replay.new last.new.items (vec_capacity last.new) }
+    ensures ok { OnOk result (edited (session_with source.old.lines replay.old.keys settings.now) (delete_line line)
+        ≡ Ok (session_with source.new.lines replay.new.keys settings.now)) }
+    ensures err { IfErr result (IsRefused (session_with source.old.lines replay.old.keys settings.now) (delete_line line)) }
+    ensures lines { OnErr result (source.new.lines ≡ source.old.lines) }
+    ensures replay { OnErr result (replay.new ≡ replay.old) }
+    ensures last { OnErr result (last.new.items ≡ last.old.items) }
+    ensures follows { OnOk result (FollowsLines (workbench source.old settings.now replay.old last.old.items)
+        (workbench source.new settings.now replay.new last.new.items)) }
+    ensures ran { replay.new.ran ≡ replay.old.ran }
+{
+    source.delete(alloc, line as usize)?;
+    follow_image(settings, replay, last, source.image());
+    Ok(())
+}
+
+/// Adds a key event.
+fn insert_event(
+    replay: &mut Replay<Machine>,
+    step: u32,
+    key: u32,
+    down: bool,
+) -> Result<(), Refusal>
+    ensures ok { (lines : List (List ℕ)) (settings : SessionSettings) → OnOk result (edited (session_with lines replay.old.keys settings) (insert_event step key down) ≡ Ok (session_with lines replay.new.keys settings)) }
+    ensures err { (lines : List (List ℕ)) (settings : SessionSettings) → IfErr result (IsRefused (session_with lines replay.old.keys settings) (insert_event step key down)) }
+    ensures same { OnErr result (replay.new ≡ replay.old) }
+    ensures start { replay.new.start ≡ replay.old.start }
+    ensures rate { replay.new.rate ≡ replay.old.rate }
+    ensures reach { OnOk result (min replay.old.reach step ≤ replay.new.reach) }
+    ensures ran { replay.new.ran ≡ replay.old.ran }
+{
+    replay.insert_key(step, key, down)?;
+    Ok(())
+}
+
+/// Changes what a key event says.
+fn replace_event(
+    replay: &mut Replay<Machine>,
+    step: u32,
+    key: u32,
+    down: bool,
+) -> Result<(), Refusal>
+    ensures ok { (lines : List (List ℕ)) (settings : SessionSettings) → OnOk result (edited (session_with lines replay.old.keys settings) (replace_event step key down) ≡ Ok (session_with lines replay.new.keys settings)) }
+    ensures err { (lines : List (List ℕ)) (settings : SessionSettings) → IfErr result (IsRefused (session_with lines replay.old.keys settings) (replace_event step key down)) }
+    ensures same { OnErr result (replay.new ≡ replay.old) }
+    ensures start { replay.new.start ≡ replay.old.start }
+    ensures rate { replay.new.rate ≡ replay.old.rate }
+    ensures reach { OnOk result (min replay.old.reach step ≤ replay.new.reach) }
+    ensures ran { replay.new.ran ≡ replay.old.ran }
+{
+    replay.replace_key(step, key, down)?;
+    Ok(())
+}
+
+/// Takes a key event out.
+fn delete_event(replay: &mut Replay<Machine>, step: u32, key: u32) -> Result<(), Refusal>
+    ensures ok { (lines : List (List ℕ)) (settings : SessionSettings) → OnOk result (edited (session_with lines replay.old.keys settings) (delete_event step key) ≡ Ok (session_with lines replay.new.keys settings)) }
+    ensures err { (lines : List (List ℕ)) (settings : SessionSettings) → IfErr result (IsRefused (session_with lines replay.old.keys settings) (delete_event step key)) }
+    ensures same { OnErr result (replay.new ≡ replay.old) }
+    ensures start { replay.new.start ≡ replay.old.start }
+    ensures rate { replay.new.rate ≡ replay.old.rate }
+    ensures reach { OnOk result (min replay.old.reach step ≤ replay.new.reach) }
+    ensures ran { replay.new.ran ≡ replay.old.ran }
+{
+    replay.delete_key(step, key)?;
+    Ok(())
+}
+
+/// Makes a change of one line or of one key event.
+fn change(
+    alloc: Global,
+    source: &mut Source,
+    settings: &Settings,
+    replay: &mut Replay<Machine>,
+    last: &mut Vec<u8>,
+    edit: &Edit<'_>,
+) -> Result<(), Refusal>
+    requires { IsInStep source.old.lines settings.now replay.old last.old.items (vec_capacity last.old) }
+    ensures in_step { IsInStep source.new.lines settings.now replay.new last.new.items (vec_capacity last.new) }
+    ensures ok { OnOk result (edited (session_with source.old.lines replay.old.keys settings.now) (change_of edit.now)
+        ≡ Ok (session_with source.new.lines replay.new.keys settings.now)) }
+    ensures err { IfErr result (IsRefused (session_with source.old.lines replay.old.keys settings.now) (change_of edit.now)) }
+    ensures lines { OnErr result (source.new.lines ≡ source.old.lines) }
+    ensures replay { OnErr result (replay.new ≡ replay.old) }
+    ensures last { OnErr result (last.new.items ≡ last.old.items) }
+    ensures follows { OnOk result (Follows (change_of edit.now) (workbench source.old settings.now replay.old last.old.items)
+        (workbench source.new settings.now replay.new last.new.items)) }
+    ensures ran { replay.new.ran ≡ replay.old.ran }
+{
+    match *edit {
+        Edit::Insert { line, text } => {
+            insert_line(alloc, source, settings, replay, last, line, text)
+        }
+        Edit::Replace { line, text } => {
+            replace_line(alloc, source, settings, replay, last, line, text)
+        }
+        Edit::Delete { line } => delete_line(alloc, source, settings, replay, last, line),
+        Edit::InsertKey { step, key, down } => insert_event(replay, step, key, down),
+        Edit::ReplaceKey { step, key, down } => replace_event(replay, step, key, down),
+        Edit::DeleteKey { step, key } => delete_event(replay, step, key),
+    }
+}
+
+/// A bench: a source as edited so far, the settings, and the replay of the last image that the lines had, under the key events as edited so far.
+#[derive(Drop)]
+pub struct Bench {
+    source: Source,
+    settings: Settings,
+    replay: Replay<Machine>,
+    last_image: Vec<u8>,
+}
+
+impl Model for Bench {
+    ghost use Rattle.std.specs.Prelude.{vec_capacity};
+    ghost use Rattle.chip_bench.specs.Workbench.{Workbench, workbench_code, workbench, IsInStep};
+
+    ghost Value = { Workbench };
+
+    ghost coded = { workbench_code };
+
+    ghost view = { λ b. workbench b.source b.settings b.replay b.last_image.items };
+
+    ghost invariant = { λ b. IsInStep b.source.lines b.settings b.replay b.last_image.items (vec_capacity b.last_image) };
+}
+
+impl Bench {
+    /// A session on a source. It opens unless one of its lines is the 4,001st or is over 200 bytes.
+    ///
+    /// # Errors
+    ///
+    /// The first such line's fault, or want of memory.
+    pub fn open(alloc: Global, source: &[u8], settings: Settings) -> Result<Self, OpenError>
+        ensures ok { IfOk result (λ bench. (open_fault source.now ≡ None) × (bench.session ≡ session_of settings source.now)) }
+        ensures err { IfErr result (λ e. (e ≡ OpenError.OutOfMemory) ⊎ (open_fault source.now ≡ Some e)) }
+    {
+        let source = Source::open(alloc, source)?;
+        let mut last_image = Vec::with_capacity(alloc, IMAGE_ROOM)?;
+        let machine = match Machine::start(alloc, &last_image, settings.tape(), Profile::Schip) {
+            Ok(machine) => machine,
+            Err(_) => return Err(OpenError::OutOfMemory),
+        };
+        let mut replay = Replay::new(alloc, machine, settings.rate())?;
+        follow_image(&settings, &mut replay, &mut last_image, source.image());
+        Ok(Bench {
+            source,
+            settings,
+            replay,
+            last_image,
+        })
+    }
+
+    /// Makes a change of one line or of one key event.
+    ///
+    /// # Errors
+    ///
+    /// The first refusal that applies, or want of memory; the session is then as it was.
+    pub fn apply(&mut self, alloc: Global, edit: &Edit<'_>) -> Result<(), Refusal>
+        ensures ok { OnOk result (edited self.old.session (change_of edit.now) ≡ Ok self.new.session) }
+        ensures err { IfErr result (IsRefused self.old.session (change_of edit.now)) }
+        ensures same { OnErr result (self.new.session ≡ self.old.session) }
+        ensures follows { OnOk result (Follows (change_of edit.now) self.old self.new) }
+        ensures reach { OnErr result (self.new.reach ≡ self.old.reach) }
+        ensures ran { self.new.ran ≡ self.old.ran }
+    {
+        change(
+            alloc,
+            &mut self.source,
+            &self.settings,
+            &mut self.replay,
+            &mut self.last_image,
+            edit,
+        )
+    }
+
+    /// Appends the answer to a question.
+    ///
+    /// # Errors
+    ///
+    /// The first refusal that applies, or want of memory; `out` is then as it was.
+    pub fn ask(
+        &mut self,
+        alloc: Global,
+        question: &Question,
+        out: &mut Vec<u8>,
+    ) -> Result<(), Refusal>
+        ensures ok { OnOk result (IsOkAnd (answer_to self.old.session question.now) (λ bytes. out.new.items ≡ out.old.items ++ bytes)) }
+        ensures err { IfErr result (IsUnanswered (answer_to self.old.session question.now)) }
+        ensures same { OnErr result (out.new.items ≡ out.old.items) }
+        ensures session { self.new.session ≡ self.old.session }
+        ensures reuses { Reuses (step_asked question.now) result self.old self.new }
+    {
+        let answer = answer(
+            alloc,
+            &self.source,
+            &self.settings,
+            &self.last_image,
+            &mut self.replay,
+            question,
+        )?;
+        match out.extend_from_slice(&answer) {
+            Ok(()) => Ok(()),
+            Err(_) => Err(Refusal::AnswerMemory),
+        }
+    }
+
+    /// What opening the source and all edits so far read and encoded.
+    pub fn work(&self) -> Meter
+        ensures { result ≡ self.now.work }
+    {
+        self.source.work()
+    }
+
+    /// Up to which step the kept run is sound.
+    pub fn reach(&self) -> u32
+        ensures { result ≡ self.now.reach }
+    {
+        self.replay.reach()
+    }
+
+    /// How many steps were made so far. It stays at its greatest value.
+    pub fn ran(&self) -> u64
+        ensures { result ≡ self.now.ran }
+    {
+        self.replay.ran()
+    }
+}

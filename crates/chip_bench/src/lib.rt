@@ -1,0 +1,37 @@
+//! A session over a source and its machine: edits, questions, a script of both, and the program.
+#![tactic(auto)]
+
+mod answer;
+mod ask;
+mod bench;
+mod command;
+mod command_line;
+mod counted;
+mod edit;
+mod entry;
+mod image_kept;
+mod machine_answer;
+mod question;
+mod refusal;
+mod server;
+mod settings;
+mod tape;
+mod text;
+
+pub use bench::Bench;
+pub use chip_asm::OpenError;
+pub use command::{Command, CommandFault, read_command};
+pub use command_line::{CommandLine, SettingWords, parse_words};
+pub use counted::Counted;
+pub use edit::Edit;
+pub use entry::{program, refuse_words};
+pub use question::Question;
+pub use refusal::Refusal;
+pub use server::{ServeError, serve};
+pub use settings::{SetError, Settings};
+pub use tape::tape_of;
+
+#[cfg(test)]
+mod entry_tests;
+#[cfg(test)]
+mod tests;

@@ -1,0 +1,351 @@
+//! Answers about the machine's state.
+
+ghost use Rattle.std.specs.Prelude.{◌≡◌, ◌+◌, ◌*◌, ◌<◌, ◌≤◌, ◌^◌, ◌++◌, ◌∷◌, [], ℕ, List, IfOk, OnOk, slice_index};
+ghost use Rattle.chip_machine.specs.Step.{word_at};
+ghost use Rattle.chip_bench.specs.MachineAnswers.{from_on, size_name, state_name, register_values, flag_values, register_line, place_part, timer_part, condition_part, state_line, flag_line, registers_of, bytes_at, memory_of, word_line, disassembly_of, row_byte, row_bytes, has_lit, row_line, row_lines, two_digits, screen_of, point};
+
+use crate::text::{push_decimal, push_hex, push_hex_word, push_spaced_bytes, push_spaced_words};
+use chip_lang::{Reg, show};
+use chip_machine::{Machine, Stop};
+use std::alloc::{AllocError, Global};
+
+/// The registers, timers, flags and frames of a machine, in three lines.
+#[tactic(auto, unfolding(crate::specs::MachineAnswers::registers_of))]
+pub fn registers(alloc: Global, machine: &Machine) -> Result<Vec<u8>, AllocError>
+    ensures { IfOk result (λ answer. answer.items ≡ registers_of machine.now) }
+{
+    let mut answer = Vec::new(alloc);
+    push_register_line(alloc, &mut answer, machine)?;
+    push_state_line(alloc, &mut answer, machine)?;
+    push_flag_line(alloc, &mut answer, machine)?;
+    Ok(answer)
+}
+
+/// V0 to VF.
+#[tactic(auto, unfolding(crate::specs::MachineAnswers::register_values))]
+fn register_bytes(alloc: Global, machine: &Machine) -> Result<Vec<u8>, AllocError>
+    ensures { IfOk result (λ bytes. bytes.items ≡ register_values machine.now.core) }
+{
+    let mut bytes = Vec::new(alloc);
+    for number in 0..16u8 {
+        bytes.push(register(machine, number))?;
+    }
+    Ok(bytes)
+}
+
+fn register(machine: &Machine, number: u8) -> u8
+    requires { number < 16 }
+    ensures { result ≡ slice_index machine.now.core.registers number }
+{
+    match Reg::new(number) {
+        Some(register) => machine.reg(register),
+        None => unreachable!(),
+    }
+}
+
+/// The eight flag registers.
+#[tactic(auto, unfolding(crate::specs::MachineAnswers::flag_values))]
+fn flag_bytes(alloc: Global, machine: &Machine) -> Result<Vec<u8>, AllocError>
+    ensures { IfOk result (λ bytes. bytes.items ≡ flag_values machine.now.core) }
+{
+    let mut bytes = Vec::new(alloc);
+    for number in 0..8usize {
+        bytes.push(flag(machine, number))?;
+    }
+    Ok(bytes)
+}
+
+fn flag(machine: &Machine, number: usize) -> u8
+    ensures { result ≡ slice_index machine.now.core.flags number }
+{
+    machine.flag(number).unwrap_or(0)
+}
+
+/// The frames, the oldest first.
+fn frames(alloc: Global, machine: &Machine) -> Result<Vec<u16>, AllocError>
+    ensures { IfOk result (λ words. words.items ≡ machine.now.core.frames) }
+{
+    let mut words = Vec::new(alloc);
+    for place in 0..machine.depth() {
+        words.push(frame(machine, place))?;
+    }
+    Ok(words)
+}
+
+fn frame(machine: &Machine, place: usize) -> u16
+    ensures { result ≡ slice_index machine.now.core.frames place }
+{
+    machine.frame(place).unwrap_or(0)
+}
+
+fn push_register_line(
+    alloc: Global,
+    answer: &mut Vec<u8>,
+    machine: &Machine,
+) -> Result<(), AllocError>
+    ensures { OnOk result (answer.new.items ≡ answer.old.items ++ register_line machine.now.core) }
+{
+    let registers = register_bytes(alloc, machine)?;
+    answer.extend_from_slice(b"v")?;
+    push_spaced_bytes(alloc, answer, &registers)?;
+    answer.push(b'\n')?;
+    Ok(())
+}
+
+fn push_place(alloc: Global, answer: &mut Vec<u8>, machine: &Machine) -> Result<(), AllocError>
+    ensures { OnOk result (answer.new.items ≡ answer.old.items ++ place_part machine.now.core) }
+{
+    answer.extend_from_slice(b"pc ")?;
+    push_hex_word(alloc, answer, machine.pc())?;
+    answer.extend_from_slice(b" i ")?;
+    push_hex_word(alloc, answer, machine.index())
+}
+
+fn push_timers(alloc: Global, answer: &mut Vec<u8>, machine: &Machine) -> Result<(), AllocError>
+    ensures { OnOk result (answer.new.items ≡ answer.old.items ++ timer_part machine.now.core) }
+{
+    answer.extend_from_slice(b" dt ")?;
+    push_hex(alloc, answer, &[machine.delay()])?;
+    answer.extend_from_slice(b" st ")?;
+    push_hex(alloc, answer, &[machine.sound()])
+}
+
+fn push_condition(alloc: Global, answer: &mut Vec<u8>, machine: &Machine) -> Result<(), AllocError>
+    ensures { OnOk result (answer.new.items ≡ answer.old.items ++ condition_part machine.now.core) }
+{
+    answer.extend_from_slice(b" draws ")?;
+    push_decimal(alloc, answer, machine.draws())?;
+    answer.extend_from_slice(b" ")?;
+    answer.extend_from_slice(size_name(machine.high()))?;
+    answer.extend_from_slice(b" ")?;
+    push_state_name(alloc, answer, machine.stopped())?;
+    answer.push(b'\n')?;
+    Ok(())
+}
+
+fn push_state_line(alloc: Global, answer: &mut Vec<u8>, machine: &Machine) -> Result<(), AllocError>
+    ensures { OnOk result (answer.new.items ≡ answer.old.items ++ state_line machine.now.core) }
+{
+    push_place(alloc, answer, machine)?;
+    push_timers(alloc, answer, machine)?;
+    push_condition(alloc, answer, machine)
+}
+
+fn push_flag_line(alloc: Global, answer: &mut Vec<u8>, machine: &Machine) -> Result<(), AllocError>
+    ensures { OnOk result (answer.new.items ≡ answer.old.items ++ flag_line machine.now.core) }
+{
+    let flags = flag_bytes(alloc, machine)?;
+    let frames = frames(alloc, machine)?;
+    answer.extend_from_slice(b"flags")?;
+    push_spaced_bytes(alloc, answer, &flags)?;
+    answer.extend_from_slice(b" stack")?;
+    push_spaced_words(alloc, answer, &frames)?;
+    answer.push(b'\n')?;
+    Ok(())
+}
+
+fn size_name(high: bool) -> &'static [u8]
+    ensures { result.now ≡ size_name high }
+{
+    if high { b"high" } else { b"low" }
+}
+
+fn push_state_name(
+    alloc: Global,
+    answer: &mut Vec<u8>,
+    stopped: Option<Stop>,
+) -> Result<(), AllocError>
+    ensures { OnOk result (answer.new.items ≡ answer.old.items ++ state_name stopped) }
+{
+    match stopped {
+        None => {
+            answer.extend_from_slice(b"run")?;
+            Ok(())
+        }
+        Some(stop) => {
+            answer.push(b'S')?;
+            push_decimal(alloc, answer, u64::from(stop.number()))
+        }
+    }
+}
+
+/// So many bytes from an address, which stay in the memory.
+fn memory_bytes(
+    alloc: Global,
+    machine: &Machine,
+    at: u16,
+    count: u16,
+) -> Result<Vec<u8>, AllocError>
+    requires { at + count ≤ 4096 }
+    ensures { IfOk result (λ bytes. bytes.items ≡ bytes_at machine.now at count) }
+{
+    let mut bytes = Vec::new(alloc);
+    for place in 0..count {
+        bytes.push(byte(machine, at + place))?;
+    }
+    Ok(bytes)
+}
+
+fn byte(machine: &Machine, at: u16) -> u8
+    ensures { result ≡ slice_index machine.now.memory at }
+{
+    machine.byte_at(at).unwrap_or(0)
+}
+
+/// So many bytes from an address, in hexadecimal.
+#[tactic(auto, unfolding(crate::specs::MachineAnswers::memory_of))]
+pub fn memory_line(
+    alloc: Global,
+    machine: &Machine,
+    at: u16,
+    count: u16,
+) -> Result<Vec<u8>, AllocError>
+    requires { at + count ≤ 4096 }
+    ensures { IfOk result (λ answer. answer.items ≡ memory_of machine.now at count) }
+{
+    let bytes = memory_bytes(alloc, machine, at, count)?;
+    let mut answer = Vec::new(alloc);
+    push_hex(alloc, &mut answer, &bytes)?;
+    answer.push(b'\n')?;
+    Ok(answer)
+}
+
+/// So many words from an address: for each its address, the word, and its source text.
+#[tactic(auto, unfolding(crate::specs::MachineAnswers::disassembly_of))]
+pub fn disassembly(
+    alloc: Global,
+    machine: &Machine,
+    at: u16,
+    count: u16,
+) -> Result<Vec<u8>, AllocError>
+    requires { at + 2 * count ≤ 4096 }
+    ensures { IfOk result (λ answer. answer.items ≡ disassembly_of machine.now at count) }
+{
+    let mut answer = Vec::new(alloc);
+    for place in 0..count {
+        push_word_line(alloc, &mut answer, machine, at + 2 * place)?;
+    }
+    answer.extend_from_slice(b".\n")?;
+    Ok(answer)
+}
+
+fn push_word_line(
+    alloc: Global,
+    answer: &mut Vec<u8>,
+    machine: &Machine,
+    at: u16,
+) -> Result<(), AllocError>
+    requires { at < 4095 }
+    ensures { OnOk result (answer.new.items ≡ answer.old.items ++ word_line machine.now at) }
+{
+    let word = word_at(machine, at);
+    let text = show(alloc, word)?;
+    push_hex_word(alloc, answer, at)?;
+    answer.push(b' ')?;
+    push_hex_word(alloc, answer, word)?;
+    answer.push(b' ')?;
+    answer.extend_from_slice(text.as_bytes())?;
+    answer.push(b'\n')?;
+    Ok(())
+}
+
+fn word_at(machine: &Machine, at: u16) -> u16
+    requires { at < 4095 }
+    ensures { result ≡ word_at machine.now.memory at }
+{
+    u16::from(byte(machine, at)) * 256 + u16::from(byte(machine, at + 1))
+}
+
+/// The size of the screen, and each row with a lit point.
+#[tactic(auto, unfolding(crate::specs::MachineAnswers::screen_of))]
+pub fn screen(alloc: Global, machine: &Machine) -> Result<Vec<u8>, AllocError>
+    ensures { IfOk result (λ answer. answer.items ≡ screen_of machine.now) }
+{
+    let mut answer = Vec::new(alloc);
+    answer.extend_from_slice(size_name(machine.high()))?;
+    answer.push(b'\n')?;
+    push_rows(alloc, &mut answer, machine)?;
+    answer.extend_from_slice(b".\n")?;
+    Ok(answer)
+}
+
+#[tactic(auto, unfolding(crate::specs::MachineAnswers::row_lines))]
+fn push_rows(alloc: Global, answer: &mut Vec<u8>, machine: &Machine) -> Result<(), AllocError>
+    ensures { OnOk result (answer.new.items ≡ answer.old.items ++ row_lines machine.now.core.lit) }
+{
+    for row in 0..64usize {
+        push_row_line(alloc, answer, machine, row)?;
+    }
+    Ok(())
+}
+
+#[tactic(auto, unfolding(crate::specs::MachineAnswers::row_line))]
+fn push_row_line(
+    alloc: Global,
+    answer: &mut Vec<u8>,
+    machine: &Machine,
+    row: usize,
+) -> Result<(), AllocError>
+    requires { row < 64 }
+    ensures { OnOk result (answer.new.items ≡ answer.old.items ++ row_line machine.now.core.lit row) }
+{
+    if !has_lit(machine, row) {
+        return Ok(());
+    }
+    let bytes = row_bytes(alloc, machine, row)?;
+    push_two_digits(alloc, answer, row as u64)?;
+    answer.push(b' ')?;
+    push_hex(alloc, answer, &bytes)?;
+    answer.push(b'\n')?;
+    Ok(())
+}
+
+fn push_two_digits(alloc: Global, answer: &mut Vec<u8>, number: u64) -> Result<(), AllocError>
+    ensures { OnOk result (answer.new.items ≡ answer.old.items ++ two_digits number) }
+{
+    if number < 10 {
+        answer.push(b'0')?;
+    }
+    push_decimal(alloc, answer, number)
+}
+
+#[tactic(auto, unfolding(crate::specs::MachineAnswers::has_lit))]
+fn has_lit(machine: &Machine, row: usize) -> bool
+    ensures { result ≡ has_lit machine.now.core.lit row }
+{
+    (0..128usize).any(|column| machine.lit(column, row))
+}
+
+#[tactic(auto, unfolding(crate::specs::MachineAnswers::row_bytes))]
+fn row_bytes(alloc: Global, machine: &Machine, row: usize) -> Result<Vec<u8>, AllocError>
+    ensures { IfOk result (λ bytes. bytes.items ≡ row_bytes machine.now.core.lit row) }
+{
+    let mut bytes = Vec::new(alloc);
+    for place in 0..16usize {
+        bytes.push(row_byte(machine, row, place))?;
+    }
+    Ok(bytes)
+}
+
+#[tactic(auto, unfolding(crate::specs::MachineAnswers::row_byte))]
+fn row_byte(machine: &Machine, row: usize, place: usize) -> u8
+    requires { place < 16 }
+    ensures { result ≡ row_byte machine.now.core.lit row place }
+{
+    let left = 8 * place;
+    128 * point(machine, row, left)
+        + 64 * point(machine, row, left + 1)
+        + 32 * point(machine, row, left + 2)
+        + 16 * point(machine, row, left + 3)
+        + 8 * point(machine, row, left + 4)
+        + 4 * point(machine, row, left + 5)
+        + 2 * point(machine, row, left + 6)
+        + point(machine, row, left + 7)
+}
+
+fn point(machine: &Machine, row: usize, column: usize) -> u8
+    ensures value { result ≡ point machine.now.core.lit row column }
+    ensures small { result ≤ 1 }
+{
+    u8::from(machine.lit(column, row))
+}

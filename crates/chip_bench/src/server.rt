@@ -1,0 +1,318 @@
+//! A script, carried out as it is read.
+ghost use Rattle.std.specs.Prelude.{◌≡◌, ◌≢◌, ℕ, List, take, ◌+◌, ◌≤◌, ◌<◌, Ok, Err, None, [], ◌∷◌, ◌++◌, length, OnOk};
+ghost use Rattle.std.specs.Str.Lines.{strip_carriage_return};
+ghost use Rattle.chip_asm.specs.Lines.{open_fault};
+ghost use Rattle.chip_bench.specs.Session.{Session, session_of};
+ghost use Rattle.chip_bench.specs.Transcript.{reply, after, refused};
+ghost use Rattle.chip_bench.specs.Serving.{Served, Exchanges, Opens, UnlessOpened, reader_failures, writer_failures};
+ghost use Rattle.chip_bench.specs.Progress.{fault_of, failures_after, Says, Reached, Carries, Ended};
+ghost use Rattle.chip_bench.specs.declared.server.Stop.TheVariants.{OutOfMemory};
+
+use crate::bench::Bench;
+use crate::command::{Command, read_command};
+use crate::counted::Counted;
+use crate::refusal::Refusal;
+use crate::settings::Settings;
+use chip_asm::OpenError;
+use std::alloc::{AllocError, Global};
+use std::io::{Read, Write};
+use thiserror::Error;
+
+const PIECE_LEN: usize = 4096;
+
+const MOST_BYTES: u32 = 50_000_000;
+
+const MOST_LINES: u32 = 100_000;
+
+// A line of 400 bytes may have a carriage return after it, and one byte more shows that it is too long.
+const KEPT_LEN: usize = 402;
+
+/// Why a script wasn't carried out to its end.
+#[derive(Clone, Copy, Debug, PartialEq, Eq, Error)]
+pub enum ServeError {
+    /// The source doesn't open.
+    #[error("{0}")]
+    Source(OpenError),
+    /// E1: a read failed.
+    #[error("input fault")]
+    ReaderFailed,
+    /// E2: a write failed, or took none of some bytes.
+    #[error("output fault")]
+    WriterFailed,
+    /// E3: there was no memory.
+    #[error("out of memory")]
+    OutOfMemory,
+    /// E4: there is more input than 50,000,000 bytes or 100,000 lines.
+    #[error("too much input")]
+    TooMuchInput,
+}
+
+// Why the rest of a script is given up.
+#[derive(Clone, Copy, Debug, PartialEq, Eq)]
+enum Stop {
+    WriterFailed,
+    OutOfMemory,
+    TooMuchInput,
+}
+
+impl From<AllocError> for Stop {
+    ghost from_gives = { λ _ e. e ≡ OutOfMemory };
+
+    fn from(_e: AllocError) -> Stop {
+        Stop::OutOfMemory
+    }
+}
+
+impl From<Stop> for ServeError {
+    ghost from_gives = { λ stop e. e ≡ fault_of stop };
+
+    fn from(stop: Stop) -> ServeError {
+        match stop {
+            Stop::WriterFailed => ServeError::WriterFailed,
+            Stop::OutOfMemory => ServeError::OutOfMemory,
+            Stop::TooMuchInput => ServeError::TooMuchInput,
+        }
+    }
+}
+
+/// Opens the source, and then carries out the script that the reader gives: the answer to each line is written before
+/// the next line is taken.
+///
+/// # Errors
+///
+/// The source doesn't open, and nothing was read or written; the reader or the writer failed, which is never tried again;
+/// there was no memory; or the script has over 50,000,000 bytes or 100,000 lines.
+pub fn serve<R: Read, W: Write>(
+    alloc: Global,
+    source: &[u8],
+    settings: Settings,
+    reader: &mut Counted<R>,
+    writer: &mut Counted<W>,
+) -> Result<(), ServeError>
+    // What was written is the transcript, whole on `Ok`, and else as far as `Served` says.
+    ensures transcript { Exchanges (R.remaining reader.old.inner) (R.remaining reader.new.inner)
+        (W.contents writer.old.inner) (W.contents writer.new.inner)
+        (Served result (session_of settings source.now)) }
+    ensures source { Opens (open_fault source.now) result }
+    // Where the source doesn't open, nothing was touched.
+    ensures untouched { UnlessOpened result ((reader.new ≡ reader.old) × (writer.new ≡ writer.old)) }
+    ensures reader_failed { reader.new.failures ≡ reader_failures result reader.old.failures }
+    ensures writer_failed { writer.new.failures ≡ writer_failures result writer.old.failures }
+{
+    let bench = match Bench::open(alloc, source, settings) {
+        Ok(bench) => bench,
+        Err(e) => return Err(ServeError::Source(e)),
+    };
+    let mut conversation = Conversation::new(alloc, bench);
+    let mut piece = [0; PIECE_LEN];
+    loop {
+        match reader.read(&mut piece) {
+            Err(_) => return Err(ServeError::ReaderFailed),
+            Ok(0) => {
+                conversation.end(alloc, writer)?;
+                return Ok(());
+            }
+            Ok(count) => conversation.take_piece(alloc, &piece[..count], writer)?,
+        }
+    }
+}
+
+// A session, and the script's line that isn't complete yet.
+#[derive(Drop)]
+struct Conversation {
+    bench: Bench,
+    // the line's first bytes, as many as tell a line that is too long
+    line: Vec<u8>,
+    answer: Vec<u8>,
+    complete: u32,
+    taken: u32,
+}
+
+impl Conversation {
+    fn new(alloc: Global, bench: Bench) -> Self
+        ensures bench { result.bench ≡ bench }
+        ensures line { result.line.items ≡ [] }
+        ensures complete { result.complete ≡ 0 }
+        ensures taken { result.taken ≡ 0 }
+    {
+        Conversation {
+            bench,
+            line: Vec::new(alloc),
+            answer: Vec::new(alloc),
+            complete: 0,
+            taken: 0,
+        }
+    }
+
+    fn take_piece<W: Write>(
+        &mut self,
+        alloc: Global,
+        piece: &[u8],
+        writer: &mut Counted<W>,
+    ) -> Result<(), Stop>
+        ensures carries { Carries self.old (W.contents writer.old.inner) piece.now result
+            self.new (W.contents writer.new.inner) }
+        ensures taken { OnOk result (self.new.taken ≡ self.old.taken + length piece.now) }
+        ensures bound { OnOk result (self.old.taken ≤ 50000000 → self.new.taken ≤ 50000000) }
+        ensures failures { writer.new.failures ≡ failures_after result writer.old.failures }
+    {
+        for byte in piece {
+            self.take_byte(alloc, *byte, writer)?;
+        }
+        Ok(())
+    }
+
+    fn take_byte<W: Write>(
+        &mut self,
+        alloc: Global,
+        byte: u8,
+        writer: &mut Counted<W>,
+    ) -> Result<(), Stop>
+        ensures carries { Carries self.old (W.contents writer.old.inner) (byte ∷ []) result
+            self.new (W.contents writer.new.inner) }
+        ensures taken { OnOk result (self.new.taken ≡ self.old.taken + 1) }
+        ensures bound { OnOk result (self.new.taken ≤ 50000000) }
+        ensures failures { writer.new.failures ≡ failures_after result writer.old.failures }
+    {
+        if self.taken >= MOST_BYTES || self.complete >= MOST_LINES {
+            return Err(Stop::TooMuchInput);
+        }
+        self.taken += 1;
+        if byte == b'\n' {
+            self.complete_line(alloc, writer)
+        } else {
+            keep(&mut self.line, byte)?;
+            Ok(())
+        }
+    }
+
+    // Answers the line that a newline has just ended.
+    fn complete_line<W: Write>(
+        &mut self,
+        alloc: Global,
+        writer: &mut Counted<W>,
+    ) -> Result<(), Stop>
+        requires { self.old.complete < 100000 }
+        ensures said { Says result (W.contents writer.old.inner) (W.contents writer.new.inner)
+            (reply self.old.bench.session (strip_carriage_return self.old.line.items)) }
+        ensures bench { OnOk result (self.new.bench.session ≡ after self.old.bench.session (strip_carriage_return self.old.line.items)) }
+        ensures line { OnOk result (self.new.line.items ≡ []) }
+        ensures complete { OnOk result (self.new.complete ≡ self.old.complete + 1) }
+        ensures taken { self.new.taken ≡ self.old.taken }
+        ensures failures { writer.new.failures ≡ failures_after result writer.old.failures }
+    {
+        let line = without_carriage_return(&self.line);
+        say(alloc, &mut self.bench, line, &mut self.answer, writer)?;
+        self.line.clear();
+        self.complete += 1;
+        Ok(())
+    }
+
+    fn end<W: Write>(self, alloc: Global, writer: &mut Counted<W>) -> Result<(), Stop>
+        ensures ended { (start : Session) (before given : List ℕ) → Reached start before given self (W.contents writer.old.inner)
+            → Ended result start before given (W.contents writer.new.inner) }
+        ensures failures { writer.new.failures ≡ failures_after result writer.old.failures }
+    {
+        let Conversation {
+            mut bench,
+            line,
+            mut answer,
+            ..
+        } = self;
+        if line.is_empty() {
+            return Ok(());
+        }
+        say(alloc, &mut bench, &line, &mut answer, writer)
+    }
+}
+
+// Carries out one line of a script, and writes the answer to it.
+fn say<W: Write>(
+    alloc: Global,
+    bench: &mut Bench,
+    line: &[u8],
+    answer: &mut Vec<u8>,
+    writer: &mut Counted<W>,
+) -> Result<(), Stop>
+    ensures said { Says result (W.contents writer.old.inner) (W.contents writer.new.inner) (reply bench.old.session line.now) }
+    ensures bench { OnOk result (bench.new.session ≡ after bench.old.session line.now) }
+    ensures failures { writer.new.failures ≡ failures_after result writer.old.failures }
+{
+    respond(alloc, bench, line, answer)?;
+    write_whole(writer, answer)
+}
+
+// Writes all the bytes. Any error ends it, and so does a write that takes none.
+fn write_whole<W: Write>(writer: &mut Counted<W>, bytes: &[u8]) -> Result<(), Stop>
+    ensures said { Says result (W.contents writer.old.inner) (W.contents writer.new.inner) bytes.now }
+    ensures memory { result ≢ Err Stop.OutOfMemory }
+    ensures failures { writer.new.failures ≡ failures_after result writer.old.failures }
+{
+    let mut rest = bytes;
+    while !rest.is_empty() {
+        match writer.write(rest) {
+            Ok(0) | Err(_) => return Err(Stop::WriterFailed),
+            Ok(count) => rest = &rest[count..],
+        }
+    }
+    Ok(())
+}
+
+// Puts the answer to one line of a script in the place of `answer`.
+fn respond(
+    alloc: Global,
+    bench: &mut Bench,
+    line: &[u8],
+    answer: &mut Vec<u8>,
+) -> Result<(), AllocError>
+    ensures answer { OnOk result (answer.new.items ≡ reply bench.old.session line.now) }
+    ensures bench { OnOk result (bench.new.session ≡ after bench.old.session line.now) }
+{
+    answer.clear();
+    let command = match read_command(line) {
+        Ok(command) => command,
+        Err(fault) => return refuse(answer, fault.code()),
+    };
+    let refusal = match command {
+        Command::Blank => return Ok(()),
+        Command::Edit(edit) => match bench.apply(alloc, &edit) {
+            Ok(()) => return answer.extend_from_slice(b"ok\n"),
+            Err(refusal) => refusal,
+        },
+        Command::Ask(question) => match bench.ask(alloc, &question, answer) {
+            Ok(()) => return Ok(()),
+            Err(refusal) => refusal,
+        },
+    };
+    match refusal {
+        Refusal::EditMemory | Refusal::AnswerMemory => Err(AllocError),
+        _ => refuse(answer, refusal.code()),
+    }
+}
+
+fn refuse(answer: &mut Vec<u8>, code: &[u8]) -> Result<(), AllocError>
+    ensures { OnOk result (answer.new.items ≡ answer.old.items ++ refused code.now) }
+{
+    answer.extend_from_slice(b"no ")?;
+    answer.extend_from_slice(code)?;
+    answer.extend_from_slice(b"\n")
+}
+
+// Keeps the next byte of a line, unless the line is too long already.
+fn keep(line: &mut Vec<u8>, byte: u8) -> Result<(), AllocError>
+    ensures { length line.old.items ≤ 402 → OnOk result (line.new.items ≡ take 402 (line.old.items ++ byte ∷ [])) }
+{
+    if line.len() < KEPT_LEN {
+        line.push(byte)?;
+    }
+    Ok(())
+}
+
+fn without_carriage_return(line: &[u8]) -> &[u8]
+    ensures { result.now ≡ strip_carriage_return line.now }
+{
+    match line {
+        [front @ .., b'\r'] => front,
+        _ => line,
+    }
+}

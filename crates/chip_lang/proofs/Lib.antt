@@ -1,0 +1,14 @@
+pub mod Complete
+pub mod Data
+pub mod Decoding
+pub mod Numbers
+pub mod OneForm
+pub mod Pieces
+pub mod SameCode
+pub mod Scan
+pub mod Shown
+pub mod Sound
+pub mod Steps
+pub mod TokenList
+pub mod NamesUsed
+pub mod Lookup

@@ -1,0 +1,64 @@
+-- The form that a word is shown in, with the operands that are shown, has that word.
+use Rattle.std.proofs.Common.{◌≡◌, ℕ, ◌%◌, Bool, true, false, not, ◌&&◌, ltb, List, [], ◌∷◌, map, Some, Ok, refl, sym, ap, ◌∙◌, arith, codes}
+use Rattle.std.specs.List.{find}
+use Rattle.std.specs.Str.{bytes_eq}
+use Rattle.std.proofs.lemmas.Bool.{and_parts, and_from}
+use Rattle.std.proofs.lemmas.Bool.Decides.{nat_tests}
+use Rattle.std.proofs.lemmas.Slice.Eq.{bytes_eq-Decides}
+use Rattle.chip_lang.specs.declared.form.Pattern.{Pattern}
+use Rattle.chip_lang.specs.declared.form.Pattern.TheVariants.{Vx, Nibble, Byte, Address}
+use Rattle.chip_lang.specs.Value.{Symbols}
+use Rattle.chip_lang.specs.Form.{Row, forms, is_special, matches, all_match, fits}
+use Rattle.chip_lang.specs.Encoding.{field_of, fields_of, word_of_form}
+use Rattle.chip_lang.specs.Show.{part_in, parts_in, gives, form_shown, operand_in}
+use Rattle.chip_lang.proofs.Sound.{equal}
+
+below_16 : (n : ℕ) → ltb (n % 16) 16 ≡ true
+below_16 n = grind (arith, nat_tests)
+
+below_256 : (n : ℕ) → ltb (n % 256) 256 ≡ true
+below_256 n = grind (arith, nat_tests)
+
+below_4096 : (n : ℕ) → ltb (n % 4096) 4096 ≡ true
+below_4096 n = grind (arith, nat_tests)
+
+field_shown : (w : ℕ) (p : Pattern) (symbols : Symbols) → field_of p (operand_in w p) symbols ≡ Ok (part_in p w)
+unfolding field_of
+field_shown w Nibble symbols = rw (below_16 w) refl
+field_shown w Byte symbols = rw (below_256 w) refl
+field_shown w Address symbols = rw (below_4096 w) refl
+field_shown w p symbols = refl
+
+fields_shown : (w : ℕ) (ps : List Pattern) (symbols : Symbols) → fields_of ps (map (operand_in w) ps) symbols ≡ Ok (parts_in ps w)
+fields_shown w [] symbols = refl
+fields_shown w (p ∷ ps) symbols =
+    let here = field_shown w p symbols in
+    let rest = fields_shown w ps symbols in
+    rw (here, rest) refl
+
+operand_fits : (w : ℕ) (p : Pattern) → matches p (operand_in w p) ≡ true
+unfolding matches is_special
+operand_fits w Vx = refl
+operand_fits w p = refl
+
+operands_fit : (w : ℕ) (ps : List Pattern) → all_match ps (map (operand_in w) ps) ≡ true
+operands_fit w [] = refl
+operands_fit w (p ∷ ps) = and_from _ _ (operand_fits w p) (operands_fit w ps)
+
+found_passes : {A : Type 0} (test : A → Bool) (xs : List A) (x : A) → find test xs ≡ Some x → test x ≡ true
+found_passes test [] x h = cc
+found_passes test (y ∷ xs) x h = step test y xs x (test y) refl h (found_passes test xs x)
+  where
+    step : {A : Type 0} (test : A → Bool) (y : A) (xs : List A) (x : A) (b : Bool) → test y ≡ b → find test (y ∷ xs) ≡ Some x → (find test xs ≡ Some x → test x ≡ true) → test x ≡ true
+    step test y xs x true e h again = let same : Some y ≡ Some x = rw e at h in let is : y ≡ x = cc in ap test (sym is) ∙ e
+    step test y xs x false e h again = again (rw e at h)
+
+pub word_shown : (w : ℕ) (r : Row) (symbols : Symbols) → form_shown w ≡ Some r → word_of_form r (map (operand_in w) r.patterns) symbols ≡ Ok w
+word_shown w r symbols h =
+    let passes = found_passes (λ r. not (bytes_eq r.name (codes "SYS")) && gives r w) forms r h in
+    let whole = equal _ _ (and_parts _ _ passes).1 in
+    let fields = fields_shown w r.patterns symbols in
+    rw fields (ap Ok whole)
+
+pub form_fits : (w : ℕ) (r : Row) → fits r r.name (map (operand_in w) r.patterns) ≡ true
+form_fits w r = and_from _ _ ((bytes_eq-Decides r.name r.name).1 refl) (operands_fit w r.patterns)

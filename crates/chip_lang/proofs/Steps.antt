@@ -1,0 +1,189 @@
+-- One step of the parser.
+use Rattle.std.proofs.Common.{◌≡◌, ℕ, zero, suc, ◌+◌, ◌*◌, ◌-◌, ◌<◌, ◌≤◌, if◌then◌else◌, List, [], ◌∷◌, ◌++◌, length, Option, Some, None, refl, sym, ap, arith, ◌∙◌}
+use Rattle.chip_lang.specs.declared.lexeme.Lexeme.{Lexeme}
+use Rattle.chip_lang.specs.declared.lexeme.Lexeme.TheVariants.{Word, Sign}
+use Rattle.chip_lang.specs.declared.expr.Operator.{Operator}
+use Rattle.chip_lang.specs.declared.expr.Prefix.{Prefix}
+use Rattle.chip_lang.specs.Tree.{Tree, name, unary, binary}
+use Rattle.chip_lang.specs.Reserved.{is_reserved}
+use Rattle.std.proofs.Common.{take, drop, Result, Ok, Err}
+use Rattle.std.specs.declared.alloc.AllocError.{AllocError}
+use Rattle.std.specs.Result.{IfOk}
+use Rattle.chip_lang.specs.Seen.{Answer, seen}
+use Rattle.chip_lang.proofs.Scan.{to_end}
+use Rattle.chip_lang.specs.Parse.{Parsed, front_prefix, front_operator, after, below, on_found, closed, prefixed, with_right, parse, further, sign_then, unless_sign, prefixes, after_prefixes, signed}
+
+-- a level: what the stronger level finds, and the operators after it
+pub level_step : (n k : ℕ) (ts rest : List Lexeme) (left : Tree) (y : Parsed) → 1 ≤ k → 9 * length ts + suc k < n → length rest < length ts →
+    ((m : ℕ) → 9 * length ts + k < m → Some (left, rest) ≡ parse m k ts) →
+    ((m : ℕ) → 9 * length rest + 8 < m → y ≡ further m (suc k) left rest) →
+    y ≡ parse n (suc k) ts
+level_step zero k ts rest left y p q r found more = absurd (omega arith)
+level_step (suc n) zero ts rest left y p q r found more = absurd (omega arith)
+level_step (suc n) (suc k) ts rest left y p q r found more =
+    more n (omega arith) ∙ ap (λ f. on_found f (further n (suc (suc k)))) (found n (omega arith))
+
+-- no sign before an operand
+pub prefixed_step : (n : ℕ) (ts : List Lexeme) (y : Parsed) → 9 * length ts + 1 < n → None ≡ front_prefix ts →
+    ((m : ℕ) → 9 * length ts < m → y ≡ parse m 0 ts) → y ≡ parse n 1 ts
+prefixed_step zero ts y q front found = absurd (omega arith)
+prefixed_step (suc n) ts y q front found = found n (omega arith) ∙ ap (λ o. prefixed (parse n 1) (parse n 0) o ts) front
+
+-- a name
+pub name_step : (n : ℕ) (w : List ℕ) (ts : List Lexeme) (y : Parsed) → 0 < n → y ≡ (if is_reserved w then None else Some (name w, ts)) →
+    y ≡ parse n 0 (Word w ∷ ts)
+name_step zero w ts y q found = absurd (omega arith)
+name_step (suc n) w ts y q found = found
+
+-- parentheses
+pub parentheses_step : (n c : ℕ) (ts : List Lexeme) (p : Parsed) → c ≡ 40 → 9 * suc (length ts) < n →
+    ((m : ℕ) → 9 * length ts + 7 < m → p ≡ parse m 7 ts) → on_found p closed ≡ parse n 0 (Sign c ∷ ts)
+parentheses_step zero c ts p is q found = absurd (omega arith)
+parentheses_step (suc n) c ts p is q found = rw is (ap (λ f. on_found f closed) (found n (omega arith)))
+
+-- an operator and its right side
+pub further_step : (n k : ℕ) (sign : Operator) (left : Tree) (ts : List Lexeme) (p y : Parsed) → 0 < length ts → 9 * length ts + 8 < n → k ≤ 7 →
+    Some sign ≡ front_operator ts (suc k) →
+    ((m : ℕ) → 9 * length (after ts) + k < m → p ≡ parse m k (after ts)) →
+    ((m : ℕ) → 9 * length (after ts) + 8 < m → y ≡ on_found p (λ b rest. further m (suc k) (binary sign left b) rest)) →
+    y ≡ further n (suc k) left ts
+further_step zero k sign left ts p y l q s front found more = absurd (omega arith)
+further_step (suc n) k sign left [] p y l q s front found more = absurd (omega arith)
+further_step (suc n) k sign left (t ∷ ts) p y l q s front found more =
+    more n (omega arith)
+    ∙ ap (λ f. on_found f (λ b rest. further n (suc k) (binary sign left b) rest)) (found n (omega arith))
+    ∙ ap (λ o. with_right (parse n k) (further n (suc k)) o left (t ∷ ts)) front
+
+-- ---- the same, of what a function answers
+
+pub level_ok : (r : Result Answer AllocError) (level k : ℕ) (ts rest : List Lexeme) (left : Tree) → suc k ≡ level → 1 ≤ k → length rest < length ts →
+    ((m : ℕ) → 9 * length ts + k < m → Some (left, rest) ≡ parse m k ts) →
+    IfOk r (λ found. (m : ℕ) → 9 * length rest + 8 < m → seen found ≡ further m level left rest) →
+    IfOk r (λ found. (n : ℕ) → 9 * length ts + level < n → seen found ≡ parse n level ts)
+level_ok (Err e) level k ts rest left is p r found more = tt
+level_ok (Ok y) level k ts rest left is p r found more =
+    λ n b. level_step n k ts rest left (seen y) p (omega arith) r found (λ m c. more m c ∙ ap (λ l. further m l left rest) (sym is)) ∙ ap (λ l. parse n l ts) is
+
+pub name_ok : (r : Result Answer AllocError) (w : List ℕ) (ts rest : List Lexeme) → ts ≡ Word w ∷ rest →
+    IfOk r (λ found. seen found ≡ (if is_reserved w then None else Some (name w, rest))) →
+    IfOk r (λ found. (n : ℕ) → 9 * length ts < n → seen found ≡ parse n 0 ts)
+name_ok (Err e) w ts rest is found = tt
+name_ok (Ok y) w ts rest is found = λ n b. name_step n w rest (seen y) (omega arith) found ∙ ap (parse n 0) (sym is)
+
+pub parentheses_at : (n c : ℕ) (ts rest : List Lexeme) (p : Parsed) → ts ≡ Sign c ∷ rest → c ≡ 40 → 9 * length ts < n →
+    ((m : ℕ) → 9 * length rest + 7 < m → p ≡ parse m 7 rest) → on_found p closed ≡ parse n 0 ts
+parentheses_at n c ts rest p is open_sign q found =
+    let long : 9 * suc (length rest) < n = omega (arith, ap length is) in
+    parentheses_step n c rest p open_sign long found ∙ ap (parse n 0) (sym is)
+
+pub slice_after : (ts : List Lexeme) → take (length ts - 1) (drop 1 ts) ≡ after ts
+slice_after [] = refl
+slice_after (t ∷ ts) = to_end (t ∷ ts) 1
+
+pub further_at : (n level k : ℕ) (sign : Operator) (left : Tree) (ts rest : List Lexeme) (p y : Parsed) → suc k ≡ level → level ≤ 7 →
+    rest ≡ after ts → 0 < length ts → 9 * length ts + 8 < n → Some sign ≡ front_operator ts level →
+    ((m : ℕ) → 9 * length rest + k < m → p ≡ parse m k rest) →
+    ((m : ℕ) → 9 * length rest + 8 < m → y ≡ on_found p (λ b more. further m level (binary sign left b) more)) →
+    y ≡ further n level left ts
+further_at n level k sign left ts rest p y is high same l q front found more =
+    let at : (level : ℕ) (rest : List Lexeme) → suc k ≡ level → rest ≡ after ts → level ≤ 7 → Some sign ≡ front_operator ts level →
+    ((m : ℕ) → 9 * length rest + k < m → p ≡ parse m k rest) →
+    ((m : ℕ) → 9 * length rest + 8 < m → y ≡ on_found p (λ b more. further m level (binary sign left b) more)) →
+    y ≡ further n level left ts =
+    λ level rest is same high front found more.
+    further_step n k sign left ts p y l q (omega arith) (front ∙ ap (front_operator ts) (sym is))
+    (λ m b. found m (rw same b) ∙ ap (parse m k) same)
+    (λ m b. more m (rw same b) ∙ ap (λ level. on_found p (λ b more. further m level (binary sign left b) more)) (sym is))
+    ∙ ap (λ level. further n level left ts) is in
+    at level rest is same high front found more
+
+-- no operator
+further_end : (n level : ℕ) (left : Tree) (rest : List Lexeme) → 0 < n → None ≡ front_operator rest level → Some (left, rest) ≡ further n level left rest
+further_end zero level left rest h front = absurd (omega arith)
+further_end (suc n) level left rest h front = ap (λ o. with_right (parse n (below level)) (further n level) o left rest) front
+
+-- ---- operators one after another
+
+-- what is found after a left side and the tokens after it is what is found after a first one and more tokens
+abbrev pub Leads : ℕ → Tree → List Lexeme → Tree → List Lexeme → Type 0
+Leads level first ts left rest =
+    (y : Parsed) → ((m : ℕ) → 9 * length rest + 8 < m → y ≡ further m level left rest) → (n : ℕ) → 9 * length ts + 8 < n → y ≡ further n level first ts
+
+pub leads_on : (level k : ℕ) (first left right : Tree) (sign : Operator) (ts rest next more : List Lexeme) → Leads level first ts left rest → suc k ≡ level → level ≤ 7 →
+    next ≡ after rest → 0 < length rest → Some sign ≡ front_operator rest level → length more < length next →
+    ((m : ℕ) → 9 * length next + k < m → Some (right, more) ≡ parse m k next) → Leads level first ts (binary sign left right) more
+leads_on level k first left right sign ts rest next more leads is high same l front short found =
+    λ y go. leads y (λ m b. further_at m level k sign left rest next (Some (right, more)) y is high same l b front found (λ p q. go p (omega arith)))
+
+pub leads_nowhere : (level k : ℕ) (first left : Tree) (sign : Operator) (ts rest next : List Lexeme) → Leads level first ts left rest → suc k ≡ level → level ≤ 7 →
+    next ≡ after rest → 0 < length rest → Some sign ≡ front_operator rest level →
+    ((m : ℕ) → 9 * length next + k < m → None ≡ parse m k next) → (n : ℕ) → 9 * length ts + 8 < n → None ≡ further n level first ts
+leads_nowhere level k first left sign ts rest next leads is high same l front found =
+    leads None (λ m b. further_at m level k sign left rest next None None is high same l b front found (λ p q. refl))
+
+pub leads_end : (level : ℕ) (first left : Tree) (ts rest : List Lexeme) → Leads level first ts left rest → None ≡ front_operator rest level →
+    (n : ℕ) → 9 * length ts + 8 < n → Some (left, rest) ≡ further n level first ts
+leads_end level first left ts rest leads front = leads (Some (left, rest)) (λ m b. further_end m level left rest (omega arith) front)
+
+-- ---- signs before an operand
+
+pub sign_first : (ts : List Lexeme) (sign : Prefix) → Some sign ≡ front_prefix ts →
+    (prefixes ts ≡ sign ∷ prefixes (after ts)) × (after_prefixes ts ≡ after_prefixes (after ts)) × (length ts ≡ suc (length (after ts)))
+sign_first [] sign h = absurd (none_some sign h)
+  where
+    none_some : (sign : Prefix) → Some sign ≡ None → ⊥
+    none_some sign h = cc
+sign_first (t ∷ ts) sign h = (ap (λ o. sign_then o (prefixes ts)) (sym h), ap (λ o. unless_sign o (t ∷ ts) (after_prefixes ts)) (sym h), refl)
+
+pub no_sign : (ts : List Lexeme) → None ≡ front_prefix ts → (prefixes ts ≡ []) × (after_prefixes ts ≡ ts)
+no_sign [] h = (refl, refl)
+no_sign (t ∷ ts) h = (ap (λ o. sign_then o (prefixes ts)) (sym h), ap (λ o. unless_sign o (t ∷ ts) (after_prefixes ts)) (sym h))
+
+pub signed_last : (signs : List Prefix) (sign : Prefix) (e : Tree) → signed (signs ++ sign ∷ []) e ≡ signed signs (unary sign e)
+signed_last [] sign e = refl
+signed_last (s ∷ signs) sign e = ap (unary s) (signed_last signs sign e)
+
+-- what is found, with some signs before it
+abbrev pub with_signs : List Prefix → Parsed → Parsed
+with_signs signs y = on_found y (λ e rest. Some (signed signs e, rest))
+
+with_none : (y : Parsed) → with_signs [] y ≡ y
+with_none None = refl
+with_none (Some x) = refl
+
+with_more : (sign : Prefix) (signs : List Prefix) (y : Parsed) → with_signs (sign ∷ signs) y ≡ on_found (with_signs signs y) (λ e rest. Some (unary sign e, rest))
+with_more sign signs None = refl
+with_more sign signs (Some x) = refl
+
+-- an operand after its signs
+abbrev pub Signed : List Lexeme → Type 0
+Signed ts =
+    (n : ℕ) (y : Parsed) → 9 * length ts + 1 < n → ((m : ℕ) → 9 * length (after_prefixes ts) < m → y ≡ parse m 0 (after_prefixes ts)) → with_signs (prefixes ts) y ≡ parse n 1 ts
+
+signed_plain : (ts : List Lexeme) → None ≡ front_prefix ts → Signed ts
+signed_plain ts h n y b found =
+    let none = no_sign ts h in
+    ap (λ signs. with_signs signs y) none.0 ∙ with_none y
+    ∙ prefixed_step n ts y b h (λ m q. found m (rw none.1 q) ∙ ap (parse m 0) none.1)
+
+signed_step : (t : Lexeme) (ts : List Lexeme) (o : Option Prefix) → o ≡ front_prefix (t ∷ ts) → Signed ts → Signed (t ∷ ts)
+signed_step t ts None h again n y b found = signed_plain (t ∷ ts) h n y b found
+signed_step t ts (Some sign) h again zero y b found = absurd (omega arith)
+signed_step t ts (Some sign) h again (suc n) y b found =
+    let first = sign_first (t ∷ ts) sign h in
+    ap (λ signs. with_signs signs y) first.0 ∙ with_more sign (prefixes ts) y
+    ∙ ap (λ p. on_found p (λ e rest. Some (unary sign e, rest))) (again n y (omega arith) (λ m q. found m (rw first.1 q) ∙ ap (parse m 0) first.1))
+    ∙ ap (λ o. prefixed (parse n 1) (parse n 0) o (t ∷ ts)) h
+
+pub signed_all : (ts : List Lexeme) → Signed ts
+signed_all [] = signed_plain [] refl
+signed_all (t ∷ ts) = signed_step t ts (front_prefix (t ∷ ts)) refl (signed_all ts)
+
+pub signed_at : (ts rest : List Lexeme) (signs : List Prefix) (y : Parsed) → rest ≡ after_prefixes ts → signs ≡ prefixes ts →
+    ((m : ℕ) → 9 * length rest < m → y ≡ parse m 0 rest) → (n : ℕ) → 9 * length ts + 1 < n → with_signs signs y ≡ parse n 1 ts
+signed_at ts rest signs y is same found n b =
+    ap (λ all. with_signs all y) same ∙ signed_all ts n y b (λ m q. found m (rw is q) ∙ ap (parse m 0) is)
+
+pub after_shorter : (ts : List Lexeme) → length (after ts) ≤ length ts
+after_shorter [] = omega arith
+after_shorter (t ∷ ts) = omega arith

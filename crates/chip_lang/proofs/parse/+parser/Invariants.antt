@@ -1,0 +1,25 @@
+use Rattle.std.proofs.Common.{◌+◌, ◌*◌, ◌≤◌, length}
+use Rattle.chip_lang.specs.Tree.{tree_of}
+use Rattle.chip_lang.proofs.Steps.{Leads}
+use Rattle.chip_lang.proofs.parse.+parser.Given as goal
+
+abbrev pub decreases-parse_level : goal.decreases-parse_level
+decreases-parse_level l = 9 * length l.tokens.now + l.level + 1
+
+abbrev pub decreases-parse_prefixed : goal.decreases-parse_prefixed
+decreases-parse_prefixed l = 9 * length l.tokens.now + 1
+
+abbrev pub decreases-parse_atom : goal.decreases-parse_atom
+decreases-parse_atom l = 9 * length l.tokens.now
+
+abbrev pub decreases-parse_further : goal.decreases-parse_further
+decreases-parse_further l = 9 * length l.tokens.now + 8
+
+abbrev pub invariant-parse_further-loop-sign : goal.invariant-parse_further-loop-sign
+invariant-parse_further-loop-sign l = record {
+  leads : Leads l.level (tree_of l.fn.first) l.tokens (tree_of l.left) l.rest;
+  shorter : length l.rest ≤ length l.tokens;
+}
+
+abbrev pub decreases-parse_further-loop-sign : goal.decreases-parse_further-loop-sign
+decreases-parse_further-loop-sign l = length l.rest

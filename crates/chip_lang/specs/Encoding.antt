@@ -1,0 +1,44 @@
+-- The word of a form and its operands (COSMAC VIP manual and SUPER-CHIP 1.1 documentation; own for the ranges of values).
+use Rattle.std.specs.Prelude.{ℕ, ◌+◌, ◌*◌, ◌-◌, ◌/◌, ℤ, pos, negsuc, nat_lt, if◌then◌else◌, bit_or, List, [], ◌∷◌, Result, Ok, Err}
+use Rattle.chip_lang.specs.declared.fault.Fault.{Fault}
+use Rattle.chip_lang.specs.declared.fault.Fault.TheVariants.{OutOfRange}
+use Rattle.chip_lang.specs.declared.form.Pattern.{Pattern}
+use Rattle.chip_lang.specs.declared.form.Pattern.TheVariants.{Vx, Vy, Nibble, Byte, Address}
+use Rattle.chip_lang.specs.Operand.{Operand, register, expression}
+use Rattle.chip_lang.specs.Form.{Row}
+use Rattle.chip_lang.specs.Value.{Symbols, value}
+
+-- a value from 0 up to below a limit
+abbrev pub number_below : ℕ → ℤ → Result ℕ Fault
+number_below limit (pos n) = if nat_lt n limit then Ok n else Err OutOfRange
+number_below limit (negsuc n) = Err OutOfRange
+
+-- a value from -limit / 2 up to below limit, a negative one modulo limit
+abbrev pub signed_below : ℕ → ℤ → Result ℕ Fault
+signed_below limit (pos n) = if nat_lt n limit then Ok n else Err OutOfRange
+signed_below limit (negsuc n) = if nat_lt n (limit / 2) then Ok (limit - (n + 1)) else Err OutOfRange
+
+-- what comes of an outcome
+infixl 10 ◌>>=◌
+abbrev pub ◌>>=◌ : {A B : Type 0} → Result A Fault → (A → Result B Fault) → Result B Fault
+(Ok x) >>= go = go x
+(Err f) >>= go = Err f
+
+-- what an operand puts into the word
+unfoldable pub field_of : Pattern → Operand → Symbols → Result ℕ Fault
+field_of Vx (register x) symbols = Ok (256 * x)
+field_of Vy (register y) symbols = Ok (16 * y)
+field_of Nibble (expression e) symbols = value e symbols >>= number_below 16
+field_of Byte (expression e) symbols = value e symbols >>= signed_below 256
+field_of Address (expression e) symbols = value e symbols >>= number_below 4096
+field_of p o symbols = Ok 0
+
+-- the operands' fields together, or the first fault from the left
+abbrev pub fields_of : List Pattern → List Operand → Symbols → Result ℕ Fault
+fields_of [] os symbols = Ok 0
+fields_of (p ∷ ps) [] symbols = Ok 0
+fields_of (p ∷ ps) (o ∷ os) symbols = field_of p o symbols >>= λ field. fields_of ps os symbols >>= λ rest. Ok (bit_or field rest)
+
+-- the word of a form and its operands
+abbrev pub word_of_form : Row → List Operand → Symbols → Result ℕ Fault
+word_of_form r os symbols = fields_of r.patterns os symbols >>= λ fields. Ok (bit_or r.base fields)

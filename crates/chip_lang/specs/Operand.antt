@@ -1,0 +1,17 @@
+-- Operands without where they lie in memory (own).
+use Rattle.std.specs.Prelude.{ℕ}
+use Rattle.chip_lang.specs.declared.form.Special.{Special as Special_word}
+use Rattle.chip_lang.specs.declared.form.Operand.{Operand as Operand_value}
+use Rattle.chip_lang.specs.declared.form.Operand.TheVariants.{Register, Special, Value}
+use Rattle.chip_lang.specs.Tree.{Tree, tree_of}
+
+-- an operand
+pub data Operand : Type 0 where
+  register : (x : ℕ) → Operand
+  special : (word : Special_word) → Operand
+  expression : (e : Tree) → Operand
+
+abbrev pub operand_of : Operand_value → Operand
+operand_of (Register x) = register x
+operand_of (Special s) = special s
+operand_of (Value e) = expression (tree_of e)

@@ -1,0 +1,146 @@
+-- The expression that tokens begin with, computed within a number of steps (own). It is the grammar's, as a law says.
+use Rattle.std.specs.Prelude.{ℕ, zero, suc, ◌+◌, ◌*◌, ◌==◌, if◌then◌else◌, pos, List, [], ◌∷◌, length, Option, Some, None}
+use Rattle.chip_lang.specs.declared.lexeme.Lexeme.{Lexeme}
+use Rattle.chip_lang.specs.declared.lexeme.Lexeme.TheVariants.{Word, Number, Text, Sign, Bad}
+use Rattle.chip_lang.specs.declared.expr.Prefix.{Prefix}
+use Rattle.chip_lang.specs.declared.expr.Operator.{Operator}
+use Rattle.chip_lang.specs.Tree.{Tree, number, name, unary, binary}
+use Rattle.chip_lang.specs.Reserved.{is_reserved}
+use Rattle.chip_lang.specs.Grammar.{prefix_of, operator_of, level_of}
+
+-- an expression and the tokens after it, if there is one
+abbrev pub Parsed : Type 0
+Parsed = Option (Tree × List Lexeme)
+
+-- the level of an operator, and 8 where there is none
+abbrev pub level_or_8 : Option Operator → ℕ
+level_or_8 None = 8
+level_or_8 (Some sign) = level_of sign
+
+-- the level of the operator at the front, and 8 where there is none
+abbrev pub front_level : List Lexeme → ℕ
+front_level [] = 8
+front_level (Word w ∷ ts) = 8
+front_level (Number z ∷ ts) = 8
+front_level (Text bs ∷ ts) = 8
+front_level (Bad f ∷ ts) = 8
+front_level (Sign c ∷ ts) = level_or_8 (operator_of c)
+
+-- the sign before an operand at the front
+abbrev pub front_prefix : List Lexeme → Option Prefix
+front_prefix [] = None
+front_prefix (Word w ∷ ts) = None
+front_prefix (Number z ∷ ts) = None
+front_prefix (Text bs ∷ ts) = None
+front_prefix (Bad f ∷ ts) = None
+front_prefix (Sign c ∷ ts) = prefix_of c
+
+-- the operator at the front, if it has this level
+abbrev pub if_level : Option Operator → ℕ → Option Operator
+if_level None l = None
+if_level (Some sign) l = if level_of sign == l then Some sign else None
+
+abbrev pub front_operator : List Lexeme → ℕ → Option Operator
+front_operator [] l = None
+front_operator (Word w ∷ ts) l = None
+front_operator (Number z ∷ ts) l = None
+front_operator (Text bs ∷ ts) l = None
+front_operator (Bad f ∷ ts) l = None
+front_operator (Sign c ∷ ts) l = if_level (operator_of c) l
+
+-- the level that binds one more strongly
+abbrev pub below : ℕ → ℕ
+below zero = zero
+below (suc l) = l
+
+-- the tokens after the first
+abbrev pub after : List Lexeme → List Lexeme
+after [] = []
+after (t ∷ ts) = ts
+
+-- goes on with what was found
+abbrev pub on_found : Parsed → (Tree → List Lexeme → Parsed) → Parsed
+on_found None go = None
+on_found (Some x) go = go x.0 x.1
+
+-- a closing parenthesis after an expression
+abbrev pub closed : Tree → List Lexeme → Parsed
+closed e [] = None
+closed e (Word w ∷ ts) = None
+closed e (Number z ∷ ts) = None
+closed e (Text bs ∷ ts) = None
+closed e (Bad f ∷ ts) = None
+closed e (Sign c ∷ ts) = if c == 41 then Some (e, ts) else None
+
+-- a text of one byte
+abbrev pub one_byte : List ℕ → List Lexeme → Parsed
+one_byte [] ts = None
+one_byte (b ∷ []) ts = Some (number (pos b), ts)
+one_byte (b ∷ c ∷ bs) ts = None
+
+-- a number, a name, a text of one byte, or what inner finds in parentheses
+abbrev pub atom : (List Lexeme → Parsed) → List Lexeme → Parsed
+atom inner [] = None
+atom inner (Word w ∷ ts) = if is_reserved w then None else Some (name w, ts)
+atom inner (Number z ∷ ts) = Some (number z, ts)
+atom inner (Text bs ∷ ts) = one_byte bs ts
+atom inner (Bad f ∷ ts) = None
+atom inner (Sign c ∷ ts) = if c == 40 then on_found (inner ts) closed else None
+
+-- a sign before what operand finds, or what plain finds
+abbrev pub prefixed : (operand plain : List Lexeme → Parsed) → Option Prefix → List Lexeme → Parsed
+prefixed operand plain None ts = plain ts
+prefixed operand plain (Some sign) ts = on_found (operand (after ts)) (λ e rest. Some (unary sign e, rest))
+
+-- after a left side an operator and what right finds, and so on; or nothing more
+abbrev pub with_right : (List Lexeme → Parsed) → (Tree → List Lexeme → Parsed) → Option Operator → Tree → List Lexeme → Parsed
+with_right right more None left ts = Some (left, ts)
+with_right right more (Some sign) left ts = on_found (right (after ts)) (λ b rest. more (binary sign left b) rest)
+
+abbrev mutual
+  -- an expression of a level
+  pub parse : (steps level : ℕ) → List Lexeme → Parsed
+  parse zero l ts = None
+  parse (suc n) zero ts = atom (parse n 7) ts
+  parse (suc n) (suc zero) ts = prefixed (parse n 1) (parse n 0) (front_prefix ts) ts
+  parse (suc n) (suc (suc l)) ts = on_found (parse n (suc l) ts) (further n (suc (suc l)))
+
+  -- the operators of a level, and their right sides, after a left side
+  pub further : (steps level : ℕ) → Tree → List Lexeme → Parsed
+  further zero l left ts = None
+  further (suc n) l left ts = with_right (parse n (below l)) (further n l) (front_operator ts l) left ts
+
+-- an expression and nothing after it
+abbrev pub whole : Parsed → Option Tree
+whole None = None
+whole (Some (e, [])) = Some e
+whole (Some (e, t ∷ ts)) = None
+
+-- the expression that tokens are, if they are one
+unfoldable pub expression_of : List Lexeme → Option Tree
+expression_of ts = whole (parse (9 * length ts + 8) 7 ts)
+
+-- ---- the same signs, taken together
+
+abbrev pub sign_then : Option Prefix → List Prefix → List Prefix
+sign_then None signs = []
+sign_then (Some sign) signs = sign ∷ signs
+
+-- the signs before an operand at the front
+abbrev pub prefixes : List Lexeme → List Prefix
+prefixes [] = []
+prefixes (t ∷ ts) = sign_then (front_prefix (t ∷ ts)) (prefixes ts)
+
+abbrev pub unless_sign : {A : Type 0} → Option Prefix → (here later : A) → A
+unless_sign None here later = here
+unless_sign (Some sign) here later = later
+
+-- the tokens after those signs
+abbrev pub after_prefixes : List Lexeme → List Lexeme
+after_prefixes [] = []
+after_prefixes (t ∷ ts) = unless_sign (front_prefix (t ∷ ts)) (t ∷ ts) (after_prefixes ts)
+
+-- an expression after some signs
+abbrev pub signed : List Prefix → Tree → Tree
+signed [] e = e
+signed (sign ∷ signs) e = unary sign (signed signs e)

@@ -1,0 +1,42 @@
+-- A line without where its parts lie in memory (own).
+use Rattle.std.specs.Prelude.{map, Result, Ok, Err}
+use Rattle.chip_lang.specs.declared.line.Body.{Body as Line_body}
+use Rattle.chip_lang.specs.declared.line.Body.TheVariants.{Empty, Equ, Org, Ds, Db, Dw, Da, Code, Define, Ifdef, Ifund, Else, Endif, End, Align, Options, Used, Xref}
+use Rattle.chip_lang.specs.declared.line.Line.{Line}
+use Rattle.chip_lang.specs.declared.line.Line.TheVariants.{Bad, Read}
+use Rattle.chip_lang.specs.declared.fault.Fault.{Fault}
+use Rattle.chip_lang.specs.Tree.{tree_of}
+use Rattle.chip_lang.specs.Operand.{operand_of}
+use Rattle.chip_lang.specs.Form.{row_of_form}
+use Rattle.chip_lang.specs.Line.{Body, empty, equ, org, ds, db, dw, da, code, define, ifdef, ifund, else_line, endif, end_line, align, options, used, xref, Reading, bad, read}
+
+-- the statement that a value of the program stands for
+abbrev pub seen_body : Line_body → Body
+seen_body Empty = empty
+seen_body (Equ e) = equ (tree_of e)
+seen_body (Org e) = org (tree_of e)
+seen_body (Ds e) = ds (tree_of e)
+seen_body (Db es) = db (map tree_of es.items)
+seen_body (Dw es) = dw (map tree_of es.items)
+seen_body (Da bytes) = da bytes
+seen_body (Code form operands) = code (row_of_form form) (map operand_of operands.items)
+seen_body Define = define
+seen_body (Ifdef name) = ifdef name
+seen_body (Ifund name) = ifund name
+seen_body Else = else_line
+seen_body Endif = endif
+seen_body End = end_line
+seen_body (Align on) = align on
+seen_body Options = options
+seen_body Used = used
+seen_body Xref = xref
+
+-- the reading that a value of the program stands for
+abbrev pub seen_line : Line → Reading
+seen_line (Bad fault) = bad fault
+seen_line (Read label body) = read label (seen_body body)
+
+-- the outcome of a statement that a value of the program stands for
+abbrev pub seen_outcome : Result Line_body Fault → Result Body Fault
+seen_outcome (Ok body) = Ok (seen_body body)
+seen_outcome (Err fault) = Err fault

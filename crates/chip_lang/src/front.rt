@@ -1,0 +1,130 @@
+//! What stands in front of tokens.
+
+ghost use Rattle.std.specs.Prelude.{◌≡◌, ◌<◌, ◌≤◌, ◌+◌, length, IfSome, IfOk, if◌then◌else◌};
+ghost use Rattle.chip_lang.specs.Grammar.{prefix_of, operator_of, level_of};
+ghost use Rattle.chip_lang.specs.Parse.{Parsed, front_prefix, front_operator, closed, one_byte};
+ghost use Rattle.chip_lang.specs.Seen.{seen};
+ghost use Rattle.chip_lang.specs.Tree.{tree_of, name};
+ghost use Rattle.chip_lang.specs.Reserved.{is_reserved};
+
+use crate::bytes::Bytes;
+use crate::expr::{Expr, Operator, Prefix};
+use crate::form::is_mnemonic;
+use crate::keyword::{directive_of, register_of, special_of};
+use crate::lexeme::Lexeme;
+use std::alloc::{AllocError, Global};
+
+fn prefix_of(sign: u8) -> Option<Prefix>
+    ensures { result ≡ prefix_of sign }
+{
+    match sign {
+        b'+' => Some(Prefix::Plus),
+        b'-' => Some(Prefix::Minus),
+        b'~' => Some(Prefix::Not),
+        _ => None,
+    }
+}
+
+fn operator_of(sign: u8) -> Option<Operator>
+    ensures { result ≡ operator_of sign }
+{
+    match sign {
+        b'<' => Some(Operator::ShiftLeft),
+        b'>' => Some(Operator::ShiftRight),
+        b'*' => Some(Operator::Multiply),
+        b'/' => Some(Operator::Divide),
+        b'+' => Some(Operator::Add),
+        b'-' => Some(Operator::Subtract),
+        b'&' => Some(Operator::And),
+        b'|' => Some(Operator::Or),
+        b'^' | b'\\' => Some(Operator::Xor),
+        _ => None,
+    }
+}
+
+fn level_of(operator: Operator) -> u32
+    ensures { result ≡ level_of operator }
+{
+    match operator {
+        Operator::ShiftLeft | Operator::ShiftRight => 2,
+        Operator::Multiply | Operator::Divide => 3,
+        Operator::Add | Operator::Subtract => 4,
+        Operator::And => 5,
+        Operator::Or => 6,
+        Operator::Xor => 7,
+    }
+}
+
+/// The sign before an operand in front.
+pub fn prefix_in_front(tokens: &[Lexeme]) -> Option<Prefix>
+    ensures value { result ≡ front_prefix tokens.now }
+    ensures some { IfSome result (λ _. 0 < length tokens.now) }
+{
+    match tokens.first() {
+        Some(Lexeme::Sign(sign)) => prefix_of(*sign),
+        _ => None,
+    }
+}
+
+/// The operator in front, if it has this level.
+pub fn operator_in_front(tokens: &[Lexeme], level: u32) -> Option<Operator>
+    ensures value { result ≡ front_operator tokens.now level }
+    ensures some { IfSome result (λ _. 0 < length tokens.now) }
+{
+    match tokens.first() {
+        Some(Lexeme::Sign(sign)) => match operator_of(*sign) {
+            Some(operator) if level_of(operator) == level => Some(operator),
+            _ => None,
+        },
+        _ => None,
+    }
+}
+
+/// An expression before a closing parenthesis, which is taken too.
+pub fn closed(inside: Expr, tokens: &[Lexeme]) -> Option<(Expr, &[Lexeme])>
+    ensures value { seen result ≡ closed (tree_of inside) tokens.now }
+    ensures shorter { IfSome result (λ x. length x.1.now < length tokens.now) }
+{
+    match tokens.split_first() {
+        Some((Lexeme::Sign(b')'), rest)) => Some((inside, rest)),
+        _ => None,
+    }
+}
+
+/// A text of one byte, as a number.
+pub fn text_atom<'a>(text: &Bytes, tokens: &'a [Lexeme]) -> Option<(Expr, &'a [Lexeme])>
+    ensures value { seen result ≡ one_byte text.now tokens.now }
+    ensures shorter { IfSome result (λ x. length x.1.now ≤ length tokens.now) }
+{
+    match text.get() {
+        [byte] => Some((Expr::Number(i32::from(*byte)), tokens)),
+        _ => None,
+    }
+}
+
+/// A name that isn't reserved.
+pub fn name_atom<'a>(
+    alloc: Global,
+    word: &Bytes,
+    tokens: &'a [Lexeme],
+) -> Result<Option<(Expr, &'a [Lexeme])>, AllocError>
+    ensures value { IfOk result (λ found. seen found ≡ (if is_reserved word.now then None else Some (name word.now, tokens.now))) }
+    ensures shorter { IfOk result (λ found. IfSome found (λ x. length x.1.now ≤ length tokens.now)) }
+{
+    if is_reserved(word.get()) {
+        return Ok(None);
+    }
+    let bytes = word.get().to_vec(alloc)?;
+    Ok(Some((Expr::Name(Bytes::new(bytes)), tokens)))
+}
+
+/// Whether a word in upper case is reserved.
+#[tactic(auto, unfolding(crate::specs::Reserved::is_reserved))]
+pub fn is_reserved(word: &[u8]) -> bool
+    ensures { result ≡ is_reserved word.now }
+{
+    is_mnemonic(word)
+        || directive_of(word).is_some()
+        || special_of(word).is_some()
+        || register_of(word).is_some()
+}

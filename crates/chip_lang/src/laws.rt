@@ -1,0 +1,58 @@
+//! Laws of the grammar.
+
+ghost use Rattle.std.specs.Prelude.{◌≡◌, List, ◌↔◌, Some};
+ghost use Rattle.chip_lang.specs.declared.lexeme.Lexeme.{Lexeme};
+ghost use Rattle.chip_lang.specs.Tree.{Tree};
+ghost use Rattle.chip_lang.specs.Grammar.{IsExpression};
+ghost use Rattle.chip_lang.specs.Parse.{expression_of};
+ghost use Rattle.std.specs.Prelude.{codes, ℕ, []};
+ghost use Rattle.chip_lang.specs.declared.token.Token.{Token};
+ghost use Rattle.chip_lang.specs.Token.{tokens_of};
+ghost use Rattle.chip_lang.specs.Scan.{AreTokens};
+ghost use Rattle.chip_lang.specs.Line.{Reading};
+ghost use Rattle.chip_lang.specs.Examples.{Examples};
+ghost use Rattle.std.specs.Prelude.{true, ◌≤◌, length, map, Ok};
+ghost use Rattle.std.specs.List.{list_all, filter};
+ghost use Rattle.chip_lang.specs.Operand.{Operand};
+ghost use Rattle.chip_lang.specs.Form.{Row, forms, fits};
+ghost use Rattle.chip_lang.specs.Encoding.{word_of_form};
+ghost use Rattle.chip_lang.specs.Show.{form_shown, operand_in};
+ghost use Rattle.chip_lang.specs.Value.{Symbols, value};
+ghost use Rattle.chip_lang.specs.Code.{code_of};
+ghost use Rattle.chip_lang.specs.Uses.{names_in, has_same_value, agree_on};
+
+/// Tokens are at most one expression, and it is computed.
+pub fn one_expression()
+    ensures one { (ts : List Lexeme) (a b : Tree) → IsExpression ts a → IsExpression ts b → a ≡ b }
+    ensures found { (ts : List Lexeme) (e : Tree) → expression_of ts ≡ Some e → IsExpression ts e }
+    ensures every { (ts : List Lexeme) (e : Tree) → IsExpression ts e → expression_of ts ≡ Some e }
+{}
+
+/// Worked examples of the definitions.
+pub fn worked_examples()
+    ensures { Examples }
+{}
+
+/// Each line has one token list, and it is computed.
+pub fn one_token_list()
+    ensures is { (line : List ℕ) → AreTokens line 0 (tokens_of line) }
+    ensures only { (line : List ℕ) (ts : List Token) → AreTokens line 0 ts → ts ≡ tokens_of line }
+{}
+
+/// Where two tables agree on the names of an expression, it has one value under both; where they agree on the names that a line uses, it has
+/// one code.
+pub fn same_code()
+    ensures value { (e : Tree) (S T : Symbols) → list_all (has_same_value S T) (names_in e) ≡ true → value e S ≡ value e T }
+    ensures code { (r : Reading) (S T : Symbols) → agree_on S T r ≡ true → code_of r S ≡ code_of r T }
+{}
+
+/// At most one source form fits a name and operands.
+pub fn one_form()
+    ensures { (name : List ℕ) (operands : List Operand) → length (filter (λ form. fits form name operands) forms) ≤ 1 }
+{}
+
+/// The form in which a word is shown, with the operands that stand in the word, fits them and has that word under any names.
+pub fn shown_form()
+    ensures word { (w : ℕ) (form : Row) (symbols : Symbols) → form_shown w ≡ Some form → word_of_form form (map (operand_in w) form.patterns) symbols ≡ Ok w }
+    ensures fits { (w : ℕ) (form : Row) → fits form form.name (map (operand_in w) form.patterns) ≡ true }
+{}

@@ -1,0 +1,103 @@
+//! Tokens with what they hold.
+
+ghost use Rattle.std.specs.Prelude.{◌≡◌, IfOk, map, length, ◌-◌, ◌≤◌, slice_range};
+ghost use Rattle.chip_lang.specs.Line.{upper, lexeme_of, lexemes_of, is_the, is_sign_of};
+
+use crate::bytes::Bytes;
+use crate::fault::Fault;
+use crate::token::{Kind, Token, tokens};
+use std::alloc::{AllocError, Global};
+
+/// A token with its content: a word in upper case, a number, the bytes of a text, or a sign.
+#[derive(Debug, Drop)]
+pub enum Lexeme {
+    /// A word in upper case.
+    Word(Bytes),
+    /// A number.
+    Number(i32),
+    /// The bytes between the quotes.
+    Text(Bytes),
+    /// A sign, by its byte.
+    Sign(u8),
+    /// No token, with its fault.
+    Bad(Fault),
+}
+
+/// The tokens of a line with what they hold.
+pub fn lexemes(alloc: Global, line: &[u8]) -> Result<Vec<Lexeme>, AllocError>
+    ensures { IfOk result (λ lexemes. lexemes.items ≡ lexemes_of line.now) }
+{
+    let tokens = tokens(alloc, line)?;
+    let mut lexemes = Vec::new(alloc);
+    for token in &tokens {
+        let lexeme = lexeme_of(alloc, line, *token)?;
+        lexemes.push(lexeme)?;
+    }
+    Ok(lexemes)
+}
+
+/// What a token of a line holds.
+fn lexeme_of(alloc: Global, line: &[u8], token: Token) -> Result<Lexeme, AllocError>
+    requires rises { token.start ≤ token.end }
+    requires inside { token.end ≤ length line.now }
+    ensures { IfOk result (λ lexeme. lexeme ≡ lexeme_of line.now token) }
+{
+    let bytes = &line[token.start..token.end];
+    match token.kind {
+        Kind::Word => Ok(Lexeme::Word(in_upper_case(alloc, bytes)?)),
+        Kind::Number(number) => Ok(Lexeme::Number(number)),
+        Kind::Text => {
+            let text = between_quotes(bytes).to_vec(alloc)?;
+            Ok(Lexeme::Text(Bytes::new(text)))
+        }
+        Kind::Sign(sign) => Ok(Lexeme::Sign(sign)),
+        Kind::Bad(fault) => Ok(Lexeme::Bad(fault)),
+    }
+}
+
+fn upper(byte: u8) -> u8
+    ensures { result ≡ upper byte }
+{
+    if b'a' <= byte && byte <= b'z' {
+        byte - 32
+    } else {
+        byte
+    }
+}
+
+fn in_upper_case(alloc: Global, word: &[u8]) -> Result<Bytes, AllocError>
+    ensures { IfOk result (λ bytes. bytes ≡ map upper word.now) }
+{
+    let bytes = word.iter().map(|byte| upper(*byte)).collect(alloc)?;
+    Ok(Bytes::new(bytes))
+}
+
+/// The bytes of a text without its quotes.
+fn between_quotes(bytes: &[u8]) -> &[u8]
+    ensures { result.now ≡ slice_range bytes.now 1 (length bytes.now - 1) }
+{
+    match bytes {
+        [_, text @ .., _] => text,
+        _ => &[],
+    }
+}
+
+/// Whether a token is this word, given in upper case.
+pub fn is_the(word: &[u8], token: &Lexeme) -> bool
+    ensures { result ≡ is_the word.now token.now }
+{
+    match token {
+        Lexeme::Word(other) => word == other.get(),
+        _ => false,
+    }
+}
+
+/// Whether a token is this sign.
+pub fn is_sign_of(sign: u8, token: &Lexeme) -> bool
+    ensures { result ≡ is_sign_of sign token.now }
+{
+    match token {
+        Lexeme::Sign(other) => sign == *other,
+        _ => false,
+    }
+}

@@ -1,0 +1,47 @@
+//! The language of the Chipper assembler: words of instructions, tokens, expressions, the reading of a line, and its code.
+//!
+//! [`read_line`] gives the one reading of a text, and [`encode`] the code of a reading under a table of [`Names`]. [`word`], [`decode`] and
+//! [`show`] go between instructions, words and source text. What each of them gives is defined in `specs/`.
+#![tactic(auto)]
+
+pub mod bytes;
+pub mod code;
+mod directive;
+pub mod expr;
+pub mod fault;
+pub mod form;
+mod front;
+pub mod instr;
+mod keyword;
+pub mod laws;
+mod lexeme;
+pub mod line;
+pub mod meter;
+pub mod names;
+pub mod number;
+mod operands;
+mod parse;
+mod shape;
+mod source_text;
+mod statement;
+pub mod token;
+pub mod used_names;
+pub mod value;
+
+pub use crate::bytes::Bytes;
+pub use crate::code::{Coded, encode};
+pub use crate::expr::{Expr, Operator, Prefix};
+pub use crate::fault::Fault;
+pub use crate::form::{Form, Operand, Pattern, Special};
+pub use crate::instr::{Instr, decode, word};
+pub use crate::line::{Body, Line, read_line};
+pub use crate::meter::Meter;
+pub use crate::names::Names;
+pub use crate::number::{Addr, Nibble, Reg};
+pub use crate::source_text::show;
+pub use crate::token::{Kind, Token, tokens};
+pub use crate::used_names::{agree_on, defines, uses};
+pub use crate::value::eval;
+
+#[cfg(test)]
+mod tests;

@@ -1,0 +1,24 @@
+//! Counts of the work done.
+
+ghost use Rattle.std.specs.Prelude.{◌≡◌};
+
+/// How many texts of lines were read and how many lines were encoded. A count stays at its greatest value.
+#[derive(Clone, Copy, Debug, PartialEq, Eq)]
+pub struct Meter {
+    /// The calls of [`crate::read_line`].
+    pub parsed: u64,
+    /// The calls of [`crate::encode`].
+    pub encoded: u64,
+}
+
+impl Meter {
+    /// Both counts at 0.
+    pub fn new() -> Meter
+        ensures { result ≡ record { parsed = 0; encoded = 0 } }
+    {
+        Meter {
+            parsed: 0,
+            encoded: 0,
+        }
+    }
+}

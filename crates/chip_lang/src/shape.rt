@@ -1,0 +1,115 @@
+//! The parts of a line: the name that it defines, and its statement.
+
+ghost use Rattle.std.specs.Prelude.{◌≡◌, length, option_to_list};
+ghost use Rattle.std.specs.List.{list_any};
+ghost use Rattle.std.specs.Option.{option_copied};
+ghost use Rattle.chip_lang.specs.Line.{is_equ, after_label, shape_of, is_bad_name, front_directive, by_define, names_of, first_name};
+ghost use Rattle.chip_lang.specs.SeenShape.{seen_shape};
+
+use crate::bytes::Bytes;
+use crate::directive::Directive;
+use crate::front::is_reserved;
+use crate::keyword::directive_of;
+use crate::lexeme::{Lexeme, is_sign_of, is_the};
+
+/// What a line is, by its tokens.
+#[derive(Drop)]
+pub(crate) enum Shape<'a> {
+    /// A definition: its name, and what follows EQU or `=`.
+    Definition {
+        name: &'a Bytes,
+        value: &'a [Lexeme],
+    },
+    /// A statement, after a label if there is one.
+    Statement {
+        label: Option<&'a Bytes>,
+        tokens: &'a [Lexeme],
+    },
+}
+
+/// Whether a token is EQU or `=`.
+fn is_equ(token: &Lexeme) -> bool
+    ensures { result ≡ is_equ token.now }
+{
+    is_the(b"EQU", token) || is_sign_of(b'=', token)
+}
+
+/// The parts of a line.
+pub(crate) fn shape_of(tokens: &[Lexeme]) -> Shape<'_>
+    ensures { seen_shape result ≡ shape_of tokens.now }
+{
+    match tokens {
+        [Lexeme::Word(name), equ, value @ ..] if is_equ(equ) => Shape::Definition { name, value },
+        [Lexeme::Word(name), colon, rest @ ..] if is_sign_of(b':', colon) => after_label(
+            name, rest,
+        ),
+        _ => Shape::Statement {
+            label: None,
+            tokens,
+        },
+    }
+}
+
+/// What a word, a colon and these tokens are.
+fn after_label<'a>(name: &'a Bytes, rest: &'a [Lexeme]) -> Shape<'a>
+    ensures { seen_shape result ≡ after_label name.now rest.now }
+{
+    match rest {
+        [equ, value @ ..] if is_equ(equ) => Shape::Definition { name, value },
+        _ => Shape::Statement {
+            label: Some(name),
+            tokens: rest,
+        },
+    }
+}
+
+/// Whether a word can't be defined.
+fn is_bad_name(word: &[u8]) -> bool
+    ensures { result ≡ is_bad_name word.now }
+{
+    is_reserved(word) || word.len() > 64
+}
+
+/// The word after a DEFINE that begins a statement.
+fn name_after_define(tokens: &[Lexeme]) -> Option<&Bytes>
+    ensures { option_to_list (option_copied result) ≡ by_define (front_directive tokens.now) tokens.now }
+{
+    match tokens {
+        [Lexeme::Word(define), Lexeme::Word(name), ..] => match directive_of(define.get()) {
+            Some(Directive::Define) => Some(name),
+            _ => None,
+        },
+        _ => None,
+    }
+}
+
+/// Whether a line defines a word that can't be defined.
+pub(crate) fn defines_bad_name(shape: &Shape) -> bool
+    ensures { result ≡ list_any is_bad_name (names_of (seen_shape shape.now)) }
+{
+    match shape {
+        Shape::Definition { name, .. } => is_bad_name(name.get()),
+        Shape::Statement { label, tokens } => {
+            is_bad_option(*label) || is_bad_option(name_after_define(tokens))
+        }
+    }
+}
+
+fn is_bad_option(name: Option<&Bytes>) -> bool
+    ensures { result ≡ list_any is_bad_name (option_to_list (option_copied name.entry)) }
+{
+    match name {
+        Some(name) => is_bad_name(name.get()),
+        None => false,
+    }
+}
+
+/// The name that a line defines.
+pub(crate) fn first_name<'a>(shape: &Shape<'a>) -> Option<&'a Bytes>
+    ensures { option_copied result ≡ first_name (names_of (seen_shape shape.now)) }
+{
+    match shape {
+        Shape::Definition { name, .. } => Some(name),
+        Shape::Statement { label, tokens } => label.or(name_after_define(tokens)),
+    }
+}

@@ -1,0 +1,300 @@
+//! Tests of what no clause says.
+
+ghost use Rattle.chip_lang.specs.Value.{Symbols};
+ghost use Rattle.std.specs.FinMap as map;
+
+use crate::code::{Coded, encode};
+use crate::expr::Expr;
+use crate::fault::Fault;
+use crate::instr::{decode, word};
+use crate::line::{Body, Line, read_line};
+use crate::meter::Meter;
+use crate::names::Names;
+use crate::source_text::show;
+use crate::token::tokens;
+use crate::used_names::{agree_on, defines, uses};
+use crate::value::eval;
+use std::alloc::{AllocError, Global};
+use std::test::Fail;
+
+mod lines;
+
+use lines::LINES;
+
+/// No names.
+struct NoNames;
+
+impl Names for NoNames {
+    ghost symbols = { λ _. map.empty };
+
+    fn value(&self, _name: &[u8]) -> Option<i32> {
+        None
+    }
+}
+
+fn kind_of(body: &Body) -> &'static str {
+    match body {
+        Body::Empty => "Empty",
+        Body::Equ(_) => "Equ",
+        Body::Org(_) => "Org",
+        Body::Ds(_) => "Ds",
+        Body::Db(_) => "Db",
+        Body::Dw(_) => "Dw",
+        Body::Da(_) => "Da",
+        Body::Code(_, _) => "Code",
+        Body::Define => "Define",
+        Body::Ifdef(_) => "Ifdef",
+        Body::Ifund(_) => "Ifund",
+        Body::Else => "Else",
+        Body::Endif => "Endif",
+        Body::End => "End",
+        Body::Align(_) => "Align",
+        Body::Options => "Option",
+        Body::Used => "Used",
+        Body::Xref => "Xref",
+    }
+}
+
+fn push_bytes(text: &mut String, bytes: &[u8]) -> Result<(), AllocError> {
+    for byte in bytes {
+        text.push(char::from(*byte))?;
+    }
+    Ok(())
+}
+
+fn push_hex(text: &mut String, bytes: &[u8]) -> Result<(), AllocError> {
+    for byte in bytes {
+        for digit in [*byte / 16, *byte % 16] {
+            if let Some(digit) = char::from_digit(u32::from(digit), 16) {
+                text.push(digit)?;
+            }
+        }
+    }
+    Ok(())
+}
+
+fn push_fault(alloc: Global, text: &mut String, fault: Fault) -> Result<(), AllocError> {
+    text.push('F')?;
+    text.push_str(&fault.number().to_string(alloc)?)
+}
+
+fn push_value(alloc: Global, text: &mut String, expr: &Expr) -> Result<(), AllocError> {
+    match eval(expr, &NoNames) {
+        Ok(value) => text.push_str(&value.to_string(alloc)?),
+        Err(fault) => push_fault(alloc, text, fault),
+    }
+}
+
+fn push_code(alloc: Global, text: &mut String, line: &Line) -> Result<(), AllocError> {
+    match encode(alloc, &mut Meter::new(), line, &NoNames)? {
+        Coded::Bytes(bytes) => push_hex(text, bytes.get()),
+        Coded::Faulty(fault) => push_fault(alloc, text, fault),
+    }
+}
+
+/// What a line says, in one text.
+fn answer(alloc: Global, line: &[u8]) -> Result<String, AllocError> {
+    let mut text = String::new(alloc);
+    let line = read_line(alloc, &mut Meter::new(), line)?;
+    match &line {
+        Line::Bad(fault) => push_fault(alloc, &mut text, *fault)?,
+        Line::Read { label, body } => {
+            match label {
+                Some(label) => push_bytes(&mut text, label.get())?,
+                None => text.push('-')?,
+            }
+            text.push(' ')?;
+            text.push_str(kind_of(body))?;
+            text.push(' ')?;
+            match body {
+                Body::Equ(expr) | Body::Org(expr) | Body::Ds(expr) => {
+                    push_value(alloc, &mut text, expr)?
+                }
+                Body::Ifdef(name) | Body::Ifund(name) => push_bytes(&mut text, name.get())?,
+                Body::Align(true) => text.push_str("ON")?,
+                Body::Align(false) => text.push_str("OFF")?,
+                _ => push_code(alloc, &mut text, &line)?,
+            }
+        }
+    }
+    Ok(text)
+}
+
+#[test]
+fn lines_say_what_they_say_elsewhere(rt: HostRuntime) -> Result<(), Fail> {
+    for row in LINES.lines() {
+        let (line, want) = row.split_once("\t").ok_or("no tab")?;
+        let found = answer(rt.alloc(), line.as_bytes())?;
+        assert_eq!(rt; found.as_str().trim_end(), want, "{row}");
+    }
+    Ok(())
+}
+
+#[test]
+fn blanks_and_other_bytes(rt: HostRuntime) -> Result<(), Fail> {
+    assert_eq!(rt;
+        answer(rt.alloc(), b"LD\tV0\t,\t5")?.as_str(),
+        "- Code 6005"
+    );
+    assert_eq!(rt; answer(rt.alloc(), b"CLS\tCLS")?.as_str(), "F4");
+    assert_eq!(rt; answer(rt.alloc(), b"\xa0CLS")?.as_str(), "F1");
+    assert_eq!(rt; answer(rt.alloc(), b"CLS;\xa0")?.as_str(), "- Code 00e0");
+    Ok(())
+}
+
+#[test]
+fn each_byte_alone_has_a_reading(rt: HostRuntime) -> Result<(), Fail> {
+    let mut faulty = 0u32;
+    for byte in 0..=255u8 {
+        let mut meter = Meter::new();
+        if let Line::Bad(_) = read_line(rt.alloc(), &mut meter, &[byte])? {
+            faulty = faulty.saturating_add(1);
+        }
+        assert_eq!(rt; meter.parsed, 1);
+    }
+    assert_eq!(rt; faulty, 250);
+    Ok(())
+}
+
+#[test]
+fn every_word(rt: HostRuntime) -> Result<(), Fail> {
+    let mut instructions = 0u32;
+    for w in 0..=65535u16 {
+        if let Some(instr) = decode(w) {
+            assert_eq!(rt; word(instr), w);
+            instructions = instructions.saturating_add(1);
+        }
+    }
+    assert_eq!(rt;
+        instructions,
+        16 + 7 + 4096 * 9 + 256 * 2 + 256 * 9 + 4096 + 32 + 192
+    );
+    Ok(())
+}
+
+#[test]
+fn source_texts_give_their_words(rt: HostRuntime) -> Result<(), Fail> {
+    let mut meter = Meter::new();
+    for w in 0..=65535u16 {
+        let text = show(rt.alloc(), w)?;
+        assert_eq!(rt;
+            text.as_str().starts_with("DW"),
+            decode(w).is_none(),
+            "{text}"
+        );
+        let line = read_line(rt.alloc(), &mut meter, text.as_bytes())?;
+        let Coded::Bytes(code) = encode(rt.alloc(), &mut meter, &line, &NoNames)? else {
+            assert!(rt; false, "{text}");
+            return Ok(());
+        };
+        assert_eq!(rt; code.get(), w.to_be_bytes().as_slice(), "{text}");
+    }
+    assert_eq!(rt; meter.parsed, 65536);
+    assert_eq!(rt; meter.encoded, 65536);
+    Ok(())
+}
+
+#[test]
+fn source_texts(rt: HostRuntime) -> Result<(), Fail> {
+    for (word, want) in [
+        (0x00CA, "SCD 10"),
+        (0x00C9, "SCD 9"),
+        (0x00E0, "CLS"),
+        (0x1202, "JP #202"),
+        (0x6005, "LD V0, #05"),
+        (0x8AB6, "SHR VA, VB"),
+        (0x8A06, "SHR VA"),
+        (0xB00F, "JP V0, #00f"),
+        (0xDAB0, "DRW VA, VB, 0"),
+        (0xF355, "LD [I], V3"),
+        (0x0123, "DW #0123"),
+        (0xFFFF, "DW #ffff"),
+    ] {
+        assert_eq!(rt; show(rt.alloc(), word)?.as_str(), want);
+    }
+    Ok(())
+}
+
+#[test]
+fn tokens_of_a_line(rt: HostRuntime) -> Result<(), Fail> {
+    let found = tokens(rt.alloc(), b"P: DB #0f ;x")?;
+    assert_eq!(rt; found.len(), 4);
+    assert_eq!(rt; found[3].start, 6);
+    assert_eq!(rt; found[3].end, 9);
+    Ok(())
+}
+
+#[test]
+fn faults_have_a_sentence(rt: HostRuntime) -> Result<(), Fail> {
+    assert_eq!(rt;
+        Fault::BadCharacter.to_string(rt.alloc())?.as_str(),
+        "bad character"
+    );
+    assert_eq!(rt;
+        Fault::NotInProfile.to_string(rt.alloc())?.as_str(),
+        "not in this profile"
+    );
+    Ok(())
+}
+
+#[test]
+fn names_of_a_line(rt: HostRuntime) -> Result<(), Fail> {
+    let line = read_line(rt.alloc(), &mut Meter::new(), b"a: DB 1 + x, -(y * x)")?;
+    assert!(rt; defines(&line).is_some_and(|name| name == b"A".as_slice()));
+    assert!(rt; uses(&line, 0).is_some_and(|name| name == b"X".as_slice()));
+    assert!(rt; uses(&line, 2).is_some_and(|name| name == b"X".as_slice()));
+    assert!(rt; uses(&line, 3).is_none());
+    assert!(rt; agree_on(&line, &NoNames, &NoNames));
+    Ok(())
+}
+
+/// A text with a part written over and over.
+fn long(
+    alloc: Global,
+    first: &[u8],
+    part: &[u8],
+    count: u32,
+    last: &[u8],
+) -> Result<Vec<u8>, AllocError> {
+    let mut text = first.to_vec(alloc)?;
+    for _ in 0..count {
+        text.extend_from_slice(part)?;
+    }
+    text.extend_from_slice(last)?;
+    Ok(text)
+}
+
+#[test]
+fn long_signs_fit_the_stack(rt: HostRuntime) -> Result<(), Fail> {
+    let signs = long(rt.alloc(), b"DB ", b"+", 10_000, b"1")?;
+    assert_eq!(rt; answer(rt.alloc(), &signs)?.as_str(), "- Db 01");
+    let signs = long(rt.alloc(), b"DB ", b"+", 10_000, b"")?;
+    assert_eq!(rt; answer(rt.alloc(), &signs)?.as_str(), "F4");
+    Ok(())
+}
+
+#[test]
+fn long_sums_fit_the_stack(rt: HostRuntime) -> Result<(), Fail> {
+    let sum = long(rt.alloc(), b"DW 1", b"+1", 5_000, b"")?;
+    assert_eq!(rt; answer(rt.alloc(), &sum)?.as_str(), "- Dw 1389");
+    Ok(())
+}
+
+#[test]
+fn long_parentheses_fit_the_stack(rt: HostRuntime) -> Result<(), Fail> {
+    let open = long(rt.alloc(), b"DB ", b"(", 10_000, b"1")?;
+    assert_eq!(rt; answer(rt.alloc(), &open)?.as_str(), "F6");
+    let close = long(rt.alloc(), b"DB ", b")", 5_000, b"")?;
+    let both = long(rt.alloc(), &close, b"(", 5_000, b"1")?;
+    assert_eq!(rt; answer(rt.alloc(), &both)?.as_str(), "F4");
+    Ok(())
+}
+
+#[test]
+fn long_lists_fit_the_stack(rt: HostRuntime) -> Result<(), Fail> {
+    let commas = long(rt.alloc(), b"DB ", b",", 10_000, b"")?;
+    assert_eq!(rt; answer(rt.alloc(), &commas)?.as_str(), "F4");
+    let many = long(rt.alloc(), b"DB 7", b",7", 5_000, b"")?;
+    assert_eq!(rt; answer(rt.alloc(), &many)?.len(), 10_007);
+    Ok(())
+}

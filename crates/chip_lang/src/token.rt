@@ -1,0 +1,291 @@
+//! Tokens of a line.
+
+ghost use Rattle.std.specs.Prelude.{◌≡◌, ◌<◌, ◌≤◌, ◌+◌, ◌↔◌, ◌^◌, IfOk, IsTrue, length, take_while, fold, not, List, ◌∷◌, [], ◌++◌, drop, slice_index, vec_len, ℕ, ◌==◌};
+ghost use Rattle.std.specs.List.{list_all, prefix_len};
+ghost use Rattle.chip_lang.specs.Token.{is_blank, is_digit, is_octal, is_hexadecimal, is_binary, is_name_byte, is_run_byte, is_name_start, is_sign, is_digit_of, digit_value, with_digit, number_of, kind_of_number, kind_of_digits, text_at, token_at, tokens_of};
+ghost use Rattle.chip_lang.specs.Scan.{AreTokens};
+
+use crate::fault::Fault;
+use std::alloc::{AllocError, Global};
+
+/// What a token is.
+#[derive(Clone, Copy, Debug, PartialEq, Eq)]
+pub enum Kind {
+    /// A letter or `_`, and name bytes after it.
+    Word,
+    /// A number, 0 to 2147483647.
+    Number(i32),
+    /// A text; the token covers its quotes too.
+    Text,
+    /// A sign, by its byte.
+    Sign(u8),
+    /// No token, with its fault.
+    Bad(Fault),
+}
+
+/// A token of a line: the bytes from `start` up to `end`.
+#[derive(Clone, Copy, Debug, PartialEq, Eq)]
+pub struct Token {
+    /// What the token is.
+    pub kind: Kind,
+    /// The place of its first byte in the line.
+    pub start: usize,
+    /// The place after its last byte.
+    pub end: usize,
+}
+
+fn is_blank(byte: u8) -> bool
+    ensures { result ≡ is_blank byte }
+{
+    matches!(byte, b' ' | 9 | 12 | 13 | 26)
+}
+
+fn is_digit(byte: u8) -> bool
+    ensures { result ≡ is_digit byte }
+{
+    b'0' <= byte && byte <= b'9'
+}
+
+fn is_octal(byte: u8) -> bool
+    ensures { result ≡ is_octal byte }
+{
+    b'0' <= byte && byte <= b'7'
+}
+
+fn is_binary(byte: u8) -> bool
+    ensures { result ≡ is_binary byte }
+{
+    byte == b'0' || byte == b'1' || byte == b'.'
+}
+
+fn is_hexadecimal(byte: u8) -> bool
+    ensures { result ≡ is_hexadecimal byte }
+{
+    is_digit(byte) || (b'A' <= byte && byte <= b'F') || (b'a' <= byte && byte <= b'f')
+}
+
+fn is_name_start(byte: u8) -> bool
+    ensures { result ≡ is_name_start byte }
+{
+    (b'A' <= byte && byte <= b'Z') || (b'a' <= byte && byte <= b'z') || byte == b'_'
+}
+
+fn is_name_byte(byte: u8) -> bool
+    ensures { result ≡ is_name_byte byte }
+{
+    is_name_start(byte) || is_digit(byte)
+}
+
+#[tactic(auto, unfolding(crate::specs::Token::digit_value))]
+fn digit_value(byte: u8) -> u32
+    ensures value { result ≡ digit_value byte }
+    ensures bound { result < 256 }
+{
+    if byte < b'0' {
+        0
+    } else if byte <= b'9' {
+        u32::from(byte - b'0')
+    } else if byte <= b'Z' {
+        u32::from(byte - 55)
+    } else {
+        u32::from(byte - 87)
+    }
+}
+
+fn is_sign(byte: u8) -> bool
+    ensures { result ≡ is_sign byte }
+{
+    matches!(
+        byte,
+        b',' | b':'
+            | b'='
+            | b'['
+            | b']'
+            | b'('
+            | b')'
+            | b'+'
+            | b'-'
+            | b'*'
+            | b'/'
+            | b'&'
+            | b'|'
+            | b'^'
+            | b'~'
+            | b'<'
+            | b'>'
+            | b'\\'
+    )
+}
+
+fn is_run_byte(byte: u8) -> bool
+    ensures { result ≡ is_run_byte byte }
+{
+    is_name_byte(byte) || byte == b'.'
+}
+
+fn is_digit_of(base: u32, byte: u8) -> bool
+    ensures { result ≡ is_digit_of base byte }
+{
+    match base {
+        2 => is_binary(byte),
+        8 => is_octal(byte),
+        10 => is_digit(byte),
+        _ => is_hexadecimal(byte),
+    }
+}
+
+/// The number that begins with `start` and goes on with these digits.
+fn number(base: u32, start: u32, digits: &[u8]) -> Kind
+    requires low { 0 < base }
+    requires high { base ≤ 16 }
+    requires start { start < 256 }
+    ensures { result ≡ kind_of_number (fold (with_digit base) start digits.now) }
+{
+    let mut value = u64::from(start);
+    for digit in digits {
+        value = u64::from(base) * value + u64::from(digit_value(*digit));
+        if value > 2147483647 {
+            return Kind::Bad(Fault::NumberTooLarge);
+        }
+    }
+    Kind::Number(value as i32)
+}
+
+fn all_digits_of(base: u32, digits: &[u8]) -> bool
+    ensures { result ≡ list_all (is_digit_of base) digits.now }
+{
+    digits.iter().all(|digit| is_digit_of(base, *digit))
+}
+
+#[tactic(auto, unfolding(crate::specs::Token::kind_of_digits))]
+fn digits(base: u32, first: u8, more: &[u8]) -> Kind
+    requires low { 0 < base }
+    requires high { base ≤ 16 }
+    ensures { result ≡ kind_of_digits base (first ∷ more.now) }
+{
+    if is_digit_of(base, first) && all_digits_of(base, more) {
+        number(base, digit_value(first), more)
+    } else {
+        Kind::Bad(Fault::BadCharacter)
+    }
+}
+
+#[tactic(auto, unfolding(crate::specs::Token::kind_of_digits))]
+fn digits_of_run(base: u32, run: &[u8]) -> Kind
+    requires low { 0 < base }
+    requires high { base ≤ 16 }
+    ensures { result ≡ kind_of_digits base run.now }
+{
+    match run.split_first() {
+        None => Kind::Bad(Fault::BadCharacter),
+        Some((first, more)) => digits(base, *first, more),
+    }
+}
+
+/// How many name bytes stand at the front.
+fn name_length(bytes: &[u8]) -> usize
+    ensures { result ≡ prefix_len is_name_byte bytes.now }
+{
+    for (index, byte) in bytes.iter().enumerate() {
+        if !is_name_byte(*byte) {
+            return index;
+        }
+    }
+    bytes.len()
+}
+
+/// How many name bytes and full stops stand at the front.
+fn run_length(bytes: &[u8]) -> usize
+    ensures { result ≡ prefix_len is_run_byte bytes.now }
+{
+    for (index, byte) in bytes.iter().enumerate() {
+        if !is_run_byte(*byte) {
+            return index;
+        }
+    }
+    bytes.len()
+}
+
+/// How many bytes stand before the next quote.
+fn text_length(quote: u8, bytes: &[u8]) -> usize
+    ensures within { result ≤ length bytes.now }
+    ensures value { result ≡ prefix_len (λ b. not (b == quote)) bytes.now }
+{
+    for (index, byte) in bytes.iter().enumerate() {
+        if *byte == quote {
+            return index;
+        }
+    }
+    bytes.len()
+}
+
+#[tactic(auto, unfolding(crate::specs::Token::text_at))]
+fn text_at(quote: u8, bytes: &[u8]) -> (Kind, usize)
+    requires { length bytes.now + 1 < 2 ^ 64 }
+    ensures value { result ≡ text_at quote bytes.now }
+    ensures low { 0 < result.1 }
+    ensures high { result.1 ≤ length bytes.now + 1 }
+{
+    let inside = text_length(quote, bytes);
+    if inside < bytes.len() {
+        (Kind::Text, inside + 2)
+    } else {
+        (Kind::Bad(Fault::UnfinishedString), inside + 1)
+    }
+}
+
+/// The kind and the length of the token that begins with a byte.
+#[tactic(auto, unfolding(crate::specs::Token::token_at))]
+fn token_at(first: u8, bytes: &[u8]) -> (Kind, usize)
+    requires { length bytes.now + 1 < 2 ^ 64 }
+    ensures value { result ≡ token_at first bytes.now }
+    ensures low { 0 < result.1 }
+    ensures high { result.1 ≤ length bytes.now + 1 }
+{
+    let run = &bytes[..name_length(bytes)];
+    if is_name_start(first) {
+        (Kind::Word, run.len() + 1)
+    } else if is_digit(first) {
+        (digits(10, first, run), run.len() + 1)
+    } else if first == b'#' {
+        (digits_of_run(16, run), run.len() + 1)
+    } else if first == b'@' {
+        (digits_of_run(8, run), run.len() + 1)
+    } else if first == b'$' {
+        let run = &bytes[..run_length(bytes)];
+        (digits_of_run(2, run), run.len() + 1)
+    } else if first == b'\'' || first == b'"' {
+        text_at(first, bytes)
+    } else if is_sign(first) {
+        (Kind::Sign(first), 1)
+    } else {
+        (Kind::Bad(Fault::BadCharacter), 1)
+    }
+}
+
+/// The tokens of a line: one list, each token at its place, in rising order.
+pub fn tokens(alloc: Global, line: &[u8]) -> Result<Vec<Token>, AllocError>
+    ensures list { IfOk result (λ tokens. tokens.items ≡ tokens_of line.now) }
+    ensures placed { IfOk result (λ tokens. AreTokens line.now 0 tokens.items) }
+{
+    let mut tokens = Vec::new(alloc);
+    let mut place = 0;
+    while place < line.len() {
+        let first = line[place];
+        if first == b';' {
+            return Ok(tokens);
+        }
+        if is_blank(first) {
+            place += 1;
+        } else {
+            let (kind, length) = token_at(first, &line[place + 1..]);
+            tokens.push(Token {
+                kind,
+                start: place,
+                end: place + length,
+            })?;
+            place += length;
+        }
+    }
+    Ok(tokens)
+}

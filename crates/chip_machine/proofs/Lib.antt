@@ -1,0 +1,10 @@
+pub mod BitLemmas
+pub mod Examples
+pub mod FrameLaw
+pub mod Overwrite
+pub mod PointLemmas
+pub mod RowLemmas
+pub mod ScreenExamples
+pub mod Spans
+pub mod SpriteLemmas
+pub mod StartMemory

@@ -1,0 +1,202 @@
+-- 64 rows of bits as the points of the screen, and the bits that a sprite covers.
+use Rattle.std.proofs.Common.{◌≡◌, ℕ, ◌+◌, ◌-◌, ◌*◌, ◌/◌, ◌%◌, ◌^◌, ◌<◌, ◌≤◌, Bool, true, false, ◌&&◌, ◌==◌, nat_eq, nat_le, length, List, get_or, refl, sym, ap, subst, ◌∙◌, arith, add-zero, bit_or, set, get_or-set_same, get_or-set_other, ⊎_elim}
+use Rattle.std.specs.Int.{bit_at}
+use Rattle.std.specs.Prelude.{bit_xor}
+use Rattle.std.proofs.lemmas.Bool.{cases_lt, and_left, lt-leb, le-leb, cond_both, cond-true, cond-false, cases_eq, eq-eqb, ne_eqb}
+use Rattle.std.proofs.lemmas.Nat.{shl_whole, or_shifted, pow_pos}
+use Rattle.std.proofs.lemmas.Nat.Bits.{bit_at-zero, bit_at_cat_low, bit_at_cat_high}
+use Rattle.chip_machine.specs.Scroll.{scrolled_down, scrolled_right, scrolled_left}
+use Rattle.chip_machine.specs.Points.{points_where, symmetric_difference, meets}
+use Rattle.chip_machine.specs.Stored.{in_rows, lights, differ, any_below}
+use Rattle.chip_machine.specs.Sprite.{covers, is_set, row_bytes, scale}
+use Rattle.chip_machine.proofs.PointLemmas.{toggled_where, meets_where, any_below-false, any_below_none, scrolled_down_where, scrolled_right_where, scrolled_left_where}
+use Rattle.chip_machine.proofs.SpriteLemmas.{covers-inside, covers_left, is_set_right, is_set-inside}
+use Rattle.chip_machine.proofs.BitLemmas.{lights-bit_xor, lights_shr, lights_shl, lights_shl_out, stripe_inside, stripe_left, stripe_right}
+
+pub row_bytes_few : (high : Bool) (sprite : List ℕ) → row_bytes high sprite ≤ 2
+unfolding row_bytes
+row_bytes_few true sprite = cond_both (nat_eq (length sprite) 32) 2 1 (λ n. n ≤ 2) (λ _. omega arith) (λ _. omega arith)
+row_bytes_few false sprite = omega arith
+
+pub row_bytes-low : (sprite : List ℕ) → row_bytes false sprite ≡ 1
+unfolding row_bytes
+row_bytes-low sprite = refl
+
+-- the sixteen bits that a row of the sprite has
+abbrev pub IsPattern : ℕ → Bool → List ℕ → ℕ → Type 0
+IsPattern bits high sprite j = (i : ℕ) → i < 16 → (bit_at bits (15 - i) == 1) ≡ is_set (row_bytes high sprite) sprite (i / scale high) j
+
+module _ (high : Bool) (x y : ℕ) (sprite : List ℕ) (bits column row : ℕ) (fits : bits < 2 ^ 16) (on_screen : column < 128) where
+  -- at one size: the premises say how a stored column goes with a point's
+  covers_at : (s left : ℕ) → s ≡ scale high → left ≡ x % (128 / s) → y % (64 / s) ≤ row / s → IsPattern bits high sprite (row / s - y % (64 / s))
+      → (column < s * left → column / s < left)
+      → (s * left ≤ column → (left ≤ column / s) × ((column - s * left) / s ≡ column / s - left))
+      → (s * left + 16 ≤ column → 8 * row_bytes high sprite ≤ column / s - left)
+      → lights (bits * 2 ^ 112 % 2 ^ 128 / 2 ^ (s * left)) column ≡ covers high x y sprite column row
+  covers_at s left e is_left below pattern before inside after = ⊎_elim
+      (λ (out : column < s * left).
+      ap (λ bit. bit == 1) (stripe_left bits (s * left) column fits on_screen out)
+      ∙ sym (covers_left high x y sprite column row s e (subst (λ l. column / s < l) is_left (before out))))
+      (λ (low : s * left ≤ column).
+      let within : x % (128 / s) ≤ column / s = subst (λ l. l ≤ column / s) is_left (inside low).0 in
+      let covered = ap (λ l. is_set (row_bytes high sprite) sprite (column / s - l) (row / s - y % (64 / s))) is_left ∙ covers-inside high x y sprite column row s e within below in
+      ⊎_elim
+      (λ (near : column < s * left + 16).
+      ap (λ bit. bit == 1) (stripe_inside bits (s * left) column fits on_screen low near)
+      ∙ pattern (column - s * left) (omega arith)
+      ∙ ap (λ k. is_set (row_bytes high sprite) sprite ((column - s * left) / k) (row / s - y % (64 / s))) (sym e)
+      ∙ ap (λ i. is_set (row_bytes high sprite) sprite i (row / s - y % (64 / s))) (inside low).1
+      ∙ covered)
+      (λ (far : s * left + 16 ≤ column).
+      ap (λ bit. bit == 1) (stripe_right bits (s * left) column fits on_screen far)
+      ∙ sym (is_set_right (row_bytes high sprite) sprite (column / s - left) (row / s - y % (64 / s)) (after far))
+      ∙ covered)
+      (cases_lt column (s * left + 16)))
+      (cases_lt column (s * left))
+
+-- the bits of a row of the sprite, moved to where it starts, light the columns that it covers
+pub lights_covered : (high : Bool) (x y : ℕ) (sprite : List ℕ) (bits column row s : ℕ) → bits < 2 ^ 16 → column < 128 → s ≡ scale high → y % (64 / s) ≤ row / s → IsPattern bits high sprite (row / s - y % (64 / s))
+    → lights (bits * 2 ^ 112 % 2 ^ 128 / 2 ^ (s * (x % (128 / s)))) column ≡ covers high x y sprite column row
+lights_covered true x y sprite bits column row s fits on_screen e =
+    subst (λ s. y % (64 / s) ≤ row / s → IsPattern bits true sprite (row / s - y % (64 / s)) → lights (bits * 2 ^ 112 % 2 ^ 128 / 2 ^ (s * (x % (128 / s)))) column ≡ covers true x y sprite column row) (sym e)
+    (λ below pattern. let few = row_bytes_few true sprite in
+    covers_at true x y sprite bits column row fits on_screen 1 (x % 128) refl refl below pattern
+    (λ out. omega arith) (λ low. (omega arith, omega arith)) (λ far. omega arith))
+lights_covered false x y sprite bits column row s fits on_screen e =
+    subst (λ s. y % (64 / s) ≤ row / s → IsPattern bits false sprite (row / s - y % (64 / s)) → lights (bits * 2 ^ 112 % 2 ^ 128 / 2 ^ (s * (x % (128 / s)))) column ≡ covers false x y sprite column row) (sym e)
+    (λ below pattern. let one = row_bytes-low sprite in
+    covers_at false x y sprite bits column row fits on_screen 2 (x % 64) refl refl below pattern
+    (λ out. omega arith) (λ low. (omega arith, omega arith)) (λ far. omega arith))
+
+-- ---- a row of a sprite as sixteen bits
+
+row_bytes-narrow : (sprite : List ℕ) → (length sprite ≡ 32 → ⊥) → row_bytes true sprite ≡ 1
+unfolding row_bytes
+row_bytes-narrow sprite h = cond-false (nat_eq (length sprite) 32) 2 1 (ne_eqb (length sprite) 32 h)
+
+row_bytes-wide : (sprite : List ℕ) → length sprite ≡ 32 → row_bytes true sprite ≡ 2
+unfolding row_bytes
+row_bytes-wide sprite h = cond-true (nat_eq (length sprite) 32) 2 1 (eq-eqb (length sprite) 32 h)
+
+-- a bit of the byte that holds the point
+point_at : (w : ℕ) (sprite : List ℕ) (i j place k : ℕ) → i < 8 * w → w * j + i / 8 ≡ place → 7 - i % 8 ≡ k → (bit_at (get_or sprite place 0) k == 1) ≡ is_set w sprite i j
+point_at w sprite i j place k within at bit = (λ t. bit_at (get_or sprite (sym at t) 0) (sym bit t) == 1) ∙ sym (is_set-inside w sprite i j within)
+
+module _ (sprite : List ℕ) (j : ℕ) where
+  pub pattern_low : (high : Bool) (bits byte : ℕ) → high ≡ false → byte ≡ get_or sprite j 0 → ((k : ℕ) → k < 16 → bit_at bits k ≡ bit_at byte (k / 2)) → IsPattern bits high sprite j
+  unfolding row_bytes
+  pattern_low high bits byte low read twice = subst (λ h. IsPattern bits h sprite j) (sym low) (λ i within.
+      ap (λ bit. bit == 1) (twice (15 - i) (omega arith))
+      ∙ ap (λ b. bit_at b ((15 - i) / 2) == 1) read
+      ∙ point_at 1 sprite (i / 2) j j ((15 - i) / 2) (omega arith) (omega arith) (omega arith))
+
+  pub pattern_narrow : (high : Bool) (byte : ℕ) → high ≡ true → (length sprite ≡ 32 → ⊥) → byte < 2 ^ 8 → byte ≡ get_or sprite j 0 → IsPattern (byte * 2 ^ 8 % 2 ^ 16) high sprite j
+  pattern_narrow high byte is_high short fits read = subst (λ h. IsPattern (byte * 2 ^ 8 % 2 ^ 16) h sprite j) (sym is_high) (λ i within.
+      ap (λ n. bit_at n (15 - i) == 1) (shl_whole byte 8 8 16 fits (omega arith) ∙ sym (add-zero (byte * 2 ^ 8)))
+      ∙ ⊎_elim
+      (λ (left : i < 8).
+      let here : 15 - i - 8 ≡ 7 - i = omega arith in
+      ap (λ bit. bit == 1) (bit_at_cat_high byte 8 0 (15 - i) (pow_pos 8) (omega arith) ∙ ap (bit_at byte) here)
+      ∙ ap (λ b. bit_at b (7 - i) == 1) read
+      ∙ point_at 1 sprite (i / 1) j j (7 - i) (omega arith) (omega arith) (omega arith))
+      (λ (right : 8 ≤ i).
+      ap (λ bit. bit == 1) (bit_at_cat_low byte 8 0 (15 - i) (omega arith) ∙ bit_at-zero (15 - i))
+      ∙ sym (is_set_right 1 sprite (i / 1) j (omega arith)))
+      (cases_lt i 8)
+      ∙ ap (λ w. is_set w sprite (i / 1) j) (sym (row_bytes-narrow sprite short)))
+
+  pub pattern_wide : (high : Bool) (first second : ℕ) → high ≡ true → length sprite ≡ 32 → first < 2 ^ 8 → second < 2 ^ 8 → first ≡ get_or sprite (2 * j) 0 → second ≡ get_or sprite (2 * j + 1) 0 → IsPattern (bit_or (first * 2 ^ 8 % 2 ^ 16) second) high sprite j
+  pattern_wide high first second is_high long fits small read_first read_second = subst (λ h. IsPattern (bit_or (first * 2 ^ 8 % 2 ^ 16) second) h sprite j) (sym is_high) (λ i within.
+      ap (λ n. bit_at (bit_or n second) (15 - i) == 1) (shl_whole first 8 8 16 fits (omega arith))
+      ∙ ap (λ n. bit_at n (15 - i) == 1) (or_shifted first 8 second small)
+      ∙ ⊎_elim
+      (λ (left : i < 8).
+      let here : 15 - i - 8 ≡ 7 - i = omega arith in
+      ap (λ bit. bit == 1) (bit_at_cat_high first 8 second (15 - i) small (omega arith) ∙ ap (bit_at first) here)
+      ∙ ap (λ b. bit_at b (7 - i) == 1) read_first
+      ∙ point_at 2 sprite (i / 1) j (2 * j) (7 - i) (omega arith) (omega arith) (omega arith))
+      (λ (right : 8 ≤ i).
+      ap (λ bit. bit == 1) (bit_at_cat_low first 8 second (15 - i) (omega arith))
+      ∙ ap (λ b. bit_at b (15 - i) == 1) read_second
+      ∙ point_at 2 sprite (i / 1) j (2 * j + 1) (15 - i) (omega arith) (omega arith) (omega arith))
+      (cases_lt i 8)
+      ∙ ap (λ w. is_set w sprite (i / 1) j) (sym (row_bytes-wide sprite long)))
+
+-- ---- whole screens
+
+pub toggled_rows : (old new : List ℕ) (cover : ℕ → ℕ → Bool)
+    → ((row column : ℕ) → row < 64 → column < 128 → lights (get_or new row 0) column ≡ differ (lights (get_or old row 0) column) (cover column row))
+    → in_rows new ≡ symmetric_difference (in_rows old) (points_where cover)
+toggled_rows old new cover turned =
+    toggled_where (λ c r. lights (get_or new r 0) c) (λ c r. lights (get_or old r 0) c) cover (λ c r left high. turned r c high left)
+
+pub hit_rows : (old : List ℕ) (cover : ℕ → ℕ → Bool) (hit : Bool)
+    → hit ≡ any_below (λ row. any_below (λ column. lights (get_or old row 0) column && cover column row) 128) 64
+    → hit ≡ meets (in_rows old) (points_where cover)
+hit_rows old cover hit e =
+    meets_where (λ c r. lights (get_or old r 0) c) cover hit
+    (λ none c r left high. any_below-false _ 128 (any_below-false (λ row. any_below (λ column. lights (get_or old row 0) column && cover column row) 128) 64 (sym e ∙ none) r high) c left)
+    (λ none. e ∙ any_below_none (λ row. any_below (λ column. lights (get_or old row 0) column && cover column row) 128) 64 (λ r high. any_below_none _ 128 (λ c left. none c r left high)))
+
+-- one row more is turned
+pub turned_more : (rows old : List ℕ) (from place stripe : ℕ) → place < length rows → get_or rows place 0 ≡ get_or old place 0
+    → ((row column : ℕ) → from ≤ row → row < place → column < 128 → lights (get_or rows row 0) column ≡ differ (lights (get_or old row 0) column) (lights stripe column))
+    → (row column : ℕ) → from ≤ row → row < place + 1 → column < 128
+    → lights (get_or (set rows place (bit_xor (get_or rows place 0) stripe)) row 0) column ≡ differ (lights (get_or old row 0) column) (lights stripe column)
+turned_more rows old from place stripe within ahead before row column low below on_screen = ⊎_elim
+    (λ (here : row ≡ place).
+    let turned = bit_xor (get_or rows place 0) stripe in
+    ap (λ r. lights (get_or (set rows place turned) r 0) column) here
+    ∙ ap (λ bits. lights bits column) (get_or-set_same rows place turned 0 within)
+    ∙ lights-bit_xor (get_or rows place 0) stripe column
+    ∙ ap (λ bits. differ (lights bits column) (lights stripe column)) ahead
+    ∙ ap (λ r. differ (lights (get_or old r 0) column) (lights stripe column)) (sym here))
+    (λ (other : row ≡ place → ⊥).
+    ap (λ bits. lights bits column) (get_or-set_other rows place row (bit_xor (get_or rows place 0) stripe) 0 other)
+    ∙ before row column low (omega arith) on_screen)
+    (cases_eq row place)
+
+-- the rows of one line more are turned
+pub line_turned : (from count stripe : ℕ) (old rows new : List ℕ) (cover : ℕ → ℕ → Bool)
+    → ((row column : ℕ) → from ≤ row → row < from + count → column < 128 → lights (get_or new row 0) column ≡ differ (lights (get_or rows row 0) column) (lights stripe column))
+    → ((row : ℕ) → row < from → get_or new row 0 ≡ get_or rows row 0)
+    → ((column row : ℕ) → column < 128 → from ≤ row → row < from + count → lights stripe column ≡ cover column row)
+    → ((row column : ℕ) → row < from → column < 128 → lights (get_or rows row 0) column ≡ differ (lights (get_or old row 0) column) (cover column row))
+    → ((row : ℕ) → from ≤ row → get_or rows row 0 ≡ get_or old row 0)
+    → (row column : ℕ) → row < from + count → column < 128 → lights (get_or new row 0) column ≡ differ (lights (get_or old row 0) column) (cover column row)
+line_turned from count stripe old rows new cover turned before covered held ahead row column below within = ⊎_elim
+    (λ (above : row < from). ap (λ bits. lights bits column) (before row above) ∙ held row column above within)
+    (λ (low : from ≤ row). turned row column low below within ∙ (λ i. differ (lights (ahead row low i) column) (covered column row within low below i)))
+    (cases_lt row from)
+
+-- ---- scrolls
+
+pub in_rows-scrolled_down : (n : ℕ) (old new : List ℕ)
+    → ((r : ℕ) → n ≤ r → r < 64 → get_or new r 0 ≡ get_or old (r - n) 0)
+    → ((r : ℕ) → r < n → r < 64 → get_or new r 0 ≡ 0)
+    → in_rows new ≡ scrolled_down n (in_rows old)
+in_rows-scrolled_down n old new moved entered =
+    scrolled_down_where n (λ c r. lights (get_or new r 0) c) (λ c r. lights (get_or old r 0) c) (λ c r left high. ⊎_elim
+    (λ (above : r < n).
+    ap (λ bits. lights bits c) (entered r above high) ∙ ap (λ bit. bit == 1) (bit_at-zero (127 - c))
+    ∙ sym (and_left (nat_le n r) _ (lt-leb n r above)))
+    (λ (kept : n ≤ r).
+    ap (λ bits. lights bits c) (moved r kept high)
+    ∙ ap (λ b. b && lights (get_or old (r - n) 0) c) (sym (le-leb n r kept)))
+    (cases_lt r n))
+
+pub in_rows-scrolled_right : (old new : List ℕ)
+    → ((r : ℕ) → get_or old r 0 < 2 ^ 128)
+    → ((r : ℕ) → r < 64 → get_or new r 0 ≡ get_or old r 0 / 2 ^ 4)
+    → in_rows new ≡ scrolled_right 4 (in_rows old)
+in_rows-scrolled_right old new fits moved =
+    scrolled_right_where 4 (λ c r. lights (get_or new r 0) c) (λ c r. lights (get_or old r 0) c) (λ c r left high.
+    ap (λ bits. lights bits c) (moved r high) ∙ lights_shr (get_or old r 0) 4 c (fits r) (omega arith) left)
+
+pub in_rows-scrolled_left : (old new : List ℕ)
+    → ((r : ℕ) → r < 64 → get_or new r 0 ≡ get_or old r 0 * 2 ^ 4 % 2 ^ 128)
+    → in_rows new ≡ scrolled_left 4 (in_rows old)
+in_rows-scrolled_left old new moved =
+    scrolled_left_where 4 (λ c r. lights (get_or new r 0) c) (λ c r. lights (get_or old r 0) c)
+    (λ c r inside high. ap (λ bits. lights bits c) (moved r high) ∙ lights_shl (get_or old r 0) 4 c (omega arith) inside)
+    (λ c r left out high. ap (λ bits. lights bits c) (moved r high) ∙ lights_shl_out (get_or old r 0) 4 c left out)

@@ -1,0 +1,95 @@
+-- Which points a sprite covers, as the code finds them.
+use Rattle.std.proofs.Common.{◌≡◌, ℕ, ◌+◌, ◌-◌, ◌*◌, ◌/◌, ◌%◌, ◌<◌, ◌≤◌, Bool, true, false, ◌&&◌, ◌==◌, nat_eq, nat_lt, nat_le, min, List, length, get_or, refl, sym, ap, ◌∙◌, arith}
+use Rattle.std.specs.Int.{bit_at}
+use Rattle.std.proofs.lemmas.Bool.{cond_both, le-ltb, lt-ltb, le-leb, lt-leb, and_left, and_right}
+use Rattle.std.proofs.lemmas.Nat.Bits.{bit_at-zero}
+use Rattle.std.proofs.lemmas.List.{get_or_past}
+use Rattle.std.proofs.Math.Nat.{mul-le-mul_right}
+use Rattle.chip_machine.specs.Sprite.{covers, is_set, row_bytes, scale}
+
+pub is_set-inside : (w : ℕ) (sprite : List ℕ) (i j : ℕ) → i < 8 * w → is_set w sprite i j ≡ (bit_at (get_or sprite (w * j + i / 8) 0) (7 - i % 8) == 1)
+unfolding is_set
+is_set-inside w sprite i j h = ap (λ b. b && (bit_at (get_or sprite (w * j + i / 8) 0) (7 - i % 8) == 1)) (lt-ltb i (8 * w) h)
+
+pub is_set_right : (w : ℕ) (sprite : List ℕ) (i j : ℕ) → 8 * w ≤ i → is_set w sprite i j ≡ false
+unfolding is_set
+is_set_right w sprite i j h = ap (λ b. b && (bit_at (get_or sprite (w * j + i / 8) 0) (7 - i % 8) == 1)) (le-ltb i (8 * w) h)
+
+-- a sprite has no point past its last byte
+pub is_set_past : (w : ℕ) (sprite : List ℕ) (i j : ℕ) → length sprite ≤ w * j + i / 8 → is_set w sprite i j ≡ false
+unfolding is_set
+is_set_past w sprite i j h =
+    ap (λ byte. nat_lt i (8 * w) && (bit_at byte (7 - i % 8) == 1)) (get_or_past sprite (w * j + i / 8) 0 h)
+    ∙ ap (λ bit. nat_lt i (8 * w) && (bit == 1)) (bit_at-zero (7 - i % 8))
+    ∙ and_right (nat_lt i (8 * w)) false refl
+
+-- nor in a row past its last
+pub is_set_below : (w : ℕ) (sprite : List ℕ) (i j : ℕ) → 1 ≤ w → length sprite ≤ j → is_set w sprite i j ≡ false
+is_set_below w sprite i j some h =
+    let along : 1 * j ≤ w * j = mul-le-mul_right j some in
+    is_set_past w sprite i j (omega (arith, along))
+
+-- a test of three parts, of which two are known
+three_tests : (a b c : Bool) → a ≡ true → b ≡ true → (a && b && c) ≡ c
+three_tests a b c p q = λ i. p i && q i && c
+
+module _ (high : Bool) (x y : ℕ) (sprite : List ℕ) (column row : ℕ) where
+  pub covers-inside : (s : ℕ) → s ≡ scale high → x % (128 / s) ≤ column / s → y % (64 / s) ≤ row / s
+      → is_set (row_bytes high sprite) sprite (column / s - x % (128 / s)) (row / s - y % (64 / s)) ≡ covers high x y sprite column row
+  unfolding covers
+  covers-inside s e left top =
+      sym (three_tests _ _ (is_set (row_bytes high sprite) sprite (column / s - x % (128 / s)) (row / s - y % (64 / s))) (le-leb (x % (128 / s)) (column / s) left) (le-leb (y % (64 / s)) (row / s) top))
+      ∙ ap (λ s. nat_le (x % (128 / s)) (column / s) && nat_le (y % (64 / s)) (row / s) && is_set (row_bytes high sprite) sprite (column / s - x % (128 / s)) (row / s - y % (64 / s))) e
+
+  pub covers_left : (s : ℕ) → s ≡ scale high → column / s < x % (128 / s) → covers high x y sprite column row ≡ false
+  unfolding covers
+  covers_left s e out =
+      ap (λ s. nat_le (x % (128 / s)) (column / s) && nat_le (y % (64 / s)) (row / s) && is_set (row_bytes high sprite) sprite (column / s - x % (128 / s)) (row / s - y % (64 / s))) (sym e)
+      ∙ and_left _ _ (and_left _ _ (lt-leb (x % (128 / s)) (column / s) out))
+
+  -- below the last row of the sprite
+  pub covers_below : (s : ℕ) → s ≡ scale high → 1 ≤ row_bytes high sprite → length sprite ≤ row / s - y % (64 / s) → covers high x y sprite column row ≡ false
+  unfolding covers
+  covers_below s e some past =
+      ap (λ s. nat_le (x % (128 / s)) (column / s) && nat_le (y % (64 / s)) (row / s) && is_set (row_bytes high sprite) sprite (column / s - x % (128 / s)) (row / s - y % (64 / s))) (sym e)
+      ∙ and_right (nat_le (x % (128 / s)) (column / s) && nat_le (y % (64 / s)) (row / s)) _ (is_set_below (row_bytes high sprite) sprite (column / s - x % (128 / s)) (row / s - y % (64 / s)) some past)
+
+  pub covers_above : (s : ℕ) → s ≡ scale high → row / s < y % (64 / s) → covers high x y sprite column row ≡ false
+  unfolding covers
+  covers_above s e out =
+      ap (λ s. nat_le (x % (128 / s)) (column / s) && nat_le (y % (64 / s)) (row / s) && is_set (row_bytes high sprite) sprite (column / s - x % (128 / s)) (row / s - y % (64 / s))) (sym e)
+      ∙ and_left _ _ (and_right (nat_le (x % (128 / s)) (column / s)) _ (lt-leb (y % (64 / s)) (row / s) out))
+
+row_bytes_some : (high : Bool) (sprite : List ℕ) → 1 ≤ row_bytes high sprite
+unfolding row_bytes
+row_bytes_some true sprite = cond_both (nat_eq (length sprite) 32) 2 1 (λ n. 1 ≤ n) (λ _. omega arith) (λ _. omega arith)
+row_bytes_some false sprite = omega arith
+
+-- above the first line of a sprite nothing is covered
+pub covers_before : (high : Bool) (x y : ℕ) (sprite : List ℕ) (column row : ℕ) → row < scale high * (y % (64 / scale high)) → covers high x y sprite column row ≡ false
+covers_before true x y sprite column row before = covers_above true x y sprite column row 1 refl (omega arith)
+covers_before false x y sprite column row before = covers_above false x y sprite column row 2 refl (omega arith)
+
+-- nor from the line on where its bytes or the screen end
+pub covers_after : (high : Bool) (x y : ℕ) (sprite : List ℕ) (column row end : ℕ) → row < 64 → end ≡ min (y % (64 / scale high) + min (length sprite) 64) (64 / scale high) → scale high * end ≤ row → covers high x y sprite column row ≡ false
+covers_after true x y sprite column row end on_screen e after =
+    covers_below true x y sprite column row 1 refl (row_bytes_some true sprite) (omega arith)
+covers_after false x y sprite column row end on_screen e after =
+    covers_below false x y sprite column row 2 refl (row_bytes_some false sprite) (omega arith)
+
+pub lines_on_screen : (high : Bool) (end n : ℕ) → end ≡ min n (64 / scale high) → scale high * end ≤ 64
+lines_on_screen true end n e = omega arith
+lines_on_screen false end n e = omega arith
+
+-- the line of a row
+pub line_of : (high : Bool) (line row : ℕ) → scale high * line ≤ row → row < scale high * line + scale high → row / scale high ≡ line
+line_of true line row low up = omega arith
+line_of false line row low up = omega arith
+
+pub line_below : (high : Bool) (line end : ℕ) → line < end → scale high * end ≤ 64 → scale high * line + scale high ≤ 64
+line_below true line end h on_screen = omega arith
+line_below false line end h on_screen = omega arith
+
+pub scale_step : (high : Bool) (line : ℕ) → scale high * (line + 1) ≡ scale high * line + scale high
+scale_step true line = omega arith
+scale_step false line = omega arith

@@ -1,0 +1,68 @@
+-- The image in the memory at the start.
+use Rattle.std.proofs.Common.{◌≡◌, ℕ, ◌+◌, ◌-◌, ◌<◌, ◌≤◌, ◌++◌, List, length, take, drop, replicate, refl, sym, ap, ◌∙◌, arith, append_assoc, length-append, length-drop}
+use Rattle.std.proofs.lemmas.List.{take-append-le, length-take-le, drop-replicate, take_at, drop_at, drop-drop}
+use Rattle.chip_machine.specs.State.{overwrite}
+use Rattle.chip_machine.specs.Digits.{small_shapes, big_shapes, bytes_of}
+use Rattle.chip_machine.specs.Start.{with_image, zeros, start_memory}
+use Rattle.chip_machine.specs.ImageLaw.{ImageAndZeros, SameBelowTheImage}
+use Rattle.chip_machine.proofs.Overwrite.{length-overwrite}
+
+-- what stands before the bytes that were written stays
+pub take-overwrite : (m : List ℕ) (i : ℕ) (bytes : List ℕ) → i ≤ length m → take i (overwrite m i bytes) ≡ take i m
+unfolding overwrite
+take-overwrite m i bytes fits = rw append_assoc (take_at (take i m) (bytes ++ drop (i + length bytes) m) i (length-take-le i m fits))
+
+-- from there on there are the bytes, and what stood after them
+pub drop-overwrite : (m : List ℕ) (i : ℕ) (bytes : List ℕ) → i ≤ length m → drop i (overwrite m i bytes) ≡ bytes ++ drop (i + length bytes) m
+unfolding overwrite
+drop-overwrite m i bytes fits = rw append_assoc (drop_at (take i m) (bytes ++ drop (i + length bytes) m) i (length-take-le i m fits))
+
+-- and past the bytes what stood there
+pub drop-overwrite_past : (m : List ℕ) (i : ℕ) (bytes : List ℕ) (n : ℕ) → i ≤ length m → drop (i + length bytes + n) (overwrite m i bytes) ≡ drop (i + length bytes + n) m
+unfolding overwrite
+drop-overwrite_past m i bytes n fits =
+    let front : length (take i m ++ bytes) ≡ i + length bytes = length-append (take i m) bytes ∙ ap (λ k. k + length bytes) (length-take-le i m fits) in
+    sym (drop-drop n (i + length bytes) ((take i m ++ bytes) ++ drop (i + length bytes) m))
+    ∙ ap (drop n) (drop_at (take i m ++ bytes) (drop (i + length bytes) m) (i + length bytes) front)
+    ∙ drop-drop n (i + length bytes) m
+
+-- the digits, and zeros after them
+abbrev digits_memory : List ℕ
+digits_memory = overwrite (overwrite zeros 0 (bytes_of small_shapes)) 80 (bytes_of big_shapes)
+
+length-zeros : length zeros ≡ 4096
+unfolding zeros
+length-zeros = refl
+
+length-digits : length digits_memory ≡ 4096
+length-digits =
+    length-overwrite (overwrite zeros 0 (bytes_of small_shapes)) 80 (bytes_of big_shapes) (omega (arith, length-zeros, length-overwrite zeros 0 (bytes_of small_shapes) (omega (arith, length-zeros))))
+    ∙ length-overwrite zeros 0 (bytes_of small_shapes) (omega (arith, length-zeros)) ∙ length-zeros
+
+regrouped : (n : ℕ) → 180 + n ≡ 80 + (100 + n)
+regrouped n = omega arith
+
+-- past the digits there are zeros
+zeros_past : (n : ℕ) → drop (180 + n) digits_memory ≡ replicate (4096 - (180 + n)) 0
+unfolding zeros
+zeros_past n =
+    drop-overwrite_past (overwrite zeros 0 (bytes_of small_shapes)) 80 (bytes_of big_shapes) n (omega (arith, length-zeros, length-overwrite zeros 0 (bytes_of small_shapes) (omega (arith, length-zeros))))
+    ∙ ap (λ k. drop k (overwrite zeros 0 (bytes_of small_shapes))) (regrouped n)
+    ∙ drop-overwrite_past zeros 0 (bytes_of small_shapes) (100 + n) (omega (arith, length-zeros))
+    ∙ ap (λ k. drop k zeros) (sym (regrouped n))
+    ∙ drop-replicate (180 + n) 4096 0
+
+pub same_below_the_image : SameBelowTheImage
+unfolding with_image
+same_below_the_image old new =
+    let room : 512 ≤ length digits_memory = omega (arith, length-digits) in
+    take-overwrite digits_memory 512 old room ∙ sym (take-overwrite digits_memory 512 new room)
+
+pub image_and_zeros : ImageAndZeros
+unfolding with_image
+image_and_zeros image small =
+    let room : 512 ≤ length digits_memory = omega (arith, length-digits) in
+    let past : 512 + length image ≡ 180 + (332 + length image) = omega arith in
+    let left : 4096 - (180 + (332 + length image)) ≡ 3584 - length image = omega arith in
+    drop-overwrite digits_memory 512 image room
+    ∙ ap (λ d. image ++ d) (ap (λ k. drop k digits_memory) past ∙ zeros_past (332 + length image) ∙ ap (λ k. replicate k 0) left)

@@ -1,0 +1,25 @@
+-- What the machine is and does:
+--   Points    the screen as the set of its lit points
+--   Stored    which points 64 rows of 128 bits light
+--   Sprite    the points that a sprite covers
+--   Scroll    the lit points moved down, right or left
+--   Digits    the shapes of the digits
+--   State     the state of the machine
+--   Start     the state before the first step
+--   Step      the table of the instructions, one step, and the addresses that it touches
+--   Frame     the frame law
+--   ImageLaw  what the image is in the memory at the start
+--   Numbers   the numbers of stop causes and of errors at the start
+--   Codes     how a state is stored as data
+pub mod Codes
+pub mod Digits
+pub mod Frame
+pub mod ImageLaw
+pub mod Numbers
+pub mod Points
+pub mod Scroll
+pub mod Sprite
+pub mod Start
+pub mod State
+pub mod Step
+pub mod Stored

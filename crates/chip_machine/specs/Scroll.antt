@@ -1,0 +1,13 @@
+-- Scrolls: the lit points moved by n, as far as they stay on the screen.
+-- Source: SUPER-CHIP 1.1 documentation; own: in the low size too they move stored points.
+use Rattle.std.specs.Prelude.{ℕ, ◌+◌, ◌-◌, ◌&&◌, nat_le}
+use Rattle.chip_machine.specs.Points.{Points, points_where, is_lit}
+
+unfoldable pub scrolled_down : ℕ → Points → Points
+scrolled_down n lit = points_where (λ column row. nat_le n row && is_lit lit column (row - n))
+
+unfoldable pub scrolled_right : ℕ → Points → Points
+scrolled_right n lit = points_where (λ column row. nat_le n column && is_lit lit (column - n) row)
+
+unfoldable pub scrolled_left : ℕ → Points → Points
+scrolled_left n lit = points_where (λ column row. is_lit lit (column + n) row)

@@ -1,0 +1,20 @@
+//! Laws of the machine.
+
+ghost use Rattle.chip_machine.specs.Frame.{FrameLaw, StepKeepsProper};
+ghost use Rattle.chip_machine.specs.ImageLaw.{ImageAndZeros, SameBelowTheImage};
+
+/// A step neither depends on the bytes that it doesn't touch nor changes them.
+pub fn frame_law()
+    ensures { FrameLaw }
+{}
+
+/// A step keeps a state proper.
+pub fn step_keeps_proper()
+    ensures { StepKeepsProper }
+{}
+
+/// What the image is in the memory at the start: it stands from address 512 on, with zeros after it, and nothing below depends on it.
+pub fn image_at_the_start()
+    ensures from_512 { ImageAndZeros }
+    ensures below { SameBelowTheImage }
+{}

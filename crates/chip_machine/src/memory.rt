@@ -1,0 +1,62 @@
+//! The bytes at I.
+
+ghost use Rattle.std.specs.Prelude.{◌≡◌, ◌+◌, ◌<◌, ◌≤◌, ◌↔◌, ◌++◌, length, take, drop, IfOk, IfErr, IsOk, IsErr, OnOk, OnErr};
+ghost use Rattle.std.specs.List.{range_with_len};
+ghost use Rattle.chip_machine.specs.State.{overwrite};
+ghost use Rattle.chip_machine.specs.Step.{span_at};
+
+use crate::stop::Stop;
+use crate::touch::Touch;
+
+/// How many bytes the memory has.
+pub(crate) const MEMORY: usize = 4096;
+
+/// Reads bytes, where they are within the memory.
+pub(crate) fn load<'a>(
+    memory: &'a [u8],
+    at: u16,
+    count: usize,
+    touch: &mut Touch,
+) -> Result<&'a [u8], Stop>
+    requires size { length memory.now ≡ 4096 }
+    requires room { length touch.old + count ≤ 34 }
+    ensures fits { IsOk result ↔ (at + count ≤ 4096) }
+    ensures ok { IfOk result (λ bytes. bytes.now ≡ take count (drop at memory.now)) }
+    ensures err { IfErr result (λ why. why ≡ Stop.AddressOutOfRange) }
+    ensures touched { touch.new ≡ touch.old ++ span_at at count }
+{
+    let from = at as usize;
+    if from + count > MEMORY {
+        return Err(Stop::AddressOutOfRange);
+    }
+    touch.add_span(at, count);
+    Ok(&memory[from..from + count])
+}
+
+/// Writes bytes at an address.
+#[tactic(auto, unfolding(crate::specs::State::overwrite))]
+pub(crate) fn write_at(memory: &mut [u8], at: usize, bytes: &[u8])
+    requires { at + length bytes.now ≤ length memory.old }
+    ensures { memory.new ≡ overwrite memory.old at bytes.now }
+{
+    memory[at..at + bytes.len()].copy_from_slice(bytes);
+}
+
+/// Writes bytes, where they stay within the memory.
+pub(crate) fn store(memory: &mut [u8], at: u16, bytes: &[u8], touch: &mut Touch) -> Result<(), Stop>
+    requires size { length memory.old ≡ 4096 }
+    requires room { length touch.old + length bytes.now ≤ 34 }
+    ensures fits { IsOk result ↔ (at + length bytes.now ≤ 4096) }
+    ensures ok { OnOk result (memory.new ≡ overwrite memory.old at bytes.now) }
+    ensures err { OnErr result (memory.new ≡ memory.old) }
+    ensures why { IfErr result (λ why. why ≡ Stop.AddressOutOfRange) }
+    ensures touched { touch.new ≡ touch.old ++ span_at at (length bytes.now) }
+{
+    let from = at as usize;
+    if from + bytes.len() > MEMORY {
+        return Err(Stop::AddressOutOfRange);
+    }
+    touch.add_span(at, bytes.len());
+    write_at(memory, from, bytes);
+    Ok(())
+}

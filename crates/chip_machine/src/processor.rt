@@ -1,0 +1,382 @@
+//! All of the machine but its memory.
+
+ghost use Rattle.std.specs.Prelude.{◌≡◌, ◌+◌, ◌*◌, ◌/◌, ◌-◌, ◌<◌, ◌≤◌, ◌^◌, ◌%◌, length, slice_index, OnOk, OnErr, IfOk, IfErr, IsOk, ◌↔◌};
+ghost use Rattle.chip_machine.specs.Step.{reg, with_reg, with_flag, go_to, skip_if, next, call, return, with_index, random_byte, drawn, store_flags, load_flags, load_registers, ticked, with_size, with_lit, with_sprite};
+ghost use Rattle.chip_machine.specs.Points.{is_lit, IsOnScreen};
+ghost use Rattle.chip_machine.specs.Scroll.{scrolled_down, scrolled_right, scrolled_left};
+ghost use Rattle.std.specs.FinSet as set;
+ghost use Rattle.chip_machine.specs.Start.{IsTape, start_core};
+
+use crate::screen::Screen;
+use crate::stop::{Profile, Stop};
+use chip_lang::number::Reg;
+use std::alloc::{AllocError, Global};
+use std::marker::Model;
+
+/// How many calls can be open.
+pub(crate) const FRAMES: usize = 16;
+
+/// The registers, and what else is not memory.
+#[derive(Drop)]
+pub(crate) struct Processor {
+    registers: [u8; 16],
+    index: u16,
+    pc: u16,
+    frames: [u16; FRAMES],
+    depth: usize,
+    delay: u8,
+    sound: u8,
+    flags: [u8; 8],
+    tape: Vec<u8>,
+    draws: u64,
+    screen: Screen,
+    high: bool,
+    stopped: Option<Stop>,
+    profile: Profile,
+}
+
+impl Model for Processor {
+    ghost use Rattle.std.specs.Prelude.{◌<◌, ◌≤◌, length, take};
+    ghost use Rattle.chip_machine.specs.State.{Core};
+    ghost use Rattle.chip_machine.specs.Codes.{core_code};
+
+    ghost Value = { Core };
+
+    ghost coded = { core_code };
+
+    ghost view = { λ p. record {
+      registers = p.registers;
+      index = p.index;
+      pc = p.pc;
+      frames = take p.depth p.frames;
+      delay = p.delay;
+      sound = p.sound;
+      flags = p.flags;
+      tape = p.tape.items;
+      draws = p.draws;
+      lit = p.screen;
+      high = p.high;
+      stopped = p.stopped;
+      profile = p.profile;
+    } };
+
+    ghost invariant = { λ p. (p.depth ≤ 16) × (0 < length p.tape.items) × (length p.tape.items ≤ 4096) };
+}
+
+impl Processor {
+    /// At the start: all is 0, and pc is 512.
+    pub(crate) fn new(alloc: Global, tape: &[u8], profile: Profile) -> Result<Self, AllocError>
+        requires { IsTape tape.now }
+        ensures { IfOk result (λ processor. processor ≡ start_core tape.now profile) }
+    {
+        let tape = tape.to_vec(alloc)?;
+        let screen = Screen::new(alloc)?;
+        Ok(Processor {
+            registers: [0; 16],
+            index: 0,
+            pc: 512,
+            frames: [0; FRAMES],
+            depth: 0,
+            delay: 0,
+            sound: 0,
+            flags: [0; 8],
+            tape,
+            draws: 0,
+            screen,
+            high: false,
+            stopped: None,
+            profile,
+        })
+    }
+
+    /// A copy.
+    pub(crate) fn copy_of(&self) -> Result<Self, AllocError>
+        ensures { IfOk result (λ copy. copy ≡ self.now) }
+    {
+        Ok(Processor {
+            registers: self.registers,
+            index: self.index,
+            pc: self.pc,
+            frames: self.frames,
+            depth: self.depth,
+            delay: self.delay,
+            sound: self.sound,
+            flags: self.flags,
+            tape: self.tape.clone()?,
+            draws: self.draws,
+            screen: self.screen.copy_of()?,
+            high: self.high,
+            stopped: self.stopped,
+            profile: self.profile,
+        })
+    }
+
+    /// The value of a register.
+    pub(crate) fn reg(&self, x: Reg) -> u8
+        ensures { result ≡ reg self.now x }
+    {
+        self.registers[x.number() as usize]
+    }
+
+    /// The value of the register of this number.
+    pub(crate) fn reg_at(&self, number: u16) -> u8
+        requires { number < 16 }
+        ensures { result ≡ reg self.now number }
+    {
+        self.registers[number as usize]
+    }
+
+    /// Sets a register.
+    pub(crate) fn set(&mut self, x: Reg, value: u8)
+        ensures { self.new ≡ with_reg x value self.old }
+    {
+        self.registers[x.number() as usize] = value;
+    }
+
+    /// Sets a register, and then VF.
+    pub(crate) fn set_with_flag(&mut self, x: Reg, value: u8, flag: u8)
+        ensures { self.new ≡ with_flag x value flag self.old }
+    {
+        self.registers[x.number() as usize] = value;
+        self.registers[15] = flag;
+    }
+
+    /// Goes to an address.
+    pub(crate) fn go_to(&mut self, address: u16)
+        ensures { self.new ≡ go_to address self.old }
+    {
+        self.pc = address;
+    }
+
+    /// Goes on to the next instruction.
+    pub(crate) fn advance(&mut self)
+        requires { self.old.pc ≤ 4094 }
+        ensures { self.new ≡ next self.old }
+    {
+        self.pc += 2;
+    }
+
+    /// Goes on to the next instruction, or past it.
+    pub(crate) fn skip_if(&mut self, test: bool)
+        requires { self.old.pc ≤ 4094 }
+        ensures { self.new ≡ skip_if test self.old }
+    {
+        self.pc += if test { 4 } else { 2 };
+    }
+
+    /// V0 to VF.
+    pub(crate) fn registers(&self) -> [u8; 16]
+        ensures { result ≡ self.now.registers }
+    {
+        self.registers
+    }
+
+    /// The register I.
+    pub(crate) fn index(&self) -> u16
+        ensures { result ≡ self.now.index }
+    {
+        self.index
+    }
+
+    /// Sets the register I.
+    pub(crate) fn set_index(&mut self, value: u16)
+        ensures { self.new ≡ with_index value self.old }
+    {
+        self.index = value;
+    }
+
+    /// Sets the delay timer.
+    pub(crate) fn set_delay(&mut self, value: u8)
+        ensures { self.new ≡ record self.old { delay = value } }
+    {
+        self.delay = value;
+    }
+
+    /// Sets the sound timer.
+    pub(crate) fn set_sound(&mut self, value: u8)
+        ensures { self.new ≡ record self.old { sound = value } }
+    {
+        self.sound = value;
+    }
+
+    /// The delay timer.
+    pub(crate) fn delay(&self) -> u8
+        ensures { result ≡ self.now.delay }
+    {
+        self.delay
+    }
+
+    /// Where the open calls return to, the oldest first.
+    pub(crate) fn frames(&self) -> &[u16]
+        ensures value { result.now ≡ self.now.frames }
+        ensures at_most { length result.now ≤ 16 }
+    {
+        &self.frames[..self.depth]
+    }
+
+    /// Calls what stands at an address.
+    pub(crate) fn call(&mut self, address: u16)
+        requires next { self.old.pc ≤ 4094 }
+        requires room { length self.old.frames < 16 }
+        ensures { self.new ≡ call address self.old }
+    {
+        self.frames[self.depth] = self.pc + 2;
+        self.depth += 1;
+        self.pc = address;
+    }
+
+    /// Returns to the newest frame, which is taken off.
+    pub(crate) fn leave(&mut self)
+        requires { 0 < length self.old.frames }
+        ensures { self.new ≡ return self.old }
+    {
+        self.depth -= 1;
+        self.pc = self.frames[self.depth];
+    }
+
+    /// Draws the next random byte.
+    pub(crate) fn draw_random(&mut self) -> u8
+        ensures value { result ≡ random_byte self.old }
+        ensures after { self.new ≡ drawn self.old }
+    {
+        let place = self.draws % self.tape.len() as u64;
+        self.draws = self.draws.saturating_add(1);
+        self.tape[place as usize]
+    }
+
+    /// Copies the registers up to x into the flag registers.
+    pub(crate) fn store_flags(&mut self, x: Reg)
+        requires { x < 8 }
+        ensures { self.new ≡ store_flags x self.old }
+    {
+        let count = x.number() as usize + 1;
+        let registers = self.registers;
+        self.flags[..count].copy_from_slice(&registers[..count]);
+    }
+
+    /// Copies the flag registers up to x into the registers.
+    pub(crate) fn load_flags(&mut self, x: Reg)
+        requires { x < 8 }
+        ensures { self.new ≡ load_flags x self.old }
+    {
+        let count = x.number() as usize + 1;
+        let flags = self.flags;
+        self.registers[..count].copy_from_slice(&flags[..count]);
+    }
+
+    /// Sets the first registers.
+    pub(crate) fn load(&mut self, bytes: &[u8])
+        requires { length bytes.now ≤ 16 }
+        ensures { self.new ≡ load_registers self.old bytes.now }
+    {
+        self.registers[..bytes.len()].copy_from_slice(bytes);
+    }
+
+    /// Whether a point of the screen is lit.
+    pub(crate) fn lit(&self, column: usize, row: usize) -> bool
+        ensures member { result ≡ is_lit self.now.lit column row }
+        ensures on_screen { IsOnScreen self.now.lit }
+    {
+        self.screen.lit(column, row)
+    }
+
+    /// Whether the screen has its high size.
+    pub(crate) fn high(&self) -> bool
+        ensures { result ≡ self.now.high }
+    {
+        self.high
+    }
+
+    /// Sets the size of the screen.
+    pub(crate) fn set_size(&mut self, high: bool)
+        ensures { self.new ≡ with_size high self.old }
+    {
+        self.high = high;
+    }
+
+    /// Makes every point dark.
+    pub(crate) fn clear(&mut self)
+        ensures { self.new ≡ with_lit set.empty self.old }
+    {
+        self.screen.clear();
+    }
+
+    /// Moves every point down by so many rows.
+    pub(crate) fn scroll_down(&mut self, rows: u8)
+        ensures { self.new ≡ with_lit (scrolled_down rows self.old.lit) self.old }
+    {
+        self.screen.scroll_down(rows);
+    }
+
+    /// Moves every point right by four columns.
+    pub(crate) fn scroll_right(&mut self)
+        ensures { self.new ≡ with_lit (scrolled_right 4 self.old.lit) self.old }
+    {
+        self.screen.scroll_right();
+    }
+
+    /// Moves every point left by four columns.
+    pub(crate) fn scroll_left(&mut self)
+        ensures { self.new ≡ with_lit (scrolled_left 4 self.old.lit) self.old }
+    {
+        self.screen.scroll_left();
+    }
+
+    /// Draws a sprite, and sets VF where it covers a point that was lit.
+    pub(crate) fn draw(&mut self, x: u8, y: u8, sprite: &[u8])
+        ensures { self.new ≡ with_sprite x y sprite.now self.old }
+    {
+        let hit = self.screen.draw(self.high, x, y, sprite);
+        self.registers[15] = u8::from(hit);
+    }
+
+    /// Where the next instruction stands.
+    pub(crate) fn pc(&self) -> u16
+        ensures { result ≡ self.now.pc }
+    {
+        self.pc
+    }
+
+    /// Why the machine stopped, if it did.
+    pub(crate) fn stopped(&self) -> Option<Stop>
+        ensures { result ≡ self.now.stopped }
+    {
+        self.stopped
+    }
+
+    /// Stops the machine.
+    pub(crate) fn stop(&mut self, why: Stop)
+        ensures { self.new ≡ record self.old { stopped = Some why } }
+    {
+        self.stopped = Some(why);
+    }
+
+    /// Takes 1 from each timer above 0.
+    pub(crate) fn tick(&mut self)
+        ensures { self.new ≡ ticked self.old }
+    {
+        self.delay = self.delay.saturating_sub(1);
+        self.sound = self.sound.saturating_sub(1);
+    }
+
+    /// The sound timer.
+    pub(crate) fn sound(&self) -> u8
+        ensures { result ≡ self.now.sound }
+    {
+        self.sound
+    }
+
+    /// The flag registers.
+    pub(crate) fn flags(&self) -> &[u8]
+        ensures { result.now ≡ self.now.flags }
+    {
+        &self.flags
+    }
+
+    /// How many random bytes were drawn.
+    pub(crate) fn draws(&self) -> u64
+        ensures { result ≡ self.now.draws }
+    {
+        self.draws
+    }
+}

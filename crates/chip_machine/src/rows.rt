@@ -1,0 +1,539 @@
+//! The rows of the instruction table, a method for each.
+
+ghost use Rattle.std.specs.Prelude.{◌≡◌, ℕ, ◌≤◌, ◌++◌, List, [], length, OnOk, OnErr, IfErr, Ok, Err};
+ghost use Rattle.chip_machine.specs.Step.{effect, Changes, Stops, perform, accessed};
+
+use crate::keys::{is_down, least_down};
+use crate::memory::{load, store};
+use crate::processor::{FRAMES, Processor};
+use crate::sprite::sprite_bytes;
+use crate::stop::Stop;
+use crate::touch::Touch;
+use chip_lang::instr::Instr;
+use chip_lang::number::{Addr, Nibble, Reg};
+
+impl Processor {
+    /// `1NNN`, `JP a`: goes to a.
+    #[tactic(auto, unfolding(crate::specs::Step::effect))]
+    pub(crate) fn row_jump(&mut self, address: Addr)
+        ensures { effect (Instr.Jump address) self.old ≡ Changes self.new }
+    {
+        self.go_to(address.number());
+    }
+
+    /// `3XKK`, `SE Vx, kk`: skips if Vx is kk.
+    #[tactic(auto, unfolding(crate::specs::Step::effect))]
+    pub(crate) fn row_skip_if_byte(&mut self, x: Reg, byte: u8)
+        requires { self.old.pc ≤ 4094 }
+        ensures { effect (Instr.SkipIfByte x byte) self.old ≡ Changes self.new }
+    {
+        let same = self.reg(x) == byte;
+        self.skip_if(same);
+    }
+
+    /// `4XKK`, `SNE Vx, kk`: skips if Vx is not kk.
+    #[tactic(auto, unfolding(crate::specs::Step::effect))]
+    pub(crate) fn row_skip_unless_byte(&mut self, x: Reg, byte: u8)
+        requires { self.old.pc ≤ 4094 }
+        ensures { effect (Instr.SkipUnlessByte x byte) self.old ≡ Changes self.new }
+    {
+        let same = self.reg(x) == byte;
+        self.skip_if(!same);
+    }
+
+    /// `5XY0`, `SE Vx, Vy`: skips if Vx is Vy.
+    #[tactic(auto, unfolding(crate::specs::Step::effect))]
+    pub(crate) fn row_skip_if_equal(&mut self, x: Reg, y: Reg)
+        requires { self.old.pc ≤ 4094 }
+        ensures { effect (Instr.SkipIfEqual x y) self.old ≡ Changes self.new }
+    {
+        let same = self.reg(x) == self.reg(y);
+        self.skip_if(same);
+    }
+
+    /// `9XY0`, `SNE Vx, Vy`: skips if they differ.
+    #[tactic(auto, unfolding(crate::specs::Step::effect))]
+    pub(crate) fn row_skip_unless_equal(&mut self, x: Reg, y: Reg)
+        requires { self.old.pc ≤ 4094 }
+        ensures { effect (Instr.SkipUnlessEqual x y) self.old ≡ Changes self.new }
+    {
+        let same = self.reg(x) == self.reg(y);
+        self.skip_if(!same);
+    }
+
+    /// `6XKK`, `LD Vx, kk`: Vx becomes kk.
+    #[tactic(auto, unfolding(crate::specs::Step::effect))]
+    pub(crate) fn row_load_byte(&mut self, x: Reg, byte: u8)
+        requires { self.old.pc ≤ 4094 }
+        ensures { effect (Instr.LoadByte x byte) self.old ≡ Changes self.new }
+    {
+        self.set(x, byte);
+        self.advance();
+    }
+
+    /// `7XKK`, `ADD Vx, kk`: adds kk to Vx, with no flag.
+    #[tactic(auto, unfolding(crate::specs::Step::effect))]
+    pub(crate) fn row_add_byte(&mut self, x: Reg, byte: u8)
+        requires { self.old.pc ≤ 4094 }
+        ensures { effect (Instr.AddByte x byte) self.old ≡ Changes self.new }
+    {
+        let sum = self.reg(x).wrapping_add(byte);
+        self.set(x, sum);
+        self.advance();
+    }
+
+    /// `8XY0`, `LD Vx, Vy`: Vx becomes Vy.
+    #[tactic(auto, unfolding(crate::specs::Step::effect))]
+    pub(crate) fn row_copy(&mut self, x: Reg, y: Reg)
+        requires { self.old.pc ≤ 4094 }
+        ensures { effect (Instr.Copy x y) self.old ≡ Changes self.new }
+    {
+        let value = self.reg(y);
+        self.set(x, value);
+        self.advance();
+    }
+
+    /// `8XY1`, `OR Vx, Vy`: or, with no flag.
+    #[tactic(auto, unfolding(crate::specs::Step::effect))]
+    pub(crate) fn row_or(&mut self, x: Reg, y: Reg)
+        requires { self.old.pc ≤ 4094 }
+        ensures { effect (Instr.Or x y) self.old ≡ Changes self.new }
+    {
+        let value = self.reg(x) | self.reg(y);
+        self.set(x, value);
+        self.advance();
+    }
+
+    /// `8XY2`, `AND Vx, Vy`: and, with no flag.
+    #[tactic(auto, unfolding(crate::specs::Step::effect))]
+    pub(crate) fn row_and(&mut self, x: Reg, y: Reg)
+        requires { self.old.pc ≤ 4094 }
+        ensures { effect (Instr.And x y) self.old ≡ Changes self.new }
+    {
+        let value = self.reg(x) & self.reg(y);
+        self.set(x, value);
+        self.advance();
+    }
+
+    /// `8XY3`, `XOR Vx, Vy`: exclusive or, with no flag.
+    #[tactic(auto, unfolding(crate::specs::Step::effect))]
+    pub(crate) fn row_xor(&mut self, x: Reg, y: Reg)
+        requires { self.old.pc ≤ 4094 }
+        ensures { effect (Instr.Xor x y) self.old ≡ Changes self.new }
+    {
+        let value = self.reg(x) ^ self.reg(y);
+        self.set(x, value);
+        self.advance();
+    }
+
+    /// `8XY4`, `ADD Vx, Vy`: adds Vy to Vx; VF says whether the sum passes 255.
+    #[tactic(auto, unfolding(crate::specs::Step::effect))]
+    pub(crate) fn row_add(&mut self, x: Reg, y: Reg)
+        requires { self.old.pc ≤ 4094 }
+        ensures { effect (Instr.Add x y) self.old ≡ Changes self.new }
+    {
+        let left = self.reg(x);
+        let right = self.reg(y);
+        let passes = left > u8::MAX - right;
+        self.set_with_flag(x, left.wrapping_add(right), u8::from(passes));
+        self.advance();
+    }
+
+    /// `8XY5`, `SUB Vx, Vy`: takes Vy from Vx; VF says whether Vx was at least Vy.
+    #[tactic(auto, unfolding(crate::specs::Step::effect))]
+    pub(crate) fn row_subtract(&mut self, x: Reg, y: Reg)
+        requires { self.old.pc ≤ 4094 }
+        ensures { effect (Instr.Subtract x y) self.old ≡ Changes self.new }
+    {
+        let left = self.reg(x);
+        let right = self.reg(y);
+        self.set_with_flag(x, left.wrapping_sub(right), u8::from(left >= right));
+        self.advance();
+    }
+
+    /// `8XY7`, `SUBN Vx, Vy`: Vx becomes Vy less Vx; VF says whether Vy was at least Vx.
+    #[tactic(auto, unfolding(crate::specs::Step::effect))]
+    pub(crate) fn row_subtract_from(&mut self, x: Reg, y: Reg)
+        requires { self.old.pc ≤ 4094 }
+        ensures { effect (Instr.SubtractFrom x y) self.old ≡ Changes self.new }
+    {
+        let left = self.reg(x);
+        let right = self.reg(y);
+        self.set_with_flag(x, right.wrapping_sub(left), u8::from(right >= left));
+        self.advance();
+    }
+
+    /// `8XY6`, `SHR Vx, Vy`: moves Vx right by a bit, which VF gets.
+    #[tactic(auto, unfolding(crate::specs::Step::effect))]
+    pub(crate) fn row_shift_right(&mut self, x: Reg, _y: Reg)
+        requires { self.old.pc ≤ 4094 }
+        ensures { effect (Instr.ShiftRight x _y) self.old ≡ Changes self.new }
+    {
+        let value = self.reg(x);
+        self.set_with_flag(x, value >> 1, value % 2);
+        self.advance();
+    }
+
+    /// `8XYE`, `SHL Vx, Vy`: moves Vx left by a bit, which VF gets.
+    #[tactic(auto, unfolding(crate::specs::Step::effect))]
+    pub(crate) fn row_shift_left(&mut self, x: Reg, _y: Reg)
+        requires { self.old.pc ≤ 4094 }
+        ensures { effect (Instr.ShiftLeft x _y) self.old ≡ Changes self.new }
+    {
+        let value = self.reg(x);
+        self.set_with_flag(x, value << 1, value >> 7);
+        self.advance();
+    }
+
+    /// `ANNN`, `LD I, a`: I becomes a.
+    #[tactic(auto, unfolding(crate::specs::Step::effect))]
+    pub(crate) fn row_load_index(&mut self, address: Addr)
+        requires { self.old.pc ≤ 4094 }
+        ensures { effect (Instr.LoadIndex address) self.old ≡ Changes self.new }
+    {
+        self.set_index(address.number());
+        self.advance();
+    }
+
+    /// `BNNN`, `JP V0, a`: goes to a and Vx more, where x is the top digit of a.
+    #[tactic(auto, unfolding(crate::specs::Step::effect))]
+    pub(crate) fn row_jump_offset(&mut self, address: Addr)
+        ensures { effect (Instr.JumpOffset address) self.old ≡ Changes self.new }
+    {
+        let base = address.number();
+        let offset = self.reg_at(base / 256);
+        self.go_to(base + u16::from(offset));
+    }
+
+    /// `CXKK`, `RND Vx, kk`: Vx becomes the next random byte, masked by kk.
+    #[tactic(auto, unfolding(crate::specs::Step::effect))]
+    pub(crate) fn row_random(&mut self, x: Reg, byte: u8)
+        requires { self.old.pc ≤ 4094 }
+        ensures { effect (Instr.Random x byte) self.old ≡ Changes self.new }
+    {
+        let drawn = self.draw_random();
+        self.set(x, drawn & byte);
+        self.advance();
+    }
+
+    /// `FX07`, `LD Vx, DT`: Vx becomes the delay timer.
+    #[tactic(auto, unfolding(crate::specs::Step::effect))]
+    pub(crate) fn row_read_delay(&mut self, x: Reg)
+        requires { self.old.pc ≤ 4094 }
+        ensures { effect (Instr.ReadDelay x) self.old ≡ Changes self.new }
+    {
+        let value = self.delay();
+        self.set(x, value);
+        self.advance();
+    }
+
+    /// `FX15`, `LD DT, Vx`: the delay timer becomes Vx.
+    #[tactic(auto, unfolding(crate::specs::Step::effect))]
+    pub(crate) fn row_set_delay(&mut self, x: Reg)
+        requires { self.old.pc ≤ 4094 }
+        ensures { effect (Instr.SetDelay x) self.old ≡ Changes self.new }
+    {
+        let value = self.reg(x);
+        self.set_delay(value);
+        self.advance();
+    }
+
+    /// `FX18`, `LD ST, Vx`: the sound timer becomes Vx.
+    #[tactic(auto, unfolding(crate::specs::Step::effect))]
+    pub(crate) fn row_set_sound(&mut self, x: Reg)
+        requires { self.old.pc ≤ 4094 }
+        ensures { effect (Instr.SetSound x) self.old ≡ Changes self.new }
+    {
+        let value = self.reg(x);
+        self.set_sound(value);
+        self.advance();
+    }
+
+    /// `FX1E`, `ADD I, Vx`: adds Vx to I.
+    #[tactic(auto, unfolding(crate::specs::Step::effect))]
+    pub(crate) fn row_add_index(&mut self, x: Reg)
+        requires { self.old.pc ≤ 4094 }
+        ensures { effect (Instr.AddIndex x) self.old ≡ Changes self.new }
+    {
+        let sum = self.index().wrapping_add(u16::from(self.reg(x)));
+        self.set_index(sum);
+        self.advance();
+    }
+
+    /// `FX29`, `LD F, Vx`: I points at a small digit.
+    #[tactic(auto, unfolding(crate::specs::Step::effect))]
+    pub(crate) fn row_small_digit(&mut self, x: Reg)
+        requires { self.old.pc ≤ 4094 }
+        ensures { effect (Instr.SmallDigit x) self.old ≡ Changes self.new }
+    {
+        let digit = u16::from(self.reg(x) % 16);
+        self.set_index(5 * digit);
+        self.advance();
+    }
+
+    /// `FX30`, `LD HF, Vx`: I points at a large digit.
+    #[tactic(auto, unfolding(crate::specs::Step::effect))]
+    pub(crate) fn row_big_digit(&mut self, x: Reg)
+        requires { self.old.pc ≤ 4094 }
+        ensures { effect (Instr.BigDigit x) self.old ≡ Changes self.new }
+    {
+        let digit = u16::from(self.reg(x) % 16);
+        self.set_index(80 + 10 * digit);
+        self.advance();
+    }
+
+    /// `00CN`, `SCD n`: scrolls down by n stored rows.
+    #[tactic(auto, unfolding(crate::specs::Step::effect))]
+    pub(crate) fn row_scroll_down(&mut self, n: Nibble)
+        requires { self.old.pc ≤ 4094 }
+        ensures { effect (Instr.ScrollDown n) self.old ≡ Changes self.new }
+    {
+        self.scroll_down(n.number());
+        self.advance();
+    }
+
+    /// `00E0`, `CLS`: makes all points dark.
+    #[tactic(auto, unfolding(crate::specs::Step::effect))]
+    pub(crate) fn row_clear_screen(&mut self)
+        requires { self.old.pc ≤ 4094 }
+        ensures { effect Instr.ClearScreen self.old ≡ Changes self.new }
+    {
+        self.clear();
+        self.advance();
+    }
+
+    /// `00FB`, `SCR`: scrolls right by 4 stored columns.
+    #[tactic(auto, unfolding(crate::specs::Step::effect))]
+    pub(crate) fn row_scroll_right(&mut self)
+        requires { self.old.pc ≤ 4094 }
+        ensures { effect Instr.ScrollRight self.old ≡ Changes self.new }
+    {
+        self.scroll_right();
+        self.advance();
+    }
+
+    /// `00FC`, `SCL`: scrolls left by 4 stored columns.
+    #[tactic(auto, unfolding(crate::specs::Step::effect))]
+    pub(crate) fn row_scroll_left(&mut self)
+        requires { self.old.pc ≤ 4094 }
+        ensures { effect Instr.ScrollLeft self.old ≡ Changes self.new }
+    {
+        self.scroll_left();
+        self.advance();
+    }
+
+    /// `00FE`, `LOW`: takes the low size.
+    #[tactic(auto, unfolding(crate::specs::Step::effect))]
+    pub(crate) fn row_low_size(&mut self)
+        requires { self.old.pc ≤ 4094 }
+        ensures { effect Instr.LowSize self.old ≡ Changes self.new }
+    {
+        self.set_size(false);
+        self.advance();
+    }
+
+    /// `00FF`, `HIGH`: takes the high size.
+    #[tactic(auto, unfolding(crate::specs::Step::effect))]
+    pub(crate) fn row_high_size(&mut self)
+        requires { self.old.pc ≤ 4094 }
+        ensures { effect Instr.HighSize self.old ≡ Changes self.new }
+    {
+        self.set_size(true);
+        self.advance();
+    }
+
+    /// `00EE`, `RET`: returns to the newest frame, which is taken off.
+    #[tactic(auto, unfolding(crate::specs::Step::effect))]
+    pub(crate) fn row_return(&mut self) -> Result<(), Stop>
+        ensures ok { OnOk result (effect Instr.Return self.old ≡ Changes self.new) }
+        ensures why { IfErr result (λ why. effect Instr.Return self.old ≡ Stops why) }
+        ensures same { OnErr result (self.new ≡ self.old) }
+    {
+        if self.frames().is_empty() {
+            return Err(Stop::NoFrame);
+        }
+        self.leave();
+        Ok(())
+    }
+
+    /// `2NNN`, `CALL a`: makes next the newest frame, and goes to a.
+    #[tactic(auto, unfolding(crate::specs::Step::effect))]
+    pub(crate) fn row_call(&mut self, address: Addr) -> Result<(), Stop>
+        requires { self.old.pc ≤ 4094 }
+        ensures ok { OnOk result (effect (Instr.Call address) self.old ≡ Changes self.new) }
+        ensures why { IfErr result (λ why. effect (Instr.Call address) self.old ≡ Stops why) }
+        ensures same { OnErr result (self.new ≡ self.old) }
+    {
+        if self.frames().len() == FRAMES {
+            return Err(Stop::FramesFull);
+        }
+        self.call(address.number());
+        Ok(())
+    }
+
+    /// `FX75`, `LD R, Vx`: copies V0 to Vx into the flag registers.
+    #[tactic(auto, unfolding(crate::specs::Step::effect))]
+    pub(crate) fn row_store_flags(&mut self, x: Reg) -> Result<(), Stop>
+        requires { self.old.pc ≤ 4094 }
+        ensures ok { OnOk result (effect (Instr.StoreFlags x) self.old ≡ Changes self.new) }
+        ensures why { IfErr result (λ why. effect (Instr.StoreFlags x) self.old ≡ Stops why) }
+        ensures same { OnErr result (self.new ≡ self.old) }
+    {
+        if x.number() > 7 {
+            return Err(Stop::NoFlag);
+        }
+        self.store_flags(x);
+        self.advance();
+        Ok(())
+    }
+
+    /// `FX85`, `LD Vx, R`: copies the flag registers into V0 to Vx.
+    #[tactic(auto, unfolding(crate::specs::Step::effect))]
+    pub(crate) fn row_load_flags(&mut self, x: Reg) -> Result<(), Stop>
+        requires { self.old.pc ≤ 4094 }
+        ensures ok { OnOk result (effect (Instr.LoadFlags x) self.old ≡ Changes self.new) }
+        ensures why { IfErr result (λ why. effect (Instr.LoadFlags x) self.old ≡ Stops why) }
+        ensures same { OnErr result (self.new ≡ self.old) }
+    {
+        if x.number() > 7 {
+            return Err(Stop::NoFlag);
+        }
+        self.load_flags(x);
+        self.advance();
+        Ok(())
+    }
+
+    /// `EX9E`, `SKP Vx`: skips if the key is down.
+    #[tactic(auto, unfolding(crate::specs::Step::effect))]
+    pub(crate) fn row_skip_if_key(&mut self, x: Reg, keys: u16)
+        requires { self.old.pc ≤ 4094 }
+        ensures done { (memory : List ℕ) → perform keys (record { core = self.old; memory = memory }) (effect (Instr.SkipIfKey x) self.old) ≡ Ok (record { core = self.new; memory = memory }) }
+        ensures untouched { accessed self.old.index (effect (Instr.SkipIfKey x) self.old) ≡ [] }
+    {
+        let down = is_down(keys, self.reg(x) % 16);
+        self.skip_if(down);
+    }
+
+    /// `EXA1`, `SKNP Vx`: skips if the key is up.
+    #[tactic(auto, unfolding(crate::specs::Step::effect))]
+    pub(crate) fn row_skip_unless_key(&mut self, x: Reg, keys: u16)
+        requires { self.old.pc ≤ 4094 }
+        ensures done { (memory : List ℕ) → perform keys (record { core = self.old; memory = memory }) (effect (Instr.SkipUnlessKey x) self.old) ≡ Ok (record { core = self.new; memory = memory }) }
+        ensures untouched { accessed self.old.index (effect (Instr.SkipUnlessKey x) self.old) ≡ [] }
+    {
+        let down = is_down(keys, self.reg(x) % 16);
+        self.skip_if(!down);
+    }
+
+    /// `FX0A`, `LD Vx, K`: Vx becomes the least key that is down; with none the machine waits.
+    #[tactic(auto, unfolding(crate::specs::Step::effect))]
+    pub(crate) fn row_wait_key(&mut self, x: Reg, keys: u16)
+        requires { self.old.pc ≤ 4094 }
+        ensures done { (memory : List ℕ) → perform keys (record { core = self.old; memory = memory }) (effect (Instr.WaitKey x) self.old) ≡ Ok (record { core = self.new; memory = memory }) }
+        ensures untouched { accessed self.old.index (effect (Instr.WaitKey x) self.old) ≡ [] }
+    {
+        if let Some(key) = least_down(keys) {
+            self.set(x, key);
+            self.advance();
+        }
+    }
+
+    /// `DXYN`, `DRW Vx, Vy, n`: draws the sprite at I; VF says whether it met a lit point.
+    #[tactic(auto, unfolding(crate::specs::Step::effect))]
+    pub(crate) fn row_draw(
+        &mut self,
+        x: Reg,
+        y: Reg,
+        n: Nibble,
+        memory: &[u8],
+        touch: &mut Touch,
+    ) -> Result<(), Stop>
+        requires size { length memory.now ≡ 4096 }
+        requires pc { self.old.pc ≤ 4094 }
+        requires room { length touch.old ≤ 2 }
+        ensures ok { OnOk result ((keys : ℕ) → perform keys (record { core = self.old; memory = memory.now }) (effect (Instr.Draw x y n) self.old) ≡ Ok (record { core = self.new; memory = memory.now })) }
+        ensures why { IfErr result (λ why. (keys : ℕ) → perform keys (record { core = self.old; memory = memory.now }) (effect (Instr.Draw x y n) self.old) ≡ Err why) }
+        ensures same { OnErr result (self.new ≡ self.old) }
+        ensures touched { touch.new ≡ touch.old ++ accessed self.old.index (effect (Instr.Draw x y n) self.old) }
+    {
+        let count = sprite_bytes(self.high(), n);
+        let sprite = load(memory, self.index(), count, touch)?;
+        let left = self.reg(x);
+        let top = self.reg(y);
+        self.draw(left, top, sprite);
+        self.advance();
+        Ok(())
+    }
+
+    /// `FX33`, `LD B, Vx`: stores the three decimal digits of Vx at I.
+    #[tactic(auto, unfolding(crate::specs::Step::effect))]
+    pub(crate) fn row_store_decimal(
+        &mut self,
+        x: Reg,
+        memory: &mut [u8],
+        touch: &mut Touch,
+    ) -> Result<(), Stop>
+        requires size { length memory.old ≡ 4096 }
+        requires pc { self.old.pc ≤ 4094 }
+        requires room { length touch.old ≤ 2 }
+        ensures ok { OnOk result ((keys : ℕ) → perform keys (record { core = self.old; memory = memory.old }) (effect (Instr.StoreDecimal x) self.old) ≡ Ok (record { core = self.new; memory = memory.new })) }
+        ensures why { IfErr result (λ why. (keys : ℕ) → perform keys (record { core = self.old; memory = memory.old }) (effect (Instr.StoreDecimal x) self.old) ≡ Err why) }
+        ensures same { OnErr result ((self.new ≡ self.old) × (memory.new ≡ memory.old)) }
+        ensures touched { touch.new ≡ touch.old ++ accessed self.old.index (effect (Instr.StoreDecimal x) self.old) }
+    {
+        let value = self.reg(x);
+        let digits = [value / 100, value / 10 % 10, value % 10];
+        store(memory, self.index(), &digits, touch)?;
+        self.advance();
+        Ok(())
+    }
+
+    /// `FX55`, `LD [I], Vx`: stores V0 to Vx at I.
+    #[tactic(auto, unfolding(crate::specs::Step::effect))]
+    pub(crate) fn row_store_registers(
+        &mut self,
+        x: Reg,
+        memory: &mut [u8],
+        touch: &mut Touch,
+    ) -> Result<(), Stop>
+        requires size { length memory.old ≡ 4096 }
+        requires pc { self.old.pc ≤ 4094 }
+        requires room { length touch.old ≤ 2 }
+        ensures ok { OnOk result ((keys : ℕ) → perform keys (record { core = self.old; memory = memory.old }) (effect (Instr.StoreRegisters x) self.old) ≡ Ok (record { core = self.new; memory = memory.new })) }
+        ensures why { IfErr result (λ why. (keys : ℕ) → perform keys (record { core = self.old; memory = memory.old }) (effect (Instr.StoreRegisters x) self.old) ≡ Err why) }
+        ensures same { OnErr result ((self.new ≡ self.old) × (memory.new ≡ memory.old)) }
+        ensures touched { touch.new ≡ touch.old ++ accessed self.old.index (effect (Instr.StoreRegisters x) self.old) }
+    {
+        let registers = self.registers();
+        store(
+            memory,
+            self.index(),
+            &registers[..x.number() as usize + 1],
+            touch,
+        )?;
+        self.advance();
+        Ok(())
+    }
+
+    /// `FX65`, `LD Vx, [I]`: loads V0 to Vx from I.
+    #[tactic(auto, unfolding(crate::specs::Step::effect))]
+    pub(crate) fn row_load_registers(
+        &mut self,
+        x: Reg,
+        memory: &[u8],
+        touch: &mut Touch,
+    ) -> Result<(), Stop>
+        requires size { length memory.now ≡ 4096 }
+        requires pc { self.old.pc ≤ 4094 }
+        requires room { length touch.old ≤ 2 }
+        ensures ok { OnOk result ((keys : ℕ) → perform keys (record { core = self.old; memory = memory.now }) (effect (Instr.LoadRegisters x) self.old) ≡ Ok (record { core = self.new; memory = memory.now })) }
+        ensures why { IfErr result (λ why. (keys : ℕ) → perform keys (record { core = self.old; memory = memory.now }) (effect (Instr.LoadRegisters x) self.old) ≡ Err why) }
+        ensures same { OnErr result (self.new ≡ self.old) }
+        ensures touched { touch.new ≡ touch.old ++ accessed self.old.index (effect (Instr.LoadRegisters x) self.old) }
+    {
+        let bytes = load(memory, self.index(), x.number() as usize + 1, touch)?;
+        self.load(bytes);
+        self.advance();
+        Ok(())
+    }
+}

@@ -1,0 +1,189 @@
+//! The screen as 64 rows of 128 bits, the leftmost column the highest bit.
+
+ghost use Rattle.std.specs.Prelude.{◌≡◌, ℕ, ◌+◌, ◌-◌, ◌*◌, ◌/◌, ◌%◌, ◌<◌, ◌≤◌, Bool, true, false, ◌&&◌, ◌||◌, ◌==◌, length, slice_index, slice_index_or, IfOk, ◌^◌};
+ghost use Rattle.std.specs.FinSet as set;
+ghost use Rattle.chip_machine.specs.Points.{Points, points_code, is_lit, IsOnScreen, symmetric_difference, meets};
+ghost use Rattle.chip_machine.specs.Stored.{in_rows, lights, differ, any_below};
+ghost use Rattle.chip_machine.specs.Sprite.{covers, covered, scale};
+ghost use Rattle.chip_machine.specs.Scroll.{scrolled_down, scrolled_right, scrolled_left};
+
+use crate::sprite::{HEIGHT, WIDTH, covered_bits, lines_under, scale_of};
+use std::alloc::{AllocError, Global};
+use std::marker::Model;
+
+/// The screen, which callers see as the set of its lit points.
+#[derive(Drop)]
+pub(crate) struct Screen {
+    rows: Vec<u128>,
+}
+
+impl Model for Screen {
+    ghost Value = { Points };
+
+    ghost coded = { points_code };
+
+    ghost view = { λ a. in_rows a.rows.items };
+
+    ghost invariant = { λ a. length a.rows.items ≡ 64 };
+}
+
+impl Screen {
+    /// A dark screen.
+    pub(crate) fn new(alloc: Global) -> Result<Self, AllocError>
+        ensures { IfOk result (λ screen. screen ≡ set.empty) }
+    {
+        let rows = vec![in alloc; 0; HEIGHT]?;
+        Ok(Screen { rows })
+    }
+
+    /// Whether a point is lit: outside the screen none is.
+    pub(crate) fn lit(&self, column: usize, row: usize) -> bool
+        ensures member { result ≡ is_lit self.now column row }
+        ensures on_screen { IsOnScreen self.now }
+    {
+        if column < WIDTH && row < HEIGHT {
+            self.rows[row] >> (127 - column) & 1 == 1
+        } else {
+            false
+        }
+    }
+
+    /// Makes every point dark.
+    pub(crate) fn clear(&mut self)
+        ensures { self.new ≡ set.empty }
+    {
+        darken(&mut self.rows);
+    }
+
+    /// Moves every point down, and loses those that leave.
+    pub(crate) fn scroll_down(&mut self, rows: u8)
+        ensures { self.new ≡ scrolled_down rows self.old }
+    {
+        lower(&mut self.rows, rows as usize);
+    }
+
+    /// Moves every point right by four columns, and loses those that leave.
+    pub(crate) fn scroll_right(&mut self)
+        ensures { self.new ≡ scrolled_right 4 self.old }
+    {
+        to_the_right(&mut self.rows);
+    }
+
+    /// Moves every point left by four columns, and loses those that leave.
+    pub(crate) fn scroll_left(&mut self)
+        ensures { self.new ≡ scrolled_left 4 self.old }
+    {
+        to_the_left(&mut self.rows);
+    }
+
+    /// Another screen with the same points.
+    pub(crate) fn copy_of(&self) -> Result<Self, AllocError>
+        ensures { IfOk result (λ screen. screen ≡ self.now) }
+    {
+        let rows = self.rows.clone()?;
+        Ok(Screen { rows })
+    }
+
+    /// Draws a sprite, and answers whether it covers a point that was lit.
+    pub(crate) fn draw(&mut self, high: bool, x: u8, y: u8, sprite: &[u8]) -> bool
+        ensures lit { self.new ≡ symmetric_difference self.old (covered high x y sprite.now) }
+        ensures hit { result ≡ meets self.old (covered high x y sprite.now) }
+    {
+        toggle(&mut self.rows, high, x, y, sprite)
+    }
+}
+
+/// Makes each row dark.
+fn darken(rows: &mut [u128])
+    ensures { (k : ℕ) → slice_index rows.new k ≡ 0 }
+{
+    for row in rows.iter_mut() {
+        *row = 0;
+    }
+}
+
+/// Moves each item to the place `by` later, as far as it stays inside.
+fn move_later<T: Copy>(items: &mut [T], by: usize)
+    requires { by ≤ length items.old }
+    ensures { (k : ℕ) (d : T) → by ≤ k → k < length items.old → slice_index_or items.new k d ≡ slice_index_or items.old (k - by) d }
+{
+    let end = items.len() - by;
+    items.copy_within(..end, by);
+}
+
+/// Moves each row down by `n`.
+fn lower(rows: &mut [u128], n: usize)
+    requires { length rows.old ≡ 64 }
+    ensures moved { (row : ℕ) → n ≤ row → row < 64 → slice_index rows.new row ≡ slice_index rows.old (row - n) }
+    ensures entered { (row : ℕ) → row < n → row < 64 → slice_index rows.new row ≡ 0 }
+{
+    let n = n.min(HEIGHT);
+    move_later(rows, n);
+    darken(&mut rows[..n]);
+}
+
+/// Moves the columns of each row right by four.
+fn to_the_right(rows: &mut [u128])
+    ensures bits { (row : ℕ) → slice_index rows.old row < 2 ^ 128 }
+    ensures moved { (row : ℕ) → row < length rows.old → slice_index rows.new row ≡ slice_index rows.old row / 16 }
+{
+    for bits in rows.iter_mut() {
+        *bits >>= 4;
+    }
+}
+
+/// Moves the columns of each row left by four.
+fn to_the_left(rows: &mut [u128])
+    ensures { (row : ℕ) → row < length rows.old → slice_index rows.new row ≡ slice_index rows.old row * 16 % 2 ^ 128 }
+{
+    for bits in rows.iter_mut() {
+        *bits <<= 4;
+    }
+}
+
+/// Turns the points of a stripe of columns in so many rows, and says whether one of them was lit.
+fn turn(rows: &mut [u128], from: usize, count: usize, stripe: u128) -> bool
+    requires { from + count ≤ length rows.old }
+    ensures turned { (row column : ℕ) → from ≤ row → row < from + count → column < 128 → lights (slice_index rows.new row) column ≡ differ (lights (slice_index rows.old row) column) (lights stripe column) }
+    ensures same_before { (row : ℕ) → row < from → slice_index rows.new row ≡ slice_index rows.old row }
+    ensures same_after { (row : ℕ) → from + count ≤ row → slice_index rows.new row ≡ slice_index rows.old row }
+    ensures hit { (test : ℕ → Bool) → ((row : ℕ) → from ≤ row → row < from + count → test row ≡ any_below (λ column. lights (slice_index rows.old row) column && lights stripe column) 128) → (any_below test from || result) ≡ any_below test (from + count) }
+{
+    let mut hit = false;
+    for row in from..from + count {
+        hit |= rows[row] & stripe != 0;
+        rows[row] ^= stripe;
+    }
+    hit
+}
+
+/// Turns each point that a sprite covers, and says whether one of them was lit.
+fn toggle(rows: &mut [u128], high: bool, x: u8, y: u8, sprite: &[u8]) -> bool
+    requires { length rows.old ≡ 64 }
+    ensures turned { (row column : ℕ) → row < 64 → column < 128 → lights (slice_index rows.new row) column ≡ differ (lights (slice_index rows.old row) column) (covers high x y sprite.now column row) }
+    ensures hit { result ≡ any_below (λ row. any_below (λ column. lights (slice_index rows.old row) column && covers high x y sprite.now column row) 128) 64 }
+{
+    // A loop for each size: there the size is a constant, which is faster than one loop for both.
+    if high {
+        toggle_lines(rows, true, x, y, sprite)
+    } else {
+        toggle_lines(rows, false, x, y, sprite)
+    }
+}
+
+/// Turns them line by line.
+#[inline(always)]
+fn toggle_lines(rows: &mut [u128], high: bool, x: u8, y: u8, sprite: &[u8]) -> bool
+    requires { length rows.old ≡ 64 }
+    ensures turned { (row column : ℕ) → row < 64 → column < 128 → lights (slice_index rows.new row) column ≡ differ (lights (slice_index rows.old row) column) (covers high x y sprite.now column row) }
+    ensures hit { result ≡ any_below (λ row. any_below (λ column. lights (slice_index rows.old row) column && covers high x y sprite.now column row) 128) 64 }
+{
+    let scale = scale_of(high);
+    let (first, end) = lines_under(high, y, sprite);
+    let mut hit = false;
+    for line in first..end {
+        let stripe = covered_bits(high, x, y, sprite, line);
+        hit |= turn(rows, scale * line, scale, stripe);
+    }
+    hit
+}

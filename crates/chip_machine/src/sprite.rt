@@ -1,0 +1,97 @@
+//! The stored points that a sprite covers, as bits of the screen's rows.
+
+ghost use Rattle.std.specs.Prelude.{◌≡◌, ℕ, ◌+◌, ◌-◌, ◌*◌, ◌/◌, ◌%◌, ◌<◌, ◌≤◌, false, ◌==◌, slice_index};
+ghost use Rattle.std.specs.Int.{bit_at};
+ghost use Rattle.chip_machine.specs.Stored.{lights};
+ghost use Rattle.chip_machine.specs.Sprite.{covers, is_set, row_bytes, scale, sprite_bytes};
+
+use chip_lang::number::Nibble;
+
+/// How many columns the screen has.
+pub(crate) const WIDTH: usize = 128;
+
+/// How many rows the screen has.
+pub(crate) const HEIGHT: usize = 64;
+
+/// How many bytes a sprite of 16 by 16 points has.
+const LARGE: usize = 32;
+
+/// How many bytes a sprite of `n` rows has, where `n` 0 stands for sixteen rows.
+pub(crate) fn sprite_bytes(high: bool, n: Nibble) -> usize
+    ensures value { result ≡ sprite_bytes high n }
+    ensures few { result ≤ 32 }
+{
+    match n.number() {
+        0 if high => LARGE,
+        0 => 16,
+        rows => rows as usize,
+    }
+}
+
+/// How many stored points wide and high a point is.
+pub(crate) fn scale_of(high: bool) -> usize
+    ensures value { result ≡ scale high }
+    ensures some { 1 ≤ result }
+    ensures few { result ≤ 2 }
+{
+    if high { 1 } else { 2 }
+}
+
+/// A byte of a sprite, and zero past its end.
+fn byte_at(sprite: &[u8], at: usize) -> u8
+    ensures { result ≡ slice_index sprite.now at }
+{
+    if at < sprite.len() { sprite[at] } else { 0 }
+}
+
+/// The lines that a sprite may cover: the first of them, and the first past them. A line is a row of points of the size.
+pub(crate) fn lines_under(high: bool, y: u8, sprite: &[u8]) -> (usize, usize)
+    ensures first { result.0 ≡ y % (64 / scale high) }
+    ensures ordered { result.0 ≤ result.1 }
+    ensures on_screen { scale high * result.1 ≤ 64 }
+    ensures above { (x column row : ℕ) → row < scale high * result.0 → covers high x y sprite.now column row ≡ false }
+    ensures below { (x column row : ℕ) → scale high * result.1 ≤ row → row < 64 → covers high x y sprite.now column row ≡ false }
+{
+    let height = HEIGHT / scale_of(high);
+    let first = y as usize % height;
+    let end = first + sprite.len().min(HEIGHT);
+    (first, end.min(height))
+}
+
+/// The bits that a sprite covers in each row of a line.
+pub(crate) fn covered_bits(high: bool, x: u8, y: u8, sprite: &[u8], line: usize) -> u128
+    requires below_the_top { y % (64 / scale high) ≤ line }
+    requires on_screen { line < 64 }
+    ensures { (column row : ℕ) → column < 128 → scale high * line ≤ row → row < scale high * line + scale high → lights result column ≡ covers high x y sprite.now column row }
+{
+    let scale = scale_of(high);
+    let left = x as usize % (WIDTH / scale);
+    let top = y as usize % (HEIGHT / scale);
+    let pattern = pattern_at(high, sprite, line - top);
+    (u128::from(pattern) << 112) >> (scale * left)
+}
+
+/// The sixteen stored columns that a row of a sprite has at most, the leftmost the highest bit.
+fn pattern_at(high: bool, sprite: &[u8], row: usize) -> u16
+    requires { row < 64 }
+    ensures { (i : ℕ) → i < 16 → (bit_at result (15 - i) == 1) ≡ is_set (row_bytes high sprite.now) sprite.now (i / scale high) row }
+{
+    if !high {
+        doubled(byte_at(sprite, row))
+    } else if sprite.len() == LARGE {
+        u16::from(byte_at(sprite, 2 * row)) << 8 | u16::from(byte_at(sprite, 2 * row + 1))
+    } else {
+        u16::from(byte_at(sprite, row)) << 8
+    }
+}
+
+/// Each bit of a byte twice.
+fn doubled(byte: u8) -> u16
+    ensures { (k : ℕ) → k < 16 → bit_at result k ≡ bit_at byte (k / 2) }
+{
+    let bits = u16::from(byte);
+    let bits = (bits | bits << 4) & 0x0f0f;
+    let bits = (bits | bits << 2) & 0x3333;
+    let bits = (bits | bits << 1) & 0x5555;
+    bits | bits << 1
+}

@@ -1,0 +1,108 @@
+//! What a step touched.
+
+ghost use Rattle.std.specs.Prelude.{◌≡◌, ◌+◌, ◌<◌, ◌≤◌, ◌↔◌, [], ◌∷◌, ◌++◌, length, IsTrue, IfSome, slice_get};
+ghost use Rattle.std.specs.Bool.{OnTrue, OnFalse};
+ghost use Rattle.std.specs.List.{range_with_len};
+
+use std::marker::Model;
+
+/// How many addresses a step touches at most.
+const TOUCHES: usize = 34;
+
+/// The addresses that a step read or wrote.
+#[derive(Drop)]
+pub struct Touch {
+    addresses: [u16; TOUCHES],
+    count: usize,
+}
+
+impl Model for Touch {
+    ghost use Rattle.std.specs.Prelude.{ℕ, List, ◌<◌, ◌≤◌, take, All};
+
+    ghost Value = { List ℕ };
+
+    ghost view = { λ t. take t.count t.addresses };
+
+    ghost invariant = { λ t. (t.count ≤ 34) × All (λ at. at < 4096) (take t.count t.addresses) };
+}
+
+impl Touch {
+    /// No address yet.
+    pub fn new() -> Self
+        ensures { result ≡ [] }
+    {
+        Touch {
+            addresses: [0; TOUCHES],
+            count: 0,
+        }
+    }
+
+    /// Lets go of all addresses.
+    pub fn clear(&mut self)
+        ensures { self.new ≡ [] }
+    {
+        self.count = 0;
+    }
+
+    /// How many addresses are held, 0 to 34.
+    pub fn len(&self) -> usize
+        ensures value { result ≡ length self.now }
+        ensures at_most { result ≤ 34 }
+    {
+        self.count
+    }
+
+    /// Whether no address is held.
+    pub fn is_empty(&self) -> bool
+        ensures { IsTrue result ↔ (self.now ≡ []) }
+    {
+        self.count == 0
+    }
+
+    /// The address at a place, in the order in which they were added, and `None` from the length on.
+    pub fn get(&self, place: usize) -> Option<u16>
+        ensures value { result ≡ slice_get self.now place }
+        ensures in_memory { IfSome result (λ at. at < 4096) }
+    {
+        if place < self.count {
+            Some(self.addresses[place])
+        } else {
+            None
+        }
+    }
+
+    /// Adds an address, and answers whether it did: not where 34 are held, nor from address 4096 on.
+    pub fn add(&mut self, at: u16) -> bool
+        ensures room { IsTrue result ↔ ((length self.old < 34) × (at < 4096)) }
+        ensures added { OnTrue result (self.new ≡ self.old ++ at ∷ []) }
+        ensures unchanged { OnFalse result (self.new ≡ self.old) }
+    {
+        if self.count == TOUCHES || at >= 4096 {
+            return false;
+        }
+        self.addresses[self.count] = at;
+        self.count += 1;
+        true
+    }
+
+    /// Adds the addresses of so many bytes.
+    pub(crate) fn add_span(&mut self, at: u16, bytes: usize)
+        requires in_memory { at + bytes ≤ 4096 }
+        requires room { length self.old + bytes ≤ 34 }
+        ensures { self.new ≡ self.old ++ range_with_len at bytes }
+    {
+        let end = self.count + bytes;
+        count_up(&mut self.addresses[self.count..end], at);
+        self.count = end;
+    }
+}
+
+/// Fills a slice with the numbers from `start` on.
+fn count_up(numbers: &mut [u16], start: u16)
+    requires { start + length numbers.old ≤ 4096 }
+    ensures { numbers.new ≡ range_with_len start (length numbers.old) }
+{
+    for (place, number) in numbers.iter_mut().enumerate() {
+        *number = start + place as u16;
+    }
+}

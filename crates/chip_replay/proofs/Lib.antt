@@ -1,0 +1,11 @@
+pub mod Spaced
+pub mod OneByte
+pub mod Patched
+pub mod Noted
+pub mod Sound
+pub mod Steps
+pub mod Changed
+pub mod Bytes
+pub mod KeyFacts
+pub mod Moments
+pub mod LastEvent

@@ -1,0 +1,58 @@
+-- Events by their moments, as a list of entries and as a finite map.
+use Rattle.std.proofs.Common.{◌≡◌, Bool, true, false, cond, List, [], ◌∷◌, Some, None, ℕ, ◌+◌, ◌-◌, is_some, length, refl, sym, ap, ◌∙◌, arith}
+use Rattle.std.specs.BTreeMap.{is_at}
+use Rattle.std.specs.Map.{lookup}
+use Rattle.std.specs.FinMap as map
+use Rattle.std.specs.Cmp.{IsTotalOrder, eq_by_cmp_equiv, nat_cmp_total}
+use Rattle.std.specs.Ordering.{nat_cmp}
+use Rattle.std.proofs.lemmas.Cmp.{on_total, then_total}
+use Rattle.std.proofs.lemmas.Map.Lookups.{CmpEqualImpliesEq, exact_pairs, exact_unsigned}
+use Rattle.chip_replay.specs.declared.keys.Moment.{Moment}
+use Rattle.chip_replay.specs.Keys.{moment_cmp}
+
+-- moments that compare alike are one
+pub exact_moments : CmpEqualImpliesEq moment_cmp
+exact_moments a b h = ap (λ (p : ℕ × ℕ). record { key = p.0; step = p.1 }) (exact_pairs nat_cmp nat_cmp exact_unsigned exact_unsigned (a.key, a.step) (b.key, b.step) h)
+
+pub moments_total : IsTotalOrder moment_cmp
+moments_total = then_total (on_total (λ m. m.key) nat_cmp_total) (on_total (λ m. m.step) nat_cmp_total)
+
+find_moment : (es : List (Moment × Bool)) (q : Moment) → map.find moment_cmp q es ≡ lookup (is_at (moment_cmp q)) es
+find_moment [] q = refl
+find_moment (e ∷ es) q = ap (cond (is_at (moment_cmp q) e.0) (Some e.1)) (find_moment es q)
+
+-- what the map that the entries make has at a moment
+pub get_moment : (es : List (Moment × Bool)) (q : Moment) → map.get (map.from_entries {R = moment_cmp} es) q ≡ lookup (is_at (moment_cmp q)) es
+get_moment es q = map.get-from_entries moments_total es q ∙ find_moment es q
+
+-- entries that differ at one moment make maps that differ there
+pub one_set : (es fs : List (Moment × Bool)) (m : Moment) (down : Bool) → ((q : Moment) → lookup (is_at (moment_cmp q)) fs ≡ cond (is_at (moment_cmp m) q) (Some down) (lookup (is_at (moment_cmp q)) es)) → map.from_entries {R = moment_cmp} fs ≡ map.insert (map.from_entries es) m down
+one_set es fs m down h = map.same_map moments_total exact_moments _ _ (λ q.
+    get_moment fs q ∙ h q ∙ ap (λ b. cond b (Some down) (lookup (is_at (moment_cmp q)) es)) ((eq_by_cmp_equiv moments_total).symm m q)
+    ∙ sym (map.get-insert moments_total (map.from_entries es) m down q ∙ ap (cond (is_at (moment_cmp q) m) (Some down)) (get_moment es q)))
+
+pub one_removed : (es fs : List (Moment × Bool)) (m : Moment) → ((q : Moment) → lookup (is_at (moment_cmp q)) fs ≡ cond (is_at (moment_cmp m) q) None (lookup (is_at (moment_cmp q)) es)) → map.from_entries {R = moment_cmp} fs ≡ map.remove (map.from_entries es) m
+one_removed es fs m h = map.same_map moments_total exact_moments _ _ (λ q.
+    get_moment fs q ∙ h q ∙ ap (λ b. cond b None (lookup (is_at (moment_cmp q)) es)) ((eq_by_cmp_equiv moments_total).symm m q)
+    ∙ sym (map.get-remove moments_total (map.from_entries es) m q ∙ ap (cond (is_at (moment_cmp q) m) None) (get_moment es q)))
+
+len_by : (b : Bool) (n m : ℕ) → m ≡ n + cond b 0 1 → cond b n (n + 1) ≡ m
+len_by true n m e = omega arith
+len_by false n m e = omega arith
+
+-- as many entries as the map has
+pub len_set : (es fs : List (Moment × Bool)) (m : Moment) (down : Bool) → map.from_entries {R = moment_cmp} fs ≡ map.insert (map.from_entries es) m down → map.len (map.from_entries {R = moment_cmp} es) ≡ length es → length fs ≡ length es + cond (is_some (lookup (is_at (moment_cmp m)) es)) 0 1 → map.len (map.from_entries {R = moment_cmp} fs) ≡ length fs
+len_set es fs m down is len more =
+    ap map.len is ∙ map.len-insert moments_total (map.from_entries es) m down
+    ∙ ap (λ o. cond (is_some o) (map.len (map.from_entries {R = moment_cmp} es)) (map.len (map.from_entries {R = moment_cmp} es) + 1)) (get_moment es m)
+    ∙ ap (λ n. cond (is_some (lookup (is_at (moment_cmp m)) es)) n (n + 1)) len ∙ len_by (is_some (lookup (is_at (moment_cmp m)) es)) (length es) (length fs) more
+
+pub len_removed : (es fs : List (Moment × Bool)) (m : Moment) → map.from_entries {R = moment_cmp} fs ≡ map.remove (map.from_entries es) m → map.len (map.from_entries {R = moment_cmp} es) ≡ length es → length fs + cond (is_some (lookup (is_at (moment_cmp m)) es)) 1 0 ≡ length es → map.len (map.from_entries {R = moment_cmp} fs) ≡ length fs
+len_removed es fs m is len less =
+    ap map.len is ∙ map.len-remove moments_total (map.from_entries es) m
+    ∙ ap (λ o. cond (is_some o) (map.len (map.from_entries {R = moment_cmp} es) - 1) (map.len (map.from_entries {R = moment_cmp} es))) (get_moment es m)
+    ∙ ap (λ n. cond (is_some (lookup (is_at (moment_cmp m)) es)) (n - 1) n) len ∙ less_by (is_some (lookup (is_at (moment_cmp m)) es)) (length es) (length fs) less
+  where
+    less_by : (b : Bool) (n m : ℕ) → m + cond b 1 0 ≡ n → cond b (n - 1) n ≡ m
+    less_by true n m e = omega arith
+    less_by false n m e = omega arith

@@ -1,0 +1,15 @@
+use Rattle.std.proofs.Common.{◌∙◌, arith}
+use Rattle.chip_replay.specs.Machine.{touched}
+use Rattle.chip_replay.proofs.Sound.{sound_start}
+use Rattle.chip_replay.proofs.replay.Replay.new.Goals as goal
+
+pub invariant_of-result : goal.invariant_of-result
+invariant_of-result g c =
+    let m = g.M.Traced in
+    let kept = c.in_ok-kept.ensures in
+    rw (kept.counts.0, kept.lent.1, kept.holding) (
+      c.requires,
+      sound_start 1000 (omega arith) m.is_proper (touched m.touches) _ c.in_ok-kept.kept.checkpoints.items c.in_ok-kept.kept.first_touch.items c.copy_of.ensures.proper kept.checkpoints kept.table kept.never,
+      (omega arith, kept.lent.0 ∙ c.in_ok-copy_of.ensures.same),
+      (λ s ls l. absurd (omega arith)),
+    )

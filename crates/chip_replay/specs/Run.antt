@@ -1,0 +1,21 @@
+-- A run of a machine, step by step.
+-- Source: COSMAC VIP manual for timers that count down in step with the display; own for the rate in steps.
+--     ticks          whether the timers tick in a step
+--     run            the state after t steps
+--     first_below    the least step below f that passes a test, or f
+use Rattle.std.specs.Prelude.{ℕ, zero, suc, ◌+◌, ◌%◌, Bool, ◌==◌, nat_lt, if◌then◌else◌}
+
+-- where s + 1 is a multiple of the rate
+abbrev pub ticks : ℕ → ℕ → Bool
+ticks rate s = (s + 1) % rate == 0
+
+module _ {S : Type 0} (after : S → ℕ → Bool → S) (rate : ℕ) (held : ℕ → ℕ) where
+  -- the start state after t steps: step s uses the keys held at s
+  abbrev pub run : S → ℕ → S
+  run start zero = start
+  run start (suc t) = after (run start t) (held t) (ticks rate t)
+
+-- the least s below f with p s, or f
+abbrev pub first_below : (ℕ → Bool) → ℕ → ℕ
+first_below p zero = 0
+first_below p (suc f) = if nat_lt (first_below p f) f then first_below p f else if p f then f else suc f

@@ -1,0 +1,49 @@
+//! The machine as one that a replay can run.
+
+use crate::traced::Traced;
+use chip_machine::machine::Machine;
+use chip_machine::touch::Touch;
+use std::alloc::AllocError;
+
+impl Traced for Machine {
+    ghost use Rattle.std.specs.Prelude.{refl};
+    ghost use Rattle.chip_machine.specs.State.{IsProper, with_memory as machine_with_memory};
+    ghost use Rattle.chip_machine.specs.Step.{step_of as machine_step, touches as machine_touches};
+    ghost use Rattle.chip_replay.specs.MachineFrame.{memory_of, machine_framed, machine_step_keeps};
+
+    ghost step_of = { machine_step };
+
+    ghost touches = { machine_touches };
+
+    ghost memory = { memory_of };
+
+    ghost with_memory = { machine_with_memory };
+
+    ghost is_proper = { IsProper };
+
+    fn step(&mut self, keys: u16, tick: bool, touch: &mut Touch) {
+        self.step(keys, tick, touch);
+    }
+
+    fn poke(&mut self, at: u16, byte: u8) {
+        self.poke(at, byte);
+    }
+
+    fn copy_of(&self) -> Result<Self, AllocError> {
+        self.copy_of()
+    }
+
+    ghost memory_of_changed = { λ s m. refl };
+
+    ghost changed_to_same = { λ s. refl };
+
+    ghost changed_twice = { λ s m n. refl };
+
+    ghost proper_size = { λ s proper. proper.memory_size };
+
+    ghost proper_changed = { λ s m proper size. record { memory_size = size } };
+
+    ghost step_keeps = { machine_step_keeps };
+
+    ghost frame_law = { machine_framed };
+}

@@ -1,0 +1,189 @@
+//! A machine's run under the events of its keys.
+
+ghost use Rattle.std.specs.Prelude.{◌≡◌, ◌+◌, ◌/◌, ◌<◌, ◌≤◌, ◌↔◌, length, min, drop, IfOk, OnOk, OnErr, IsOkUnless, MatchOption};
+
+use crate::kept::{Kept, least_touch, patch};
+use crate::keys::{KeyFault, Keys, LAST_STEP};
+use crate::traced::Traced;
+use std::alloc::{AllocError, Global};
+use std::marker::Model;
+use thiserror::Error;
+
+/// Why a question has no answer.
+#[derive(Clone, Copy, Debug, PartialEq, Eq, Error)]
+pub enum AtError {
+    /// Q2: the step is above the last one.
+    #[error("the step is above 100000")]
+    StepTooLarge,
+    /// Q4: memory ran out.
+    #[error("out of memory")]
+    OutOfMemory,
+}
+
+/// A machine's start state and the events of its keys, with what was kept of its run.
+#[derive(Drop)]
+pub struct Replay<M: Traced> {
+    start: M,
+    rate: u32,
+    keys: Keys,
+    kept: Kept<M>,
+}
+
+impl<M: Traced> Model for Replay<M> {
+    ghost use Rattle.std.specs.Prelude.{◌+◌, ◌<◌, length};
+    ghost use Rattle.chip_replay.specs.Run.{run};
+    ghost use Rattle.chip_replay.specs.Keys.{held};
+    ghost use Rattle.chip_replay.specs.Limits.{spacing};
+    ghost use Rattle.chip_replay.specs.Machine.{touched};
+    ghost use Rattle.chip_replay.specs.History.{History, history_code, IsSound, IsLent, IsHolding};
+
+    ghost Value = { History M };
+
+    ghost coded = { history_code M.code };
+
+    ghost view = { λ a. record { start = a.start; rate = a.rate; keys = a.keys; kept = length a.kept.checkpoints.items + 1; reach = a.kept.reach; ran = a.kept.ran } };
+
+    ghost invariant = { λ a. (0 < a.rate)
+        × IsSound spacing M.is_proper (touched M.touches) (run M.step_of a.rate (held a.keys) a.start) a.kept.checkpoints.items a.kept.first_touch.items a.kept.reach
+        × IsLent (run M.step_of a.rate (held a.keys) a.start) a.kept.reach a.kept.lent a.kept.lent_step
+        × IsHolding a.keys a.kept.lent_step a.kept.holding.keys a.kept.holding.until };
+}
+
+impl<M: Traced> Replay<M> {
+    ghost use Rattle.std.specs.Borrow.{sem};
+    ghost use Rattle.std.specs.Io.BufRead.{Rests};
+    ghost use Rattle.std.specs.FinMap as finmap;
+    ghost use Rattle.chip_replay.specs.Limits.{last_step, spacing};
+    ghost use Rattle.chip_replay.specs.History.{state_at, Answered};
+    ghost use Rattle.chip_replay.specs.Image.{padded, with_image, affected};
+    ghost use Rattle.chip_replay.specs.Keys.{held, insert_fault, edit_fault};
+    ghost use Rattle.chip_replay.specs.contracts.replay.Replay.{the_row};
+
+    /// The run from a state, with no events; the timers tick at each step whose number plus 1 is a
+    /// multiple of the rate, which is at least 1. Errors: memory ran out.
+    pub fn new(alloc: Global, start: M, rate: u32) -> Result<Replay<M>, AllocError>
+        requires { 0 < rate }
+        ensures { IfOk result (λ new.
+            new ≡ record { start = start; rate = rate; keys = finmap.empty; kept = 1; reach = 0; ran = 0 }) }
+    {
+        let kept = Kept::new(alloc, start.copy_of()?)?;
+        Ok(Replay {
+            start,
+            rate,
+            keys: Keys::new(alloc),
+            kept,
+        })
+    }
+
+    /// How many checkpoints are held, that of step 0 included: at most 101.
+    pub fn kept(&self) -> usize
+        ensures value { result ≡ self.now.kept }
+        ensures few { result ≤ last_step / spacing + 1 }
+    {
+        self.kept.checkpoints.len() + 1
+    }
+
+    /// Up to which step the kept run is sound, 0 to 100,000.
+    pub fn reach(&self) -> u32
+        ensures value { result ≡ self.now.reach }
+        ensures in_range { result ≤ LAST_STEP }
+    {
+        self.kept.reach
+    }
+
+    /// How many steps were made so far; it stays at the greatest value of a `u64`.
+    pub fn ran(&self) -> u64
+        ensures { result ≡ self.now.ran }
+    {
+        self.kept.ran
+    }
+
+    /// The events of the keys.
+    pub fn keys(&self) -> &Keys
+        ensures { result.now ≡ self.now.keys }
+    {
+        &self.keys
+    }
+
+    /// The state at a step: that after the steps 0 to `step - 1`, under the events as they are. It is made
+    /// from the nearest checkpoint, or from the state that was lent last where that is nearer. Errors,
+    /// the first that holds: the step is above the last one, memory ran out; later answers are then
+    /// as if the question had not been asked.
+    pub fn at(&mut self, step: u32) -> Result<&M, AtError>
+        ensures past_the_last { (result ≡ Err AtError.StepTooLarge) ↔ (LAST_STEP < step) }
+        ensures state { IfOk result (λ state. state.now ≡ state_at M.step_of self.old step) }
+        ensures* answered { sem 𝓛 (Rests (the_row M.row M.Traced) self.entry (λ new. Answered self.old new step result)) }
+    {
+        if step > LAST_STEP {
+            return Err(AtError::StepTooLarge);
+        }
+        match self.kept.go_to(&self.start, &self.keys, self.rate, step) {
+            Ok(()) => Ok(&self.kept.lent),
+            Err(_) => Err(AtError::OutOfMemory),
+        }
+    }
+
+    /// Adds a key event, as `Keys::insert`. What is kept of the run up to its step stays. An error
+    /// changes nothing.
+    pub fn insert_key(&mut self, step: u32, key: u32, down: bool) -> Result<(), KeyFault>
+        ensures fault { MatchOption (insert_fault self.old.keys step key)
+            (IsOkUnless result KeyFault.OutOfMemory) (λ fault. result ≡ Err fault) }
+        ensures keys { OnOk result (self.new.keys ≡ finmap.insert self.old.keys (record { key = key; step = step }) down) }
+        ensures reach { OnOk result (min self.old.reach step ≤ self.new.reach) }
+        ensures others { OnOk result ((self.new.start ≡ self.old.start) × (self.new.rate ≡ self.old.rate) × (self.new.ran ≡ self.old.ran)) }
+        ensures err { OnErr result (self.new ≡ self.old) }
+    {
+        self.keys.insert(step, key, down)?;
+        self.kept.forget(step);
+        Ok(())
+    }
+
+    /// Changes what a key event says, as `Keys::replace`. What is kept of the run up to its step stays.
+    /// An error changes nothing.
+    pub fn replace_key(&mut self, step: u32, key: u32, down: bool) -> Result<(), KeyFault>
+        ensures fault { MatchOption (edit_fault self.old.keys step key)
+            (result ≡ Ok tt) (λ fault. result ≡ Err fault) }
+        ensures keys { OnOk result (self.new.keys ≡ finmap.insert self.old.keys (record { key = key; step = step }) down) }
+        ensures reach { OnOk result (min self.old.reach step ≤ self.new.reach) }
+        ensures others { OnOk result ((self.new.start ≡ self.old.start) × (self.new.rate ≡ self.old.rate) × (self.new.ran ≡ self.old.ran)) }
+        ensures err { OnErr result (self.new ≡ self.old) }
+    {
+        self.keys.replace(step, key, down)?;
+        self.kept.forget(step);
+        Ok(())
+    }
+
+    /// Takes a key event out, as `Keys::delete`. What is kept of the run up to its step stays. An error
+    /// changes nothing.
+    pub fn delete_key(&mut self, step: u32, key: u32) -> Result<(), KeyFault>
+        ensures fault { MatchOption (edit_fault self.old.keys step key)
+            (result ≡ Ok tt) (λ fault. result ≡ Err fault) }
+        ensures keys { OnOk result (self.new.keys ≡ finmap.remove self.old.keys (record { key = key; step = step })) }
+        ensures reach { OnOk result (min self.old.reach step ≤ self.new.reach) }
+        ensures others { OnOk result ((self.new.start ≡ self.old.start) × (self.new.rate ≡ self.old.rate) × (self.new.ran ≡ self.old.ran)) }
+        ensures err { OnErr result (self.new ≡ self.old) }
+    {
+        self.keys.delete(step, key)?;
+        self.kept.forget(step);
+        Ok(())
+    }
+
+    /// The machine starts with another image in its memory from now on: the bytes of `new` from address
+    /// 512 on, and zeros after them, stand in the place of those of `old`. What is kept of the run up
+    /// to the first step that touches a byte at which they differ stays. It takes no memory.
+    pub fn image_changed(&mut self, old: &[u8], new: &[u8])
+        requires old_fits { length old.now ≤ 3584 }
+        requires new_fits { length new.now ≤ 3584 }
+        requires old_is_there { drop 512 (M.memory self.old.start) ≡ padded old.now }
+        ensures start { self.new.start ≡ with_image M.memory M.with_memory new.now self.old.start }
+        ensures rate { self.new.rate ≡ self.old.rate }
+        ensures keys { self.new.keys ≡ self.old.keys }
+        ensures ran { self.new.ran ≡ self.old.ran }
+        ensures reach { affected M.touches M.step_of self.old.rate (held self.old.keys) old.now new.now self.old.start self.old.reach ≤ self.new.reach }
+    {
+        let affected = least_touch(&self.kept.first_touch, self.kept.reach, old, new);
+        self.kept.forget(affected);
+        patch(&mut self.start, old, new);
+        self.kept.patch(old, new);
+    }
+}

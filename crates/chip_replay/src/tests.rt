@@ -1,0 +1,287 @@
+//! Replay of two small machines, and the refusals of key edits.
+
+ghost use Rattle.std.specs.Prelude.{◌≡◌, IfOk};
+
+use crate::keys::{KeyFault, Keys, MOST_EVENTS};
+use crate::replay::{AtError, Replay};
+use crate::traced::Traced;
+use chip_machine::touch::Touch;
+use std::alloc::{AllocError, Global};
+use std::cell::Cell;
+use std::marker::Model;
+use std::rc::Rc;
+use std::test::Fail;
+
+/// A step adds the byte at the counter to the sum, and counts on.
+#[derive(Drop)]
+struct Toy {
+    alloc: Global,
+    bytes: Vec<u8>,
+    counter: u64,
+    sum: u8,
+}
+
+impl Model for Toy {
+    ghost use Rattle.std.specs.Prelude.{◌≡◌, length};
+    ghost use Rattle.chip_replay.specs.Toy.{ToyState, toy_code};
+
+    ghost Value = { ToyState };
+
+    ghost coded = { toy_code };
+
+    ghost view = { λ t. record { bytes = t.bytes.items; counter = t.counter; sum = t.sum } };
+
+    ghost invariant = { λ t. length t.bytes.items ≡ 4096 };
+}
+
+impl Toy {
+    ghost use Rattle.std.specs.Prelude.{replicate};
+
+    fn new(alloc: Global) -> Result<Toy, AllocError>
+        ensures { IfOk result (λ toy. toy ≡ record { bytes = replicate 4096 0; counter = 0; sum = 0 }) }
+    {
+        Ok(Toy {
+            alloc,
+            bytes: vec![in alloc; 0; 4096]?,
+            counter: 0,
+            sum: 0,
+        })
+    }
+
+    fn sum(&self) -> u8 {
+        self.sum
+    }
+}
+
+impl Traced for Toy {
+    ghost use Rattle.std.specs.Prelude.{refl};
+    ghost use Rattle.chip_replay.specs.Toy.{IsToy, toy_memory, toy_with_memory, toy_touches, toy_after, toy_framed};
+
+    ghost step_of = { toy_after };
+
+    ghost touches = { toy_touches };
+
+    ghost memory = { toy_memory };
+
+    ghost with_memory = { toy_with_memory };
+
+    ghost is_proper = { IsToy };
+
+    ghost memory_of_changed = { λ s m. refl };
+
+    ghost changed_to_same = { λ s. refl };
+
+    ghost changed_twice = { λ s m n. refl };
+
+    ghost proper_size = { λ s proper. proper };
+
+    ghost proper_changed = { λ s m proper size. size };
+
+    ghost step_keeps = { λ s keys tick proper. proper };
+
+    ghost frame_law = { toy_framed };
+
+    fn step(&mut self, _keys: u16, _tick: bool, touch: &mut Touch) {
+        let at = self.counter % 4096;
+        touch.clear();
+        touch.add(at as u16);
+        self.sum = self.sum.wrapping_add(self.bytes[at as usize]);
+        self.counter = self.counter.wrapping_add(1);
+    }
+
+    fn poke(&mut self, at: u16, byte: u8) {
+        self.bytes[at as usize] = byte;
+    }
+
+    fn copy_of(&self) -> Result<Toy, AllocError> {
+        Ok(Toy {
+            alloc: self.alloc,
+            bytes: self.bytes.clone()?,
+            counter: self.counter,
+            sum: self.sum,
+        })
+    }
+}
+
+/// The same machine; its copies share a count of their steps.
+#[derive(Drop)]
+struct Counting {
+    toy: Toy,
+    steps: Rc<Cell<u64>>,
+}
+
+impl Model for Counting {
+    ghost use Rattle.chip_replay.specs.Toy.{ToyState, toy_code};
+
+    ghost Value = { ToyState };
+
+    ghost coded = { toy_code };
+
+    ghost view = { λ a. a.toy };
+}
+
+impl Traced for Counting {
+    ghost use Rattle.std.specs.Prelude.{refl};
+    ghost use Rattle.chip_replay.specs.Toy.{IsToy, toy_memory, toy_with_memory, toy_touches, toy_after, toy_framed};
+
+    ghost step_of = { toy_after };
+
+    ghost touches = { toy_touches };
+
+    ghost memory = { toy_memory };
+
+    ghost with_memory = { toy_with_memory };
+
+    ghost is_proper = { IsToy };
+
+    ghost memory_of_changed = { λ s m. refl };
+
+    ghost changed_to_same = { λ s. refl };
+
+    ghost changed_twice = { λ s m n. refl };
+
+    ghost proper_size = { λ s proper. proper };
+
+    ghost proper_changed = { λ s m proper size. size };
+
+    ghost step_keeps = { λ s keys tick proper. proper };
+
+    ghost frame_law = { toy_framed };
+
+    fn step(&mut self, keys: u16, tick: bool, touch: &mut Touch) {
+        self.steps.set(self.steps.get().saturating_add(1));
+        self.toy.step(keys, tick, touch);
+    }
+
+    fn poke(&mut self, at: u16, byte: u8) {
+        self.toy.poke(at, byte);
+    }
+
+    fn copy_of(&self) -> Result<Counting, AllocError> {
+        Ok(Counting {
+            toy: self.toy.copy_of()?,
+            steps: self.steps.clone()?,
+        })
+    }
+}
+
+#[test]
+fn replays_from_checkpoints(rt: HostRuntime) -> Result<(), Fail> {
+    let toy = Toy::new(rt.alloc())?;
+    let mut replay = Replay::new(rt.alloc(), toy, 10)?;
+    assert_eq!(rt; replay.at(5000)?.sum(), 0);
+    assert_eq!(rt;
+        (replay.ran(), replay.reach(), replay.kept()),
+        (5000, 5000, 6)
+    );
+
+    // Step 512 is the first to touch the changed byte, and step 4608 touches it again.
+    replay.image_changed(&[], &[5]);
+    assert_eq!(rt; (replay.reach(), replay.kept()), (512, 1));
+    assert_eq!(rt; replay.at(5000)?.sum(), 10);
+    assert_eq!(rt; replay.ran(), 10000);
+
+    // A key event at a step leaves the run before it.
+    replay.insert_key(2500, 3, true)?;
+    assert_eq!(rt; (replay.reach(), replay.kept()), (2500, 3));
+    assert!(rt; replay.at(5000).is_ok());
+    assert_eq!(rt; replay.ran(), 13000);
+
+    // An earlier step goes on from the checkpoint before it, and a later one from the state that was lent.
+    assert!(rt; replay.at(4321).is_ok());
+    assert_eq!(rt; replay.ran(), 13321);
+    assert!(rt; replay.at(4400).is_ok());
+    assert_eq!(rt; replay.ran(), 13400);
+
+    // An edit after the lent state keeps it, and an earlier one does not.
+    replay.delete_key(2500, 3)?;
+    assert!(rt; replay.at(2300).is_ok());
+    assert_eq!(rt; replay.ran(), 13700);
+    replay.insert_key(2301, 4, true)?;
+    assert!(rt; replay.at(2310).is_ok());
+    assert_eq!(rt; replay.ran(), 13710);
+    replay.replace_key(2301, 4, false)?;
+    assert!(rt; replay.at(2310).is_ok());
+    assert_eq!(rt; replay.ran(), 14020);
+    assert_eq!(rt; replay.keys().held(2301), 0);
+    Ok(())
+}
+
+#[test]
+fn refuses_and_keeps_what_it_has(rt: HostRuntime) -> Result<(), Fail> {
+    let toy = Toy::new(rt.alloc())?;
+    let mut replay = Replay::new(rt.alloc(), toy, 1)?;
+    assert!(rt; replay.at(1500).is_ok());
+    assert_eq!(rt; replay.at(100_001).err(), Some(AtError::StepTooLarge));
+    assert_eq!(rt; replay.insert_key(5, 16, true), Err(KeyFault::NoSuchKey));
+    assert_eq!(rt; replay.delete_key(5, 3), Err(KeyFault::NoEvent));
+    assert_eq!(rt; replay.replace_key(5, 3, true), Err(KeyFault::NoEvent));
+    assert_eq!(rt;
+        (replay.ran(), replay.reach(), replay.kept()),
+        (1500, 1500, 2)
+    );
+    Ok(())
+}
+
+#[test]
+fn counts_each_step(rt: HostRuntime) -> Result<(), Fail> {
+    let steps = Rc::new(rt.alloc(), Cell::new(0))?;
+    let machine = Counting {
+        toy: Toy::new(rt.alloc())?,
+        steps: steps.clone()?,
+    };
+    let mut replay = Replay::new(rt.alloc(), machine, 10)?;
+    for step in 0..=3000 {
+        assert!(rt; replay.at(step).is_ok());
+    }
+    assert_eq!(rt; steps.get(), 3000);
+    for step in 0..20 {
+        assert!(rt; replay.at(3000 - step * 150).is_ok());
+        assert_eq!(rt; replay.ran(), steps.get());
+    }
+    replay.insert_key(1234, 0, true)?;
+    assert!(rt; replay.at(2100).is_ok());
+    assert_eq!(rt; replay.ran(), steps.get());
+    Ok(())
+}
+
+#[test]
+fn holds_keys_from_their_last_event(rt: HostRuntime) -> Result<(), Fail> {
+    let mut keys = Keys::new(rt.alloc());
+    keys.insert(5, 10, true)?;
+    keys.insert(0, 0, true)?;
+    keys.insert(7, 10, false)?;
+    assert_eq!(rt;
+        (keys.held(4), keys.held(5), keys.held(6), keys.held(7)),
+        (1, 1025, 1025, 1)
+    );
+    keys.delete(5, 10)?;
+    assert_eq!(rt; keys.held(6), 1);
+    keys.replace(7, 10, true)?;
+    assert_eq!(rt; keys.held(100_000), 1025);
+    Ok(())
+}
+
+#[test]
+fn refuses_key_edits_in_order(rt: HostRuntime) -> Result<(), Fail> {
+    let mut keys = Keys::new(rt.alloc());
+    keys.insert(100_000, 15, true)?;
+    assert_eq!(rt; keys.insert(100_001, 16, true), Err(KeyFault::StepTooLarge));
+    assert_eq!(rt;
+        keys.replace(100_001, 16, true),
+        Err(KeyFault::StepTooLarge)
+    );
+    assert_eq!(rt; keys.delete(100_001, 16), Err(KeyFault::StepTooLarge));
+    assert_eq!(rt; keys.insert(0, 16, true), Err(KeyFault::NoSuchKey));
+    assert_eq!(rt; keys.insert(100_000, 15, false), Err(KeyFault::EventThere));
+    assert_eq!(rt; keys.replace(0, 15, true), Err(KeyFault::NoEvent));
+    assert_eq!(rt; keys.delete(0, 15), Err(KeyFault::NoEvent));
+    for place in 1..MOST_EVENTS as u32 {
+        keys.insert(place, 0, true)?;
+    }
+    assert_eq!(rt; keys.insert(0, 0, true), Err(KeyFault::TooManyEvents));
+    assert_eq!(rt; keys.insert(1, 0, true), Err(KeyFault::EventThere));
+    keys.delete(1, 0)?;
+    keys.insert(0, 0, true)?;
+    Ok(())
+}

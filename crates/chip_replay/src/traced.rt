@@ -1,0 +1,61 @@
+//! What a replay asks of a machine.
+
+ghost use Rattle.std.specs.Prelude.{◌≡◌, ℕ, ◌<◌, ◌↔◌, Bool, List, All, Contains, IfOk, IsFalse, length, slice_set};
+ghost use Rattle.chip_replay.specs.Frame.{AgreeOff, IsFramed};
+
+use chip_machine::touch::Touch;
+use std::alloc::AllocError;
+
+/// A machine with 4096 bytes of memory whose steps say which addresses they touch.
+pub trait Traced: Drop + Sized {
+    /// The state after a step, by the mask of the keys that are down and whether the timers tick.
+    ghost step_of: { Self → ℕ → Bool → Self };
+
+    /// The addresses that the next step reads or writes.
+    ghost touches: { Self → List ℕ };
+
+    /// The bytes of the memory.
+    ghost memory: { Self → List ℕ };
+
+    /// The state with other bytes, and nothing else changed.
+    ghost with_memory: { Self → List ℕ → Self };
+
+    /// Holds of each state of a machine.
+    ghost is_proper: { Self → Type 0 };
+
+    /// Makes one step with these keys down (key k at bit k), where the timers tick if `tick` says so.
+    /// `touch` then holds the addresses that the step read or wrote, in any order.
+    fn step(&mut self, keys: u16, tick: bool, touch: &mut Touch)
+        ensures state { self.new ≡ step_of self.old keys tick }
+        ensures touched { (at : ℕ) → Contains touch.new at ↔ Contains (touches self.old) at }
+        ensures proper { is_proper self.new };
+
+    /// Changes the byte at an address.
+    fn poke(&mut self, at: u16, byte: u8)
+        requires { at < 4096 }
+        ensures byte { self.new ≡ with_memory self.old (slice_set (memory self.old) at byte) }
+        ensures proper { is_proper self.new };
+
+    /// A second machine in the same state. Errors: memory ran out.
+    fn copy_of(&self) -> Result<Self, AllocError>
+        ensures same { IfOk result (λ copy. copy ≡ self.now) }
+        ensures proper { is_proper self.now };
+
+    /// The memory is a part of the state.
+    ghost memory_of_changed: { (s : Self) (m : List ℕ) → memory (with_memory s m) ≡ m };
+
+    ghost changed_to_same: { (s : Self) → with_memory s (memory s) ≡ s };
+
+    ghost changed_twice: { (s : Self) (m n : List ℕ) → with_memory (with_memory s m) n ≡ with_memory s n };
+
+    /// The memory of a proper state has 4096 bytes, and no more is asked of it.
+    ghost proper_size: { (s : Self) → is_proper s → length (memory s) ≡ 4096 };
+
+    ghost proper_changed: { (s : Self) (m : List ℕ) → is_proper s → length m ≡ 4096 → is_proper (with_memory s m) };
+
+    /// A step keeps a state proper.
+    ghost step_keeps: { (s : Self) (keys : ℕ) (tick : Bool) → is_proper s → is_proper (step_of s keys tick) };
+
+    /// A step neither depends on the bytes that it doesn't touch nor changes them.
+    ghost frame_law: { (set : ℕ → Bool) (keys : ℕ) (tick : Bool) (a b : Self) → is_proper a → is_proper b → AgreeOff memory with_memory set a b → All (λ at. IsFalse (set at)) (touches a) → IsFramed memory with_memory (λ s. step_of s keys tick) touches set a b };
+}

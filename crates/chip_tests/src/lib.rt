@@ -1,0 +1,5 @@
+//! Tests that cross crates: sessions with the answers that the assembler gives.
+#![tactic(auto)]
+
+#[cfg(test)]
+mod sessions;
