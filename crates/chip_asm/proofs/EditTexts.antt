@@ -13,7 +13,6 @@ map-remove : {X Y : Type 0} (f : X → Y) (xs : List X) (i : ℕ) → map f (rem
 map-remove f xs i =
     map-append f (take i xs) (drop (suc i) xs) ∙ ap (λ l. l ++ map f (drop (suc i) xs)) (sym (take-map f i xs)) ∙ ap (λ l. take i (map f xs) ++ l) (sym (drop-map f (suc i) xs))
 
-
 pub texts-insert : (lines : List KeptLine) (at : ℕ) (kept : KeptLine) → texts_in (insert lines at kept) ≡ insert (texts_in lines) at kept.text
 texts-insert lines at kept = map-insert (λ (k : KeptLine). k.text) lines at kept
 

@@ -123,12 +123,12 @@ about lines layout laid current i q kept inside is_q is_kept =
       placement = q_is;
       line = line_is;
       code = λ p c.
-        (let taken : is_placed_at (placements_of (readings_in lines)) i ≡ true
-        = ap (λ o. option_map_or is_placed o false) (slice_get-map (final_placement (placed (readings_in lines))) (reverse (placed (readings_in lines))) i ∙ ap (option_map (final_placement (placed (readings_in lines)))) at) ∙ ap is_placed (sym q_is) ∙ p in
-        ap (λ (z : KeptLine). z.code) is_kept
-        ∙ current.each i kept inside (rw (← is_kept) c) taken
-        ∙ code-opened (readings_in lines) (reading_in (get_or lines i kept))
-        ∙ ap (λ r. coded (own_bytes (body_of r) (values_of (names_of_lines (readings_in lines))))) (ap reading_in (sym is_kept) ∙ line_is));
+          (let taken : is_placed_at (placements_of (readings_in lines)) i ≡ true
+          = ap (λ o. option_map_or is_placed o false) (slice_get-map (final_placement (placed (readings_in lines))) (reverse (placed (readings_in lines))) i ∙ ap (option_map (final_placement (placed (readings_in lines)))) at) ∙ ap is_placed (sym q_is) ∙ p in
+          ap (λ (z : KeptLine). z.code) is_kept
+          ∙ current.each i kept inside (rw (← is_kept) c) taken
+          ∙ code-opened (readings_in lines) (reading_in (get_or lines i kept))
+          ∙ ap (λ r. coded (own_bytes (body_of r) (values_of (names_of_lines (readings_in lines))))) (ap reading_in (sym is_kept) ∙ line_is));
       within = within-memory (readings_in lines) i d there;
     }
 

@@ -42,17 +42,17 @@ pub current-merged : (same : SameCode) (old : List Reading) (lines made : List K
     → IsMerged lines (new_codes old (readings_in lines) origin) made → AreCurrent made
 current-merged same old lines made origin had m = record {
   each = λ place line inside c p.
-    (let within : place < length lines = omega (arith, m.long) in
-    let r : Reading = reading_in (get_or lines place line) in
-    let same_reading : reading_in (get_or made place line) ≡ r = reading-of made lines m.readings place line line inside within in
-    let there : place < length (readings_in lines) = omega (arith, length-map lines reading_in) in
-    let at : get_or (readings_in lines) place r ≡ r = get_or-map reading_in lines place line r within in
-    let coded_now : has_code (body_of r) ≡ true = rw same_reading at c in
-    let placed_now : is_placed_at (placements_of (readings_in lines)) place ≡ true = rw m.readings at p in
-    m.each place line within
-    ∙ ap (λ o. unwrap_or o (get_or lines place line).code) (fresh-at old (readings_in lines) origin place r there at)
-    ∙ code-after same old (readings_in lines) origin place r (get_or lines place line).code (is_encoded_again old (readings_in lines) origin (place, r)) refl coded_now placed_now (λ before from was. had place before line within from was coded_now)
-    ∙ (rw (m.readings, same_reading) refl));
+      (let within : place < length lines = omega (arith, m.long) in
+      let r : Reading = reading_in (get_or lines place line) in
+      let same_reading : reading_in (get_or made place line) ≡ r = reading-of made lines m.readings place line line inside within in
+      let there : place < length (readings_in lines) = omega (arith, length-map lines reading_in) in
+      let at : get_or (readings_in lines) place r ≡ r = get_or-map reading_in lines place line r within in
+      let coded_now : has_code (body_of r) ≡ true = rw same_reading at c in
+      let placed_now : is_placed_at (placements_of (readings_in lines)) place ≡ true = rw m.readings at p in
+      m.each place line within
+      ∙ ap (λ o. unwrap_or o (get_or lines place line).code) (fresh-at old (readings_in lines) origin place r there at)
+      ∙ code-after same old (readings_in lines) origin place r (get_or lines place line).code (is_encoded_again old (readings_in lines) origin (place, r)) refl coded_now placed_now (λ before from was. had place before line within from was coded_now)
+      ∙ (rw (m.readings, same_reading) refl));
 }
 
 -- the lines that stood before an edit bring their codes along

@@ -12,9 +12,8 @@ use crate::image::{MAX_IMAGE, image_of};
 use crate::kept_line::KeptLine;
 use crate::layout::Layout;
 use crate::recode::{recode, write_codes};
-use chip_lang::Coded;
 use chip_lang::laws::same_code;
-use chip_lang::Meter;
+use chip_lang::{Coded, Meter};
 use std::alloc::{AllocError, Global};
 
 /// What an edit makes new: the layout, a code for each line that needs one, and zeros for the image.

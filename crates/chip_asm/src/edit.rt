@@ -80,13 +80,7 @@ pub(crate) fn place_before(edit: &Edit, place: usize) -> Option<usize>
                 Some(place - 1)
             }
         }
-        Edit::Replace(at, _) => {
-            if place == *at {
-                None
-            } else {
-                Some(place)
-            }
-        }
+        Edit::Replace(at, _) => { if place == *at { None } else { Some(place) } }
         Edit::Delete(at) => {
             if place < *at {
                 Some(place)

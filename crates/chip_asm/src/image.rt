@@ -11,8 +11,7 @@ use crate::kept_line::KeptLine;
 use crate::layout::Layout;
 use crate::placement::Placement;
 use crate::recode::has_code;
-use chip_lang::Coded;
-use chip_lang::Fault;
+use chip_lang::{Coded, Fault};
 use std::alloc::{AllocError, Global};
 
 /// An image has no more bytes than this: from address 512 to the end of memory.

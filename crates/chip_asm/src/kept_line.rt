@@ -4,10 +4,7 @@ ghost use Rattle.chip_lang.specs.Line.{reading_of};
 ghost use Rattle.chip_lang.specs.SeenLine.{seen_line};
 ghost use Rattle.chip_lang.specs.Meter.{one_more};
 
-use chip_lang::Bytes;
-use chip_lang::Coded;
-use chip_lang::{Line, read_line};
-use chip_lang::Meter;
+use chip_lang::{Bytes, Coded, Line, Meter, read_line};
 use std::alloc::{AllocError, Global};
 
 /// A line of the source: its text, its reading, and its code as it was last encoded.

@@ -19,3 +19,6 @@ mod table;
 pub use refusal::{OpenError, Refusal};
 pub use source::Source;
 pub use table::Symbol;
+
+#[cfg(test)]
+mod tests;

@@ -119,7 +119,8 @@ fn value_given(line: &Line, value: i32) -> i32
 {
     match line {
         Line::Read {
-            body: Body::Define, ..
+            body: Body::Define,
+            ..
         } => 0,
         _ => value,
     }
@@ -214,7 +215,14 @@ pub(crate) fn listing_in(
         let fault = kept_fault(&placement, kept);
         let field = field(alloc, fault, &placement, kept)?;
         let more = more_sign(fault, placement.size);
-        push_line(&mut listing, alloc, &placement, &field, more, kept.text.get())?;
+        push_line(
+            &mut listing,
+            alloc,
+            &placement,
+            &field,
+            more,
+            kept.text.get(),
+        )?;
     }
     Ok(listing)
 }

@@ -8,10 +8,7 @@ ghost use Rattle.chip_lang.specs.Uses.{name_defined};
 use crate::block::{Block, all_hold, move_blocks};
 use crate::placement::{Placement, is_passed};
 use crate::table::{Symbol, Table};
-use chip_lang::eval;
-use chip_lang::Fault;
-use chip_lang::{Body, Line};
-use chip_lang::defines;
+use chip_lang::{Body, Fault, Line, defines, eval};
 use std::alloc::{AllocError, Global};
 
 /// The state of the pass between two lines.
@@ -265,7 +262,12 @@ impl Pass {
     }
 
     /// Goes on by one line, and says what holds of it.
-    pub(crate) fn step(&mut self, alloc: Global, number: usize, line: &Line) -> Result<Placement, AllocError>
+    pub(crate) fn step(
+        &mut self,
+        alloc: Global,
+        number: usize,
+        line: &Line,
+    ) -> Result<Placement, AllocError>
         ensures found { (lines : List Reading) → Follows self.old (placed lines) → number ≡ length lines + 1
             → IfOk result (λ placement. placement ≡ placement_of (place (placed lines) (seen_line line.now))) }
         ensures follows { (lines : List Reading) → Follows self.old (placed lines) → number ≡ length lines + 1

@@ -15,10 +15,7 @@ use crate::kept_line::KeptLine;
 use crate::layout::Layout;
 use crate::placement::Placement;
 use crate::table::Table;
-use chip_lang::{Coded, encode};
-use chip_lang::{Body, Line};
-use chip_lang::Meter;
-use chip_lang::agree_on;
+use chip_lang::{Body, Coded, Line, Meter, agree_on, encode};
 use std::alloc::{AllocError, Global};
 
 /// Whether the line has bytes of its own.

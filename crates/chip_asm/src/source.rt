@@ -18,9 +18,8 @@ use crate::listing::listing_in;
 use crate::recode::write_codes;
 use crate::refusal::{OpenError, Refusal, delete_refusal, insert_refusal, replace_refusal};
 use crate::table::Symbol;
-use chip_lang::{Bytes, Fault};
 use chip_lang::laws::same_code;
-use chip_lang::Meter;
+use chip_lang::{Bytes, Fault, Meter};
 use std::alloc::{AllocError, Global};
 use std::marker::Model;
 

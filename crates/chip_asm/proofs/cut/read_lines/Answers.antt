@@ -42,14 +42,14 @@ loop-rest-preserved c =
     let room : length c.loop-rest.lines.items < 4000 = omega (arith, c.len.ensures, c.if-len-eq-MAX_LINES.false, c.loop-rest.invariant.3, c.loop-rest.lines.ok.0) in
     let read : c.push_line.new.meter.parsed ≡ one_more c.loop-rest.meter.parsed = ap (λ m. m.parsed) c.push_line.ensures.counted in (
       ap (λ xs. xs ++ lines_of c.after_line-rest.result.now) c.in_ok-push_line.ensures.texts
-      ∙ append_assoc texts (t ∷ []) (lines_of c.after_line-rest.result.now)
-      ∙ ap (λ b. texts ++ t ∷ lines_of b) c.after_line-rest.ensures
-      ∙ ap (λ x. texts ++ x ∷ lines_of (after_first is_newline c.loop-rest.rest.now)) c.first_text-text.ensures
-      ∙ cut,
+          ∙ append_assoc texts (t ∷ []) (lines_of c.after_line-rest.result.now)
+          ∙ ap (λ b. texts ++ t ∷ lines_of b) c.after_line-rest.ensures
+          ∙ ap (λ x. texts ++ x ∷ lines_of (after_first is_newline c.loop-rest.rest.now)) c.first_text-text.ensures
+          ∙ cut,
       c.in_ok-push_line.ensures.readings
-      ∙ ap (λ rs. rs ++ reading_of t ∷ []) c.loop-rest.invariant.1
-      ∙ sym (map-append reading_of texts (t ∷ []))
-      ∙ ap (map reading_of) (sym c.in_ok-push_line.ensures.texts),
+          ∙ ap (λ rs. rs ++ reading_of t ∷ []) c.loop-rest.invariant.1
+          ∙ sym (map-append reading_of texts (t ∷ []))
+          ∙ ap (map reading_of) (sym c.in_ok-push_line.ensures.texts),
       subst AllShort (sym c.in_ok-push_line.ensures.texts) (short-push texts t c.loop-rest.invariant.2 short),
       omega arith,
       omega (arith, read, c.loop-rest.invariant.4),

@@ -18,9 +18,9 @@ loop-place-preserved c =
     let sound = no-fault c.args.lines.now c.index.result.now c.index-lines-place.result c.loop-place.place a (ap is_some (sym c.kept_fault.ensures) ∙ sym c.is_some.ensures ∙ c.if-is_some.false) in (
       below_more (λ i. fault_of_line (readings_in c.args.lines.now) (i + 1) ≡ None) c.loop-place.place c.loop-place.invariant.0 sound.1,
       λ k h.
-      rw (part-more c.args.lines.now c.index.result.now c.index-lines-place.result c.loop-place.place a)
-      (image-more c.args.lines.now c.index.result.now c.index-lines-place.result c.loop-place.place a sound.0 (get_or c.loop-place.image k 0) (get_or c.write_line.new.image k 0) (reverse (take c.loop-place.place (reverse (placed (readings_in c.args.lines.now))))) k
-      (rw (← c.kept_bytes.ensures) (c.write_line.ensures k)) (c.loop-place.invariant.1 k h)),
+          rw (part-more c.args.lines.now c.index.result.now c.index-lines-place.result c.loop-place.place a)
+          (image-more c.args.lines.now c.index.result.now c.index-lines-place.result c.loop-place.place a sound.0 (get_or c.loop-place.image k 0) (get_or c.write_line.new.image k 0) (reverse (take c.loop-place.place (reverse (placed (readings_in c.args.lines.now))))) k
+          (rw (← c.kept_bytes.ensures) (c.write_line.ensures k)) (c.loop-place.invariant.1 k h)),
     )
 
 pub index-requires : goal.index-requires

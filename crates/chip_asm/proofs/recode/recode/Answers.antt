@@ -51,15 +51,15 @@ loop-place-preserved c =
     let all : List Reading = readings_in (lines_after c.args.lines.now c.args.edit.now) in
     let inside : c.loop-place.place < length all = omega (arith, length-readings_after c.args.lines.now c.args.edit.now c.requires.within, c.count_after-place-end.ensures) in (
       (λ before old.
-      let again = c.is_encoded_again-again.ensures before all old c.requires.new in
-      let code : c.in_ok-encode_if.field-0 ≡ new_code before all (place_before c.args.edit.now) (c.loop-place.place, seen_line c.line_after-line.result.now)
-      = c.in_ok-encode_if.ensures.code ∙ (rw (c.requires.new.names, again) (code-again before all (place_before c.args.edit.now) c.loop-place.place (seen_line c.line_after-line.result.now) _ refl)) in
-      c.in_ok-push.ensures.items ∙ (rw (c.loop-place.invariant.0 before old, code, take-numbered all c.loop-place.place (seen_line c.line_after-line.result.now) inside c.line_after-line.ensures, map-append) refl)),
+          let again = c.is_encoded_again-again.ensures before all old c.requires.new in
+          let code : c.in_ok-encode_if.field-0 ≡ new_code before all (place_before c.args.edit.now) (c.loop-place.place, seen_line c.line_after-line.result.now)
+          = c.in_ok-encode_if.ensures.code ∙ (rw (c.requires.new.names, again) (code-again before all (place_before c.args.edit.now) c.loop-place.place (seen_line c.line_after-line.result.now) _ refl)) in
+          c.in_ok-push.ensures.items ∙ (rw (c.loop-place.invariant.0 before old, code, take-numbered all c.loop-place.place (seen_line c.line_after-line.result.now) inside c.line_after-line.ensures, map-append) refl)),
       (λ before old.
-      let again = c.is_encoded_again-again.ensures before all old c.requires.new in
-      let grown : c.encode_if.new.meter.encoded ≤ c.loop-place.meter.encoded + cond (is_encoded_again before all (place_before c.args.edit.now) (c.loop-place.place, seen_line c.line_after-line.result.now)) 1 0
-      = rw (← again) c.encode_if.ensures.encoded in
-      omega (arith, c.loop-place.invariant.1 before old, grown, count-numbered (is_encoded_again before all (place_before c.args.edit.now)) all c.loop-place.place (seen_line c.line_after-line.result.now) inside c.line_after-line.ensures)),
+          let again = c.is_encoded_again-again.ensures before all old c.requires.new in
+          let grown : c.encode_if.new.meter.encoded ≤ c.loop-place.meter.encoded + cond (is_encoded_again before all (place_before c.args.edit.now) (c.loop-place.place, seen_line c.line_after-line.result.now)) 1 0
+          = rw (← again) c.encode_if.ensures.encoded in
+          omega (arith, c.loop-place.invariant.1 before old, grown, count-numbered (is_encoded_again before all (place_before c.args.edit.now)) all c.loop-place.place (seen_line c.line_after-line.result.now) inside c.line_after-line.ensures)),
       c.encode_if.ensures.parsed ∙ c.loop-place.invariant.2,
     )
 

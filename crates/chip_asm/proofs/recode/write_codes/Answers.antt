@@ -29,8 +29,8 @@ loop-code-preserved-in-Some-code c =
       omega (arith, c.loop-code.invariant.0),
       p.1,
       (rw c.write_code.ensures
-      (written-new c.args.lines.now c.loop-code.lines c.args.fresh.items (c.loop-code.place - 1) (get_or c.loop-code.lines (c.loop-code.place - 1) c.index-lines-place.result) c.index-lines-place.result c.in-Some-code.code w (p.2 ∙ c.in-Some-code.is)
-      (omega (arith, c.loop-code.auto.lines, c.loop-code.invariant.0, c.loop-code.fresh.ok.0, ap length c.loop-code.invariant.1, length-take {A = Option Coded} c.loop-code.place c.args.fresh.items, c.args.fresh.ok.0, c.requires)) refl)),
+          (written-new c.args.lines.now c.loop-code.lines c.args.fresh.items (c.loop-code.place - 1) (get_or c.loop-code.lines (c.loop-code.place - 1) c.index-lines-place.result) c.index-lines-place.result c.in-Some-code.code w (p.2 ∙ c.in-Some-code.is)
+          (omega (arith, c.loop-code.auto.lines, c.loop-code.invariant.0, c.loop-code.fresh.ok.0, ap length c.loop-code.invariant.1, length-take {A = Option Coded} c.loop-code.place c.args.fresh.items, c.args.fresh.ok.0, c.requires)) refl)),
     )
 
 pub returns : goal.returns

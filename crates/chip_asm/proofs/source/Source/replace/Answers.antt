@@ -16,8 +16,8 @@ returns-clause-ok c =
     let count : length c.args.self.now.lines ≡ c.len.result = sym (count-texts c.self.inside.lines.items c.args.self.now.lines (ap (λ t. t.lines) c.self.view_is)) ∙ sym c.self.inside.lines.ok.0 ∙ sym c.len.ensures in (
       ap (λ n. replace_refusal n c.args.number c.args.text.now) count ∙ sym c.replace_refusal.ensures ∙ c.in_default.is,
       c.in_ok-apply.ensures.ok ∙ texts-set c.self.inside.lines.items (c.args.number - 1) c.in_ok-added.added
-      ∙ ap (λ texts. set texts (c.args.number - 1) c.in_ok-added.added.text) (ap (λ t. t.lines) c.self.view_is)
-      ∙ ap (set c.args.self.now.lines (c.args.number - 1)) c.in_ok-added.ensures.text,
+          ∙ ap (λ texts. set texts (c.args.number - 1) c.in_ok-added.added.text) (ap (λ t. t.lines) c.self.view_is)
+          ∙ ap (set c.args.self.now.lines (c.args.number - 1)) c.in_ok-added.ensures.text,
     )
 
 pub returns-in_err-apply-clause-encoded : goal.returns-in_err-apply-clause-encoded

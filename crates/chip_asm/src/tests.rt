@@ -1,0 +1,148 @@
+use crate::{OpenError, Refusal, Source};
+use chip_lang::Fault;
+use std::test::Fail;
+
+const COUNTING: &[u8] = b"LD V0, 5\nLOOP: ADD V0, 1\nJP LOOP\n";
+
+#[test]
+fn an_edit_encodes_only_what_needs_it(rt: HostRuntime) -> Result<(), Fail> {
+    let alloc = rt.alloc();
+    let mut source = Source::open(alloc, COUNTING)?;
+    assert_eq!(rt; source.lines(), 3);
+    assert_eq!(rt; source.work().parsed, 3);
+    assert_eq!(rt; source.work().encoded, 3);
+    assert_eq!(rt;
+        source.image(),
+        Some([0x60, 5, 0x70, 1, 0x12, 2].as_slice())
+    );
+    source.insert(alloc, 2, b"CLS")?;
+    assert_eq!(rt; source.work().parsed, 4);
+    assert_eq!(rt; source.work().encoded, 5);
+    assert_eq!(rt;
+        source.image(),
+        Some([0x60, 5, 0, 0xe0, 0x70, 1, 0x12, 4].as_slice())
+    );
+    let symbol = source.symbol(b"LOOP").ok_or("LOOP")?;
+    assert_eq!(rt; symbol.value, 516);
+    assert_eq!(rt; symbol.line, 3);
+    assert_eq!(rt; source.symbols(alloc)?.len(), 1);
+    Ok(())
+}
+
+#[test]
+fn lines_are_edited_one_after_another(rt: HostRuntime) -> Result<(), Fail> {
+    let alloc = rt.alloc();
+    let mut source = Source::new(alloc);
+    source.insert(alloc, 1, b"LD V0, 5")?;
+    source.insert(alloc, 2, b"LOOP: ADD V0, 1")?;
+    source.insert(alloc, 3, b"JP LOOP")?;
+    source.insert(alloc, 2, b"CLS")?;
+    assert_eq!(rt;
+        source.image(),
+        Some([0x60, 5, 0, 0xe0, 0x70, 1, 0x12, 4].as_slice())
+    );
+    assert_eq!(rt; source.delete(alloc, 9), Err(Refusal::NoSuchLine));
+    assert_eq!(rt; source.insert(alloc, 0, b""), Err(Refusal::NoSuchLine));
+    assert_eq!(rt; source.replace(alloc, 1, b"a\rb"), Err(Refusal::LineBreak));
+    assert_eq!(rt;
+        source.insert(alloc, 1, [b' '; 201].as_slice()),
+        Err(Refusal::TextTooLong)
+    );
+    source.replace(alloc, 1, b"LD V0, 9")?;
+    source.delete(alloc, 2)?;
+    assert_eq!(rt;
+        source.image(),
+        Some([0x60, 9, 0x70, 1, 0x12, 2].as_slice())
+    );
+    source.delete(alloc, 2)?;
+    assert_eq!(rt; source.fault(2), Some(Fault::UndefinedName));
+    assert_eq!(rt; source.image(), None);
+    Ok(())
+}
+
+#[test]
+fn a_listing_shows_addresses_and_bytes(rt: HostRuntime) -> Result<(), Fail> {
+    let alloc = rt.alloc();
+    let source = Source::open(alloc, COUNTING)?;
+    let listing = source.listing(alloc)?;
+    assert_eq!(rt;
+        listing.as_slice(),
+        b"   1 0200 6005          LD V0, 5\n   2 0202 7001          LOOP: ADD V0, 1\n   3 0204 1202          JP LOOP\n".as_slice()
+    );
+    let mut source = Source::open(alloc, b"IFDEF X\nDB 1\nELSE\nDB 2\nENDIF")?;
+    assert_eq!(rt; source.image(), Some([2, 0].as_slice()));
+    source.insert(alloc, 1, b"X EQU 7")?;
+    assert_eq!(rt; source.image(), Some([1, 0].as_slice()));
+    assert_eq!(rt;
+        source.listing(alloc)?.as_slice(),
+        b"   1 0200 =7            X EQU 7\n   2 0200               IFDEF X\n   3 0200 0100          DB 1\n   4 0202               ELSE\n   5 ----               DB 2\n   6 0202               ENDIF\n".as_slice()
+    );
+    let source = Source::open(alloc, b"DS 3584")?;
+    assert_eq!(rt;
+        source.listing(alloc)?.as_slice(),
+        b"   1 0200 000000000000+ DS 3584\n".as_slice()
+    );
+    Ok(())
+}
+
+#[test]
+fn faults_stand_in_line_order(rt: HostRuntime) -> Result<(), Fail> {
+    let alloc = rt.alloc();
+    let source = Source::open(alloc, b"DB Q\nP EQU Q\nQ EQU 1")?;
+    let faults = source.faults(alloc)?;
+    assert_eq!(rt; faults.len(), 1);
+    assert_eq!(rt; faults[0], (2, Fault::UndefinedName));
+    let source = Source::open(alloc, b"X EQU 1\nx EQU 2\nDB X")?;
+    assert_eq!(rt; source.fault(2), Some(Fault::DefinedTwice));
+    let symbol = source.symbol(b"X").ok_or("X")?;
+    assert_eq!(rt; symbol.value, 1);
+    let source = Source::open(alloc, b"IFDEF X\nIFDEF Y\nENDIF\nDB 1\nENDIF")?;
+    assert_eq!(rt; source.image(), Some([].as_slice()));
+    Ok(())
+}
+
+fn one_fault(rt: &HostRuntime, text: &[u8]) -> Result<Option<Fault>, OpenError> {
+    Ok(Source::open(rt.alloc(), text)?.fault(1))
+}
+
+#[test]
+fn each_fault_has_its_line(rt: HostRuntime) -> Result<(), Fail> {
+    assert_eq!(rt; one_fault(&rt, b"FOO V0")?, Some(Fault::UnknownWord));
+    assert_eq!(rt; one_fault(&rt, b"A: LD V0")?, Some(Fault::WrongOperands));
+    assert_eq!(rt; one_fault(&rt, b"DB 'ab")?, Some(Fault::UnfinishedString));
+    assert_eq!(rt; one_fault(&rt, b"DB ?")?, Some(Fault::BadCharacter));
+    assert_eq!(rt;
+        one_fault(&rt, b"DB 99999999999")?,
+        Some(Fault::NumberTooLarge)
+    );
+    assert_eq!(rt; one_fault(&rt, b"LD: CLS")?, Some(Fault::BadName));
+    assert_eq!(rt; one_fault(&rt, b"INCLUDE 'x'")?, Some(Fault::NotInProfile));
+    assert_eq!(rt; one_fault(&rt, b"ENDIF")?, Some(Fault::StrayBranch));
+    assert_eq!(rt; one_fault(&rt, b"IFDEF X")?, Some(Fault::UnclosedIf));
+    assert_eq!(rt; one_fault(&rt, b"LD V0, 300")?, Some(Fault::OutOfRange));
+    assert_eq!(rt; one_fault(&rt, b"DS 3585")?, Some(Fault::PastMemory));
+    assert_eq!(rt; one_fault(&rt, b"DS -1")?, Some(Fault::OutOfRange));
+    assert_eq!(rt; one_fault(&rt, b"ORG 100")?, Some(Fault::OrgBelowHere));
+    assert_eq!(rt; one_fault(&rt, b"ORG 4096")?, None);
+    assert_eq!(rt; one_fault(&rt, b"DB 1/0")?, Some(Fault::DivisionByZero));
+    assert_eq!(rt; one_fault(&rt, b"DW 1 < 31")?, Some(Fault::Overflow));
+    Ok(())
+}
+
+#[test]
+fn data_is_written_as_it_stands(rt: HostRuntime) -> Result<(), Fail> {
+    let alloc = rt.alloc();
+    let source = Source::open(alloc, b"DB $..1111.., 255, -128, 1 + 2 * 3 < 1")?;
+    assert_eq!(rt; source.image(), Some([0x3c, 0xff, 0x80, 0x0d].as_slice()));
+    let source = Source::open(alloc, b"DW 6 | 1 ^ 7 & 2, -7/2")?;
+    assert_eq!(rt; source.image(), Some([0, 5, 0xff, 0xfd].as_slice()));
+    let source = Source::open(
+        alloc,
+        b"OPTION SCHIP11\nALIGN OFF\nXREF ON\nJP START ; go\nDATA: DB #3C, $.1..1.1.\nstart: LD I, data",
+    )?;
+    assert_eq!(rt;
+        source.image(),
+        Some([0x12, 4, 0x3c, 0x4a, 0xa2, 2].as_slice())
+    );
+    Ok(())
+}
