@@ -2,6 +2,13 @@ use crate::{OpenError, Refusal, Source};
 use chip_lang::Fault;
 use std::test::Fail;
 
+fn has_image(source: &Source, expected: &[u8]) -> bool {
+    match source.image() {
+        Some(image) => image == expected,
+        None => false,
+    }
+}
+
 const COUNTING: &[u8] = b"LD V0, 5\nLOOP: ADD V0, 1\nJP LOOP\n";
 
 #[test]
@@ -11,17 +18,11 @@ fn an_edit_encodes_only_what_needs_it(rt: HostRuntime) -> Result<(), Fail> {
     assert_eq!(rt; source.lines(), 3);
     assert_eq!(rt; source.work().parsed, 3);
     assert_eq!(rt; source.work().encoded, 3);
-    assert_eq!(rt;
-        source.image(),
-        Some([0x60, 5, 0x70, 1, 0x12, 2].as_slice())
-    );
+    assert!(rt; has_image(&source, &[0x60, 5, 0x70, 1, 0x12, 2]));
     source.insert(alloc, 2, b"CLS")?;
     assert_eq!(rt; source.work().parsed, 4);
     assert_eq!(rt; source.work().encoded, 5);
-    assert_eq!(rt;
-        source.image(),
-        Some([0x60, 5, 0, 0xe0, 0x70, 1, 0x12, 4].as_slice())
-    );
+    assert!(rt; has_image(&source, &[0x60, 5, 0, 0xe0, 0x70, 1, 0x12, 4]));
     let symbol = source.symbol(b"LOOP").ok_or("LOOP")?;
     assert_eq!(rt; symbol.value, 516);
     assert_eq!(rt; symbol.line, 3);
@@ -37,10 +38,7 @@ fn lines_are_edited_one_after_another(rt: HostRuntime) -> Result<(), Fail> {
     source.insert(alloc, 2, b"LOOP: ADD V0, 1")?;
     source.insert(alloc, 3, b"JP LOOP")?;
     source.insert(alloc, 2, b"CLS")?;
-    assert_eq!(rt;
-        source.image(),
-        Some([0x60, 5, 0, 0xe0, 0x70, 1, 0x12, 4].as_slice())
-    );
+    assert!(rt; has_image(&source, &[0x60, 5, 0, 0xe0, 0x70, 1, 0x12, 4]));
     assert_eq!(rt; source.delete(alloc, 9), Err(Refusal::NoSuchLine));
     assert_eq!(rt; source.insert(alloc, 0, b""), Err(Refusal::NoSuchLine));
     assert_eq!(rt; source.replace(alloc, 1, b"a\rb"), Err(Refusal::LineBreak));
@@ -50,13 +48,10 @@ fn lines_are_edited_one_after_another(rt: HostRuntime) -> Result<(), Fail> {
     );
     source.replace(alloc, 1, b"LD V0, 9")?;
     source.delete(alloc, 2)?;
-    assert_eq!(rt;
-        source.image(),
-        Some([0x60, 9, 0x70, 1, 0x12, 2].as_slice())
-    );
+    assert!(rt; has_image(&source, &[0x60, 9, 0x70, 1, 0x12, 2]));
     source.delete(alloc, 2)?;
     assert_eq!(rt; source.fault(2), Some(Fault::UndefinedName));
-    assert_eq!(rt; source.image(), None);
+    assert!(rt; source.image().is_none());
     Ok(())
 }
 
@@ -70,9 +65,9 @@ fn a_listing_shows_addresses_and_bytes(rt: HostRuntime) -> Result<(), Fail> {
         b"   1 0200 6005          LD V0, 5\n   2 0202 7001          LOOP: ADD V0, 1\n   3 0204 1202          JP LOOP\n".as_slice()
     );
     let mut source = Source::open(alloc, b"IFDEF X\nDB 1\nELSE\nDB 2\nENDIF")?;
-    assert_eq!(rt; source.image(), Some([2, 0].as_slice()));
+    assert!(rt; has_image(&source, &[2, 0]));
     source.insert(alloc, 1, b"X EQU 7")?;
-    assert_eq!(rt; source.image(), Some([1, 0].as_slice()));
+    assert!(rt; has_image(&source, &[1, 0]));
     assert_eq!(rt;
         source.listing(alloc)?.as_slice(),
         b"   1 0200 =7            X EQU 7\n   2 0200               IFDEF X\n   3 0200 0100          DB 1\n   4 0202               ELSE\n   5 ----               DB 2\n   6 0202               ENDIF\n".as_slice()
@@ -97,7 +92,7 @@ fn faults_stand_in_line_order(rt: HostRuntime) -> Result<(), Fail> {
     let symbol = source.symbol(b"X").ok_or("X")?;
     assert_eq!(rt; symbol.value, 1);
     let source = Source::open(alloc, b"IFDEF X\nIFDEF Y\nENDIF\nDB 1\nENDIF")?;
-    assert_eq!(rt; source.image(), Some([].as_slice()));
+    assert!(rt; has_image(&source, &[]));
     Ok(())
 }
 
@@ -133,16 +128,43 @@ fn each_fault_has_its_line(rt: HostRuntime) -> Result<(), Fail> {
 fn data_is_written_as_it_stands(rt: HostRuntime) -> Result<(), Fail> {
     let alloc = rt.alloc();
     let source = Source::open(alloc, b"DB $..1111.., 255, -128, 1 + 2 * 3 < 1")?;
-    assert_eq!(rt; source.image(), Some([0x3c, 0xff, 0x80, 0x0d].as_slice()));
+    assert!(rt; has_image(&source, &[0x3c, 0xff, 0x80, 0x0d]));
     let source = Source::open(alloc, b"DW 6 | 1 ^ 7 & 2, -7/2")?;
-    assert_eq!(rt; source.image(), Some([0, 5, 0xff, 0xfd].as_slice()));
+    assert!(rt; has_image(&source, &[0, 5, 0xff, 0xfd]));
     let source = Source::open(
         alloc,
         b"OPTION SCHIP11\nALIGN OFF\nXREF ON\nJP START ; go\nDATA: DB #3C, $.1..1.1.\nstart: LD I, data",
     )?;
-    assert_eq!(rt;
-        source.image(),
-        Some([0x12, 4, 0x3c, 0x4a, 0xa2, 2].as_slice())
-    );
+    assert!(rt; has_image(&source, &[0x12, 4, 0x3c, 0x4a, 0xa2, 2]));
+    Ok(())
+}
+
+#[test]
+fn kept_codes_are_used_again(rt: HostRuntime) -> Result<(), Fail> {
+    let alloc = rt.alloc();
+    let mut source = Source::open(alloc, b"N EQU 1\nDB N\nDB 5\nLD V0, N")?;
+    assert_eq!(rt; source.work().parsed, 4);
+    assert!(rt; source.work().encoded <= 4);
+    assert!(rt; has_image(&source, &[1, 0, 5, 0, 0x60, 1]));
+    source.replace(alloc, 1, b"N EQU 2")?;
+    assert_eq!(rt; source.work().parsed, 5);
+    assert!(rt; source.work().encoded <= 7);
+    assert!(rt; has_image(&source, &[2, 0, 5, 0, 0x60, 2]));
+    source.replace(alloc, 1, b"N EQU 2")?;
+    assert_eq!(rt; source.work().parsed, 6);
+    assert!(rt; source.work().encoded <= 8);
+    source.insert(alloc, 1, b"IFDEF ZZ")?;
+    assert_eq!(rt; source.work().parsed, 7);
+    assert!(rt; source.work().encoded <= 8);
+    assert_eq!(rt; source.fault(1), Some(Fault::UnclosedIf));
+    assert!(rt; source.image().is_none());
+    source.insert(alloc, 6, b"ENDIF")?;
+    assert_eq!(rt; source.work().parsed, 8);
+    assert!(rt; source.work().encoded <= 10);
+    assert!(rt; has_image(&source, &[]));
+    source.insert(alloc, 1, b"DEFINE ZZ")?;
+    assert_eq!(rt; source.work().parsed, 9);
+    assert!(rt; source.work().encoded <= 15);
+    assert!(rt; has_image(&source, &[2, 0, 5, 0, 0x60, 2]));
     Ok(())
 }

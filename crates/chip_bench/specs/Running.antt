@@ -1,5 +1,7 @@
 -- What a run of the program reads, writes and answers (own).
-use Rattle.std.specs.Prelude.{◌≡◌, ◌⊎◌, ℕ, List, [], Result, Ok, Err}
+use Rattle.std.specs.Prelude.{◌≡◌, ◌≢◌, ◌⊎◌, ℕ, List, [], Result, Ok, Err}
+use Rattle.clap.specs.Kinds.{Kinds, IsAmong}
+use Rattle.clap.specs.declared.error.kind.ErrorKind.TheVariants as kind
 use Rattle.chip_bench.specs.Settings.{default_settings}
 use Rattle.chip_bench.specs.Session.{session_of}
 use Rattle.chip_bench.specs.Serving.{Served}
@@ -63,3 +65,12 @@ CarriedAs result (Err e) = result ≡ Err (failure_of e)
 
 abbrev pub Carried : Result Ending Failure → List ℕ → List ℕ → List ℕ → Type 0
 Carried result given rest written = (served : Result Unit ServeError) × CarriedAs result served × Served served (session_of default_settings []) given rest written
+
+-- words with a fault: they are no request for help, nor in order
+abbrev pub AreFaulty : Kinds → Type 0
+AreFaulty kinds = (kinds ≢ []) × (IsAmong kind.DisplayHelp kinds → ⊥) × (IsAmong kind.DisplayVersion kinds → ⊥)
+
+-- for private contracts: words that have a fault, or want of memory
+abbrev pub IsUsage : Result Ending Failure → Type 0
+IsUsage (Ok ending) = ⊥
+IsUsage (Err failure) = (failure_status failure ≡ 2) ⊎ (failure_status failure ≡ 4)

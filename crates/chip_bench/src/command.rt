@@ -135,10 +135,7 @@ fn source_question<'a>(word: &[u8], operands: &'a [u8]) -> Result<Command<'a>, C
     machine_question(word, operands)
 }
 
-fn without_words<'a>(
-    operands: &'a [u8],
-    question: Question,
-) -> Result<Command<'a>, CommandFault>
+fn without_words<'a>(operands: &'a [u8], question: Question) -> Result<Command<'a>, CommandFault>
     ensures { Reads result (without_words operands.now question) }
 {
     if operands.is_empty() {
@@ -173,7 +170,11 @@ fn machine_question<'a>(word: &[u8], operands: &'a [u8]) -> Result<Command<'a>, 
     }
     if word == b"dis".as_slice() {
         return match three_numbers(operands) {
-            Some((step, (at, count))) => Ok(Command::Ask(Question::Disassembly { step, at, count })),
+            Some((step, (at, count))) => Ok(Command::Ask(Question::Disassembly {
+                step,
+                at,
+                count,
+            })),
             None => Err(CommandFault::Unknown),
         };
     }

@@ -1,16 +1,19 @@
 //! The program behind `main`.
-ghost use Rattle.std.specs.Prelude.{◌≡◌, [], ◌∷◌, Ok, Err, None, IfOk, IfErr};
+ghost use Rattle.std.specs.Prelude.{◌≡◌, [], ◌∷◌, Ok, Err, None, IfOk, IfErr, ◌⊎◌, map};
 ghost use Rattle.chip_bench.specs.Settings.{default_settings};
 ghost use Rattle.chip_bench.specs.SettingWords.{default_words};
 ghost use Rattle.chip_bench.specs.Serving.{Exchanges};
-ghost use Rattle.chip_bench.specs.Running.{Carried, Ran, ending_status, failure_status, settings_failure, no_memory};
+ghost use Rattle.chip_bench.specs.Running.{Carried, Ran, ending_status, failure_status, settings_failure, no_memory, AreFaulty, IsUsage};
+ghost use Rattle.chip_bench.specs.CommandLine.{chipbench};
+ghost use Rattle.clap.specs.Words.{fault_of};
+ghost use Rattle.std.specs.Io.KnownBytes.{Keeps};
 ghost use Rattle.chip_asm.specs.declared.refusal.OpenError.TheVariants.{OutOfMemory as memory};
 
 use crate::answer::{faults_answer, listing_answer};
 use crate::bench::Bench;
 use crate::command_line::{CommandLine, SettingWords, not_text, parse_words};
 use crate::counted::Counted;
-use crate::question::{Question, run_questions};
+use crate::question::Question;
 use crate::refusal::Refusal;
 use crate::server::{ServeError, serve};
 use crate::settings::{SetError, Settings};
@@ -105,6 +108,8 @@ impl<'a> From<SetError> for Failure<'a> {
 }
 
 impl<'a> From<clap::Error> for Failure<'a> {
+    ghost from_gives = { λ _ failure. (failure_status failure ≡ 2) ⊎ (failure_status failure ≡ 4) };
+
     fn from(error: clap::Error) -> Failure<'a> {
         match error.kind() {
             ErrorKind::OutOfMemory => Failure::OutOfMemory,
@@ -127,8 +132,11 @@ pub fn program<F: Files, S: AsStr, I: Read, O: Write, E: Write>(
     output: &mut Counted<O>,
     errors: &mut E,
 ) -> u8
-    ensures { words.now ≡ [] → Exchanges (I.remaining input.old.inner) (I.remaining input.new.inner)
+    ensures session { words.now ≡ [] → Exchanges (I.remaining input.old.inner) (I.remaining input.new.inner)
         (O.contents output.old.inner) (O.contents output.new.inner) (Ran result) }
+    // Words with a fault are refused, and nothing is read or written.
+    ensures usage { AreFaulty (fault_of chipbench (map S.text words.now)) → ((result ≡ 2) ⊎ (result ≡ 4))
+        × (input.new ≡ input.old) × Keeps (O.contents output.old.inner) (O.contents output.new.inner) }
 {
     let ended = carry_out(alloc, files, words, input, output);
     let flushed = output.flush();
@@ -165,8 +173,10 @@ fn carry_out<'a, F: Files, S: AsStr, I: Read, O: Write>(
     input: &mut Counted<I>,
     output: &mut Counted<O>,
 ) -> Result<Ending, Failure<'a>>
-    ensures { words.entry.now ≡ [] → Exchanges (I.remaining input.old.inner) (I.remaining input.new.inner)
+    ensures session { words.entry.now ≡ [] → Exchanges (I.remaining input.old.inner) (I.remaining input.new.inner)
         (O.contents output.old.inner) (O.contents output.new.inner) (Carried result) }
+    ensures usage { AreFaulty (fault_of chipbench (map S.text words.entry.now)) → IsUsage result
+        × (input.new ≡ input.old) × (output.new ≡ output.old) }
 {
     let line = match parse_words(alloc, words) {
         Ok(line) => line,
@@ -323,8 +333,12 @@ fn run<'a, F: Files, O: Write>(
         Ok(bench) => bench,
         Err(error) => return refuse_source(error, output),
     };
+    let questions = [
+        Question::Registers { step: steps },
+        Question::Screen { step: steps },
+    ];
     let mut answers = Vec::new(alloc);
-    for question in run_questions(steps) {
+    for question in questions {
         match bench.ask(alloc, &question, &mut answers) {
             Ok(()) => {}
             Err(Refusal::NoImage) => return print_faults(alloc, &mut bench, output),

@@ -20,11 +20,3 @@ pub enum Question {
     /// So many words of the memory at a step, from an address, with their source texts.
     Disassembly { step: u32, at: u32, count: u32 },
 }
-
-/// What a run of a source prints: the registers and the screen after so many steps.
-pub(crate) fn run_questions(steps: u32) -> [Question; 2] {
-    [
-        Question::Registers { step: steps },
-        Question::Screen { step: steps },
-    ]
-}

@@ -2,6 +2,6 @@
 #![tactic(auto)]
 
 #[cfg(test)]
-mod sessions;
-#[cfg(test)]
 mod rows;
+#[cfg(test)]
+mod sessions;

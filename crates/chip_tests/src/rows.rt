@@ -22,7 +22,8 @@ fn answers(alloc: Global, source: &str, tape: &[u8], script: &str) -> Result<Vec
 fn stops_at_no_instruction(rt: HostRuntime) -> Result<(), Fail> {
     let source = "";
     let script = "image\nregs 1";
-    let expected = "\nv 00 00 00 00 00 00 00 00 00 00 00 00 00 00 00 00\npc 0200 i 0000 dt 00 st 00 draws 0 low S2\nflags 00 00 00 00 00 00 00 00 stack\n";
+    let expected =
+        "\nv 00 00 00 00 00 00 00 00 00 00 00 00 00 00 00 00\npc 0200 i 0000 dt 00 st 00 draws 0 low S2\nflags 00 00 00 00 00 00 00 00 stack\n";
     assert!(rt; answers(rt.alloc(), source, &[0x00], script)?.as_slice() == expected.as_bytes());
     Ok(())
 }
@@ -32,7 +33,8 @@ fn stops_at_no_instruction(rt: HostRuntime) -> Result<(), Fail> {
 fn edits_what_it_runs(rt: HostRuntime) -> Result<(), Fail> {
     let source = "LD V0, 5\nLOOP: ADD V0, 1\nJP LOOP";
     let script = "regs 3\nrep 1 LD V0, 9\nregs 3";
-    let expected = "v 06 00 00 00 00 00 00 00 00 00 00 00 00 00 00 00\npc 0202 i 0000 dt 00 st 00 draws 0 low run\nflags 00 00 00 00 00 00 00 00 stack\nok\nv 0a 00 00 00 00 00 00 00 00 00 00 00 00 00 00 00\npc 0202 i 0000 dt 00 st 00 draws 0 low run\nflags 00 00 00 00 00 00 00 00 stack\n";
+    let expected =
+        "v 06 00 00 00 00 00 00 00 00 00 00 00 00 00 00 00\npc 0202 i 0000 dt 00 st 00 draws 0 low run\nflags 00 00 00 00 00 00 00 00 stack\nok\nv 0a 00 00 00 00 00 00 00 00 00 00 00 00 00 00 00\npc 0202 i 0000 dt 00 st 00 draws 0 low run\nflags 00 00 00 00 00 00 00 00 stack\n";
     assert!(rt; answers(rt.alloc(), source, &[0x00], script)?.as_slice() == expected.as_bytes());
     Ok(())
 }
@@ -52,7 +54,8 @@ fn refuses_in_order(rt: HostRuntime) -> Result<(), Fail> {
 fn draws_a_digit_at_the_edge(rt: HostRuntime) -> Result<(), Fail> {
     let source = "LD V0, 60\nLD V1, 0\nLD F, V2\nDRW V0, V1, 5";
     let script = "image\nscreen 4";
-    let expected = "603c6100f229d015\nlow\n00 000000000000000000000000000000ff\n01 000000000000000000000000000000ff\n02 000000000000000000000000000000c3\n03 000000000000000000000000000000c3\n04 000000000000000000000000000000c3\n05 000000000000000000000000000000c3\n06 000000000000000000000000000000c3\n07 000000000000000000000000000000c3\n08 000000000000000000000000000000ff\n09 000000000000000000000000000000ff\n.\n";
+    let expected =
+        "603c6100f229d015\nlow\n00 000000000000000000000000000000ff\n01 000000000000000000000000000000ff\n02 000000000000000000000000000000c3\n03 000000000000000000000000000000c3\n04 000000000000000000000000000000c3\n05 000000000000000000000000000000c3\n06 000000000000000000000000000000c3\n07 000000000000000000000000000000c3\n08 000000000000000000000000000000ff\n09 000000000000000000000000000000ff\n.\n";
     assert!(rt; answers(rt.alloc(), source, &[0x00], script)?.as_slice() == expected.as_bytes());
     Ok(())
 }
@@ -62,7 +65,8 @@ fn draws_a_digit_at_the_edge(rt: HostRuntime) -> Result<(), Fail> {
 fn clips_a_digit(rt: HostRuntime) -> Result<(), Fail> {
     let source = "LD V0, 62\nLD V1, 0\nLD F, V2\nDRW V0, V1, 5";
     let script = "screen 4";
-    let expected = "low\n00 0000000000000000000000000000000f\n01 0000000000000000000000000000000f\n02 0000000000000000000000000000000c\n03 0000000000000000000000000000000c\n04 0000000000000000000000000000000c\n05 0000000000000000000000000000000c\n06 0000000000000000000000000000000c\n07 0000000000000000000000000000000c\n08 0000000000000000000000000000000f\n09 0000000000000000000000000000000f\n.\n";
+    let expected =
+        "low\n00 0000000000000000000000000000000f\n01 0000000000000000000000000000000f\n02 0000000000000000000000000000000c\n03 0000000000000000000000000000000c\n04 0000000000000000000000000000000c\n05 0000000000000000000000000000000c\n06 0000000000000000000000000000000c\n07 0000000000000000000000000000000c\n08 0000000000000000000000000000000f\n09 0000000000000000000000000000000f\n.\n";
     assert!(rt; answers(rt.alloc(), source, &[0x00], script)?.as_slice() == expected.as_bytes());
     Ok(())
 }
@@ -72,7 +76,8 @@ fn clips_a_digit(rt: HostRuntime) -> Result<(), Fail> {
 fn draws_a_digit_twice(rt: HostRuntime) -> Result<(), Fail> {
     let source = "LD V0, 60\nLD V1, 0\nLD F, V2\nDRW V0, V1, 5\nDRW V0, V1, 5";
     let script = "screen 5\nregs 5";
-    let expected = "low\n.\nv 3c 00 00 00 00 00 00 00 00 00 00 00 00 00 00 01\npc 020a i 0000 dt 00 st 00 draws 0 low run\nflags 00 00 00 00 00 00 00 00 stack\n";
+    let expected =
+        "low\n.\nv 3c 00 00 00 00 00 00 00 00 00 00 00 00 00 00 01\npc 020a i 0000 dt 00 st 00 draws 0 low run\nflags 00 00 00 00 00 00 00 00 stack\n";
     assert!(rt; answers(rt.alloc(), source, &[0x00], script)?.as_slice() == expected.as_bytes());
     Ok(())
 }
@@ -92,7 +97,8 @@ fn draws_a_large_sprite(rt: HostRuntime) -> Result<(), Fail> {
 fn scrolls_right(rt: HostRuntime) -> Result<(), Fail> {
     let source = "LD F, V0\nDRW V0, V0, 5\nSCR";
     let script = "screen 3";
-    let expected = "low\n00 0ff00000000000000000000000000000\n01 0ff00000000000000000000000000000\n02 0c300000000000000000000000000000\n03 0c300000000000000000000000000000\n04 0c300000000000000000000000000000\n05 0c300000000000000000000000000000\n06 0c300000000000000000000000000000\n07 0c300000000000000000000000000000\n08 0ff00000000000000000000000000000\n09 0ff00000000000000000000000000000\n.\n";
+    let expected =
+        "low\n00 0ff00000000000000000000000000000\n01 0ff00000000000000000000000000000\n02 0c300000000000000000000000000000\n03 0c300000000000000000000000000000\n04 0c300000000000000000000000000000\n05 0c300000000000000000000000000000\n06 0c300000000000000000000000000000\n07 0c300000000000000000000000000000\n08 0ff00000000000000000000000000000\n09 0ff00000000000000000000000000000\n.\n";
     assert!(rt; answers(rt.alloc(), source, &[0x00], script)?.as_slice() == expected.as_bytes());
     Ok(())
 }
@@ -102,7 +108,8 @@ fn scrolls_right(rt: HostRuntime) -> Result<(), Fail> {
 fn scrolls_down(rt: HostRuntime) -> Result<(), Fail> {
     let source = "LD F, V0\nDRW V0, V0, 5\nSCD 3";
     let script = "screen 3";
-    let expected = "low\n03 ff000000000000000000000000000000\n04 ff000000000000000000000000000000\n05 c3000000000000000000000000000000\n06 c3000000000000000000000000000000\n07 c3000000000000000000000000000000\n08 c3000000000000000000000000000000\n09 c3000000000000000000000000000000\n10 c3000000000000000000000000000000\n11 ff000000000000000000000000000000\n12 ff000000000000000000000000000000\n.\n";
+    let expected =
+        "low\n03 ff000000000000000000000000000000\n04 ff000000000000000000000000000000\n05 c3000000000000000000000000000000\n06 c3000000000000000000000000000000\n07 c3000000000000000000000000000000\n08 c3000000000000000000000000000000\n09 c3000000000000000000000000000000\n10 c3000000000000000000000000000000\n11 ff000000000000000000000000000000\n12 ff000000000000000000000000000000\n.\n";
     assert!(rt; answers(rt.alloc(), source, &[0x00], script)?.as_slice() == expected.as_bytes());
     Ok(())
 }
@@ -111,8 +118,10 @@ fn scrolls_down(rt: HostRuntime) -> Result<(), Fail> {
 #[test]
 fn waits_for_a_key(rt: HostRuntime) -> Result<(), Fail> {
     let source = "LD V0, K\nEXIT";
-    let script = "image\nkins 5 10 down\nregs 5\nregs 6\nregs 7\nkins 5 10 up\nkins 0 16 up\nkins 100001 1 up\nkdel 4 10";
-    let expected = "f00a00fd\nok\nv 00 00 00 00 00 00 00 00 00 00 00 00 00 00 00 00\npc 0200 i 0000 dt 00 st 00 draws 0 low run\nflags 00 00 00 00 00 00 00 00 stack\nv 0a 00 00 00 00 00 00 00 00 00 00 00 00 00 00 00\npc 0202 i 0000 dt 00 st 00 draws 0 low run\nflags 00 00 00 00 00 00 00 00 stack\nv 0a 00 00 00 00 00 00 00 00 00 00 00 00 00 00 00\npc 0202 i 0000 dt 00 st 00 draws 0 low S1\nflags 00 00 00 00 00 00 00 00 stack\nno N7\nno N6\nno N5\nno N8\n";
+    let script =
+        "image\nkins 5 10 down\nregs 5\nregs 6\nregs 7\nkins 5 10 up\nkins 0 16 up\nkins 100001 1 up\nkdel 4 10";
+    let expected =
+        "f00a00fd\nok\nv 00 00 00 00 00 00 00 00 00 00 00 00 00 00 00 00\npc 0200 i 0000 dt 00 st 00 draws 0 low run\nflags 00 00 00 00 00 00 00 00 stack\nv 0a 00 00 00 00 00 00 00 00 00 00 00 00 00 00 00\npc 0202 i 0000 dt 00 st 00 draws 0 low run\nflags 00 00 00 00 00 00 00 00 stack\nv 0a 00 00 00 00 00 00 00 00 00 00 00 00 00 00 00\npc 0202 i 0000 dt 00 st 00 draws 0 low S1\nflags 00 00 00 00 00 00 00 00 stack\nno N7\nno N6\nno N5\nno N8\n";
     assert!(rt; answers(rt.alloc(), source, &[0x00], script)?.as_slice() == expected.as_bytes());
     Ok(())
 }
@@ -122,7 +131,8 @@ fn waits_for_a_key(rt: HostRuntime) -> Result<(), Fail> {
 fn keeps_checkpoints(rt: HostRuntime) -> Result<(), Fail> {
     let source = "LD V0, 5\nLOOP: ADD V0, 1\nJP LOOP\nDB 1";
     let script = "regs 5000\nrep 4 DB 2\nregs 5000\nmem 5000 #206 2\nkins 2500 1 down\nregs 5000";
-    let expected = "v c9 00 00 00 00 00 00 00 00 00 00 00 00 00 00 00\npc 0204 i 0000 dt 00 st 00 draws 0 low run\nflags 00 00 00 00 00 00 00 00 stack\nok\nv c9 00 00 00 00 00 00 00 00 00 00 00 00 00 00 00\npc 0204 i 0000 dt 00 st 00 draws 0 low run\nflags 00 00 00 00 00 00 00 00 stack\n0200\nok\nv c9 00 00 00 00 00 00 00 00 00 00 00 00 00 00 00\npc 0204 i 0000 dt 00 st 00 draws 0 low run\nflags 00 00 00 00 00 00 00 00 stack\n";
+    let expected =
+        "v c9 00 00 00 00 00 00 00 00 00 00 00 00 00 00 00\npc 0204 i 0000 dt 00 st 00 draws 0 low run\nflags 00 00 00 00 00 00 00 00 stack\nok\nv c9 00 00 00 00 00 00 00 00 00 00 00 00 00 00 00\npc 0204 i 0000 dt 00 st 00 draws 0 low run\nflags 00 00 00 00 00 00 00 00 stack\n0200\nok\nv c9 00 00 00 00 00 00 00 00 00 00 00 00 00 00 00\npc 0204 i 0000 dt 00 st 00 draws 0 low run\nflags 00 00 00 00 00 00 00 00 stack\n";
     assert!(rt; answers(rt.alloc(), source, &[0x00], script)?.as_slice() == expected.as_bytes());
     Ok(())
 }
@@ -132,7 +142,8 @@ fn keeps_checkpoints(rt: HostRuntime) -> Result<(), Fail> {
 fn changes_itself(rt: HostRuntime) -> Result<(), Fail> {
     let source = "LD I, T\nLD V0, #63\nLD V1, 7\nLD [I], V1\nT: LD V2, 1\nEXIT";
     let script = "image\nregs 6\nrep 5 T: LD V2, 9\nmem 3 #208 2\nmem 4 #208 2\nregs 6";
-    let expected = "a20860636107f155620100fd\nv 63 07 00 07 00 00 00 00 00 00 00 00 00 00 00 00\npc 020a i 0208 dt 00 st 00 draws 0 low S1\nflags 00 00 00 00 00 00 00 00 stack\nok\n6209\n6307\nv 63 07 00 07 00 00 00 00 00 00 00 00 00 00 00 00\npc 020a i 0208 dt 00 st 00 draws 0 low S1\nflags 00 00 00 00 00 00 00 00 stack\n";
+    let expected =
+        "a20860636107f155620100fd\nv 63 07 00 07 00 00 00 00 00 00 00 00 00 00 00 00\npc 020a i 0208 dt 00 st 00 draws 0 low S1\nflags 00 00 00 00 00 00 00 00 stack\nok\n6209\n6307\nv 63 07 00 07 00 00 00 00 00 00 00 00 00 00 00 00\npc 020a i 0208 dt 00 st 00 draws 0 low S1\nflags 00 00 00 00 00 00 00 00 stack\n";
     assert!(rt; answers(rt.alloc(), source, &[0x00], script)?.as_slice() == expected.as_bytes());
     Ok(())
 }
@@ -142,8 +153,11 @@ fn changes_itself(rt: HostRuntime) -> Result<(), Fail> {
 fn draws_from_the_tape(rt: HostRuntime) -> Result<(), Fail> {
     let source = "RND V0, #0F\nRND V1, #F0\nRND V2, 255";
     let script = "regs 3";
-    let expected = "v 05 50 a5 00 00 00 00 00 00 00 00 00 00 00 00 00\npc 0206 i 0000 dt 00 st 00 draws 3 low run\nflags 00 00 00 00 00 00 00 00 stack\n";
-    assert!(rt; answers(rt.alloc(), source, &[0xa5, 0x5a], script)?.as_slice() == expected.as_bytes());
+    let expected =
+        "v 05 50 a5 00 00 00 00 00 00 00 00 00 00 00 00 00\npc 0206 i 0000 dt 00 st 00 draws 3 low run\nflags 00 00 00 00 00 00 00 00 stack\n";
+    assert!(rt;
+        answers(rt.alloc(), source, &[0xa5, 0x5a], script)?.as_slice() == expected.as_bytes()
+    );
     Ok(())
 }
 
@@ -152,7 +166,8 @@ fn draws_from_the_tape(rt: HostRuntime) -> Result<(), Fail> {
 fn counts_down(rt: HostRuntime) -> Result<(), Fail> {
     let source = "LD V0, 2\nLD DT, V0\nL: JP L";
     let script = "regs 9\nregs 10\nregs 20\nregs 30";
-    let expected = "v 02 00 00 00 00 00 00 00 00 00 00 00 00 00 00 00\npc 0204 i 0000 dt 02 st 00 draws 0 low run\nflags 00 00 00 00 00 00 00 00 stack\nv 02 00 00 00 00 00 00 00 00 00 00 00 00 00 00 00\npc 0204 i 0000 dt 01 st 00 draws 0 low run\nflags 00 00 00 00 00 00 00 00 stack\nv 02 00 00 00 00 00 00 00 00 00 00 00 00 00 00 00\npc 0204 i 0000 dt 00 st 00 draws 0 low run\nflags 00 00 00 00 00 00 00 00 stack\nv 02 00 00 00 00 00 00 00 00 00 00 00 00 00 00 00\npc 0204 i 0000 dt 00 st 00 draws 0 low run\nflags 00 00 00 00 00 00 00 00 stack\n";
+    let expected =
+        "v 02 00 00 00 00 00 00 00 00 00 00 00 00 00 00 00\npc 0204 i 0000 dt 02 st 00 draws 0 low run\nflags 00 00 00 00 00 00 00 00 stack\nv 02 00 00 00 00 00 00 00 00 00 00 00 00 00 00 00\npc 0204 i 0000 dt 01 st 00 draws 0 low run\nflags 00 00 00 00 00 00 00 00 stack\nv 02 00 00 00 00 00 00 00 00 00 00 00 00 00 00 00\npc 0204 i 0000 dt 00 st 00 draws 0 low run\nflags 00 00 00 00 00 00 00 00 stack\nv 02 00 00 00 00 00 00 00 00 00 00 00 00 00 00 00\npc 0204 i 0000 dt 00 st 00 draws 0 low run\nflags 00 00 00 00 00 00 00 00 stack\n";
     assert!(rt; answers(rt.alloc(), source, &[0x00], script)?.as_slice() == expected.as_bytes());
     Ok(())
 }
@@ -162,7 +177,8 @@ fn counts_down(rt: HostRuntime) -> Result<(), Fail> {
 fn jumps_by_its_top_digit(rt: HostRuntime) -> Result<(), Fail> {
     let source = "LD V2, 2\nJP V0, #204\nEXIT\nLD V1, 1";
     let script = "image\nregs 3";
-    let expected = "6202b20400fd6101\nv 00 01 02 00 00 00 00 00 00 00 00 00 00 00 00 00\npc 0208 i 0000 dt 00 st 00 draws 0 low run\nflags 00 00 00 00 00 00 00 00 stack\n";
+    let expected =
+        "6202b20400fd6101\nv 00 01 02 00 00 00 00 00 00 00 00 00 00 00 00 00\npc 0208 i 0000 dt 00 st 00 draws 0 low run\nflags 00 00 00 00 00 00 00 00 stack\n";
     assert!(rt; answers(rt.alloc(), source, &[0x00], script)?.as_slice() == expected.as_bytes());
     Ok(())
 }
@@ -172,7 +188,8 @@ fn jumps_by_its_top_digit(rt: HostRuntime) -> Result<(), Fail> {
 fn writes_the_flag_last(rt: HostRuntime) -> Result<(), Fail> {
     let source = "LD VF, 255\nLD V1, 1\nADD VF, V1";
     let script = "regs 3";
-    let expected = "v 00 01 00 00 00 00 00 00 00 00 00 00 00 00 00 01\npc 0206 i 0000 dt 00 st 00 draws 0 low run\nflags 00 00 00 00 00 00 00 00 stack\n";
+    let expected =
+        "v 00 01 00 00 00 00 00 00 00 00 00 00 00 00 00 01\npc 0206 i 0000 dt 00 st 00 draws 0 low run\nflags 00 00 00 00 00 00 00 00 stack\n";
     assert!(rt; answers(rt.alloc(), source, &[0x00], script)?.as_slice() == expected.as_bytes());
     Ok(())
 }
@@ -182,7 +199,8 @@ fn writes_the_flag_last(rt: HostRuntime) -> Result<(), Fail> {
 fn calls_too_deep(rt: HostRuntime) -> Result<(), Fail> {
     let source = "L: CALL L";
     let script = "regs 16\nregs 17";
-    let expected = "v 00 00 00 00 00 00 00 00 00 00 00 00 00 00 00 00\npc 0200 i 0000 dt 00 st 00 draws 0 low run\nflags 00 00 00 00 00 00 00 00 stack 0202 0202 0202 0202 0202 0202 0202 0202 0202 0202 0202 0202 0202 0202 0202 0202\nv 00 00 00 00 00 00 00 00 00 00 00 00 00 00 00 00\npc 0200 i 0000 dt 00 st 00 draws 0 low S4\nflags 00 00 00 00 00 00 00 00 stack 0202 0202 0202 0202 0202 0202 0202 0202 0202 0202 0202 0202 0202 0202 0202 0202\n";
+    let expected =
+        "v 00 00 00 00 00 00 00 00 00 00 00 00 00 00 00 00\npc 0200 i 0000 dt 00 st 00 draws 0 low run\nflags 00 00 00 00 00 00 00 00 stack 0202 0202 0202 0202 0202 0202 0202 0202 0202 0202 0202 0202 0202 0202 0202 0202\nv 00 00 00 00 00 00 00 00 00 00 00 00 00 00 00 00\npc 0200 i 0000 dt 00 st 00 draws 0 low S4\nflags 00 00 00 00 00 00 00 00 stack 0202 0202 0202 0202 0202 0202 0202 0202 0202 0202 0202 0202 0202 0202 0202 0202\n";
     assert!(rt; answers(rt.alloc(), source, &[0x00], script)?.as_slice() == expected.as_bytes());
     Ok(())
 }
@@ -192,7 +210,8 @@ fn calls_too_deep(rt: HostRuntime) -> Result<(), Fail> {
 fn stops_past_the_memory(rt: HostRuntime) -> Result<(), Fail> {
     let source = "LD I, #FFF\nLD B, V0";
     let script = "regs 2";
-    let expected = "v 00 00 00 00 00 00 00 00 00 00 00 00 00 00 00 00\npc 0202 i 0fff dt 00 st 00 draws 0 low S6\nflags 00 00 00 00 00 00 00 00 stack\n";
+    let expected =
+        "v 00 00 00 00 00 00 00 00 00 00 00 00 00 00 00 00\npc 0202 i 0fff dt 00 st 00 draws 0 low S6\nflags 00 00 00 00 00 00 00 00 stack\n";
     assert!(rt; answers(rt.alloc(), source, &[0x00], script)?.as_slice() == expected.as_bytes());
     Ok(())
 }
@@ -202,7 +221,8 @@ fn stops_past_the_memory(rt: HostRuntime) -> Result<(), Fail> {
 fn stops_past_the_last_word(rt: HostRuntime) -> Result<(), Fail> {
     let source = "JP #FFF";
     let script = "regs 2";
-    let expected = "v 00 00 00 00 00 00 00 00 00 00 00 00 00 00 00 00\npc 0fff i 0000 dt 00 st 00 draws 0 low S3\nflags 00 00 00 00 00 00 00 00 stack\n";
+    let expected =
+        "v 00 00 00 00 00 00 00 00 00 00 00 00 00 00 00 00\npc 0fff i 0000 dt 00 st 00 draws 0 low S3\nflags 00 00 00 00 00 00 00 00 stack\n";
     assert!(rt; answers(rt.alloc(), source, &[0x00], script)?.as_slice() == expected.as_bytes());
     Ok(())
 }
@@ -212,7 +232,8 @@ fn stops_past_the_last_word(rt: HostRuntime) -> Result<(), Fail> {
 fn stops_without_a_frame(rt: HostRuntime) -> Result<(), Fail> {
     let source = "RET";
     let script = "regs 1";
-    let expected = "v 00 00 00 00 00 00 00 00 00 00 00 00 00 00 00 00\npc 0200 i 0000 dt 00 st 00 draws 0 low S5\nflags 00 00 00 00 00 00 00 00 stack\n";
+    let expected =
+        "v 00 00 00 00 00 00 00 00 00 00 00 00 00 00 00 00\npc 0200 i 0000 dt 00 st 00 draws 0 low S5\nflags 00 00 00 00 00 00 00 00 stack\n";
     assert!(rt; answers(rt.alloc(), source, &[0x00], script)?.as_slice() == expected.as_bytes());
     Ok(())
 }
@@ -222,7 +243,8 @@ fn stops_without_a_frame(rt: HostRuntime) -> Result<(), Fail> {
 fn stops_at_a_ninth_flag(rt: HostRuntime) -> Result<(), Fail> {
     let source = "LD R, V8";
     let script = "regs 1";
-    let expected = "v 00 00 00 00 00 00 00 00 00 00 00 00 00 00 00 00\npc 0200 i 0000 dt 00 st 00 draws 0 low S7\nflags 00 00 00 00 00 00 00 00 stack\n";
+    let expected =
+        "v 00 00 00 00 00 00 00 00 00 00 00 00 00 00 00 00\npc 0200 i 0000 dt 00 st 00 draws 0 low S7\nflags 00 00 00 00 00 00 00 00 stack\n";
     assert!(rt; answers(rt.alloc(), source, &[0x00], script)?.as_slice() == expected.as_bytes());
     Ok(())
 }
@@ -251,8 +273,10 @@ fn disassembles(rt: HostRuntime) -> Result<(), Fail> {
 #[test]
 fn waits_for_a_held_key(rt: HostRuntime) -> Result<(), Fail> {
     let source = "L: SKP V0\nJP L\nEXIT";
-    let script = "kins 4 0 down\nregs 5\nregs 6\nkins 2 0 down\nregs 3\nkrep 2 0 up\nregs 3\nkdel 4 0\nregs 6\nkins 100001 16 up\nkrep 4 0 up";
-    let expected = "ok\nv 00 00 00 00 00 00 00 00 00 00 00 00 00 00 00 00\npc 0204 i 0000 dt 00 st 00 draws 0 low run\nflags 00 00 00 00 00 00 00 00 stack\nv 00 00 00 00 00 00 00 00 00 00 00 00 00 00 00 00\npc 0204 i 0000 dt 00 st 00 draws 0 low S1\nflags 00 00 00 00 00 00 00 00 stack\nok\nv 00 00 00 00 00 00 00 00 00 00 00 00 00 00 00 00\npc 0204 i 0000 dt 00 st 00 draws 0 low run\nflags 00 00 00 00 00 00 00 00 stack\nok\nv 00 00 00 00 00 00 00 00 00 00 00 00 00 00 00 00\npc 0202 i 0000 dt 00 st 00 draws 0 low run\nflags 00 00 00 00 00 00 00 00 stack\nok\nv 00 00 00 00 00 00 00 00 00 00 00 00 00 00 00 00\npc 0200 i 0000 dt 00 st 00 draws 0 low run\nflags 00 00 00 00 00 00 00 00 stack\nno N5\nno N8\n";
+    let script =
+        "kins 4 0 down\nregs 5\nregs 6\nkins 2 0 down\nregs 3\nkrep 2 0 up\nregs 3\nkdel 4 0\nregs 6\nkins 100001 16 up\nkrep 4 0 up";
+    let expected =
+        "ok\nv 00 00 00 00 00 00 00 00 00 00 00 00 00 00 00 00\npc 0204 i 0000 dt 00 st 00 draws 0 low run\nflags 00 00 00 00 00 00 00 00 stack\nv 00 00 00 00 00 00 00 00 00 00 00 00 00 00 00 00\npc 0204 i 0000 dt 00 st 00 draws 0 low S1\nflags 00 00 00 00 00 00 00 00 stack\nok\nv 00 00 00 00 00 00 00 00 00 00 00 00 00 00 00 00\npc 0204 i 0000 dt 00 st 00 draws 0 low run\nflags 00 00 00 00 00 00 00 00 stack\nok\nv 00 00 00 00 00 00 00 00 00 00 00 00 00 00 00 00\npc 0202 i 0000 dt 00 st 00 draws 0 low run\nflags 00 00 00 00 00 00 00 00 stack\nok\nv 00 00 00 00 00 00 00 00 00 00 00 00 00 00 00 00\npc 0200 i 0000 dt 00 st 00 draws 0 low run\nflags 00 00 00 00 00 00 00 00 stack\nno N5\nno N8\n";
     assert!(rt; answers(rt.alloc(), source, &[0x00], script)?.as_slice() == expected.as_bytes());
     Ok(())
 }
@@ -262,7 +286,8 @@ fn waits_for_a_held_key(rt: HostRuntime) -> Result<(), Fail> {
 fn runs_what_it_changed(rt: HostRuntime) -> Result<(), Fail> {
     let source = "L: LD I, T + 1\nLD V0, [I]\nADD V0, 1\nLD [I], V0\nT: LD V3, 0\nJP L";
     let script = "image\nregs 6\nregs 600\nrep 5 T: LD V3, 9\nregs 600";
-    let expected = "a209f0657001f05563001200\nv 01 00 00 01 00 00 00 00 00 00 00 00 00 00 00 00\npc 0200 i 0209 dt 00 st 00 draws 0 low run\nflags 00 00 00 00 00 00 00 00 stack\nv 64 00 00 64 00 00 00 00 00 00 00 00 00 00 00 00\npc 0200 i 0209 dt 00 st 00 draws 0 low run\nflags 00 00 00 00 00 00 00 00 stack\nok\nv 6d 00 00 6d 00 00 00 00 00 00 00 00 00 00 00 00\npc 0200 i 0209 dt 00 st 00 draws 0 low run\nflags 00 00 00 00 00 00 00 00 stack\n";
+    let expected =
+        "a209f0657001f05563001200\nv 01 00 00 01 00 00 00 00 00 00 00 00 00 00 00 00\npc 0200 i 0209 dt 00 st 00 draws 0 low run\nflags 00 00 00 00 00 00 00 00 stack\nv 64 00 00 64 00 00 00 00 00 00 00 00 00 00 00 00\npc 0200 i 0209 dt 00 st 00 draws 0 low run\nflags 00 00 00 00 00 00 00 00 stack\nok\nv 6d 00 00 6d 00 00 00 00 00 00 00 00 00 00 00 00\npc 0200 i 0209 dt 00 st 00 draws 0 low run\nflags 00 00 00 00 00 00 00 00 stack\n";
     assert!(rt; answers(rt.alloc(), source, &[0x00], script)?.as_slice() == expected.as_bytes());
     Ok(())
 }
@@ -270,7 +295,8 @@ fn runs_what_it_changed(rt: HostRuntime) -> Result<(), Fail> {
 /// Expressions, directives, labels in either case.
 #[test]
 fn assembles_every_form(rt: HostRuntime) -> Result<(), Fail> {
-    let source = "OPTION SCHIP11\nALIGN OFF\nXREF ON\nJP START ; go\nDATA: DB #3C, $.1..1.1.\nstart: LD I, data";
+    let source =
+        "OPTION SCHIP11\nALIGN OFF\nXREF ON\nJP START ; go\nDATA: DB #3C, $.1..1.1.\nstart: LD I, data";
     let script = "image";
     let expected = "12043c4aa202\n";
     assert!(rt; answers(rt.alloc(), source, &[0x00], script)?.as_slice() == expected.as_bytes());
