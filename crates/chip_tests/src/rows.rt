@@ -4,7 +4,12 @@ use std::alloc::Global;
 use std::test::Fail;
 
 /// The answers to a script on a source.
-fn answers(alloc: Global, source: &str, tape: &[u8], script: &str) -> Result<Vec<u8>, Fail> {
+pub(crate) fn answers(
+    alloc: Global,
+    source: &str,
+    tape: &[u8],
+    script: &str,
+) -> Result<Vec<u8>, Fail> {
     let settings = Settings::new(alloc, 10, tape)?;
     let mut writer = Counted::new(Vec::new(alloc));
     serve(
