@@ -1,5 +1,5 @@
 -- The table of names: what is found in it.
-use Rattle.std.proofs.Common.{◌≡◌, ℕ, ℤ, Bool, true, false, cond, List, [], ◌∷◌, map, refl, ap, sym, ◌∙◌, Option, Some, None, option_map}
+use Rattle.std.proofs.Common.{◌≡◌, ◌+◌, ℕ, ℤ, Bool, true, false, cond, List, [], ◌∷◌, map, refl, ap, sym, ◌∙◌, Option, Some, None, option_map, drop, slice_get}
 use Rattle.std.specs.Str.{bytes_eq}
 use Rattle.std.specs.Map.{lookup}
 use Rattle.std.specs.Ordering.{nat_cmp, is_eq}
@@ -9,6 +9,8 @@ use Rattle.std.specs.FinMap as finite
 use Rattle.std.specs.FinMap.{get-from_entries}
 use Rattle.std.proofs.lemmas.Cmp.{nat_list_cmp_total}
 use Rattle.std.proofs.lemmas.Map.Text.{is_eq-slice_cmp}
+use Rattle.std.proofs.lemmas.List.{at_drop_more}
+use Rattle.std.proofs.lemmas.Option.{get_or_from_slice_get, slice_get-map, slice_get_within}
 use Rattle.chip_lang.specs.Value.{value_of_name}
 use Rattle.chip_asm.specs.declared.table.Symbol.{Symbol}
 use Rattle.chip_asm.specs.Names.{Name, lookup_name, values_of}
@@ -29,3 +31,16 @@ find-seen name (e ∷ es) = rw (is_eq-slice_cmp name e.0) (mapped (bytes_eq name
 pub value-of-name : (names : List (Name × Symbol)) (name : Name) → value_of_name (values_of names) name ≡ option_map (λ (s : Symbol). s.value) (lookup_name names name)
 unfolding values_of
 value-of-name names name = get-from_entries nat_list_cmp_total (map (λ e. (e.0, e.1.value)) names) name ∙ find-seen name names
+
+-- an entry, as a name with its symbol
+abbrev seen : Vec ℕ × Symbol → Name × Symbol
+seen entry = (entry.0.items, entry.1)
+
+-- what is found from a place on is the entry there, where its name is the one asked for, and else what is found after it
+pub look-from : (entries : List (Vec ℕ × Symbol)) (names : List (Name × Symbol)) (i : ℕ) (entry : Vec ℕ × Symbol) (name : Name) (b : Bool) → map seen entries ≡ names → Some entry ≡ slice_get entries i → b ≡ bytes_eq name entry.0.items → cond b (Some entry.1) (lookup_name (drop (i + 1) names) name) ≡ lookup_name (drop i names) name
+look-from entries names i entry name b view is same =
+    let there : slice_get names i ≡ Some (seen entry) = ap (λ t. slice_get t i) (sym view) ∙ slice_get-map seen entries i ∙ ap (option_map seen) (sym is) in
+    let rest = lookup_name (drop (i + 1) names) name in
+    ap (λ b. cond b (Some entry.1) rest) same
+    ∙ sym (at_drop_more (λ rest. lookup_name rest name) names i (seen entry) (slice_get_within names i (seen entry) there)
+    ∙ ap (λ (e : Name × Symbol). cond (bytes_eq name e.0) (Some e.1) rest) (get_or_from_slice_get names i (seen entry) (seen entry) there))

@@ -1,6 +1,7 @@
 //! A source that is edited, with its layout, codes and image kept.
 ghost use Rattle.std.specs.Prelude.{◌≡◌, ◌+◌, ◌-◌, ◌<◌, ◌≤◌, ◌⊎◌, ℕ, List, OnOk, OnErr, IfOk, IfErr, IsSome, IfSome, [], length, insert, remove, slice_set, vec_len, Option, Some, None, map};
 ghost use Rattle.std.specs.Option.{option_copied};
+ghost use Rattle.chip_lang.specs.Line.{upper};
 ghost use Rattle.chip_lang.specs.Meter.{one_more};
 ghost use Rattle.chip_asm.specs.Edits.{insert_refusal, replace_refusal, delete_refusal, before_insert, before_replace, before_delete};
 ghost use Rattle.chip_asm.specs.Work.{lines_to_encode, accepted_of};
@@ -117,11 +118,11 @@ impl Source {
         }
     }
 
-    /// The value of a name and the number of the line that gives it. The name is in upper case.
+    /// The value of a name, in either case, and the number of the line that gives it.
     pub fn symbol(&self, name: &[u8]) -> Option<Symbol>
-        ensures { result ≡ lookup_name (symbols_of self.now.lines) name.now }
+        ensures { result ≡ lookup_name (symbols_of self.now.lines) (map upper name.now) }
     {
-        self.layout.names.symbol(name)
+        self.layout.names.symbol_in_any_case(name)
     }
 
     /// The fault of the line of this number, counted from 1; none where the line has none or there is no such line.

@@ -1,5 +1,8 @@
 //! The names of a source.
 ghost use Rattle.std.specs.Prelude.{◌≡◌, ◌++◌, [], ◌∷◌, OnOk, IfOk, None, Some, length, slice_get, ◌<◌};
+ghost use Rattle.std.specs.Prelude.{map};
+ghost use Rattle.std.specs.Str.{bytes_eq};
+ghost use Rattle.chip_lang.specs.Line.{upper};
 ghost use Rattle.chip_asm.specs.Names.{lookup_name, values_of};
 
 use chip_lang::{Bytes, Names};
@@ -14,6 +17,29 @@ pub struct Symbol {
     pub value: i32,
     /// The number of the line, counted from 1.
     pub line: usize,
+}
+
+/// A byte in upper case.
+fn upper(byte: u8) -> u8
+    ensures { result ≡ upper byte }
+{
+    match byte {
+        b'a'..=b'z' => byte - 32,
+        _ => byte,
+    }
+}
+
+/// Whether a text in either case spells a name.
+fn is_spelled(text: &[u8], name: &[u8]) -> bool
+    ensures { result ≡ bytes_eq (map upper text.now) name.now }
+{
+    let Some((byte, text)) = text.split_first() else {
+        return name.is_empty();
+    };
+    let Some((letter, name)) = name.split_first() else {
+        return false;
+    };
+    upper(*byte) == *letter && is_spelled(text, name)
 }
 
 /// The names in line order, each with its value and line. Names are in upper case.
@@ -46,6 +72,21 @@ impl Table {
         ensures { result ≡ lookup_name self.now name.now }
     {
         self.symbols.get(name).copied()
+    }
+
+    /// The value and the line of a name in either case.
+    pub(crate) fn symbol_in_any_case(&self, name: &[u8]) -> Option<Symbol>
+        ensures { result ≡ lookup_name self.now (map upper name.now) }
+    {
+        for index in 0..self.symbols.len() {
+            let Some((key, symbol)) = self.symbols.get_index(index) else {
+                unreachable!();
+            };
+            if is_spelled(name, key) {
+                return Some(*symbol);
+            }
+        }
+        None
     }
 
     /// The names in line order, each with its value and line.

@@ -23,6 +23,7 @@ fn an_edit_encodes_only_what_needs_it(rt: HostRuntime) -> Result<(), Fail> {
     assert_eq!(rt; source.work().parsed, 4);
     assert_eq!(rt; source.work().encoded, 5);
     assert!(rt; has_image(&source, &[0x60, 5, 0, 0xe0, 0x70, 1, 0x12, 4]));
+    assert!(rt; source.symbol(b"looP") == source.symbol(b"LOOP"));
     let symbol = source.symbol(b"LOOP").ok_or("LOOP")?;
     assert_eq!(rt; symbol.value, 516);
     assert_eq!(rt; symbol.line, 3);

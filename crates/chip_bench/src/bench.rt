@@ -1,11 +1,13 @@
 //! A session: edits of the source and of the key events, and questions about both.
-ghost use Rattle.std.specs.Prelude.{◌≡◌, ◌≤◌, ◌⊎◌, ℕ, List, min, None, Some, Ok, Err, OnOk, OnErr, IfOk, IfErr, IsOkAnd, ◌++◌, vec_capacity};
+ghost use Rattle.std.specs.Prelude.{◌≡◌, ◌≤◌, ◌⊎◌, ℕ, List, min, None, Some, Ok, Err, OnOk, OnErr, IfOk, IfErr, IsOkAnd, ◌++◌, length, vec_capacity};
 ghost use Rattle.chip_bench.specs.Answers.{answer_to, step_asked};
 ghost use Rattle.chip_bench.specs.IsAnswer.{IsUnanswered};
 ghost use Rattle.chip_asm.specs.Lines.{open_fault};
+ghost use Rattle.chip_asm.specs.Work.{accepted_of};
 ghost use Rattle.chip_bench.specs.Settings.{SessionSettings};
 ghost use Rattle.chip_bench.specs.Session.{session_of, session_with, edited, IsRefused, insert_line, replace_line, delete_line, insert_event, replace_event, delete_event};
 ghost use Rattle.chip_bench.specs.Changes.{change_of};
+ghost use Rattle.chip_bench.specs.Costs.{Costs};
 ghost use Rattle.chip_bench.specs.Workbench.{workbench, IsInStep, Follows, FollowsLines, FollowsEvent, Reuses};
 
 use crate::ask::answer;
@@ -44,6 +46,7 @@ fn insert_line(
     ensures last { OnErr result (last.new.items ≡ last.old.items) }
     ensures follows { OnOk result (FollowsLines (workbench source.old settings.now replay.old last.old.items)
         (workbench source.new settings.now replay.new last.new.items)) }
+    ensures costs { Costs (insert_line line text.now) source.old.lines source.old.work source.new.work }
     ensures ran { replay.new.ran ≡ replay.old.ran }
 {
     source.insert(alloc, line as usize, text)?;
@@ -71,6 +74,7 @@ fn replace_line(
     ensures last { OnErr result (last.new.items ≡ last.old.items) }
     ensures follows { OnOk result (FollowsLines (workbench source.old settings.now replay.old last.old.items)
         (workbench source.new settings.now replay.new last.new.items)) }
+    ensures costs { Costs (replace_line line text.now) source.old.lines source.old.work source.new.work }
     ensures ran { replay.new.ran ≡ replay.old.ran }
 {
     source.replace(alloc, line as usize, text)?;
@@ -97,6 +101,7 @@ fn delete_line(
     ensures last { OnErr result (last.new.items ≡ last.old.items) }
     ensures follows { OnOk result (FollowsLines (workbench source.old settings.now replay.old last.old.items)
         (workbench source.new settings.now replay.new last.new.items)) }
+    ensures costs { Costs (delete_line line) source.old.lines source.old.work source.new.work }
     ensures ran { replay.new.ran ≡ replay.old.ran }
 {
     source.delete(alloc, line as usize)?;
@@ -175,6 +180,7 @@ fn change(
     ensures last { OnErr result (last.new.items ≡ last.old.items) }
     ensures follows { OnOk result (Follows (change_of edit.now) (workbench source.old settings.now replay.old last.old.items)
         (workbench source.new settings.now replay.new last.new.items)) }
+    ensures costs { Costs (change_of edit.now) source.old.lines source.old.work source.new.work }
     ensures ran { replay.new.ran ≡ replay.old.ran }
 {
     match *edit {
@@ -221,6 +227,8 @@ impl Bench {
     /// The first such line's fault, or want of memory.
     pub fn open(alloc: Global, source: &[u8], settings: Settings) -> Result<Self, OpenError>
         ensures ok { IfOk result (λ bench. (open_fault source.now ≡ None) × (bench.session ≡ session_of settings source.now)) }
+        ensures parsed { IfOk result (λ bench. bench.work.parsed ≡ length bench.session.lines) }
+        ensures encoded { IfOk result (λ bench. bench.work.encoded ≤ accepted_of bench.session.lines) }
         ensures err { IfErr result (λ e. (e ≡ OpenError.OutOfMemory) ⊎ (open_fault source.now ≡ Some e)) }
     {
         let source = Source::open(alloc, source)?;
@@ -250,6 +258,7 @@ impl Bench {
         ensures same { OnErr result (self.new.session ≡ self.old.session) }
         ensures follows { OnOk result (Follows (change_of edit.now) self.old self.new) }
         ensures reach { OnErr result (self.new.reach ≡ self.old.reach) }
+        ensures costs { Costs (change_of edit.now) self.old.session.lines self.old.work self.new.work }
         ensures ran { self.new.ran ≡ self.old.ran }
     {
         change(
@@ -277,6 +286,7 @@ impl Bench {
         ensures err { IfErr result (IsUnanswered (answer_to self.old.session question.now)) }
         ensures same { OnErr result (out.new.items ≡ out.old.items) }
         ensures session { self.new.session ≡ self.old.session }
+        ensures work { self.new.work ≡ self.old.work }
         ensures reuses { Reuses (step_asked question.now) result self.old self.new }
     {
         let answer = answer(

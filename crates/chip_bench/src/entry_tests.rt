@@ -325,3 +325,46 @@ fn says_why_a_source_does_not_open(rt: HostRuntime) -> Result<(), Fail> {
     fs::remove_dir_all(&rt, &folder)?;
     Ok(())
 }
+
+#[test]
+fn assembles_lists_and_runs(rt: HostRuntime) -> Result<(), Fail> {
+    let alloc = rt.alloc();
+    let folder = new_folder(&rt, "words")?;
+    let source = format!(in alloc; "{folder}/source")?;
+    let image = format!(in alloc; "{folder}/image")?;
+    fs::write(&rt, &source, b"LD V0, 5\nLOOP: ADD V0, 1\nJP LOOP\n")?;
+    let run = run_on(alloc, &rt, &["asm", &source, &image], SCRIPT)?;
+    assert_eq!(rt; run.status, 0);
+    assert!(rt; run.output.is_empty() && run.errors.is_empty());
+    assert!(rt;
+        fs::read(&rt, &image)?.as_slice() == [0x60, 0x05, 0x70, 0x01, 0x12, 0x02].as_slice()
+    );
+    let run = run_on(alloc, &rt, &["list", &source], SCRIPT)?;
+    assert_eq!(rt; run.status, 0);
+    assert!(rt;
+        run.output
+            .as_slice()
+            .starts_with(b"   1 0200 6005          LD V0, 5\n")
+    );
+    let run = run_on(alloc, &rt, &["run", &source, "--steps", "3"], SCRIPT)?;
+    assert_eq!(rt; run.status, 0);
+    assert!(rt; run.output.as_slice().starts_with(b"v 06 00 "));
+    assert!(rt; run.output.as_slice().ends_with(b"\nlow\n.\n"));
+    fs::remove_dir_all(&rt, &folder)?;
+    Ok(())
+}
+
+#[test]
+fn tells_the_faults_of_a_source(rt: HostRuntime) -> Result<(), Fail> {
+    let alloc = rt.alloc();
+    let folder = new_folder(&rt, "faults")?;
+    let source = format!(in alloc; "{folder}/source")?;
+    let image = format!(in alloc; "{folder}/image")?;
+    fs::write(&rt, &source, b"DB Q\n")?;
+    fs::write(&rt, &image, b"before")?;
+    assert!(rt; ends_faulty(&rt, &["asm", &source, &image], "1 F9\n.\n")?);
+    assert!(rt; fs::read(&rt, &image)?.as_slice() == b"before".as_slice());
+    assert!(rt; ends_faulty(&rt, &["run", &source, "--steps", "3"], "1 F9\n.\n")?);
+    fs::remove_dir_all(&rt, &folder)?;
+    Ok(())
+}

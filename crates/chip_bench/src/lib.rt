@@ -32,6 +32,8 @@ pub use settings::{SetError, Settings};
 pub use tape::tape_of;
 
 #[cfg(test)]
+mod count_tests;
+#[cfg(test)]
 mod entry_tests;
 #[cfg(test)]
 mod tests;
