@@ -11,4 +11,5 @@ pub mod Sound
 pub mod Steps
 pub mod TokenList
 pub mod NamesUsed
+pub mod NamesBound
 pub mod Lookup

@@ -9,9 +9,9 @@ ghost use Rattle.std.specs.Prelude.{codes, ℕ, []};
 ghost use Rattle.chip_lang.specs.declared.token.Token.{Token};
 ghost use Rattle.chip_lang.specs.Token.{tokens_of};
 ghost use Rattle.chip_lang.specs.Scan.{AreTokens};
-ghost use Rattle.chip_lang.specs.Line.{Reading};
+ghost use Rattle.chip_lang.specs.Line.{Reading, reading_of};
 ghost use Rattle.chip_lang.specs.Examples.{Examples};
-ghost use Rattle.std.specs.Prelude.{true, ◌≤◌, length, map, Ok};
+ghost use Rattle.std.specs.Prelude.{true, ◌≤◌, ◌*◌, length, map, Ok};
 ghost use Rattle.std.specs.List.{list_all, filter};
 ghost use Rattle.chip_lang.specs.Operand.{Operand};
 ghost use Rattle.chip_lang.specs.Form.{Row, forms, fits};
@@ -19,7 +19,7 @@ ghost use Rattle.chip_lang.specs.Encoding.{word_of_form};
 ghost use Rattle.chip_lang.specs.Show.{form_shown, operand_in};
 ghost use Rattle.chip_lang.specs.Value.{Symbols, value};
 ghost use Rattle.chip_lang.specs.Code.{code_of};
-ghost use Rattle.chip_lang.specs.Uses.{names_in, has_same_value, agree_on};
+ghost use Rattle.chip_lang.specs.Uses.{names_in, names_used, has_same_value, agree_on};
 
 /// Tokens are at most one expression, and it is computed.
 pub fn one_expression()
@@ -44,6 +44,11 @@ pub fn one_token_list()
 pub fn same_code()
     ensures value { (e : Tree) (S T : Symbols) → list_all (has_same_value S T) (names_in e) ≡ true → value e S ≡ value e T }
     ensures code { (r : Reading) (S T : Symbols) → agree_on S T r ≡ true → code_of r S ≡ code_of r T }
+{}
+
+/// The names that a line uses, repeated ones counted again, are at most half its bytes: a line of 200 bytes uses at most 100.
+pub fn names_bound()
+    ensures { (line : List ℕ) → 2 * length (names_used (reading_of line)) ≤ length line }
 {}
 
 /// At most one source form fits a name and operands.

@@ -1,9 +1,10 @@
 //! The reading of a line.
 
-ghost use Rattle.std.specs.Prelude.{◌≡◌, IfOk};
+ghost use Rattle.std.specs.Prelude.{◌≡◌, ◌≤◌, ◌*◌, IfOk, length};
 ghost use Rattle.std.specs.Option.{option_copied};
 ghost use Rattle.chip_lang.specs.Line.{bad_token, too_deep, shape_of, reading_of_shape, reading_of};
 ghost use Rattle.chip_lang.specs.SeenLine.{seen_line};
+ghost use Rattle.chip_lang.specs.Uses.{names_used};
 ghost use Rattle.chip_lang.specs.Meter.{one_more};
 
 use crate::bytes::Bytes;
@@ -71,10 +72,12 @@ pub enum Line {
     },
 }
 
-/// Reads the text of a line, any bytes at all. Each text has one reading. Adds 1 to `parsed`, also where memory runs out.
-#[tactic(auto, unfolding(crate::specs::Line::reading_of))]
+/// Reads the text of a line, any bytes at all. Each text has one reading, which uses at most half as many names as the text has bytes.
+/// Adds 1 to `parsed`, also where memory runs out.
+#[tactic(auto, unfolding(crate::specs::Line::reading_of), using(crate::proofs::NamesBound::names_bound_of))]
 pub fn read_line(alloc: Global, meter: &mut Meter, text: &[u8]) -> Result<Line, AllocError>
     ensures reading { IfOk result (λ line. seen_line line ≡ reading_of text.now) }
+    ensures names { IfOk result (λ line. 2 * length (names_used (seen_line line)) ≤ length text.now) }
     ensures counted { meter.new ≡ record meter.old { parsed = one_more meter.old.parsed } }
 {
     meter.parsed = meter.parsed.saturating_add(1);
