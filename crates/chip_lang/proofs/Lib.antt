@@ -1,12 +1,15 @@
 pub mod Complete
 pub mod Data
 pub mod Decoding
+pub mod Digits
 pub mod Numbers
 pub mod OneForm
 pub mod Pieces
 pub mod SameCode
 pub mod Scan
+pub mod SaidForm
 pub mod Shown
+pub mod ShownForm
 pub mod Sound
 pub mod Steps
 pub mod TokenList

@@ -45,7 +45,7 @@ operands_fit : (w : ℕ) (ps : List Pattern) → all_match ps (map (operand_in w
 operands_fit w [] = refl
 operands_fit w (p ∷ ps) = and_from _ _ (operand_fits w p) (operands_fit w ps)
 
-found_passes : {A : Type 0} (test : A → Bool) (xs : List A) (x : A) → find test xs ≡ Some x → test x ≡ true
+pub found_passes : {A : Type 0} (test : A → Bool) (xs : List A) (x : A) → find test xs ≡ Some x → test x ≡ true
 found_passes test [] x h = cc
 found_passes test (y ∷ xs) x h = step test y xs x (test y) refl h (found_passes test xs x)
   where

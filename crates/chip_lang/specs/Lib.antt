@@ -7,6 +7,7 @@
 --     Form       the source forms of instructions
 --     Tree, Grammar, Parse, Value   expressions, and their values
 --     Show       the source text of a word
+--     InstrForm  the source form of an instruction
 --     Operand, Encoding             operands, and the word of a form
 --     Line       the reading of a line
 --     Code       the code of a line
@@ -22,6 +23,7 @@ pub mod Examples
 pub mod FaultNumber
 pub mod Form
 pub mod Grammar
+pub mod InstrForm
 pub mod Keyword
 pub mod Line
 pub mod Meter

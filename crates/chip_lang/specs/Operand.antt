@@ -1,5 +1,5 @@
 -- Operands without where they lie in memory (own).
-use Rattle.std.specs.Prelude.{ℕ}
+use Rattle.std.specs.Prelude.{ℕ, Bool, true, nat_lt}
 use Rattle.chip_lang.specs.declared.form.Special.{Special as Special_word}
 use Rattle.chip_lang.specs.declared.form.Operand.{Operand as Operand_value}
 use Rattle.chip_lang.specs.declared.form.Operand.TheVariants.{Register, Special, Value}
@@ -15,3 +15,8 @@ abbrev pub operand_of : Operand_value → Operand
 operand_of (Register x) = register x
 operand_of (Special s) = special s
 operand_of (Value e) = expression (tree_of e)
+
+-- a register is one of V0 to VF
+abbrev pub is_of_machine : Operand → Bool
+is_of_machine (register x) = nat_lt x 16
+is_of_machine o = true
