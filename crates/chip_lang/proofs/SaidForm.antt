@@ -1,6 +1,7 @@
--- The word of a form but SYS is an instruction that the form says.
+-- A word is shown in the form of its instruction, and the word of a form but SYS is an instruction that the form says.
 use Rattle.std.proofs.Common.{◌≡◌, ℕ, ◌+◌, ◌*◌, ◌<◌, ◌/◌, ◌%◌, ◌==◌, Bool, true, false, not, ◌&&◌, ◌||◌, if◌then◌else◌, List, [], ◌∷◌, map, codes, Option, Some, None, Ok, refl, sym, subst, ◌∙◌, ap, arith}
 use Rattle.std.specs.List.{list_all, list_any, find}
+use Rattle.std.specs.Option.{option_map}
 use Rattle.std.specs.Str.{bytes_eq}
 use Rattle.std.proofs.lemmas.Bool.{and_parts, false≢true}
 use Rattle.std.proofs.lemmas.Slice.Eq.{bytes_eq-Decides}
@@ -15,7 +16,7 @@ use Rattle.chip_lang.specs.Value.{Symbols}
 use Rattle.chip_lang.specs.Show.{gives, form_shown}
 use Rattle.chip_lang.proofs.Decoding.{of_digits}
 use Rattle.chip_lang.proofs.Digits.{digit, takes_top, takes_x, takes_y, takes_n, has_digit, has_digits, HasDigits, is_proper, gives_digits, gives_small, word_digits}
-use Rattle.chip_lang.proofs.ShownForm.{is_sys, same_head, same_tail}
+use Rattle.chip_lang.proofs.ShownForm.{is_sys, same_head, same_tail, shown_form}
 use Rattle.chip_lang.proofs.Shown.{found_passes}
 use Rattle.chip_lang.proofs.Sound.{equal}
 
@@ -126,8 +127,15 @@ shown_step w (Some r) e h =
     some_none : (i : Instr) → Some i ≡ None → ⊥
     some_none i h = cc
 
-pub not_shown : (w : ℕ) → decode_of w ≡ None → form_shown w ≡ None
-not_shown w h = shown_step w (form_shown w) refl h
+form_by : (w : ℕ) (o : Option Instr) → decode_of w ≡ o → form_shown w ≡ option_map row_of_instr o
+form_by w None h = shown_step w (form_shown w) refl h
+form_by w (Some i) h = shown_form w i h
+
+pub form_of_word : (w : ℕ) → form_shown w ≡ option_map row_of_instr (decode_of w)
+form_of_word w = form_by w (decode_of w) refl
+
+pub form_found : (w : ℕ) (found : Option Row) → found ≡ form_shown w → found ≡ option_map row_of_instr (decode_of w)
+form_found w found h = h ∙ form_of_word w
 
 pub said_form : (name : List ℕ) (operands : List Operand) (form : Row) (symbols : Symbols) (w : ℕ) → form_of name operands ≡ Some form → bytes_eq name (codes "SYS") ≡ false →
     list_all is_of_machine operands ≡ true → word_of_form form operands symbols ≡ Ok w → (i : Instr) × (decode_of w ≡ Some i) × Says form i

@@ -11,13 +11,14 @@ ghost use Rattle.chip_lang.specs.Token.{tokens_of};
 ghost use Rattle.chip_lang.specs.Scan.{AreTokens};
 ghost use Rattle.chip_lang.specs.Line.{Reading, reading_of};
 ghost use Rattle.chip_lang.specs.Examples.{Examples};
-ghost use Rattle.std.specs.Prelude.{true, false, ◌≤◌, ◌*◌, length, map, Ok, None};
+ghost use Rattle.std.specs.Prelude.{true, false, ◌≤◌, ◌*◌, length, map, Ok};
 ghost use Rattle.std.specs.List.{list_all, filter};
 ghost use Rattle.chip_lang.specs.Operand.{Operand, is_of_machine};
 ghost use Rattle.chip_lang.specs.declared.instr.Instr.{Instr};
 ghost use Rattle.chip_lang.specs.Decoding.{decode_of};
 ghost use Rattle.chip_lang.specs.InstrForm.{row_of_instr, Says};
 ghost use Rattle.std.specs.Str.{bytes_eq};
+ghost use Rattle.std.specs.Option.{option_map};
 ghost use Rattle.chip_lang.specs.Form.{Row, forms, fits, form_of};
 ghost use Rattle.chip_lang.specs.Encoding.{word_of_form};
 ghost use Rattle.chip_lang.specs.Show.{form_shown, operand_in};
@@ -66,10 +67,9 @@ pub fn shown_form()
     ensures fits { (w : ℕ) (form : Row) → fits form form.name (map (operand_in w) form.patterns) ≡ true }
 {}
 
-/// The source forms and `decode` agree. The form that an instruction is shown in is its own; a word that is no instruction is shown in no
-/// form; and the word of any form but SYS is an instruction that the form says.
+/// The source forms and `decode` agree: a word is shown in the form of the instruction that it decodes to, and in none where it is no
+/// instruction; and the word of a form but SYS decodes to an instruction that the form says.
 pub fn forms_and_decode()
-    ensures shown { (w : ℕ) (i : Instr) → decode_of w ≡ Some i → form_shown w ≡ Some (row_of_instr i) }
-    ensures not_shown { (w : ℕ) → decode_of w ≡ None → form_shown w ≡ None }
+    ensures shown { (w : ℕ) → form_shown w ≡ option_map row_of_instr (decode_of w) }
     ensures said { (name : List ℕ) (operands : List Operand) (form : Row) (symbols : Symbols) (w : ℕ) → form_of name operands ≡ Some form → bytes_eq name (codes "SYS") ≡ false → list_all is_of_machine operands ≡ true → word_of_form form operands symbols ≡ Ok w → (i : Instr) × (decode_of w ≡ Some i) × Says form i }
 {}

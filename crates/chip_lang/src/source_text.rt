@@ -3,7 +3,10 @@
 ghost use Rattle.std.specs.Prelude.{◌≡◌, ◌∷◌, ◌++◌, ◌<◌, [], ◌&&◌, not, codes, IfOk, string_bytes, map};
 ghost use Rattle.std.specs.List.{find};
 ghost use Rattle.std.specs.Str.{bytes_eq};
+ghost use Rattle.std.specs.Option.{option_map};
+ghost use Rattle.chip_lang.specs.Decoding.{decode_of};
 ghost use Rattle.chip_lang.specs.Form.{row_of_form, option_row};
+ghost use Rattle.chip_lang.specs.InstrForm.{row_of_instr};
 ghost use Rattle.chip_lang.specs.Show.{hex_digit, hex_byte, hex_address, hex_word, small_decimal, register_text, field_in, part_in, parts_in, gives, form_shown, operand_text, operands_text, form_text, show_of};
 
 use crate::form::{FORMS, Form, Pattern};
@@ -13,7 +16,8 @@ use std::alloc::{AllocError, Global};
 /// instruction is `DW #wwww`. Read as a line and encoded, the text gives the word.
 #[tactic(auto, unfolding(crate::specs::Show::show_of))]
 pub fn show(alloc: Global, word: u16) -> Result<String, AllocError>
-    ensures { IfOk result (λ text. string_bytes text ≡ show_of word) }
+    ensures text { IfOk result (λ text. string_bytes text ≡ show_of word) }
+    ensures form { IfOk result (λ text. string_bytes text ≡ form_text (option_map row_of_instr (decode_of word)) word) }
 {
     let mut text = String::new(alloc);
     match form_shown(word) {
@@ -29,9 +33,11 @@ pub fn show(alloc: Global, word: u16) -> Result<String, AllocError>
     Ok(text)
 }
 
-/// The first form but SYS that gives a word.
+/// The first form but SYS that gives a word. It is that of the word's instruction.
+#[tactic(auto, using(crate::proofs::SaidForm::form_found))]
 fn form_shown(word: u16) -> Option<Form>
-    ensures { option_row result ≡ form_shown word }
+    ensures first { option_row result ≡ form_shown word }
+    ensures instr { option_row result ≡ option_map row_of_instr (decode_of word) }
 {
     first_giving(&FORMS, word)
 }
