@@ -8,7 +8,7 @@ use Rattle.std.proofs.lemmas.Bool.Decides.{nat_tests}
 use Rattle.chip_lang.specs.declared.fault.Fault.{Fault}
 use Rattle.chip_lang.specs.declared.form.Pattern.{Pattern}
 use Rattle.chip_lang.specs.declared.form.Pattern.TheVariants.{Vx, Vy, Nibble, Byte, Address}
-use Rattle.chip_lang.specs.Operand.{Operand, register, special, expression, is_of_machine}
+use Rattle.chip_lang.specs.Operand.{Operand, register, expression, is_of_machine}
 use Rattle.chip_lang.specs.Form.{Row, forms}
 use Rattle.chip_lang.specs.Value.{Symbols, value}
 use Rattle.chip_lang.specs.Encoding.{◌>>=◌, number_below, signed_below, field_of, fields_of, word_of_form}

@@ -1,5 +1,5 @@
 -- How many names a line uses: they are parted by tokens that are no names.
-use Rattle.std.proofs.Common.{◌≡◌, ℕ, zero, suc, ◌+◌, ◌*◌, ◌-◌, ◌≤◌, ◌==◌, Bool, true, false, not, ◌&&◌, if◌then◌else◌, is_some, List, [], ◌∷◌, ◌++◌, length, map, Option, Some, None, Result, Ok, Err, refl, subst, arith}
+use Rattle.std.proofs.Common.{◌≡◌, ℕ, zero, suc, ◌+◌, ◌*◌, ◌-◌, ◌≤◌, ◌==◌, Bool, true, false, not, ◌&&◌, if◌then◌else◌, is_some, List, [], ◌∷◌, length, map, Option, Some, None, Result, Ok, Err, refl, subst, arith}
 use Rattle.std.specs.Prelude.{option_and_then}
 use Rattle.std.specs.List.{flat_map, list_any}
 use Rattle.std.proofs.lemmas.List.{length-append, length-map}
@@ -20,7 +20,7 @@ use Rattle.chip_lang.specs.Form.{Row, form_of}
 use Rattle.chip_lang.specs.Grammar.{Parses, a_number, a_name, a_text, in_parentheses, with_prefix, with_operator, stronger}
 use Rattle.chip_lang.specs.Parse.{expression_of}
 use Rattle.chip_lang.specs.Reserved.{is_mnemonic}
-use Rattle.chip_lang.specs.Line.{lexeme_of, lexemes_of, is_sign_of, is_equ, Shape, definition, statement, after_label, after_word, shape_of, bad_token, too_deep, names_of, is_bad_name, Body, org, ds, db, dw, da, equ, align, ifdef, ifund, define, else_line, endif, end_line, pieces, all_some, fitting, named, is_at_index, part_of_machine, or_expression, operand_of_tokens, operands_of, values_of, one_text, one_name, one_switch, nothing, directive_body, takes_label, is_outside, is_skipped, instruction_body, unless, by_directive, by_mnemonic, word_body, statement_body, shape_body, Reading, bad, read, reading_of_body, reading_of_shape, reading_of_tokens, reading_of}
+use Rattle.chip_lang.specs.Line.{lexeme_of, lexemes_of, is_sign_of, is_equ, Shape, definition, statement, after_label, after_word, shape_of, bad_token, too_deep, names_of, is_bad_name, Body, org, ds, db, dw, da, equ, align, ifdef, ifund, define, else_line, endif, end_line, pieces, all_some, fitting, named, is_at_index, part_of_machine, or_expression, operand_of_tokens, operands_of, values_of, one_text, one_name, one_switch, nothing, directive_body, takes_label, is_outside, is_skipped, instruction_body, unless, word_body, statement_body, shape_body, Reading, bad, reading_of_body, reading_of_tokens, reading_of}
 use Rattle.chip_lang.specs.Uses.{names_in, names_in_operand, names_in_body, names_used}
 use Rattle.chip_lang.proofs.Sound.{only_expressions}
 

@@ -1,5 +1,5 @@
 -- A word is shown in the form of its instruction, and the word of a form but SYS is an instruction that the form says.
-use Rattle.std.proofs.Common.{◌≡◌, ℕ, ◌+◌, ◌*◌, ◌<◌, ◌/◌, ◌%◌, ◌==◌, Bool, true, false, not, ◌&&◌, ◌||◌, if◌then◌else◌, List, [], ◌∷◌, map, codes, Option, Some, None, Ok, refl, sym, subst, ◌∙◌, ap, arith}
+use Rattle.std.proofs.Common.{◌≡◌, ℕ, ◌+◌, ◌*◌, ◌<◌, ◌==◌, Bool, true, false, not, ◌&&◌, ◌||◌, if◌then◌else◌, List, [], ◌∷◌, map, codes, Option, Some, None, Ok, refl, sym, subst, ◌∙◌, ap, arith}
 use Rattle.std.specs.List.{list_all, list_any, find}
 use Rattle.std.specs.Option.{option_map}
 use Rattle.std.specs.Str.{bytes_eq}
@@ -15,7 +15,7 @@ use Rattle.chip_lang.specs.Encoding.{word_of_form}
 use Rattle.chip_lang.specs.Value.{Symbols}
 use Rattle.chip_lang.specs.Show.{gives, form_shown}
 use Rattle.chip_lang.proofs.Decoding.{of_digits}
-use Rattle.chip_lang.proofs.Digits.{digit, takes_top, takes_x, takes_y, takes_n, has_digit, has_digits, HasDigits, is_proper, gives_digits, gives_small, word_digits}
+use Rattle.chip_lang.proofs.Digits.{digit, takes_top, takes_x, takes_y, takes_n, has_digit, HasDigits, is_proper, gives_digits, gives_small, word_digits}
 use Rattle.chip_lang.proofs.ShownForm.{is_sys, same_head, same_tail, shown_form}
 use Rattle.chip_lang.proofs.Shown.{found_passes}
 use Rattle.chip_lang.proofs.Sound.{equal}

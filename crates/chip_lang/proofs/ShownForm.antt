@@ -1,5 +1,5 @@
 -- The form that an instruction is shown in is its own.
-use Rattle.std.proofs.Common.{◌≡◌, ℕ, ◌+◌, ◌*◌, ◌<◌, ◌/◌, ◌%◌, ◌==◌, Bool, true, false, not, ◌&&◌, if◌then◌else◌, List, [], ◌∷◌, map, codes, Option, Some, None, refl, subst, ◌∙◌, arith}
+use Rattle.std.proofs.Common.{◌≡◌, ℕ, ◌<◌, ◌/◌, ◌%◌, ◌==◌, Bool, true, false, not, ◌&&◌, if◌then◌else◌, List, [], ◌∷◌, map, codes, Option, Some, None, refl, subst, ◌∙◌, arith}
 use Rattle.std.specs.List.{list_all, find}
 use Rattle.std.specs.Str.{bytes_eq}
 use Rattle.std.proofs.lemmas.Bool.{and_parts}
@@ -99,9 +99,9 @@ unfolding system_at
 system_shown w x y n t p q r =
     let byte = system_byte_at (w % 256) in
     either w (x == 0) (if y == 12 then Some (ScrollDown n) else byte) None (λ e.
-      either w (y == 12) (Some (ScrollDown n)) byte
-      (λ f. shown_at w 0 0 12 n (omega arith) t (p ∙ equal x 0 e) (q ∙ equal y 12 f) r)
-      (system_byte_shown w t (p ∙ equal x 0 e))
+    either w (y == 12) (Some (ScrollDown n)) byte
+    (λ f. shown_at w 0 0 12 n (omega arith) t (p ∙ equal x 0 e) (q ∙ equal y 12 f) r)
+    (system_byte_shown w t (p ∙ equal x 0 e))
     ) tt
 
 arithmetic_right : (x y : ℕ) (b : Bool) → (y == 0) ≡ b →
@@ -151,23 +151,55 @@ top_rows x y n byte a =
 
 each_shown : (w x y n : ℕ) → w / 256 % 16 ≡ x → w / 16 % 16 ≡ y → w % 16 ≡ n → EachShown w (w / 4096) (top_rows x y n (w % 256) (w % 4096))
 each_shown w x y n p q r =
-    let plain : (top : ℕ) → top < 16 → w / 4096 ≡ top → form_shown w ≡ form_at top x y n forms = λ top h t. shown_at w top x y n h t p q r in
-    (λ t. system_shown w x y n t p q r, (
-    λ t. plain 1 (omega arith) t, (
-    λ t. plain 2 (omega arith) t, (
-    λ t. plain 3 (omega arith) t, (
-    λ t. plain 4 (omega arith) t, (
-    λ t. compare_shown w 5 x y n (SkipIfEqual x y) (omega arith) t p q r refl, (
-    λ t. plain 6 (omega arith) t, (
-    λ t. plain 7 (omega arith) t, (
-    λ t. subst (λ n. Shown w (arithmetic_at x y n)) r (arithmetic_shown w x y t p q), (
-    λ t. compare_shown w 9 x y n (SkipUnlessEqual x y) (omega arith) t p q r refl, (
-    λ t. plain 10 (omega arith) t, (
-    λ t. plain 11 (omega arith) t, (
-    λ t. plain 12 (omega arith) t, (
-    λ t. plain 13 (omega arith) t, (
-    λ t. key_shown w x t p, (
-    λ t. transfer_shown w x t p, tt))))))))))))))))
+    let plain : (top : ℕ) → top < 16 → w / 4096 ≡ top → form_shown w ≡ form_at top x y n forms = λ top h t. shown_at w top x y n h t p q r in (
+      λ t. system_shown w x y n t p q r,
+      (
+        λ t. plain 1 (omega arith) t,
+        (
+          λ t. plain 2 (omega arith) t,
+          (
+            λ t. plain 3 (omega arith) t,
+            (
+              λ t. plain 4 (omega arith) t,
+              (
+                λ t. compare_shown w 5 x y n (SkipIfEqual x y) (omega arith) t p q r refl,
+                (
+                  λ t. plain 6 (omega arith) t,
+                  (
+                    λ t. plain 7 (omega arith) t,
+                    (
+                      λ t. subst (λ n. Shown w (arithmetic_at x y n)) r (arithmetic_shown w x y t p q),
+                      (
+                        λ t. compare_shown w 9 x y n (SkipUnlessEqual x y) (omega arith) t p q r refl,
+                        (
+                          λ t. plain 10 (omega arith) t,
+                          (
+                            λ t. plain 11 (omega arith) t,
+                            (
+                              λ t. plain 12 (omega arith) t,
+                              (
+                                λ t. plain 13 (omega arith) t,
+                                (
+                                  λ t. key_shown w x t p,
+                                  (
+                                    λ t. transfer_shown w x t p,
+                                    tt,
+                                  ),
+                                ),
+                              ),
+                            ),
+                          ),
+                        ),
+                      ),
+                    ),
+                  ),
+                ),
+              ),
+            ),
+          ),
+        ),
+      ),
+    )
 
 all_shown : (w : ℕ) → Shown w (instr_at w)
 all_shown w =

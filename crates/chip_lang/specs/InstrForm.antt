@@ -1,6 +1,6 @@
 -- The source form of an instruction (COSMAC VIP manual; SUPER-CHIP 1.1 documentation; own for the shorter form of a shift whose second
 -- register is V0).
-use Rattle.std.specs.Prelude.{ℕ, ◌≡◌, ◌==◌, if◌then◌else◌, List, [], ◌∷◌, codes}
+use Rattle.std.specs.Prelude.{◌≡◌, ◌==◌, if◌then◌else◌, [], ◌∷◌, codes}
 use Rattle.chip_lang.specs.declared.form.Pattern.TheVariants.{Vx, Vy, V0, Index, DelayTimer, SoundTimer, Key, SmallDigit as small_digit, BigDigit as big_digit, Decimal, Flags, AtIndex, Nibble, Byte, Address}
 use Rattle.chip_lang.specs.declared.instr.Instr.{Instr}
 use Rattle.chip_lang.specs.declared.instr.Instr.TheVariants.{ScrollDown, ClearScreen, Return, ScrollRight, ScrollLeft, Exit, LowSize, HighSize, Jump, Call, SkipIfByte, SkipUnlessByte, SkipIfEqual, LoadByte, AddByte, Copy, Or, And, Xor, Add, Subtract, ShiftRight, SubtractFrom, ShiftLeft, SkipUnlessEqual, LoadIndex, JumpOffset, Random, Draw, SkipIfKey, SkipUnlessKey, ReadDelay, WaitKey, SetDelay, SetSound, AddIndex, SmallDigit, BigDigit, StoreDecimal, StoreRegisters, LoadRegisters, StoreFlags, LoadFlags}

@@ -142,17 +142,28 @@ fn blanks_and_other_bytes(rt: HostRuntime) -> Result<(), Fail> {
     Ok(())
 }
 
+/// What a line of one byte says, by the table of tokens: nothing, a text without its end, an unknown word, a statement that begins with no
+/// word, or a byte that begins no token.
+fn answer_of_byte(byte: u8) -> &'static str {
+    match byte {
+        b' ' | b'\t' | b'\x0c' | b'\r' | b'\x1a' | b';' => "- Empty ",
+        b'\'' | b'"' => "F2",
+        b'A'..=b'Z' | b'a'..=b'z' | b'_' => "F3",
+        b'0'..=b'9' | b',' | b':' | b'=' | b'[' | b']' | b'(' | b')' => "F4",
+        b'+' | b'-' | b'*' | b'/' | b'&' | b'|' | b'^' | b'~' | b'<' | b'>' | b'\\' => "F4",
+        _ => "F1",
+    }
+}
+
 #[test]
 fn each_byte_alone_has_a_reading(rt: HostRuntime) -> Result<(), Fail> {
-    let mut faulty = 0u32;
     for byte in 0..=255u8 {
-        let mut meter = Meter::new();
-        if let Line::Bad(_) = read_line(rt.alloc(), &mut meter, &[byte])? {
-            faulty = faulty.saturating_add(1);
-        }
-        assert_eq!(rt; meter.parsed, 1);
+        assert_eq!(rt;
+            answer(rt.alloc(), &[byte])?.as_str(),
+            answer_of_byte(byte),
+            "{byte}"
+        );
     }
-    assert_eq!(rt; faulty, 250);
     Ok(())
 }
 
@@ -296,5 +307,33 @@ fn long_lists_fit_the_stack(rt: HostRuntime) -> Result<(), Fail> {
     assert_eq!(rt; answer(rt.alloc(), &commas)?.as_str(), "F4");
     let many = long(rt.alloc(), b"DB 7", b",7", 5_000, b"")?;
     assert_eq!(rt; answer(rt.alloc(), &many)?.len(), 10_007);
+    Ok(())
+}
+
+#[test]
+fn texts_of_ten_thousand_bytes_fit_the_stack(rt: HostRuntime) -> Result<(), Fail> {
+    let alloc = rt.alloc();
+    let close = long(alloc, b"", b")", 5_000, b"")?;
+    for (text, alone, value) in [
+        (long(alloc, b"", b"+", 10_000, b"")?, "F4", "F4"),
+        (long(alloc, b"", b"1 + ", 2_500, b"1")?, "F4", "X Equ 2501"),
+        (long(alloc, b"", b"(", 10_000, b"")?, "F4", "F6"),
+        (long(alloc, &close, b"(", 5_000, b"")?, "F4", "F4"),
+        (long(alloc, b"", b",", 10_000, b"")?, "F4", "F4"),
+    ] {
+        assert_eq!(rt; answer(alloc, &text)?.as_str(), alone);
+        let definition = long(alloc, b"X EQU ", &text, 1, b"")?;
+        assert_eq!(rt; answer(alloc, &definition)?.as_str(), value);
+    }
+    Ok(())
+}
+
+#[test]
+fn names_of_a_long_line_fit_the_stack(rt: HostRuntime) -> Result<(), Fail> {
+    let sum = long(rt.alloc(), b"DW A", b"+A", 5_000, b"")?;
+    let line = read_line(rt.alloc(), &mut Meter::new(), &sum)?;
+    assert!(rt; uses(&line, 5_000).is_some_and(|name| name == b"A".as_slice()));
+    assert!(rt; uses(&line, 5_001).is_none());
+    assert!(rt; agree_on(&line, &NoNames, &NoNames));
     Ok(())
 }
