@@ -1,17 +1,16 @@
 -- A word is shown in the form of its instruction, and the word of a form but SYS is an instruction that the form says.
-use Rattle.std.proofs.Common.{◌≡◌, ℕ, ◌+◌, ◌*◌, ◌<◌, ◌==◌, Bool, true, false, not, ◌&&◌, ◌||◌, if◌then◌else◌, List, [], ◌∷◌, map, codes, Option, Some, None, Ok, refl, sym, subst, ◌∙◌, ap, arith}
-use Rattle.std.specs.List.{list_all, list_any, find}
+use Rattle.std.proofs.Common.{◌≡◌, ◌≢◌, ℕ, ◌+◌, ◌*◌, ◌<◌, ◌==◌, Bool, true, false, not, ◌&&◌, ◌||◌, if◌then◌else◌, List, [], ◌∷◌, map, codes, Option, Some, None, refl, sym, subst, ◌∙◌, ap, arith}
+use Rattle.std.specs.List.{list_any, find}
 use Rattle.std.specs.Option.{option_map}
 use Rattle.std.specs.Str.{bytes_eq}
 use Rattle.std.proofs.lemmas.Bool.{and_parts, false≢true}
 use Rattle.std.proofs.lemmas.Slice.Eq.{bytes_eq-Decides}
 use Rattle.chip_lang.specs.declared.form.Pattern.{Pattern}
 use Rattle.chip_lang.specs.declared.instr.Instr.{Instr}
-use Rattle.chip_lang.specs.Operand.{Operand, is_of_machine}
+use Rattle.chip_lang.specs.Operand.{Operand}
 use Rattle.chip_lang.specs.Decoding.{system_byte_at, system_at, arithmetic_at, key_at, transfer_at, digits_at, instr_at, decode_of}
-use Rattle.chip_lang.specs.Form.{Row, forms, fits, find_form, form_of}
-use Rattle.chip_lang.specs.InstrForm.{row_of_instr, Says}
-use Rattle.chip_lang.specs.Encoding.{word_of_form}
+use Rattle.chip_lang.specs.Form.{Row, forms, fits, find_form}
+use Rattle.chip_lang.specs.InstrForm.{row_of_instr, HasWord, DecodesTo}
 use Rattle.chip_lang.specs.Value.{Symbols}
 use Rattle.chip_lang.specs.Show.{gives, form_shown}
 use Rattle.chip_lang.proofs.Decoding.{of_digits}
@@ -96,18 +95,15 @@ find_form_is (r ∷ rows) name operands = rw (find_form_is rows name operands) r
 same_some : {A : Type 0} {x y : A} → Some x ≡ Some y → x ≡ y
 same_some h = cc
 
-says_of : (o : Option Instr) (r : Row) → sign_of o ≡ Some (r.name, r.base) → (i : Instr) × (o ≡ Some i) × Says r i
-says_of None r h = cc
-says_of (Some i) r h =
+said_by : (r : Row) (w : ℕ) (o : Option Instr) → decode_of w ≡ o → sign_of o ≡ Some (r.name, r.base) → DecodesTo r w
+said_by r w None e h = cc
+said_by r w (Some i) e h =
     let same = same_some h in
-    (i, refl, record { name = sym (ap (λ s. s.0) same); base = sym (ap (λ s. s.1) same) })
+    record { instr = i; decoded = e; name = ap (λ s. s.0) same; base = ap (λ s. s.1) same }
 
--- a form but SYS says the instruction of each word with its digits
-said_row : (r : Row) (w : ℕ) → is_sys r ≡ false → unless_sys r (sign_of (instr_of_form r w)) ≡ unless_sys r (Some (r.name, r.base)) → w < 65536 → HasDigits r w →
-    (i : Instr) × (decode_of w ≡ Some i) × Says r i
-said_row r w plain same h digits =
-    let found = says_of (instr_of_form r w) r (rw plain at same) in
-    (found.0, decoded r w h digits ∙ found.1, found.2)
+-- each word with the digits of a form but SYS decodes to an instruction of that form
+said_row : (r : Row) (w : ℕ) → is_sys r ≡ false → unless_sys r (sign_of (instr_of_form r w)) ≡ unless_sys r (Some (r.name, r.base)) → w < 65536 → HasDigits r w → DecodesTo r w
+said_row r w plain same h digits = said_by r w (instr_of_form r w) (decoded r w h digits) (rw plain at same)
 
 not_false : (b : Bool) → not b ≡ true → b ≡ false
 not_false true h = absurd (false≢true h)
@@ -122,7 +118,7 @@ shown_step w (Some r) e h =
     let small = gives_small r w proper passes.1 in
     let same = found_same test (λ r. unless_sys r (sign_of (instr_of_form r w))) (λ r. unless_sys r (Some (r.name, r.base))) forms r (signs w) e in
     let said = said_row r w (not_false (is_sys r) passes.0) same small (sym (gives_digits r w proper small) ∙ passes.1) in
-    absurd (some_none said.0 (sym said.1 ∙ h))
+    absurd (some_none said.instr (sym said.decoded ∙ h))
   where
     some_none : (i : Instr) → Some i ≡ None → ⊥
     some_none i h = cc
@@ -137,13 +133,17 @@ form_of_word w = form_by w (decode_of w) refl
 pub form_found : (w : ℕ) (found : Option Row) → found ≡ form_shown w → found ≡ option_map row_of_instr (decode_of w)
 form_found w found h = h ∙ form_of_word w
 
-pub said_form : (name : List ℕ) (operands : List Operand) (form : Row) (symbols : Symbols) (w : ℕ) → form_of name operands ≡ Some form → bytes_eq name (codes "SYS") ≡ false →
-    list_all is_of_machine operands ≡ true → word_of_form form operands symbols ≡ Ok w → (i : Instr) × (decode_of w ≡ Some i) × Says form i
-said_form name operands form symbols w e plain real h =
-    let found : find (λ r. fits r name operands) forms ≡ Some form = sym (find_form_is forms name operands) ∙ e in
+no_name : (name other : List ℕ) (b : Bool) → bytes_eq name other ≡ b → name ≢ other → b ≡ false
+no_name name other true e h = absurd (h ((bytes_eq-Decides name other).0 e))
+no_name name other false e h = refl
+
+pub said_form : (name : List ℕ) (operands : List Operand) (symbols : Symbols) (form : Row) (w : ℕ) → HasWord name operands symbols form w → name ≢ codes "SYS" → DecodesTo form w
+said_form name operands symbols form w has plain =
+    let found : find (λ r. fits r name operands) forms ≡ Some form = sym (find_form_is forms name operands) ∙ has.fits in
     let passes = and_parts _ _ (found_passes (λ r. fits r name operands) forms form found) in
     let named : form.name ≡ name = (bytes_eq-Decides form.name name).0 passes.0 in
+    let other : bytes_eq form.name (codes "SYS") ≡ false = ap (λ n. bytes_eq n (codes "SYS")) named ∙ no_name name (codes "SYS") (bytes_eq name (codes "SYS")) refl plain in
     let proper = found_same (λ r. fits r name operands) is_proper (λ r. true) forms form all_proper found in
-    let word = word_digits form operands symbols w proper real h in
+    let word = word_digits form operands symbols w proper has.registers has.word in
     let same = found_same (λ r. fits r name operands) (λ r. unless_sys r (sign_of (instr_of_form r w))) (λ r. unless_sys r (Some (r.name, r.base))) forms form (signs w) found in
-    said_row form w (ap (λ n. bytes_eq n (codes "SYS")) named ∙ plain) same word.0 word.1
+    said_row form w other same word.0 word.1

@@ -149,57 +149,30 @@ top_rows x y n byte a =
     ∷ (9, if n == 0 then Some (SkipUnlessEqual x y) else None) ∷ (10, Some (LoadIndex a)) ∷ (11, Some (JumpOffset a)) ∷ (12, Some (Random x byte))
     ∷ (13, Some (Draw x y n)) ∷ (14, key_at x byte) ∷ (15, transfer_at x byte) ∷ []
 
+infixr 4 ◌&◌
+◌&◌ : {A B : Type 0} → A → B → A × B
+a & b = (a, b)
+
 each_shown : (w x y n : ℕ) → w / 256 % 16 ≡ x → w / 16 % 16 ≡ y → w % 16 ≡ n → EachShown w (w / 4096) (top_rows x y n (w % 256) (w % 4096))
 each_shown w x y n p q r =
-    let plain : (top : ℕ) → top < 16 → w / 4096 ≡ top → form_shown w ≡ form_at top x y n forms = λ top h t. shown_at w top x y n h t p q r in (
-      λ t. system_shown w x y n t p q r,
-      (
-        λ t. plain 1 (omega arith) t,
-        (
-          λ t. plain 2 (omega arith) t,
-          (
-            λ t. plain 3 (omega arith) t,
-            (
-              λ t. plain 4 (omega arith) t,
-              (
-                λ t. compare_shown w 5 x y n (SkipIfEqual x y) (omega arith) t p q r refl,
-                (
-                  λ t. plain 6 (omega arith) t,
-                  (
-                    λ t. plain 7 (omega arith) t,
-                    (
-                      λ t. subst (λ n. Shown w (arithmetic_at x y n)) r (arithmetic_shown w x y t p q),
-                      (
-                        λ t. compare_shown w 9 x y n (SkipUnlessEqual x y) (omega arith) t p q r refl,
-                        (
-                          λ t. plain 10 (omega arith) t,
-                          (
-                            λ t. plain 11 (omega arith) t,
-                            (
-                              λ t. plain 12 (omega arith) t,
-                              (
-                                λ t. plain 13 (omega arith) t,
-                                (
-                                  λ t. key_shown w x t p,
-                                  (
-                                    λ t. transfer_shown w x t p,
-                                    tt,
-                                  ),
-                                ),
-                              ),
-                            ),
-                          ),
-                        ),
-                      ),
-                    ),
-                  ),
-                ),
-              ),
-            ),
-          ),
-        ),
-      ),
-    )
+    let plain : (top : ℕ) → top < 16 → w / 4096 ≡ top → form_shown w ≡ form_at top x y n forms = λ top h t. shown_at w top x y n h t p q r in
+    (λ t. system_shown w x y n t p q r)
+    & (λ t. plain 1 (omega arith) t)
+    & (λ t. plain 2 (omega arith) t)
+    & (λ t. plain 3 (omega arith) t)
+    & (λ t. plain 4 (omega arith) t)
+    & (λ t. compare_shown w 5 x y n (SkipIfEqual x y) (omega arith) t p q r refl)
+    & (λ t. plain 6 (omega arith) t)
+    & (λ t. plain 7 (omega arith) t)
+    & (λ t. subst (λ n. Shown w (arithmetic_at x y n)) r (arithmetic_shown w x y t p q))
+    & (λ t. compare_shown w 9 x y n (SkipUnlessEqual x y) (omega arith) t p q r refl)
+    & (λ t. plain 10 (omega arith) t)
+    & (λ t. plain 11 (omega arith) t)
+    & (λ t. plain 12 (omega arith) t)
+    & (λ t. plain 13 (omega arith) t)
+    & (λ t. key_shown w x t p)
+    & (λ t. transfer_shown w x t p)
+    & tt
 
 all_shown : (w : ℕ) → Shown w (instr_at w)
 all_shown w =

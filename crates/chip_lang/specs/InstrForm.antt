@@ -1,10 +1,15 @@
 -- The source form of an instruction (COSMAC VIP manual; SUPER-CHIP 1.1 documentation; own for the shorter form of a shift whose second
 -- register is V0).
-use Rattle.std.specs.Prelude.{◌≡◌, ◌==◌, if◌then◌else◌, [], ◌∷◌, codes}
+use Rattle.std.specs.Prelude.{ℕ, ◌≡◌, ◌==◌, true, if◌then◌else◌, List, [], ◌∷◌, codes, Some, Ok}
+use Rattle.std.specs.List.{list_all}
 use Rattle.chip_lang.specs.declared.form.Pattern.TheVariants.{Vx, Vy, V0, Index, DelayTimer, SoundTimer, Key, SmallDigit as small_digit, BigDigit as big_digit, Decimal, Flags, AtIndex, Nibble, Byte, Address}
 use Rattle.chip_lang.specs.declared.instr.Instr.{Instr}
 use Rattle.chip_lang.specs.declared.instr.Instr.TheVariants.{ScrollDown, ClearScreen, Return, ScrollRight, ScrollLeft, Exit, LowSize, HighSize, Jump, Call, SkipIfByte, SkipUnlessByte, SkipIfEqual, LoadByte, AddByte, Copy, Or, And, Xor, Add, Subtract, ShiftRight, SubtractFrom, ShiftLeft, SkipUnlessEqual, LoadIndex, JumpOffset, Random, Draw, SkipIfKey, SkipUnlessKey, ReadDelay, WaitKey, SetDelay, SetSound, AddIndex, SmallDigit, BigDigit, StoreDecimal, StoreRegisters, LoadRegisters, StoreFlags, LoadFlags}
-use Rattle.chip_lang.specs.Form.{Row, row}
+use Rattle.chip_lang.specs.Form.{Row, row, form_of}
+use Rattle.chip_lang.specs.Operand.{Operand, is_of_machine}
+use Rattle.chip_lang.specs.Value.{Symbols}
+use Rattle.chip_lang.specs.Encoding.{word_of_form}
+use Rattle.chip_lang.specs.Decoding.{decode_of}
 
 -- the form that an instruction is written in
 abbrev pub row_of_instr : Instr → Row
@@ -52,7 +57,16 @@ row_of_instr (LoadRegisters x) = row (codes "LD") (Vx ∷ AtIndex ∷ []) 0xF065
 row_of_instr (StoreFlags x) = row (codes "LD") (Flags ∷ Vx ∷ []) 0xF075
 row_of_instr (LoadFlags x) = row (codes "LD") (Vx ∷ Flags ∷ []) 0xF085
 
--- A form says an instruction: it has the name of its form, and its word without operands. Only a shift has two such forms.
-pub record Says (form : Row) (i : Instr) : Type 0 where
-  pub name : form.name ≡ (row_of_instr i).name
-  pub base : form.base ≡ (row_of_instr i).base
+-- A statement has a form and a word: the form is that of its name and operands, whose registers are V0 to VF, and the word is theirs.
+pub record HasWord (name : List ℕ) (operands : List Operand) (symbols : Symbols) (form : Row) (w : ℕ) : Type 0 where
+  pub fits : form_of name operands ≡ Some form
+  pub registers : list_all is_of_machine operands ≡ true
+  pub word : word_of_form form operands symbols ≡ Ok w
+
+-- A word decodes to an instruction of a form: one whose own form has the same name, and the same word without operands. So it is the same
+-- form, or the shorter one of a shift.
+pub record DecodesTo (form : Row) (w : ℕ) : Type 0 where
+  pub instr : Instr
+  pub decoded : decode_of w ≡ Some instr
+  pub name : (row_of_instr instr).name ≡ form.name
+  pub base : (row_of_instr instr).base ≡ form.base

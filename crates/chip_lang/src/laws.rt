@@ -11,15 +11,13 @@ ghost use Rattle.chip_lang.specs.Token.{tokens_of};
 ghost use Rattle.chip_lang.specs.Scan.{AreTokens};
 ghost use Rattle.chip_lang.specs.Line.{Reading, reading_of};
 ghost use Rattle.chip_lang.specs.Examples.{Examples};
-ghost use Rattle.std.specs.Prelude.{true, false, ◌≤◌, ◌*◌, length, map, Ok};
+ghost use Rattle.std.specs.Prelude.{true, ◌≢◌, ◌≤◌, ◌*◌, length, map, Ok};
 ghost use Rattle.std.specs.List.{list_all, filter};
-ghost use Rattle.chip_lang.specs.Operand.{Operand, is_of_machine};
-ghost use Rattle.chip_lang.specs.declared.instr.Instr.{Instr};
+ghost use Rattle.chip_lang.specs.Operand.{Operand};
 ghost use Rattle.chip_lang.specs.Decoding.{decode_of};
-ghost use Rattle.chip_lang.specs.InstrForm.{row_of_instr, Says};
-ghost use Rattle.std.specs.Str.{bytes_eq};
+ghost use Rattle.chip_lang.specs.InstrForm.{row_of_instr, HasWord, DecodesTo};
 ghost use Rattle.std.specs.Option.{option_map};
-ghost use Rattle.chip_lang.specs.Form.{Row, forms, fits, form_of};
+ghost use Rattle.chip_lang.specs.Form.{Row, forms, fits};
 ghost use Rattle.chip_lang.specs.Encoding.{word_of_form};
 ghost use Rattle.chip_lang.specs.Show.{form_shown, operand_in};
 ghost use Rattle.chip_lang.specs.Value.{Symbols, value};
@@ -68,8 +66,8 @@ pub fn shown_form()
 {}
 
 /// The source forms and `decode` agree: a word is shown in the form of the instruction that it decodes to, and in none where it is no
-/// instruction; and the word of a form but SYS decodes to an instruction that the form says.
+/// instruction; and the word of a statement with a form but SYS decodes to an instruction of that form.
 pub fn forms_and_decode()
     ensures shown { (w : ℕ) → form_shown w ≡ option_map row_of_instr (decode_of w) }
-    ensures said { (name : List ℕ) (operands : List Operand) (form : Row) (symbols : Symbols) (w : ℕ) → form_of name operands ≡ Some form → bytes_eq name (codes "SYS") ≡ false → list_all is_of_machine operands ≡ true → word_of_form form operands symbols ≡ Ok w → (i : Instr) × (decode_of w ≡ Some i) × Says form i }
+    ensures said { (name : List ℕ) (operands : List Operand) (symbols : Symbols) (form : Row) (w : ℕ) → HasWord name operands symbols form w → name ≢ codes "SYS" → DecodesTo form w }
 {}
