@@ -15,4 +15,5 @@ pub mod Steps
 pub mod TokenList
 pub mod NamesUsed
 pub mod NamesBound
+pub mod FormedLine
 pub mod Lookup

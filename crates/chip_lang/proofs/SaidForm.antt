@@ -137,12 +137,10 @@ no_name : (name other : List ℕ) (b : Bool) → bytes_eq name other ≡ b → n
 no_name name other true e h = absurd (h ((bytes_eq-Decides name other).0 e))
 no_name name other false e h = refl
 
-pub said_form : (name : List ℕ) (operands : List Operand) (symbols : Symbols) (form : Row) (w : ℕ) → HasWord name operands symbols form w → name ≢ codes "SYS" → DecodesTo form w
+pub said_form : (name : List ℕ) (operands : List Operand) (symbols : Symbols) (form : Row) (w : ℕ) → HasWord name operands symbols form w → form.name ≢ codes "SYS" → DecodesTo form w
 said_form name operands symbols form w has plain =
     let found : find (λ r. fits r name operands) forms ≡ Some form = sym (find_form_is forms name operands) ∙ has.fits in
-    let passes = and_parts _ _ (found_passes (λ r. fits r name operands) forms form found) in
-    let named : form.name ≡ name = (bytes_eq-Decides form.name name).0 passes.0 in
-    let other : bytes_eq form.name (codes "SYS") ≡ false = ap (λ n. bytes_eq n (codes "SYS")) named ∙ no_name name (codes "SYS") (bytes_eq name (codes "SYS")) refl plain in
+    let other = no_name form.name (codes "SYS") (is_sys form) refl plain in
     let proper = found_same (λ r. fits r name operands) is_proper (λ r. true) forms form all_proper found in
     let word = word_digits form operands symbols w proper has.registers has.word in
     let same = found_same (λ r. fits r name operands) (λ r. unless_sys r (sign_of (instr_of_form r w))) (λ r. unless_sys r (Some (r.name, r.base))) forms form (signs w) found in

@@ -9,9 +9,9 @@ ghost use Rattle.std.specs.Prelude.{codes, ℕ, []};
 ghost use Rattle.chip_lang.specs.declared.token.Token.{Token};
 ghost use Rattle.chip_lang.specs.Token.{tokens_of};
 ghost use Rattle.chip_lang.specs.Scan.{AreTokens};
-ghost use Rattle.chip_lang.specs.Line.{Reading, reading_of};
+ghost use Rattle.chip_lang.specs.Line.{Reading, reading_of, read, code};
 ghost use Rattle.chip_lang.specs.Examples.{Examples};
-ghost use Rattle.std.specs.Prelude.{true, ◌≢◌, ◌≤◌, ◌*◌, length, map, Ok};
+ghost use Rattle.std.specs.Prelude.{true, ◌≢◌, ◌≤◌, ◌*◌, length, map, Option, Ok};
 ghost use Rattle.std.specs.List.{list_all, filter};
 ghost use Rattle.chip_lang.specs.Operand.{Operand};
 ghost use Rattle.chip_lang.specs.Decoding.{decode_of};
@@ -66,8 +66,9 @@ pub fn shown_form()
 {}
 
 /// The source forms and `decode` agree: a word is shown in the form of the instruction that it decodes to, and in none where it is no
-/// instruction; and the word of a statement with a form but SYS decodes to an instruction of that form.
+/// instruction; and the word of a statement with a form but SYS decodes to an instruction of that form, so that of an instruction's line.
 pub fn forms_and_decode()
     ensures shown { (w : ℕ) → form_shown w ≡ option_map row_of_instr (decode_of w) }
-    ensures said { (name : List ℕ) (operands : List Operand) (symbols : Symbols) (form : Row) (w : ℕ) → HasWord name operands symbols form w → name ≢ codes "SYS" → DecodesTo form w }
+    ensures said { (name : List ℕ) (operands : List Operand) (symbols : Symbols) (form : Row) (w : ℕ) → HasWord name operands symbols form w → form.name ≢ codes "SYS" → DecodesTo form w }
+    ensures line { (line : List ℕ) (label : Option (List ℕ)) (form : Row) (operands : List Operand) (symbols : Symbols) (w : ℕ) → reading_of line ≡ read label (code form operands) → word_of_form form operands symbols ≡ Ok w → form.name ≢ codes "SYS" → DecodesTo form w }
 {}

@@ -1,3 +1,4 @@
+use Rattle.chip_lang.proofs.FormedLine.{said_line}
 use Rattle.chip_lang.proofs.SaidForm.{form_of_word, said_form}
 use Rattle.chip_lang.proofs.laws.forms_and_decode.Goals as goal
 
@@ -6,3 +7,6 @@ returns-clause-shown c = form_of_word
 
 pub returns-clause-said : goal.returns-clause-said
 returns-clause-said c = said_form
+
+pub returns-clause-line : goal.returns-clause-line
+returns-clause-line c = said_line
