@@ -4,7 +4,7 @@ ghost use Rattle.std.specs.Prelude.{◌≡◌, ℕ, ◌+◌, ◌-◌, ◌*◌, �
 ghost use Rattle.std.specs.FinSet as set;
 ghost use Rattle.chip_machine.specs.Points.{Points, points_code, is_lit, IsOnScreen, symmetric_difference, meets};
 ghost use Rattle.chip_machine.specs.Stored.{in_rows, lights, differ, any_below};
-ghost use Rattle.chip_machine.specs.Sprite.{covers, covered, scale};
+ghost use Rattle.chip_machine.specs.Sprite.{StartsRight, covers, covered, scale};
 ghost use Rattle.chip_machine.specs.Scroll.{scrolled_down, scrolled_right, scrolled_left};
 
 use crate::sprite::{HEIGHT, WIDTH, covered_bits, lines_under, scale_of, starts_right};
@@ -176,7 +176,7 @@ fn toggle(rows: &mut [u128], high: bool, x: u8, y: u8, sprite: &[u8]) -> bool
 #[inline(always)]
 fn toggle_lines(rows: &mut [u128], high: bool, right: bool, x: u8, y: u8, sprite: &[u8]) -> bool
     requires size { length rows.old ≡ 64 }
-    requires half { IsTrue right ↔ (64 ≤ scale high * (x % (128 / scale high))) }
+    requires half { IsTrue right ↔ StartsRight high x }
     ensures turned { (row column : ℕ) → row < 64 → column < 128 → lights (slice_index rows.new row) column ≡ differ (lights (slice_index rows.old row) column) (covers high x y sprite.now column row) }
     ensures hit { result ≡ any_below (λ row. any_below (λ column. lights (slice_index rows.old row) column && covers high x y sprite.now column row) 128) 64 }
 {

@@ -3,7 +3,7 @@
 ghost use Rattle.std.specs.Prelude.{◌≡◌, ℕ, ◌+◌, ◌-◌, ◌*◌, ◌/◌, ◌%◌, ◌<◌, ◌≤◌, false, ◌==◌, slice_index, ◌^◌, ◌↔◌, IsTrue};
 ghost use Rattle.std.specs.Int.{bit_at};
 ghost use Rattle.chip_machine.specs.Stored.{lights};
-ghost use Rattle.chip_machine.specs.Sprite.{covers, is_set, row_bytes, scale, sprite_bytes};
+ghost use Rattle.chip_machine.specs.Sprite.{StartsRight, covers, is_set, row_bytes, scale, sprite_bytes};
 
 use crate::doubled::DOUBLED;
 use chip_lang::number::Nibble;
@@ -61,7 +61,7 @@ pub(crate) fn lines_under(high: bool, y: u8, sprite: &[u8]) -> (usize, usize)
 
 /// Whether a sprite starts in the right half of the stored columns.
 pub(crate) fn starts_right(high: bool, x: u8) -> bool
-    ensures { IsTrue result ↔ (64 ≤ scale high * (x % (128 / scale high))) }
+    ensures { IsTrue result ↔ StartsRight high x }
 {
     let scale = scale_of(high);
     WIDTH / 2 <= scale * (x as usize % (WIDTH / scale))
@@ -76,7 +76,7 @@ pub(crate) fn covered_bits(
     sprite: &[u8],
     line: usize,
 ) -> u128
-    requires half { IsTrue right ↔ (64 ≤ scale high * (x % (128 / scale high))) }
+    requires half { IsTrue right ↔ StartsRight high x }
     requires below_the_top { y % (64 / scale high) ≤ line }
     requires on_screen { line < 64 }
     ensures { (column row : ℕ) → column < 128 → scale high * line ≤ row → row < scale high * line + scale high → lights result column ≡ covers high x y sprite.now column row }
@@ -89,7 +89,7 @@ pub(crate) fn covered_bits(
 }
 
 /// Sixteen columns, the first of them at `start`, as far as they are on the screen. `right` says whether that is in the
-/// right half, so that the shift is by under 64 columns, which is faster than one by any number.
+/// right half: so the shift is by under 64 columns, which is faster than one by any number.
 fn placed(columns: u16, right: bool, start: usize) -> u128
     requires on_screen { start < 128 }
     requires half { IsTrue right ↔ (64 ≤ start) }
