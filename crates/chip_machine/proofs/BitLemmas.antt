@@ -1,33 +1,26 @@
 -- Rows of bits: what a shift, an exclusive or and a mask do to each bit.
-use Rattle.std.proofs.Common.{◌≡◌, ℕ, ◌+◌, ◌-◌, ◌*◌, ◌/◌, ◌%◌, ◌^◌, ◌<◌, ◌≤◌, Bool, true, false, not, ◌&&◌, ◌==◌, nat_eq, min, refl, sym, ap, ◌∙◌, arith, add-zero, subst, ◌⊎◌, inl, inr, nat_le, ⊎_elim, bit_and, bit_or}
+use Rattle.std.proofs.Common.{◌≡◌, ℕ, ◌+◌, ◌-◌, ◌*◌, ◌/◌, ◌%◌, ◌^◌, ◌<◌, ◌≤◌, Bool, true, false, not, ◌&&◌, ◌==◌, nat_eq, min, refl, sym, ap, ◌∙◌, arith, add-zero, subst, ◌⊎◌, inl, inr, nat_le, ⊎_elim, bit_and, get_or}
 use Rattle.std.specs.Int.{bit_at}
 use Rattle.std.specs.Prelude.{bit_xor}
-use Rattle.std.proofs.lemmas.Nat.{shr-shr, shl_whole, and_le_r, pow_pos, shr_split}
+use Rattle.std.proofs.lemmas.Nat.{shr-shr, shl-shr, shl_whole, and_le_r, pow_pos, shr_split}
 use Rattle.std.proofs.lemmas.Nat.Bits.{bit_at_and, bit_at_xor, bit_at-zero, bit_at-lt, bit_at_above, bit_at_cat_low, bit_at_cat_high, same_from_bits_below}
 use Rattle.std.proofs.lemmas.Bool.{false≢true, cases_lt, cases_Bool, eqb-true, eqb-false, eq-eqb, ne_eqb, not-false, cases_eq, and_left, lt-leb, le-leb}
+use Rattle.chip_machine.specs.declared.doubled.TheConstants.{DOUBLED}
 use Rattle.chip_machine.specs.Stored.{lights, differ, any_below}
 use Rattle.chip_machine.proofs.PointLemmas.{any_below-false, any_below_none, any_below_same}
 
 -- ---- each bit of a byte twice
 
-abbrev pub spread : ℕ → ℕ → ℕ → ℕ
-spread bits by mask = bit_and (bit_or bits (bits * by % 65536)) mask
-
-abbrev pub twice : ℕ → ℕ
-twice byte =
-    let pairs = spread (spread (spread byte 16 3855) 4 13107) 2 21845 in
-    bit_or pairs (pairs * 2 % 65536)
-
 wrong_bit : ℕ → ℕ → Bool
-wrong_bit byte k = not (nat_eq (bit_at (twice byte) k) (bit_at byte (k / 2)))
+wrong_bit byte k = not (nat_eq (bit_at (get_or DOUBLED byte 0) k) (bit_at byte (k / 2)))
 
 no_wrong_byte : any_below (λ byte. any_below (wrong_bit byte) 16) 256 ≡ false
 unfolding any_below wrong_bit
 no_wrong_byte = refl
 
-pub bit_at-twice : (byte k : ℕ) → byte < 256 → k < 16 → bit_at (twice byte) k ≡ bit_at byte (k / 2)
+pub bit_at-doubled : (byte k : ℕ) → byte < 256 → k < 16 → bit_at (get_or DOUBLED byte 0) k ≡ bit_at byte (k / 2)
 unfolding wrong_bit
-bit_at-twice byte k small within =
+bit_at-doubled byte k small within =
     eqb-true _ _ (not-false _ (any_below-false (wrong_bit byte) 16 (any_below-false (λ byte. any_below (wrong_bit byte) 16) 256 no_wrong_byte byte small) k within))
 
 -- ---- sixteen bits, put at the left and moved right
@@ -52,6 +45,22 @@ module _ (bits start column : ℕ) (fits : bits < 2 ^ 16) (on_screen : column < 
 
   pub stripe_right : start + 16 ≤ column → bit_at (bits * 2 ^ 112 % 2 ^ 128 / 2 ^ start) (127 - column) ≡ 0
   stripe_right out = whole ∙ bit_at_cat_low bits 112 0 (start + (127 - column)) (omega arith) ∙ bit_at-zero _
+
+-- the shift by its part under 64, where the bits are put into the half in which they start
+pub placed_left : (bits start : ℕ) → start < 64 → bits * 2 ^ 112 % 2 ^ 128 / 2 ^ (start % 64) ≡ bits * 2 ^ 112 % 2 ^ 128 / 2 ^ start
+placed_left bits start left =
+    let e : start % 64 ≡ start = omega arith in
+    ap (λ n. bits * 2 ^ 112 % 2 ^ 128 / 2 ^ n) e
+
+pub placed_right : (bits start : ℕ) → bits < 2 ^ 16 → 64 ≤ start → start < 128 → bits * 2 ^ 48 % 2 ^ 128 / 2 ^ (start % 64) ≡ bits * 2 ^ 112 % 2 ^ 128 / 2 ^ start
+placed_right bits start fits right on_screen =
+    let rest = start % 64 in
+    let e : 64 + rest ≡ start = omega arith in
+    let whole : bits * 2 ^ 48 * 2 ^ 64 ≡ bits * 2 ^ 112 = omega arith in
+    ap (λ n. n / 2 ^ rest) (shl_whole bits 16 48 128 fits (omega arith) ∙ sym (shl-shr (bits * 2 ^ 48) 64))
+    ∙ shr-shr (bits * 2 ^ 48 * 2 ^ 64) 64 rest
+    ∙ (λ i. whole i / 2 ^ e i)
+    ∙ ap (λ n. n / 2 ^ start) (sym (shl_whole bits 16 112 128 fits (omega arith)))
 
 -- ---- an exclusive or turns the columns that the other row lights
 

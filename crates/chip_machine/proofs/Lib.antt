@@ -1,7 +1,5 @@
 pub mod BitLemmas
 pub mod Examples
-pub mod FrameLaw
-pub mod Overwrite
 pub mod PointLemmas
 pub mod RowLemmas
 pub mod ScreenExamples

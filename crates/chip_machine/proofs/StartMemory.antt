@@ -1,11 +1,11 @@
 -- The image in the memory at the start.
-use Rattle.std.proofs.Common.{◌≡◌, ℕ, ◌+◌, ◌-◌, ◌<◌, ◌≤◌, ◌++◌, List, length, take, drop, replicate, refl, sym, ap, ◌∙◌, arith, append_assoc, length-append, length-drop}
-use Rattle.std.proofs.lemmas.List.{take-append-le, length-take-le, drop-replicate, take_at, drop_at, drop-drop}
+use Rattle.std.proofs.Common.{◌≡◌, ℕ, ◌+◌, ◌-◌, ◌≤◌, ◌++◌, List, length, take, drop, replicate, refl, sym, ap, ◌∙◌, arith, append_assoc, length-append}
+use Rattle.std.proofs.lemmas.List.{length-take-le, drop-replicate, take_at, drop_at, drop-drop}
 use Rattle.chip_machine.specs.State.{overwrite}
 use Rattle.chip_machine.specs.Digits.{small_shapes, big_shapes, bytes_of}
-use Rattle.chip_machine.specs.Start.{with_image, zeros, start_memory}
+use Rattle.chip_machine.specs.Start.{with_image, zeros}
 use Rattle.chip_machine.specs.ImageLaw.{ImageAndZeros, SameBelowTheImage}
-use Rattle.chip_machine.proofs.Overwrite.{length-overwrite}
+use Rattle.chip_machine.specs.Overwritten.{length-overwrite}
 
 -- what stands before the bytes that were written stays
 pub take-overwrite : (m : List ℕ) (i : ℕ) (bytes : List ℕ) → i ≤ length m → take i (overwrite m i bytes) ≡ take i m

@@ -11,11 +11,16 @@
 --   ImageLaw  what the image is in the memory at the start
 --   Numbers   the numbers of stop causes and of errors at the start
 --   Codes     how a state is stored as data
+-- The rest are proofs, which a reader may skip. They stand here for a crate above whose trait asks for them as its laws:
+--   Overwritten   memory after bytes were written, address by address
+--   FrameTheorem  the frame law holds, and a step keeps a state proper
 pub mod Codes
 pub mod Digits
 pub mod Frame
+pub mod FrameTheorem
 pub mod ImageLaw
 pub mod Numbers
+pub mod Overwritten
 pub mod Points
 pub mod Scroll
 pub mod Sprite

@@ -2,6 +2,7 @@
 #![tactic(auto)]
 
 mod digits;
+mod doubled;
 mod execute;
 #[cfg(test)]
 mod instruction_tests;

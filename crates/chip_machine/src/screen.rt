@@ -1,13 +1,13 @@
 //! The screen as 64 rows of 128 bits, the leftmost column the highest bit.
 
-ghost use Rattle.std.specs.Prelude.{◌≡◌, ℕ, ◌+◌, ◌-◌, ◌*◌, ◌/◌, ◌%◌, ◌<◌, ◌≤◌, Bool, true, false, ◌&&◌, ◌||◌, ◌==◌, length, slice_index, slice_index_or, IfOk, ◌^◌};
+ghost use Rattle.std.specs.Prelude.{◌≡◌, ℕ, ◌+◌, ◌-◌, ◌*◌, ◌/◌, ◌%◌, ◌<◌, ◌≤◌, Bool, true, false, ◌&&◌, ◌||◌, ◌==◌, length, slice_index, slice_index_or, IfOk, ◌^◌, IsTrue, ◌↔◌};
 ghost use Rattle.std.specs.FinSet as set;
 ghost use Rattle.chip_machine.specs.Points.{Points, points_code, is_lit, IsOnScreen, symmetric_difference, meets};
 ghost use Rattle.chip_machine.specs.Stored.{in_rows, lights, differ, any_below};
-ghost use Rattle.chip_machine.specs.Sprite.{covers, covered, scale};
+ghost use Rattle.chip_machine.specs.Sprite.{StartsRight, covers, covered, scale};
 ghost use Rattle.chip_machine.specs.Scroll.{scrolled_down, scrolled_right, scrolled_left};
 
-use crate::sprite::{HEIGHT, WIDTH, covered_bits, lines_under, scale_of};
+use crate::sprite::{HEIGHT, WIDTH, covered_bits, lines_under, scale_of, starts_right};
 use std::alloc::{AllocError, Global};
 use std::marker::Model;
 
@@ -163,18 +163,20 @@ fn toggle(rows: &mut [u128], high: bool, x: u8, y: u8, sprite: &[u8]) -> bool
     ensures turned { (row column : ℕ) → row < 64 → column < 128 → lights (slice_index rows.new row) column ≡ differ (lights (slice_index rows.old row) column) (covers high x y sprite.now column row) }
     ensures hit { result ≡ any_below (λ row. any_below (λ column. lights (slice_index rows.old row) column && covers high x y sprite.now column row) 128) 64 }
 {
-    // A loop for each size: there the size is a constant, which is faster than one loop for both.
-    if high {
-        toggle_lines(rows, true, x, y, sprite)
-    } else {
-        toggle_lines(rows, false, x, y, sprite)
+    // A loop for each size and half: there both are constants, which is faster than one loop for all.
+    match (high, starts_right(high, x)) {
+        (true, true) => toggle_lines(rows, true, true, x, y, sprite),
+        (true, false) => toggle_lines(rows, true, false, x, y, sprite),
+        (false, true) => toggle_lines(rows, false, true, x, y, sprite),
+        (false, false) => toggle_lines(rows, false, false, x, y, sprite),
     }
 }
 
-/// Turns them line by line.
+/// Turns them line by line. `right` says whether the sprite starts in the right half.
 #[inline(always)]
-fn toggle_lines(rows: &mut [u128], high: bool, x: u8, y: u8, sprite: &[u8]) -> bool
-    requires { length rows.old ≡ 64 }
+fn toggle_lines(rows: &mut [u128], high: bool, right: bool, x: u8, y: u8, sprite: &[u8]) -> bool
+    requires size { length rows.old ≡ 64 }
+    requires half { IsTrue right ↔ StartsRight high x }
     ensures turned { (row column : ℕ) → row < 64 → column < 128 → lights (slice_index rows.new row) column ≡ differ (lights (slice_index rows.old row) column) (covers high x y sprite.now column row) }
     ensures hit { result ≡ any_below (λ row. any_below (λ column. lights (slice_index rows.old row) column && covers high x y sprite.now column row) 128) 64 }
 {
@@ -182,7 +184,7 @@ fn toggle_lines(rows: &mut [u128], high: bool, x: u8, y: u8, sprite: &[u8]) -> b
     let (first, end) = lines_under(high, y, sprite);
     let mut hit = false;
     for line in first..end {
-        let stripe = covered_bits(high, x, y, sprite, line);
+        let stripe = covered_bits(high, right, x, y, sprite, line);
         hit |= turn(rows, scale * line, scale, stripe);
     }
     hit

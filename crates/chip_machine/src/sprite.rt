@@ -1,10 +1,11 @@
 //! The stored points that a sprite covers, as bits of the screen's rows.
 
-ghost use Rattle.std.specs.Prelude.{◌≡◌, ℕ, ◌+◌, ◌-◌, ◌*◌, ◌/◌, ◌%◌, ◌<◌, ◌≤◌, false, ◌==◌, slice_index};
+ghost use Rattle.std.specs.Prelude.{◌≡◌, ℕ, ◌+◌, ◌-◌, ◌*◌, ◌/◌, ◌%◌, ◌<◌, ◌≤◌, false, ◌==◌, slice_index, ◌^◌, ◌↔◌, IsTrue};
 ghost use Rattle.std.specs.Int.{bit_at};
 ghost use Rattle.chip_machine.specs.Stored.{lights};
-ghost use Rattle.chip_machine.specs.Sprite.{covers, is_set, row_bytes, scale, sprite_bytes};
+ghost use Rattle.chip_machine.specs.Sprite.{StartsRight, covers, is_set, row_bytes, scale, sprite_bytes};
 
+use crate::doubled::DOUBLED;
 use chip_lang::number::Nibble;
 
 /// How many columns the screen has.
@@ -58,8 +59,24 @@ pub(crate) fn lines_under(high: bool, y: u8, sprite: &[u8]) -> (usize, usize)
     (first, end.min(height))
 }
 
-/// The bits that a sprite covers in each row of a line.
-pub(crate) fn covered_bits(high: bool, x: u8, y: u8, sprite: &[u8], line: usize) -> u128
+/// Whether a sprite starts in the right half of the stored columns.
+pub(crate) fn starts_right(high: bool, x: u8) -> bool
+    ensures { IsTrue result ↔ StartsRight high x }
+{
+    let scale = scale_of(high);
+    WIDTH / 2 <= scale * (x as usize % (WIDTH / scale))
+}
+
+/// The bits that a sprite covers in each row of a line. `right` says whether it starts in the right half.
+pub(crate) fn covered_bits(
+    high: bool,
+    right: bool,
+    x: u8,
+    y: u8,
+    sprite: &[u8],
+    line: usize,
+) -> u128
+    requires half { IsTrue right ↔ StartsRight high x }
     requires below_the_top { y % (64 / scale high) ≤ line }
     requires on_screen { line < 64 }
     ensures { (column row : ℕ) → column < 128 → scale high * line ≤ row → row < scale high * line + scale high → lights result column ≡ covers high x y sprite.now column row }
@@ -68,7 +85,21 @@ pub(crate) fn covered_bits(high: bool, x: u8, y: u8, sprite: &[u8], line: usize)
     let left = x as usize % (WIDTH / scale);
     let top = y as usize % (HEIGHT / scale);
     let pattern = pattern_at(high, sprite, line - top);
-    (u128::from(pattern) << 112) >> (scale * left)
+    placed(pattern, right, scale * left)
+}
+
+/// Sixteen columns, the first of them at `start`, as far as they are on the screen. `right` says whether that is in the
+/// right half: so the shift is by under 64 columns, which is faster than one by any number.
+fn placed(columns: u16, right: bool, start: usize) -> u128
+    requires on_screen { start < 128 }
+    requires half { IsTrue right ↔ (64 ≤ start) }
+    ensures { result ≡ columns * 2 ^ 112 % 2 ^ 128 / 2 ^ start }
+{
+    if right {
+        (u128::from(columns) << 48) >> (start % 64)
+    } else {
+        (u128::from(columns) << 112) >> (start % 64)
+    }
 }
 
 /// The sixteen stored columns that a row of a sprite has at most, the leftmost the highest bit.
@@ -89,9 +120,5 @@ fn pattern_at(high: bool, sprite: &[u8], row: usize) -> u16
 fn doubled(byte: u8) -> u16
     ensures { (k : ℕ) → k < 16 → bit_at result k ≡ bit_at byte (k / 2) }
 {
-    let bits = u16::from(byte);
-    let bits = (bits | bits << 4) & 0x0f0f;
-    let bits = (bits | bits << 2) & 0x3333;
-    let bits = (bits | bits << 1) & 0x5555;
-    bits | bits << 1
+    DOUBLED[byte as usize]
 }

@@ -1,4 +1,4 @@
-use Rattle.std.proofs.Common.{◌≡◌, ◌≤◌, ◌-◌, ◌*◌, ◌/◌, ◌%◌, ◌^◌, ap, sym, subst, ◌∙◌}
+use Rattle.std.proofs.Common.{◌≡◌, ◌≤◌, ◌-◌, ◌/◌, ◌%◌, ap, sym, subst, ◌∙◌}
 use Rattle.chip_machine.specs.Stored.{lights}
 use Rattle.chip_machine.proofs.SpriteLemmas.{line_of}
 use Rattle.chip_machine.proofs.RowLemmas.{IsPattern, lights_covered}
@@ -12,6 +12,6 @@ returns c = λ column row within low up.
     let bits = c.pattern_at-pattern.result in
     let at : row / s ≡ a.line = ap (λ s. row / s) e ∙ line_of a.high a.line row low up in
     let below : a.y % (64 / s) ≤ row / s = subst (λ l. a.y % (64 / s) ≤ l) (sym at) (subst (λ s. a.y % (64 / s) ≤ a.line) (sym e) c.requires.below_the_top) in
-    ap (λ bits. lights (bits * 2 ^ 112 % 2 ^ 128 / 2 ^ (s * (a.x % (128 / s)))) column) c.from.ensures
+    ap (λ bits. lights bits column) c.placed.ensures
     ∙ lights_covered a.high a.x a.y a.sprite.now bits column row s c.pattern_at-pattern.type_inv within e below
     (subst (λ l. IsPattern bits a.high a.sprite.now (l - a.y % (64 / s))) (sym at) c.pattern_at-pattern.ensures)

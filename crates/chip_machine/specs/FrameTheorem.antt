@@ -1,4 +1,6 @@
--- The frame law, by what the instruction needs of the memory: nothing, bytes that it reads, or bytes that it writes.
+-- Proofs, which a reader may skip: the frame law holds, by what the instruction needs of the memory (nothing, bytes that it reads,
+-- or bytes that it writes), and a step keeps a state proper.
+-- Source: own.
 use Rattle.std.proofs.Common.{◌≡◌, ℕ, ◌+◌, ◌-◌, ◌<◌, ◌≤◌, Bool, true, false, IsFalse, List, [], ◌∷◌, length, take, drop, get_or, refl, sym, ap, ◌∙◌, arith, Some, suc, subst, Result, Ok, Err, nat_lt, is_some, ⊎_elim, if◌then◌else◌}
 use Rattle.std.specs.List.{range_with_len}
 use Rattle.std.proofs.lemmas.Bool.{cases_lt}
@@ -12,7 +14,7 @@ use Rattle.chip_machine.specs.declared.stop.Stop.TheVariants as cause
 use Rattle.chip_machine.specs.State.{Core, State, overwrite}
 use Rattle.chip_machine.specs.Step.{Effect, Stops, Changes, Keyed, Loads, Stores, perform, accessed, is_past, settle, step_of, touches, effect_at, effect_of_word, word_at, ticked}
 use Rattle.chip_machine.specs.Frame.{FrameLaw, StepKeepsProper, SameOff, SameOn, Misses, AgreeOff, IsFramed}
-use Rattle.chip_machine.proofs.Overwrite.{get_or-overwrite_within, get_or-overwrite_before, get_or-overwrite_past, length-overwrite}
+use Rattle.chip_machine.specs.Overwritten.{get_or-overwrite_within, get_or-overwrite_before, get_or-overwrite_past, length-overwrite}
 
 -- two outcomes are alike, and each kept its bytes in the set
 abbrev AreAlike : (ℕ → Bool) → List ℕ → List ℕ → Result State Stop → Result State Stop → Type 0
