@@ -1,5 +1,5 @@
 -- The blocks of the pass, the last one last, against the open blocks, the last one first.
-use Rattle.std.proofs.Common.{◌≡◌, ℕ, ◌+◌, ◌-◌, ◌<◌, Bool, true, false, not, ◌&&◌, List, [], ◌∷◌, ◌++◌, map, reverse, length, get_or, set, refl, ap, sym, ◌∙◌, arith, length-append}
+use Rattle.std.proofs.Common.{◌≡◌, ℕ, ◌-◌, ◌<◌, Bool, true, false, ◌&&◌, List, [], ◌∷◌, ◌++◌, map, reverse, length, get_or, set, refl, ap, sym, ◌∙◌, arith, length-append}
 use Rattle.std.specs.List.{list_all}
 use Rattle.std.proofs.lemmas.List.{reverse-append}
 use Rattle.std.proofs.lemmas.List.Folds.{list_all-append, list_all-map}
@@ -8,7 +8,7 @@ use Rattle.chip_lang.specs.declared.line.Body.{Body as Line_body}
 use Rattle.chip_lang.specs.declared.line.Body.TheVariants.{Else, Endif}
 use Rattle.chip_lang.specs.SeenLine.{seen_body}
 use Rattle.chip_asm.specs.declared.block.Block.{Block}
-use Rattle.chip_asm.specs.Layout.{Placed, is_live, has_ended, enclosing, holds, is_side_or_end}
+use Rattle.chip_asm.specs.Layout.{Placed, is_live, has_ended, enclosing, is_side_or_end}
 use Rattle.chip_asm.specs.Follows.{block_of}
 use Rattle.chip_asm.specs.Turns.{turned, turn_first}
 

@@ -1,11 +1,10 @@
 -- Each line stands in memory, from address 512 on.
-use Rattle.std.proofs.Common.{◌≡◌, ℕ, suc, zero, ◌+◌, ◌<◌, ◌≤◌, ℤ, pos, negsuc, Bool, true, false, cond, not, ◌&&◌, ◌||◌, List, [], ◌∷◌, ◌++◌, map, reverse, length, get_or, fold, refl, ap, sym, subst, ◌∙◌, arith, Option, Some, None, is_none, Result, Ok, Err, unsigned_abs, nat_eq, if◌then◌else◌}
+use Rattle.std.proofs.Common.{◌≡◌, ℕ, suc, zero, ◌+◌, ◌<◌, ◌≤◌, ℤ, pos, negsuc, Bool, true, false, cond, ◌&&◌, List, [], ◌∷◌, ◌++◌, reverse, length, get_or, fold, refl, sym, ◌∙◌, arith, Option, Some, None, is_none, Result, Ok, Err, unsigned_abs}
 use Rattle.std.specs.Prelude.{int_lt}
 use Rattle.std.proofs.lemmas.Bool.{ltb-false}
 use Rattle.chip_lang.specs.declared.fault.Fault.{Fault}
 use Rattle.chip_lang.specs.Line.{Body, org, Reading, bad, read}
-use Rattle.chip_asm.specs.Layout.{Placed, place, placed, body_of, is_live, first_fault, full_size, symbols, is_aligning, address, value_at, value_or_zero, is_accepted, is_org_body, is_origin, fault_of_value, is_backwards, is_past_end, is_negative_space, is_misplaced, is_redefinition}
-use Rattle.chip_asm.specs.Follows.{next_address}
+use Rattle.chip_asm.specs.Layout.{Placed, place, placed, body_of, is_live, first_fault, full_size, symbols, is_aligning, address, value_at, value_or_zero, is_accepted, is_org_body, fault_of_value, is_backwards, is_past_end, is_negative_space, is_misplaced, is_redefinition}
 use Rattle.chip_asm.proofs.BlockSteps.{reverse-cons}
 use Rattle.chip_asm.proofs.NextLine.{none_from}
 use Rattle.chip_asm.proofs.PlaceSteps.{address-cons}

@@ -1,7 +1,7 @@
 -- An edit of the kept lines is the edit of their texts.
-use Rattle.std.proofs.Common.{◌≡◌, ℕ, suc, ◌+◌, ◌-◌, List, [], ◌∷◌, ◌++◌, map, length, take, drop, set, insert, remove, refl, ap, sym, ◌∙◌}
+use Rattle.std.proofs.Common.{◌≡◌, ℕ, suc, List, ◌∷◌, ◌++◌, map, length, take, drop, set, insert, remove, ap, sym, ◌∙◌}
 use Rattle.std.proofs.lemmas.List.{map-append, take-map, drop-map, map-set, length-map}
-use Rattle.chip_lang.specs.Line.{Reading, reading_of}
+use Rattle.chip_lang.specs.Line.{reading_of}
 use Rattle.chip_asm.specs.declared.kept_line.KeptLine.{KeptLine}
 use Rattle.chip_asm.specs.Records.{reading_in, readings_in, texts_in}
 

@@ -1,12 +1,11 @@
 -- The lines after an edit, place by place.
-use Rattle.std.proofs.Common.{◌≡◌, ℕ, suc, ◌+◌, ◌-◌, ◌<◌, ◌≤◌, List, [], ◌∷◌, ◌++◌, map, length, take, drop, set, get_or, slice_get, insert, remove, refl, ap, sym, ◌∙◌, arith, Option, Some, None, option_map, length-append, length-drop, length-set, min}
+use Rattle.std.proofs.Common.{◌≡◌, ℕ, suc, ◌<◌, List, ◌∷◌, length, take, drop, get_or, slice_get, refl, ap, ◌∙◌, arith, Some, option_map, length-append, length-drop, length-set}
 use Rattle.std.proofs.lemmas.List.{length-take, length-map}
 use Rattle.std.proofs.lemmas.Option.{slice_get-get_or, slice_get-map}
-use Rattle.chip_lang.specs.Line.{Reading}
 use Rattle.chip_asm.specs.declared.kept_line.KeptLine.{KeptLine}
 use Rattle.chip_asm.specs.declared.edit.Edit.{Edit}
 use Rattle.chip_asm.specs.declared.edit.Edit.TheVariants.{Insert, Replace, Delete, Keep}
-use Rattle.chip_asm.specs.Records.{reading_in, readings_in, texts_in, IsPlaceWithin, lines_after, count_after}
+use Rattle.chip_asm.specs.Records.{reading_in, readings_in, IsPlaceWithin, lines_after, count_after}
 
 pub length-lines_after : (lines : List KeptLine) (edit : Edit) → IsPlaceWithin (length lines) edit → length (lines_after lines edit) ≡ count_after (length lines) edit
 length-lines_after lines (Insert at line) h =

@@ -1,30 +1,27 @@
 -- The bytes and the faults of lines, from what is kept of them.
-use Rattle.std.proofs.Common.{◌≡◌, ℕ, suc, zero, ◌+◌, ◌-◌, ◌<◌, ◌≤◌, Bool, true, false, cond, not, ◌&&◌, eqb, ltb, leb, List, [], ◌∷◌, ◌++◌, map, reverse, length, take, set, get_or, slice_get, find, filter_map, replicate, refl, ap, sym, subst, ◌∙◌, arith, Option, Some, None, is_none, is_some, option_map, option_and_then, Result, Ok, Err, ne_eqb, nat_eq}
-use Rattle.std.specs.List.{range_with_len, cons_option}
+use Rattle.std.proofs.Common.{◌≡◌, ℕ, ◌+◌, ◌-◌, ◌<◌, ◌≤◌, Bool, true, false, cond, ◌&&◌, eqb, ltb, leb, List, [], reverse, length, set, get_or, slice_get, refl, ap, sym, ◌∙◌, arith, Option, Some, None, is_none, is_some, option_map, Result, Ok, Err, ne_eqb, nat_eq}
 use Rattle.std.specs.Option.{option_map_or}
-use Rattle.std.specs.Global.{Vec}
-use Rattle.std.proofs.lemmas.Bool.{and_from, and_parts, eqb-true, eqb-false}
+use Rattle.std.proofs.lemmas.Bool.{and_from, eqb-true, eqb-false}
 use Rattle.std.proofs.lemmas.Bool.Decides.{nat_tests}
-use Rattle.std.proofs.lemmas.List.{get_or-map, length-map, get_or-set_same, get_or-set_other, take_more}
-use Rattle.std.proofs.lemmas.Option.{slice_get-get_or, slice_get-map, get_or_from_slice_get}
+use Rattle.std.proofs.lemmas.List.{get_or-map, length-map, get_or-set_same, get_or-set_other}
+use Rattle.std.proofs.lemmas.Option.{slice_get-get_or, slice_get-map}
 use Rattle.chip_lang.specs.declared.fault.Fault.{Fault}
 use Rattle.chip_lang.specs.declared.code.Coded.{Coded}
-use Rattle.chip_lang.specs.Line.{Body, db, dw, da, code, Reading, bad, read}
+use Rattle.chip_lang.specs.Line.{Body, db, dw, da, code, Reading}
 use Rattle.chip_lang.specs.Value.{Symbols}
 use Rattle.chip_lang.specs.Code.{own_bytes, coded}
 use Rattle.chip_asm.specs.declared.kept_line.KeptLine.{KeptLine}
 use Rattle.chip_asm.specs.declared.layout.Layout.{Layout}
 use Rattle.chip_asm.specs.declared.placement.Placement.{Placement}
 use Rattle.chip_asm.specs.Names.{values_of}
-use Rattle.chip_asm.specs.Layout.{Placed, placed, place, body_of, symbols, address}
+use Rattle.chip_asm.specs.Layout.{Placed, placed, place, body_of, symbols}
 use Rattle.chip_asm.specs.Layouts.{IsLayoutOf, placements_of, final_placement}
 use Rattle.chip_asm.specs.Placements.{is_placed}
-use Rattle.chip_asm.specs.Program.{fault_of, fault_of_line, faults_of_lines, numbered_fault, first_pass_fault, code_under, fault_in_code, bytes_in_code, covers, byte_at, bytes_of_lines, unless_faulty, names_of_lines}
+use Rattle.chip_asm.specs.Program.{fault_of, fault_of_line, first_pass_fault, code_under, fault_in_code, bytes_in_code, names_of_lines}
 use Rattle.chip_asm.specs.Records.{reading_in, readings_in}
 use Rattle.chip_asm.specs.Recode.{has_code, is_placed_at, code_among}
-use Rattle.chip_asm.specs.Kept.{AreCurrent, HasFault}
+use Rattle.chip_asm.specs.Kept.{AreCurrent}
 use Rattle.chip_asm.specs.KeptCodes.{kept_fault, kept_bytes, coded_fault, coded_bytes}
-use Rattle.chip_asm.proofs.BlockSteps.{reverse-cons}
 use Rattle.chip_asm.proofs.NeedsSteps.{lines-placed, length-numbered}
 use Rattle.chip_asm.proofs.Bounds.{IsWithinMemory, within-memory}
 

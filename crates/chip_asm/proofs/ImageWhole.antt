@@ -1,8 +1,7 @@
 -- The image of all lines, line by line.
-use Rattle.std.proofs.Common.{◌≡◌, ℕ, suc, zero, ◌+◌, ◌-◌, ◌<◌, ◌≤◌, Bool, true, false, cond, not, ◌&&◌, ltb, leb, List, [], ◌∷◌, ◌++◌, map, reverse, length, take, get_or, slice_get, find, filter_map, replicate, refl, ap, sym, subst, ◌∙◌, arith, Option, Some, None, is_none, is_some, option_map, option_and_then, Result, Ok, Err, ne_eqb, nat_eq, min, option_to_list}
+use Rattle.std.proofs.Common.{◌≡◌, ℕ, suc, zero, ◌+◌, ◌-◌, ◌<◌, ◌≤◌, Bool, true, false, cond, ◌&&◌, ltb, leb, List, [], ◌∷◌, ◌++◌, map, reverse, length, take, get_or, slice_get, find, filter_map, replicate, refl, ap, sym, ◌∙◌, arith, Option, Some, None, is_some, option_map, option_and_then, ne_eqb, nat_eq, option_to_list}
 use Rattle.std.specs.List.{range_with_len, cons_option}
 use Rattle.std.specs.Option.{option_map_or}
-use Rattle.std.specs.Global.{Vec}
 use Rattle.std.proofs.lemmas.Bool.Decides.{nat_tests}
 use Rattle.std.proofs.lemmas.List.{length-map, take_more, take_all, get_or-replicate, get_or-take, length-take, reverse-reverse}
 use Rattle.std.proofs.lemmas.List.Elements.{filter_map-append}
@@ -14,7 +13,7 @@ use Rattle.chip_lang.specs.Line.{Reading}
 use Rattle.chip_asm.specs.declared.kept_line.KeptLine.{KeptLine}
 use Rattle.chip_asm.specs.declared.layout.Layout.{Layout}
 use Rattle.chip_asm.specs.declared.placement.Placement.{Placement}
-use Rattle.chip_asm.specs.Layout.{Placed, placed, address, is_accepted}
+use Rattle.chip_asm.specs.Layout.{Placed, placed, address}
 use Rattle.chip_asm.specs.Layouts.{IsLayoutOf, placements_of, final_placement}
 use Rattle.chip_asm.specs.Program.{fault_of, fault_of_line, faults_of_lines, numbered_fault, code_under, bytes_in_code, covers, byte_at, bytes_of_lines, unless_faulty, image_of_lines}
 use Rattle.chip_asm.specs.Records.{reading_in, readings_in}
@@ -22,7 +21,7 @@ use Rattle.chip_asm.specs.Kept.{HasFault}
 use Rattle.chip_asm.specs.KeptCodes.{kept_fault, kept_bytes}
 use Rattle.chip_asm.proofs.BlockSteps.{reverse-cons}
 use Rattle.chip_asm.proofs.NeedsSteps.{length-numbered}
-use Rattle.chip_asm.proofs.Bounds.{IsWithinMemory, end-low, end-high}
+use Rattle.chip_asm.proofs.Bounds.{end-low, end-high}
 use Rattle.chip_asm.proofs.ImageSteps.{About, fault-at, fault-kept, bytes-kept}
 
 pub length-kept : (lines : List KeptLine) (layout : Layout) → IsLayoutOf layout (readings_in lines) → length layout.placements.items ≡ length lines

@@ -1,5 +1,5 @@
 -- New codes written over the kept ones, from the last line back.
-use Rattle.std.proofs.Common.{◌≡◌, ℕ, suc, ◌+◌, ◌-◌, ◌<◌, ◌≤◌, Bool, true, false, List, [], map, length, take, drop, ◌++◌, set, get_or, refl, ap, sym, subst, ◌∙◌, arith, Option, Some, None, eqb, length-set}
+use Rattle.std.proofs.Common.{◌≡◌, ℕ, ◌+◌, ◌-◌, ◌<◌, ◌≤◌, Bool, true, false, List, length, take, drop, ◌++◌, set, get_or, refl, ap, sym, ◌∙◌, arith, Option, Some, None, eqb, length-set}
 use Rattle.std.specs.Prelude.{unwrap_or}
 use Rattle.std.proofs.lemmas.Bool.{eqb-true, eqb-false}
 use Rattle.std.proofs.lemmas.List.{get_or-set_same, get_or-set_other, get_or-take, take-take, take_all, take-append-le}

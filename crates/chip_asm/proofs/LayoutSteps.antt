@@ -1,14 +1,13 @@
 -- The layout of a list of lines, one line after another.
-use Rattle.std.proofs.Common.{◌≡◌, ℕ, suc, ◌+◌, ◌-◌, ◌<◌, ◌≤◌, List, [], ◌∷◌, ◌++◌, map, reverse, length, take, drop, insert, remove, slice_get, get_or, refl, ap, sym, subst, ◌∙◌, arith, Option, Some, None, length-append, length-drop, min}
-use Rattle.std.proofs.lemmas.List.{map-append, take_more, take_all, length-take}
+use Rattle.std.proofs.Common.{◌≡◌, ℕ, ◌+◌, ◌<◌, List, [], ◌∷◌, ◌++◌, length, take, slice_get, refl, ap, ◌∙◌, Some}
+use Rattle.std.proofs.lemmas.List.{map-append, take_more}
 use Rattle.std.proofs.lemmas.Option.{get_or_from_slice_get}
 use Rattle.chip_lang.specs.Line.{Reading}
-use Rattle.chip_asm.specs.declared.pass.Pass.{Pass}
-use Rattle.chip_asm.specs.Layout.{placed, place, symbols}
+use Rattle.chip_asm.specs.Layout.{placed, place}
 use Rattle.chip_asm.specs.Layouts.{first_placements}
-use Rattle.chip_asm.specs.Follows.{Follows, placement_of}
+use Rattle.chip_asm.specs.Follows.{placement_of}
 use Rattle.chip_asm.proofs.BlockSteps.{reverse-cons}
-use Rattle.chip_asm.proofs.Placing.{placed-push, length-placed}
+use Rattle.chip_asm.proofs.Placing.{placed-push}
 
 pub placements-push : (lines : List Reading) (line : Reading) → first_placements (lines ++ line ∷ []) ≡ first_placements lines ++ placement_of (place (placed lines) line) ∷ []
 unfolding first_placements

@@ -1,12 +1,12 @@
 -- The listing, line by line.
-use Rattle.std.proofs.Common.{◌≡◌, ℕ, suc, zero, ◌+◌, ◌-◌, ◌<◌, ◌≤◌, ℤ, Bool, true, false, cond, not, List, [], ◌∷◌, ◌++◌, map, reverse, length, take, get_or, slice_get, zip, refl, ap, sym, ◌∙◌, arith, add-one, Option, Some, None, option_map, replicate}
+use Rattle.std.proofs.Common.{◌≡◌, ℕ, suc, zero, ◌+◌, ◌<◌, ◌≤◌, ℤ, Bool, true, false, List, [], ◌∷◌, ◌++◌, map, reverse, length, take, get_or, slice_get, zip, refl, ap, sym, ◌∙◌, arith, add-one, Option, Some, None, option_map}
 use Rattle.std.specs.List.{flat_map, range_with_len}
 use Rattle.std.proofs.lemmas.List.{map-append, append-nil, take_all, length-map}
 use Rattle.std.proofs.lemmas.Grind.{flat_map-append}
 use Rattle.std.proofs.lemmas.Option.{slice_get-get_or, slice_get-map}
 use Rattle.chip_lang.specs.declared.fault.Fault.{Fault}
 use Rattle.chip_lang.specs.Show.{hex_byte}
-use Rattle.chip_lang.specs.Line.{Body, Reading}
+use Rattle.chip_lang.specs.Line.{Body}
 use Rattle.chip_asm.specs.declared.kept_line.KeptLine.{KeptLine}
 use Rattle.chip_asm.specs.declared.placement.Placement.{Placement}
 use Rattle.chip_asm.specs.Layout.{Placed, placed, body_of}
@@ -15,7 +15,6 @@ use Rattle.chip_asm.specs.Program.{fault_of, code_under, bytes_in_code}
 use Rattle.chip_asm.specs.Records.{reading_in, readings_in, texts_in}
 use Rattle.chip_asm.specs.KeptCodes.{kept_fault, kept_bytes}
 use Rattle.chip_asm.proofs.ImageSteps.{About, fault-kept, bytes-kept}
-use Rattle.chip_asm.proofs.NeedsSteps.{length-numbered}
 
 one-byte : (b : ℕ) → flat_map hex_byte (b ∷ []) ≡ hex_byte b
 one-byte b = append-nil (hex_byte b)

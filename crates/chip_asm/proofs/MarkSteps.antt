@@ -1,13 +1,14 @@
 -- The marks of the open blocks are the faults of IF lines without ENDIF.
-use Rattle.std.proofs.Common.{◌≡◌, ℕ, Bool, true, false, cond, not, ◌&&◌, ◌||◌, List, [], ◌∷◌, ◌++◌, map, reverse, nat_eq, refl, ap, sym, ◌∙◌, Some, if◌then◌else◌}
+use Rattle.std.proofs.Common.{◌≡◌, ℕ, Bool, true, false, not, ◌&&◌, ◌||◌, List, [], ◌∷◌, length, map, reverse, nat_eq, arith, refl, ap, ◌∙◌, Some, if◌then◌else◌}
 use Rattle.std.specs.List.{list_any}
+use Rattle.std.proofs.lemmas.Bool.Decides.{nat_tests}
 use Rattle.std.proofs.lemmas.List.Folds.{list_any-append}
 use Rattle.chip_lang.specs.declared.fault.Fault.TheVariants.{UnclosedIf}
 use Rattle.chip_lang.specs.Line.{Reading}
 use Rattle.chip_asm.specs.declared.block.Block.{Block}
 use Rattle.chip_asm.specs.declared.placement.Placement.{Placement}
-use Rattle.chip_asm.specs.Layout.{Placed, placed, has_ended, enclosing, is_if}
-use Rattle.chip_asm.specs.Program.{is_unclosed, first_pass_fault}
+use Rattle.chip_asm.specs.Layout.{Placed, placed, has_ended, enclosing}
+use Rattle.chip_asm.specs.Program.{is_unclosed}
 use Rattle.chip_asm.specs.Follows.{block_of, placement_of}
 use Rattle.chip_asm.specs.Layouts.{first_placements, placements_of, final_placement}
 use Rattle.chip_asm.specs.Marks.{marked}
@@ -47,3 +48,17 @@ pub marked-placements : (lines : List Reading) (ended : Bool) (blocks : List Blo
     → map (marked ended blocks) (first_placements lines) ≡ placements_of lines
 unfolding first_placements placements_of
 marked-placements lines ended blocks e b = marked-all (placed lines) (reverse (placed lines)) ended blocks e b
+
+never : (a b c : Bool) → (a && b && c && false) ≡ false
+never true true true = refl
+never true true false = refl
+never true false c = refl
+never false b c = refl
+
+-- no line is marked where no block is open
+pub marked-none : (ended : Bool) (blocks : List Block) (qs : List Placement) → nat_eq (length blocks) 0 ≡ true → map (λ q. marked ended blocks q) qs ≡ qs
+marked-none ended [] [] none = refl
+marked-none ended [] (q ∷ qs) none =
+    let first : marked ended [] q ≡ q = rw (never q.is_if q.live (not ended)) refl in
+    rw (first, marked-none ended [] qs none) refl
+marked-none ended (b ∷ bs) qs none = absurd (grind (arith, nat_tests, none))

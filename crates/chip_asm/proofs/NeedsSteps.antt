@@ -1,5 +1,5 @@
 -- What is encoded again is needed.
-use Rattle.std.proofs.Common.{◌≡◌, ℕ, suc, zero, ◌+◌, ◌<◌, ◌≤◌, Bool, true, false, cond, not, ◌&&◌, List, [], ◌∷◌, ◌++◌, map, reverse, length, count_by, slice_get, fold, refl, ap, sym, ◌∙◌, arith, Option, Some, None, option_map, append_assoc}
+use Rattle.std.proofs.Common.{◌≡◌, ℕ, ◌≤◌, Bool, true, false, cond, not, ◌&&◌, List, [], ◌∷◌, ◌++◌, map, reverse, length, count_by, slice_get, fold, refl, ap, sym, ◌∙◌, arith, Option, Some, None, option_map, append_assoc}
 use Rattle.std.specs.List.{enumerate_from}
 use Rattle.std.specs.Option.{option_map_or}
 use Rattle.std.proofs.lemmas.Bool.{and_parts, and_from, false≢true}
@@ -9,12 +9,12 @@ use Rattle.std.proofs.lemmas.Option.{slice_get-map}
 use Rattle.chip_lang.specs.Line.{Reading}
 use Rattle.chip_lang.specs.Uses.{agree_on}
 use Rattle.chip_asm.specs.Names.{values_of}
-use Rattle.chip_asm.specs.Layout.{Placed, placed, place, body_of}
+use Rattle.chip_asm.specs.Layout.{Placed, placed, place}
 use Rattle.chip_asm.specs.Layouts.{placements_of, final_placement}
 use Rattle.chip_asm.specs.Placements.{is_placed}
 use Rattle.chip_asm.specs.Program.{names_of_lines}
 use Rattle.chip_asm.specs.Work.{needs, needs_count, is_accepted_at, is_accepted_in, accepted_lines}
-use Rattle.chip_asm.specs.Recode.{count_again, is_encoded_again, is_placed_at, has_code}
+use Rattle.chip_asm.specs.Recode.{count_again, is_encoded_again, is_placed_at}
 use Rattle.chip_asm.proofs.BlockSteps.{reverse-cons}
 use Rattle.chip_asm.proofs.Placing.{onto}
 

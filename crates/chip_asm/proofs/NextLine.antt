@@ -1,11 +1,11 @@
 -- The state of the pass after one line more.
-use Rattle.std.proofs.Common.{◌≡◌, ℕ, suc, ◌+◌, ℤ, Bool, true, false, cond, ◌&&◌, ◌||◌, is_none, if◌then◌else◌, List, [], ◌∷◌, ◌++◌, map, reverse, length, refl, ap, sym, subst, ◌∙◌, arith, Option, None, Some, Ok, Err, option_map, option_to_list, Result, unsigned_abs}
+use Rattle.std.proofs.Common.{◌≡◌, ℕ, ◌+◌, ℤ, Bool, true, false, ◌&&◌, ◌||◌, is_none, if◌then◌else◌, List, [], ◌∷◌, ◌++◌, map, reverse, length, refl, ap, sym, subst, ◌∙◌, Option, None, Some, Ok, Err, option_to_list, Result}
 use Rattle.chip_lang.specs.declared.fault.Fault.{Fault}
 use Rattle.chip_lang.specs.Line.{Body, Reading}
 use Rattle.chip_asm.specs.declared.block.Block.{Block}
 use Rattle.chip_asm.specs.declared.pass.Pass.{Pass}
 use Rattle.chip_asm.specs.declared.placement.Placement.{Placement}
-use Rattle.chip_asm.specs.Layout.{Placed, is_if_body, place, placed, body_of, is_live, first_fault, full_size, symbols, is_aligning, address, value_at, value_or_zero, is_accepted, is_end_body, is_org_body, is_origin, fault_of_value, condition_of, symbol_given, enclosing, has_ended}
+use Rattle.chip_asm.specs.Layout.{Placed, is_if_body, place, placed, body_of, is_live, first_fault, full_size, symbols, is_aligning, address, value_at, value_or_zero, is_accepted, is_end_body, fault_of_value, condition_of, symbol_given, enclosing}
 use Rattle.chip_asm.specs.Follows.{Follows, block_of, placement_of, next_address, next_aligning}
 use Rattle.chip_asm.specs.Placements.{is_placed}
 use Rattle.chip_asm.specs.Turns.{moved}

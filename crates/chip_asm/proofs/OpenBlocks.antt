@@ -1,10 +1,10 @@
 -- The open blocks, line by line: an IF opens one, an ENDIF closes the last one.
-use Rattle.std.proofs.Common.{◌≡◌, ℕ, suc, zero, ◌+◌, ◌-◌, ◌≤◌, ◌<◌, Bool, true, false, cond, not, ◌&&◌, ◌||◌, nat_le, leb, List, [], ◌∷◌, ◌++◌, map, drop, length, count_by, filter, refl, ap, sym, ◌∙◌, arith, leb-true}
+use Rattle.std.proofs.Common.{◌≡◌, ℕ, suc, zero, ◌+◌, ◌≤◌, Bool, true, false, cond, ◌&&◌, nat_le, leb, List, [], ◌∷◌, map, drop, count_by, filter, refl, ap, sym, ◌∙◌, arith, leb-true}
 use Rattle.std.proofs.lemmas.Bool.Decides.{nat_tests}
 use Rattle.std.proofs.lemmas.List.Sums.{sum_by-cons}
 use Rattle.std.proofs.lemmas.Bool.{and_parts}
-use Rattle.chip_lang.specs.Line.{Body, Reading, endif}
-use Rattle.chip_asm.specs.Layout.{Placed, body_of, is_if_body, is_endif_body, is_if, is_endif, with_between, closes_no_more, encloses, enclosing}
+use Rattle.chip_lang.specs.Line.{Body, endif}
+use Rattle.chip_asm.specs.Layout.{Placed, body_of, is_if_body, is_endif_body, is_if, is_endif, with_between, closes_no_more, enclosing}
 
 -- the rest of a list after its first element
 abbrev pub rest_of : {X : Type 0} → List X → List X

@@ -1,17 +1,14 @@
 -- What one line more does to the address, the alignment, the END, the names and the blocks.
-use Rattle.std.proofs.Common.{◌≡◌, ℕ, suc, ◌+◌, ◌-◌, ◌<◌, ◌≤◌, ℤ, Bool, true, false, cond, not, ◌&&◌, ◌||◌, eqb, is_none, is_some, List, [], ◌∷◌, ◌++◌, map, reverse, length, take, refl, ap, sym, ◌∙◌, arith, Option, Some, None, option_map, option_to_list, filter_map, sum_by, find, take_while, unsigned_abs, ne_eqb, if◌then◌else◌}
+use Rattle.std.proofs.Common.{◌≡◌, ℕ, suc, ◌+◌, Bool, true, false, cond, not, ◌&&◌, ◌||◌, List, [], ◌∷◌, ◌++◌, reverse, take, refl, ap, ◌∙◌, arith, Option, Some, None, option_to_list, filter_map, find, unsigned_abs}
 use Rattle.std.specs.List.{list_any, prefix_len}
 use Rattle.std.specs.Option.{option_map_or}
 use Rattle.std.proofs.lemmas.List.Sums.{sum_by-cons}
 use Rattle.std.proofs.lemmas.List.Elements.{filter_map-append}
-use Rattle.chip_lang.specs.Line.{Body, Reading, align, else_line, endif, ifdef, ifund}
+use Rattle.chip_lang.specs.Line.{Body, align}
 use Rattle.chip_asm.specs.Names.{Name}
-use Rattle.chip_asm.specs.declared.block.Block.{Block}
 use Rattle.chip_asm.specs.declared.table.Symbol.{Symbol}
-use Rattle.chip_asm.specs.Layout.{Placed, place, placed, is_if, is_else, is_endif, is_else_body, is_if_body, is_endif_body, is_end_body, body_of, is_accepted, is_origin, is_org_body, is_align, is_align_body, is_align_off_body, address, is_aligning, has_ended, symbols, symbol_of, enclosing, has_else, holds, is_number, first_of}
-use Rattle.chip_asm.specs.Follows.{block_of, next_address, next_aligning}
-use Rattle.chip_asm.specs.Turns.{moved, turned, turn_first, close_first}
-use Rattle.chip_asm.proofs.OpenBlocks.{open_blocks, rest_of, enclosing-open}
+use Rattle.chip_asm.specs.Layout.{Placed, is_end_body, body_of, is_accepted, is_origin, is_align, is_align_body, is_align_off_body, address, is_aligning, has_ended, symbols, symbol_of}
+use Rattle.chip_asm.specs.Follows.{next_aligning}
 use Rattle.chip_asm.proofs.BlockSteps.{reverse-cons}
 
 take_one_more : {X : Type 0} (n : ℕ) (x : X) (xs : List X) → take (1 + n) (x ∷ xs) ≡ x ∷ take n xs

@@ -1,8 +1,8 @@
 -- Lists of lines, and what is placed of them.
-use Rattle.std.proofs.Common.{◌≡◌, ℕ, suc, ◌+◌, List, [], ◌∷◌, ◌++◌, length, fold, refl, ap, sym, ◌∙◌, arith, option_map, Option}
+use Rattle.std.proofs.Common.{◌≡◌, ◌+◌, List, [], ◌∷◌, ◌++◌, length, fold, refl, ap, arith, option_map}
 use Rattle.chip_lang.specs.Line.{Reading}
-use Rattle.chip_asm.specs.Layout.{Placed, place, placed, enclosing, first_of}
-use Rattle.chip_asm.proofs.OpenBlocks.{open_blocks, enclosing-open}
+use Rattle.chip_asm.specs.Layout.{Placed, place, placed, first_of}
+use Rattle.chip_asm.proofs.OpenBlocks.{enclosing-open}
 use Rattle.chip_asm.proofs.Numbers.{IsNumbered}
 
 abbrev pub onto : List Placed → Reading → List Placed

@@ -1,14 +1,18 @@
 -- Counting and collecting the lines that are encoded again.
-use Rattle.std.proofs.Common.{◌≡◌, ℕ, suc, zero, ◌+◌, ◌<◌, ◌≤◌, ◌^◌, Bool, true, false, cond, List, [], ◌∷◌, ◌++◌, map, length, take, get_or, count_by, slice_get, refl, ap, sym, ◌∙◌, arith, Option, Some, None, min}
-use Rattle.std.specs.List.{enumerate_from}
-use Rattle.std.proofs.lemmas.List.{map-append, take_more}
+use Rattle.std.proofs.Common.{◌≡◌, ℕ, ℤ, suc, zero, ◌+◌, ◌<◌, ◌≤◌, Bool, true, false, cond, List, [], ◌∷◌, ◌++◌, length, take, get_or, count_by, slice_get, refl, ap, sym, ◌∙◌, arith, Option, Some, None}
+use Rattle.std.specs.List.{enumerate_from, list_all}
+use Rattle.std.specs.Option.{option_eq}
+use Rattle.std.specs.Ordering.{int_eq}
+use Rattle.std.proofs.lemmas.Bool.Decides.{Decides-int_eq}
+use Rattle.std.proofs.lemmas.List.{take_more}
 use Rattle.std.proofs.lemmas.List.Sums.{sum_by-cons, count_by_more_yes, count_by_more_no}
 use Rattle.std.proofs.lemmas.List.FromFn.{length-enumerate_from, get_or-enumerate_from}
 use Rattle.std.proofs.lemmas.Option.{get_or_from_slice_get}
 use Rattle.chip_lang.specs.Line.{Reading}
 use Rattle.std.proofs.lemmas.Bool.{and_parts}
 use Rattle.chip_lang.specs.Line.{bad, read}
-use Rattle.chip_lang.specs.Value.{Symbols}
+use Rattle.chip_lang.specs.Value.{Symbols, value_of_name}
+use Rattle.chip_lang.specs.Uses.{names_used, has_same_value, agree_on}
 use Rattle.chip_lang.specs.Code.{own_bytes, coded, code_of}
 use Rattle.chip_asm.specs.Names.{values_of}
 use Rattle.chip_asm.specs.Layout.{body_of}
@@ -65,3 +69,15 @@ pub code-again : (old new : List Reading) (origin : ℕ → Option ℕ) (i : ℕ
     → cond b (Some (code_of r (values_of (names_of_lines new)))) None ≡ new_code old new origin (i, r)
 code-again old new origin i r true e = ap Some (code-among new r (again-has_code old new origin (i, r) e)) ∙ (rw e refl)
 code-again old new origin i r false e = rw e refl
+
+option_same : (o : Option ℤ) → option_eq int_eq o o ≡ true
+option_same None = refl
+option_same (Some z) = (Decides-int_eq z z).1 refl
+
+all_same : (S : Symbols) (names : List (List ℕ)) → list_all (has_same_value S S) names ≡ true
+all_same S [] = refl
+all_same S (name ∷ names) = rw (option_same (value_of_name S name), all_same S names) refl
+
+-- where two tables are one, they agree on each line
+pub agree-same : (S T : Symbols) (line : Reading) → S ≡ T → agree_on S T line ≡ true
+agree-same S T line same = ap (λ U. agree_on S U line) (sym same) ∙ all_same S (names_used line)

@@ -1,13 +1,11 @@
 -- A kept code stands where the names that the line uses keep their values.
-use Rattle.std.proofs.Common.{◌≡◌, ℕ, suc, zero, ◌+◌, ◌-◌, ◌<◌, ◌≤◌, Bool, true, false, cond, not, ◌&&◌, nat_lt, nat_eq, List, [], ◌∷◌, ◌++◌, map, length, get_or, set, insert, remove, refl, ap, sym, subst, ◌∙◌, arith, Option, Some, None, if◌then◌else◌}
-use Rattle.std.specs.Prelude.{unwrap_or}
+use Rattle.std.proofs.Common.{◌≡◌, ℕ, ◌+◌, ◌-◌, ◌<◌, ◌≤◌, Bool, true, false, cond, ◌&&◌, nat_lt, nat_eq, List, length, get_or, refl, ap, ◌∙◌, arith, Option, Some, None}
 use Rattle.std.specs.List.{enumerate_from}
 use Rattle.std.specs.Option.{option_map_or}
-use Rattle.std.proofs.lemmas.Bool.{and_parts, not-false, false≢true, ltb-true, ltb-false, eqb-true, eqb-false}
-use Rattle.std.proofs.lemmas.List.{get_or-map, length-map, get_or-set_other}
+use Rattle.std.proofs.lemmas.Bool.{and_parts, not-false, false≢true, ltb-true, ltb-false, eqb-false}
+use Rattle.std.proofs.lemmas.List.{get_or-map, get_or-set_other}
 use Rattle.std.proofs.lemmas.List.Edits.{get_or-insert_below, get_or-insert_above, get_or-remove_below, get_or-remove_above}
 use Rattle.std.proofs.lemmas.List.FromFn.{length-enumerate_from, get_or-enumerate_from}
-use Rattle.chip_lang.specs.declared.code.Coded.{Coded}
 use Rattle.chip_lang.specs.Line.{Reading}
 use Rattle.chip_lang.specs.Value.{Symbols}
 use Rattle.chip_lang.specs.Code.{code_of}
@@ -19,10 +17,8 @@ use Rattle.chip_asm.specs.Names.{values_of}
 use Rattle.chip_asm.specs.Layout.{body_of}
 use Rattle.chip_asm.specs.Layouts.{placements_of}
 use Rattle.chip_asm.specs.Program.{names_of_lines}
-use Rattle.chip_asm.specs.Records.{reading_in, readings_in, IsPlaceWithin, lines_after, count_after, place_before}
-use Rattle.chip_asm.specs.Recode.{has_code, is_placed_at, is_encoded_again, code_among, new_code, new_codes}
-use Rattle.chip_asm.specs.Kept.{AreCurrent, IsMerged}
-use Rattle.chip_asm.proofs.RecodeSteps.{code-among}
+use Rattle.chip_asm.specs.Records.{IsPlaceWithin, lines_after, count_after, place_before}
+use Rattle.chip_asm.specs.Recode.{has_code, is_placed_at, is_encoded_again, new_code, new_codes}
 
 some-same : (x y : ℕ) → Some x ≡ Some y → x ≡ y
 some-same x y e = cc

@@ -1,9 +1,7 @@
 -- What the kept parts say of the texts.
-use Rattle.std.proofs.Common.{◌≡◌, ℕ, List, map, refl, ap, sym, ◌∙◌, Option}
+use Rattle.std.proofs.Common.{◌≡◌, ℕ, List, map, ap, ◌∙◌, Option}
 use Rattle.chip_lang.specs.Line.{Reading, reading_of}
-use Rattle.chip_asm.specs.declared.table.Symbol.{Symbol}
 use Rattle.chip_asm.specs.declared.kept_line.KeptLine.{KeptLine}
-use Rattle.chip_asm.specs.Names.{Name, lookup_name}
 use Rattle.chip_asm.specs.Program.{fault_of_line, fault_at, image_of_lines, image_of, names_of_lines, symbols_of, faults_of_lines, faults_of}
 use Rattle.chip_asm.specs.Layout.{placed}
 use Rattle.chip_asm.specs.Listing.{lines_shown, listing_of}

@@ -1,6 +1,6 @@
 -- Edits of the lines of a source: when one is refused, and where its lines stood before (own). Lines are numbered from 1; their
 -- places count from 0.
-use Rattle.std.specs.Prelude.{ℕ, ◌+◌, ◌-◌, ◌&&◌, ◌||◌, not, ◌==◌, Bool, List, length, nat_lt, nat_le, nat_eq, Option, Some, None, if◌then◌else◌}
+use Rattle.std.specs.Prelude.{ℕ, ◌+◌, ◌-◌, ◌&&◌, ◌||◌, not, ◌==◌, Bool, List, nat_lt, nat_le, nat_eq, Option, Some, None, if◌then◌else◌}
 use Rattle.std.specs.List.{list_any}
 use Rattle.chip_asm.specs.declared.refusal.Refusal.{Refusal}
 use Rattle.chip_asm.specs.declared.refusal.Refusal.TheVariants.{NoSuchLine, TextTooLong, TooManyLines, LineBreak}

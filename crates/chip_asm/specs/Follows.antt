@@ -1,7 +1,7 @@
 -- What the running state of the pass means: it stands after these lines (own).
-use Rattle.std.specs.Prelude.{◌≡◌, ℕ, ◌+◌, ℤ, Bool, true, false, not, ◌&&◌, ◌||◌, List, [], ◌∷◌, reverse, map, Option, length, if◌then◌else◌, unsigned_abs}
+use Rattle.std.specs.Prelude.{◌≡◌, ℕ, ◌+◌, ℤ, Bool, ◌&&◌, List, reverse, map, if◌then◌else◌, unsigned_abs}
 use Rattle.chip_lang.specs.Line.{Body, align}
-use Rattle.chip_asm.specs.Layout.{Placed, is_if, address, is_aligning, has_ended, enclosing, holds, has_else, symbols, is_org_body, is_end_body}
+use Rattle.chip_asm.specs.Layout.{Placed, is_if, address, is_aligning, has_ended, enclosing, holds, has_else, symbols, is_org_body}
 use Rattle.chip_asm.specs.declared.block.Block.{Block}
 use Rattle.chip_asm.specs.declared.placement.Placement.{Placement}
 use Rattle.chip_asm.specs.declared.pass.Pass.{Pass}

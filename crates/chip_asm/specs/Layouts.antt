@@ -1,5 +1,5 @@
 -- The layout of a list of lines (own).
-use Rattle.std.specs.Prelude.{◌≡◌, ℕ, List, map, reverse}
+use Rattle.std.specs.Prelude.{◌≡◌, List, map, reverse}
 use Rattle.chip_lang.specs.Line.{Reading}
 use Rattle.chip_asm.specs.Layout.{Placed, placed, address}
 use Rattle.chip_asm.specs.Program.{names_of_lines, first_pass_fault}

@@ -1,5 +1,5 @@
 -- The listing of a source: a line for each line, with its number, its address, its bytes or value or fault, and its text (own).
-use Rattle.std.specs.Prelude.{ℕ, ◌+◌, ◌-◌, ℤ, Bool, true, false, not, ◌&&◌, List, [], ◌∷◌, ◌++◌, length, map, reverse, replicate, min, zip, Option, Some, None, is_none, if◌then◌else◌, nat_lt, codes, slice_index}
+use Rattle.std.specs.Prelude.{ℕ, ◌-◌, ℤ, Bool, true, false, not, ◌&&◌, List, [], ◌∷◌, ◌++◌, length, map, reverse, replicate, min, zip, Option, Some, None, is_none, if◌then◌else◌, nat_lt, codes, slice_index}
 use Rattle.std.specs.List.{flat_map, range_with_len}
 use Rattle.std.specs.Fmt.{decimal, signed_decimal}
 use Rattle.chip_lang.specs.declared.fault.Fault.{Fault}

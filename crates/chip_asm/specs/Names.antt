@@ -13,6 +13,10 @@ Name = List ℕ
 abbrev pub lookup_name : List (Name × Symbol) → Name → Option Symbol
 lookup_name names name = lookup (bytes_eq name) names
 
+-- the names with their values alone
+abbrev pub valued : List (Name × Symbol) → List (Name × ℤ)
+valued names = map (λ e. (e.0, e.1.value)) names
+
 -- the values of the names
 unfoldable pub values_of : List (Name × Symbol) → Symbols
-values_of names = finite.from_entries (map (λ e. (e.0, e.1.value)) names)
+values_of names = finite.from_entries (valued names)

@@ -1,5 +1,5 @@
 -- The names, the faults and the image of a whole source (Chipper manual; own where it is silent).
-use Rattle.std.specs.Prelude.{◌≡◌, ℕ, ◌+◌, ◌-◌, Bool, not, ◌&&◌, List, [], ◌∷◌, reverse, map, Option, Some, None, is_some, is_none, Result, Ok, Err, if◌then◌else◌, nat_eq, nat_lt, nat_le, find, filter_map, option_map, option_and_then, slice_get, slice_index}
+use Rattle.std.specs.Prelude.{ℕ, ◌+◌, ◌-◌, Bool, not, ◌&&◌, List, [], ◌∷◌, reverse, map, Option, Some, None, is_some, Result, Ok, Err, if◌then◌else◌, nat_eq, nat_lt, nat_le, find, filter_map, option_map, option_and_then, slice_get, slice_index}
 use Rattle.std.specs.List.{list_any, range_with_len}
 use Rattle.std.specs.Option.{option_map_or}
 use Rattle.chip_lang.specs.declared.fault.Fault.{Fault}

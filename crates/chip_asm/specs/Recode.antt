@@ -1,5 +1,5 @@
 -- Which lines are encoded anew, by what is kept (own).
-use Rattle.std.specs.Prelude.{◌≡◌, ℕ, ◌<◌, Bool, true, false, not, ◌&&◌, List, map, length, count_by, Option, Some, None, if◌then◌else◌, slice_get}
+use Rattle.std.specs.Prelude.{ℕ, Bool, true, false, not, ◌&&◌, List, map, count_by, Option, Some, None, if◌then◌else◌, slice_get}
 use Rattle.std.specs.List.{enumerate_from}
 use Rattle.std.specs.Option.{option_map_or}
 use Rattle.chip_lang.specs.declared.code.Coded.{Coded}

@@ -1,5 +1,5 @@
 -- What a line does to the open blocks, the last one first (own).
-use Rattle.std.specs.Prelude.{Bool, true, not, List, [], ◌∷◌, if◌then◌else◌}
+use Rattle.std.specs.Prelude.{true, not, List, [], ◌∷◌, if◌then◌else◌}
 use Rattle.chip_lang.specs.Line.{Body, ifdef, ifund, else_line, endif}
 use Rattle.chip_asm.specs.declared.block.Block.{Block}
 

@@ -50,12 +50,15 @@ fn is_open(blocks: &[Block], number: usize) -> bool
 /// The placements, with the faults of the IF lines that no ENDIF closes.
 fn mark_unclosed(
     alloc: Global,
-    placements: &[Placement],
+    placements: Vec<Placement>,
     ended: bool,
     blocks: &[Block],
 ) -> Result<Vec<Placement>, AllocError>
-    ensures { IfOk result (λ v. v.items ≡ map (λ q. marked ended blocks.now q) placements.now) }
+    ensures { IfOk result (λ v. v.items ≡ map (λ q. marked ended blocks.now q) placements.items) }
 {
+    if blocks.is_empty() {
+        return Ok(placements);
+    }
     placements
         .iter()
         .map(|placement| marked(placement, ended, blocks))
@@ -84,12 +87,13 @@ impl Layout {
         ensures { IfOk result (λ layout. IsLayoutOf layout (readings_in (lines_after lines.now edit.now))) }
     {
         let mut pass = Pass::new(alloc);
-        let mut placements = Vec::new(alloc);
-        for place in 0..count_after(lines.len(), edit) {
+        let count = count_after(lines.len(), edit);
+        let mut placements = Vec::with_capacity(alloc, count)?;
+        for place in 0..count {
             let line = line_after(lines, edit, place);
             placements.push(pass.step(alloc, place + 1, line)?)?;
         }
-        let placements = mark_unclosed(alloc, &placements, pass.ended, &pass.blocks)?;
+        let placements = mark_unclosed(alloc, placements, pass.ended, &pass.blocks)?;
         let end = pass.here;
         Ok(Layout {
             placements,

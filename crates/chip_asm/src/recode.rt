@@ -1,7 +1,8 @@
 //! The lines that an edit makes encode again.
-ghost use Rattle.std.specs.Prelude.{◌≡◌, ◌<◌, ◌≤◌, ◌+◌, ℕ, List, IfOk, OnErr, Option, Result, Ok, Err, length, Some, None, if◌then◌else◌, vec_len};
+ghost use Rattle.std.specs.Prelude.{◌≡◌, ◌<◌, ◌≤◌, ◌+◌, ℕ, List, IfOk, OnErr, Option, Result, Ok, Err, length, Some, None, true, if◌then◌else◌, vec_len};
 ghost use Rattle.chip_lang.specs.Line.{Reading};
 ghost use Rattle.chip_lang.specs.SeenLine.{seen_line};
+ghost use Rattle.chip_lang.specs.Uses.{agree_on};
 ghost use Rattle.chip_lang.specs.Code.{code_of};
 ghost use Rattle.chip_asm.specs.Recode.{has_code, is_placed_at, is_encoded_again, new_codes, count_again};
 ghost use Rattle.chip_asm.specs.Records.{IsPlaceWithin, lines_after, readings_in, place_before};
@@ -40,10 +41,26 @@ fn is_placed_at(placements: &[Placement], place: usize) -> bool
     }
 }
 
+/// Whether each name of a line has one value, or none, under both layouts. The names need no search where none was moved.
+fn keeps_values(old: &Layout, new: &Layout, unmoved: bool, line: &Line) -> bool
+    requires { unmoved ≡ true → values_of old.now.names ≡ values_of new.now.names }
+    ensures { result ≡ agree_on (values_of old.now.names) (values_of new.now.names) (seen_line line.now) }
+{
+    unmoved || agree_on(line, &old.names, &new.names)
+}
+
 /// Whether the line at a place of the new source has to be encoded again.
 #[tactic(auto, unfolding(crate::specs::Recode::is_encoded_again))]
-fn is_encoded_again(old: &Layout, new: &Layout, edit: &Edit, place: usize, line: &Line) -> bool
-    requires { place < 4096 }
+fn is_encoded_again(
+    old: &Layout,
+    new: &Layout,
+    unmoved: bool,
+    edit: &Edit,
+    place: usize,
+    line: &Line,
+) -> bool
+    requires place { place < 4096 }
+    requires unmoved { unmoved ≡ true → values_of old.now.names ≡ values_of new.now.names }
     ensures { (before after : List Reading) → IsLayoutOf old.now before → IsLayoutOf new.now after
         → result ≡ is_encoded_again before after (place_before edit.now) (place, seen_line line.now) }
 {
@@ -52,7 +69,7 @@ fn is_encoded_again(old: &Layout, new: &Layout, edit: &Edit, place: usize, line:
     }
     match place_before(edit, place) {
         Some(before) => {
-            !(is_placed_at(&old.placements, before) && agree_on(line, &old.names, &new.names))
+            !(is_placed_at(&old.placements, before) && keeps_values(old, new, unmoved, line))
         }
         None => true,
     }
@@ -93,10 +110,12 @@ pub(crate) fn recode(
     ensures encoded { (before : List Reading) → IsLayoutOf old.now before → meter.new.encoded ≤ meter.old.encoded + count_again before (readings_in (lines_after lines.now edit.now)) (place_before edit.now) }
     ensures parsed { meter.new.parsed ≡ meter.old.parsed }
 {
-    let mut codes = Vec::new(alloc);
-    for place in 0..count_after(lines.len(), edit) {
+    let unmoved = old.names.has_same_values(&new.names);
+    let count = count_after(lines.len(), edit);
+    let mut codes = Vec::with_capacity(alloc, count)?;
+    for place in 0..count {
         let line = line_after(lines, edit, place);
-        let again = is_encoded_again(old, new, edit, place, line);
+        let again = is_encoded_again(old, new, unmoved, edit, place, line);
         codes.push(encode_if(again, alloc, meter, line, &new.names)?)?;
     }
     Ok(codes)

@@ -1,9 +1,8 @@
 //! The names of a source.
-ghost use Rattle.std.specs.Prelude.{◌≡◌, ◌++◌, [], ◌∷◌, OnOk, IfOk, None, Some, length, slice_get, ◌<◌};
-ghost use Rattle.std.specs.Prelude.{map};
+ghost use Rattle.std.specs.Prelude.{◌≡◌, ◌++◌, [], ◌∷◌, OnOk, IfOk, None, Some, true, length, map, slice_get, ◌<◌};
 ghost use Rattle.std.specs.Str.{bytes_eq};
 ghost use Rattle.chip_lang.specs.Line.{upper};
-ghost use Rattle.chip_asm.specs.Names.{lookup_name, values_of};
+ghost use Rattle.chip_asm.specs.Names.{lookup_name, valued, values_of};
 
 use chip_lang::{Bytes, Names};
 use indexmap::IndexMap;
@@ -108,6 +107,37 @@ impl Table {
         match self.symbols.get_index(index) {
             Some((name, symbol)) => Ok((Bytes::new(Vec::from_slice(alloc, name)?), *symbol)),
             None => unreachable!(),
+        }
+    }
+
+    /// Whether both tables have the same names with the same values, in the same order.
+    pub(crate) fn has_same_values(&self, other: &Table) -> bool
+        ensures { result ≡ true → values_of self.now ≡ values_of other.now }
+    {
+        if self.symbols.len() != other.symbols.len() {
+            return false;
+        }
+        for index in 0..self.symbols.len() {
+            if !self.has_same_value_at(other, index) {
+                return false;
+            }
+        }
+        true
+    }
+
+    /// Whether both tables have the same name with the same value at an index, or none there.
+    fn has_same_value_at(&self, other: &Table, index: usize) -> bool
+        ensures { result ≡ true → slice_get (valued self.now) index ≡ slice_get (valued other.now) index }
+    {
+        match (
+            self.symbols.get_index(index),
+            other.symbols.get_index(index),
+        ) {
+            (Some((name, symbol)), Some((other_name, other_symbol))) => {
+                symbol.value == other_symbol.value && name.as_slice() == other_name.as_slice()
+            }
+            (None, None) => true,
+            _ => false,
         }
     }
 

@@ -122,6 +122,8 @@ fn each_fault_has_its_line(rt: HostRuntime) -> Result<(), Fail> {
     assert_eq!(rt; one_fault(&rt, b"ORG 4096")?, None);
     assert_eq!(rt; one_fault(&rt, b"DB 1/0")?, Some(Fault::DivisionByZero));
     assert_eq!(rt; one_fault(&rt, b"DW 1 < 31")?, Some(Fault::Overflow));
+    assert_eq!(rt; one_fault(&rt, b"DB 256")?, Some(Fault::OutOfRange));
+    assert_eq!(rt; one_fault(&rt, b"X EQU 1 +")?, Some(Fault::WrongOperands));
     Ok(())
 }
 
@@ -137,6 +139,99 @@ fn data_is_written_as_it_stands(rt: HostRuntime) -> Result<(), Fail> {
         b"OPTION SCHIP11\nALIGN OFF\nXREF ON\nJP START ; go\nDATA: DB #3C, $.1..1.1.\nstart: LD I, data",
     )?;
     assert!(rt; has_image(&source, &[0x12, 4, 0x3c, 0x4a, 0xa2, 2]));
+    Ok(())
+}
+
+#[test]
+fn an_image_has_at_most_3584_bytes(rt: HostRuntime) -> Result<(), Fail> {
+    let alloc = rt.alloc();
+    for text in [b"DS 3584".as_slice(), b"ORG 4096"] {
+        let source = Source::open(alloc, text)?;
+        assert!(rt; has_image(&source, &[0; 3584]));
+    }
+    Ok(())
+}
+
+#[test]
+fn names_have_their_values_and_lines(rt: HostRuntime) -> Result<(), Fail> {
+    let alloc = rt.alloc();
+    let text = b"P EQU 3\nQ = P * (2 + P) - ~0\nDB Q, 'Z', #0f, @17, $1.1";
+    let source = Source::open(alloc, text)?;
+    assert!(rt; has_image(&source, &[0x10, 0x5a, 0x0f, 0x0f, 5, 0]));
+    let symbol = source.symbol(b"q").ok_or("q")?;
+    assert_eq!(rt; symbol.value, 16);
+    assert_eq!(rt; symbol.line, 2);
+    let source = Source::open(alloc, b"DEFINE Z1\nDB Z1")?;
+    assert!(rt; has_image(&source, &[0, 0]));
+    let source = Source::open(alloc, b"DB 6 \\ 3")?;
+    assert!(rt; has_image(&source, &[5, 0]));
+    Ok(())
+}
+
+#[test]
+fn a_source_has_at_most_4000_lines(rt: HostRuntime) -> Result<(), Fail> {
+    let alloc = rt.alloc();
+    let long = [b' '; 201];
+    let mut text = vec![in alloc; b'\n'; 4000]?;
+    let mut source = Source::open(alloc, &text)?;
+    assert_eq!(rt; source.lines(), 4000);
+    assert_eq!(rt; source.insert(alloc, 4002, &long), Err(Refusal::NoSuchLine));
+    assert_eq!(rt;
+        source.insert(alloc, 4001, &long),
+        Err(Refusal::TextTooLong)
+    );
+    assert_eq!(rt;
+        source.insert(alloc, 4001, b"a\rb"),
+        Err(Refusal::TooManyLines)
+    );
+    assert_eq!(rt;
+        source.replace(alloc, 4001, &long),
+        Err(Refusal::NoSuchLine)
+    );
+    assert_eq!(rt;
+        source.replace(alloc, 4000, &long),
+        Err(Refusal::TextTooLong)
+    );
+    assert_eq!(rt;
+        source.replace(alloc, 4000, b"a\nb"),
+        Err(Refusal::LineBreak)
+    );
+    assert_eq!(rt; source.delete(alloc, 4001), Err(Refusal::NoSuchLine));
+    assert_eq!(rt; source.lines(), 4000);
+    assert_eq!(rt; source.work().parsed, 4000);
+    source.replace(alloc, 4000, b"DB 7")?;
+    source.delete(alloc, 1)?;
+    source.insert(alloc, 4000, b"DB 8")?;
+    assert_eq!(rt; source.insert(alloc, 1, b""), Err(Refusal::TooManyLines));
+    assert!(rt; has_image(&source, &[7, 0, 8, 0]));
+    text.push(b'x')?;
+    assert_eq!(rt;
+        Source::open(alloc, &text).err(),
+        Some(OpenError::TooManyLines)
+    );
+    Ok(())
+}
+
+#[test]
+fn a_line_has_at_most_200_bytes(rt: HostRuntime) -> Result<(), Fail> {
+    let alloc = rt.alloc();
+    let mut text = vec![in alloc; b' '; 200]?;
+    let mut source = Source::open(alloc, &text)?;
+    source.insert(alloc, 1, &text)?;
+    source.replace(alloc, 2, &text)?;
+    assert_eq!(rt; source.lines(), 2);
+    text.push(b'\r')?;
+    assert_eq!(rt;
+        Source::open(alloc, &text).err(),
+        Some(OpenError::LineTooLong(1))
+    );
+    text.push(b'\n')?;
+    assert_eq!(rt; Source::open(alloc, &text)?.lines(), 1);
+    text.extend_from_slice(&[b' '; 201])?;
+    assert_eq!(rt;
+        Source::open(alloc, &text).err(),
+        Some(OpenError::LineTooLong(2))
+    );
     Ok(())
 }
 

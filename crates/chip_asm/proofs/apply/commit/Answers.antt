@@ -1,11 +1,9 @@
-use Rattle.std.proofs.Common.{◌≡◌, ◌∙◌, ◌+◌, ◌≤◌, ◌++◌, ℕ, arith, ap, sym, subst, length, take, drop, List, map, option_map}
+use Rattle.std.proofs.Common.{◌≡◌, ◌∙◌, arith, ap, sym, subst, length, List, map}
 use Rattle.std.specs.List.{enumerate_from}
-use Rattle.std.specs.Global.{Vec}
 use Rattle.std.proofs.lemmas.List.{length-map}
 use Rattle.std.proofs.lemmas.List.FromFn.{length-enumerate_from}
 use Rattle.chip_lang.specs.Line.{Reading, reading_of}
-use Rattle.chip_asm.specs.declared.kept_line.KeptLine.{KeptLine}
-use Rattle.chip_asm.specs.Records.{reading_in, readings_in, texts_in, lines_after, place_before, IsPlaceWithin}
+use Rattle.chip_asm.specs.Records.{reading_in, readings_in, lines_after, place_before, IsPlaceWithin}
 use Rattle.chip_asm.specs.Recode.{new_codes, new_code}
 use Rattle.chip_asm.specs.Program.{image_of_lines}
 use Rattle.chip_asm.specs.Kept.{AreCurrent, IsMerged}

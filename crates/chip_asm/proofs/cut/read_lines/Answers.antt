@@ -1,4 +1,4 @@
-use Rattle.std.proofs.Common.{◌≡◌, ◌∙◌, ◌+◌, ◌<◌, ◌≤◌, ◌++◌, ◌∷◌, [], ℕ, ap, sym, arith, refl, length, List, map, inr, Some, true, false, append_assoc, min, ◌-◌, ◌^◌, subst, Bool}
+use Rattle.std.proofs.Common.{◌≡◌, ◌∙◌, ◌+◌, ◌<◌, ◌++◌, ◌∷◌, [], ℕ, ap, sym, arith, length, List, map, inr, Some, true, false, append_assoc, subst}
 use Rattle.std.specs.List.{after_first}
 use Rattle.std.proofs.lemmas.List.{length-map, map-append, append-nil}
 use Rattle.chip_lang.specs.Line.{reading_of}
@@ -6,7 +6,7 @@ use Rattle.chip_lang.specs.Meter.{one_more}
 use Rattle.chip_asm.specs.declared.kept_line.KeptLine.{KeptLine}
 use Rattle.chip_asm.specs.declared.refusal.OpenError.TheVariants.{LineTooLong}
 use Rattle.chip_asm.specs.Lines.{lines_of, first_text, is_newline, is_long}
-use Rattle.chip_asm.specs.Records.{readings_in, texts_in}
+use Rattle.chip_asm.specs.Records.{texts_in}
 use Rattle.chip_asm.proofs.CutSteps.{AllShort, lines-next, too-long, too-many, opens, some-bytes, no-lines, long-is, short-is, short-push}
 use Rattle.chip_asm.proofs.cut.read_lines.Goals as goal
 

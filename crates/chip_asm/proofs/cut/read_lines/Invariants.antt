@@ -1,4 +1,4 @@
-use Rattle.std.proofs.Common.{◌≡◌, ℕ, ◌≤◌, ◌++◌, length, map}
+use Rattle.std.proofs.Common.{◌≡◌, ◌≤◌, ◌++◌, length, map}
 use Rattle.chip_lang.specs.Line.{reading_of}
 use Rattle.chip_asm.specs.Lines.{lines_of}
 use Rattle.chip_asm.specs.Records.{readings_in, texts_in}

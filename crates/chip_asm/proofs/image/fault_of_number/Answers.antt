@@ -1,4 +1,4 @@
-use Rattle.std.proofs.Common.{◌≡◌, ◌∙◌, ◌+◌, ◌-◌, ap, sym, arith}
+use Rattle.std.proofs.Common.{◌≡◌, ◌∙◌, ◌+◌, ◌-◌, ap, arith}
 use Rattle.chip_asm.specs.Program.{fault_of_line}
 use Rattle.chip_asm.specs.Records.{readings_in}
 use Rattle.chip_asm.proofs.ImageSteps.{about, fault-at}

@@ -1,4 +1,4 @@
-use Rattle.std.proofs.Common.{◌≡◌, ◌∙◌, ℕ, ◌+◌, ◌-◌, ◌≤◌, arith, length, ap, sym, refl, Some, take, drop, ◌++◌, List}
+use Rattle.std.proofs.Common.{◌≡◌, ◌∙◌, ℕ, ◌-◌, arith, length, ap, Some, take, drop, ◌++◌, List}
 use Rattle.std.proofs.lemmas.List.{take-append-le, take_all, length-replicate}
 use Rattle.chip_asm.specs.Records.{readings_in}
 use Rattle.chip_asm.proofs.Bounds.{end-low}

@@ -1,4 +1,4 @@
-use Rattle.std.proofs.Common.{◌≡◌, ◌+◌, ◌-◌, ◌<◌, length, arith}
+use Rattle.std.proofs.Common.{arith}
 use Rattle.chip_asm.proofs.ImageSteps.{write-more, write-none}
 use Rattle.chip_asm.proofs.image.write_line.Goals as goal
 

@@ -1,11 +1,11 @@
-use Rattle.std.proofs.Common.{◌≡◌, ◌∙◌, ℕ, ◌+◌, ◌-◌, ◌<◌, ◌≤◌, arith, length, sym, ap, refl, get_or, None, List, is_some, reverse, take}
+use Rattle.std.proofs.Common.{◌≡◌, ◌∙◌, ℕ, ◌+◌, ◌≤◌, arith, length, sym, ap, get_or, None, is_some, reverse, take}
 use Rattle.std.proofs.lemmas.List.{length-replicate}
 use borrow.Author.Count.{below_more}
 use Rattle.chip_asm.specs.Program.{fault_of_line}
 use Rattle.chip_asm.specs.Records.{readings_in}
-use Rattle.chip_asm.specs.Layout.{Placed, placed}
+use Rattle.chip_asm.specs.Layout.{placed}
 use Rattle.chip_asm.proofs.ImageSteps.{About, about}
-use Rattle.chip_asm.proofs.ImageWhole.{length-kept, byte_among, image-more, part-more, byte-whole, byte-none, none-faulty, has-fault, no-fault}
+use Rattle.chip_asm.proofs.ImageWhole.{length-kept, image-more, part-more, byte-whole, byte-none, none-faulty, has-fault, no-fault}
 use Rattle.chip_asm.proofs.image.write_lines.Goals as goal
 
 pub loop-place-init : goal.loop-place-init

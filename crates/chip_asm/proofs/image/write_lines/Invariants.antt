@@ -1,4 +1,4 @@
-use Rattle.std.proofs.Common.{◌≡◌, ℕ, ◌+◌, ◌<◌, None, get_or, take, reverse, length}
+use Rattle.std.proofs.Common.{◌≡◌, ℕ, ◌+◌, ◌<◌, None, get_or, take, reverse}
 use Rattle.chip_asm.specs.Layout.{placed}
 use Rattle.chip_asm.specs.Program.{fault_of_line}
 use Rattle.chip_asm.specs.Records.{readings_in}

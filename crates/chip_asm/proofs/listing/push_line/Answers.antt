@@ -1,4 +1,4 @@
-use Rattle.std.proofs.Common.{◌≡◌, ◌∙◌, ◌++◌, ◌∷◌, [], List, ℕ, ap, sym, refl, append_assoc}
+use Rattle.std.proofs.Common.{◌≡◌, ◌++◌, ◌∷◌, [], List, ℕ, append_assoc}
 use Rattle.std.specs.Fmt.{decimal}
 use Rattle.chip_asm.specs.Listing.{shown, at_right, at_left, address_shown}
 use Rattle.chip_asm.proofs.listing.push_line.Goals as goal

@@ -1,4 +1,4 @@
-use Rattle.std.proofs.Common.{◌≡◌, ◌∙◌, ◌+◌, ◌<◌, ◌≤◌, ap, sym, refl, arith, take, length, List, cond, map, count_by}
+use Rattle.std.proofs.Common.{◌≡◌, ◌∙◌, ◌+◌, ◌<◌, ◌≤◌, ap, refl, arith, length, List, cond, map}
 use Rattle.std.specs.List.{enumerate_from}
 use Rattle.std.proofs.lemmas.List.{take_all, map-append}
 use Rattle.std.proofs.lemmas.List.FromFn.{length-enumerate_from}
@@ -13,7 +13,7 @@ use Rattle.chip_asm.proofs.recode.recode.Goals as goal
 pub returns-in_err-encode_if-clause-encoded : goal.returns-in_err-encode_if-clause-encoded
 returns-in_err-encode_if-clause-encoded c = λ before old.
     let all : List Reading = readings_in (lines_after c.args.lines.now c.args.edit.now) in
-    let inside : c.loop-place.place < length all = omega (arith, length-readings_after c.args.lines.now c.args.edit.now c.requires.within, c.count_after-place-end.ensures) in
+    let inside : c.loop-place.place < length all = omega (arith, length-readings_after c.args.lines.now c.args.edit.now c.requires.within, c.count_after-count.ensures) in
     let again = c.is_encoded_again-again.ensures before all old c.requires.new in
     let grown : c.encode_if.new.meter.encoded ≤ c.loop-place.meter.encoded + cond (is_encoded_again before all (place_before c.args.edit.now) (c.loop-place.place, seen_line c.line_after-line.result.now)) 1 0
     = rw (← again) c.encode_if.ensures.encoded in
@@ -34,7 +34,7 @@ returns-in_err-push-clause-parsed c = c.encode_if.ensures.parsed ∙ c.loop-plac
 pub returns-in_err-push-clause-encoded : goal.returns-in_err-push-clause-encoded
 returns-in_err-push-clause-encoded c = λ before old.
     let all : List Reading = readings_in (lines_after c.args.lines.now c.args.edit.now) in
-    let inside : c.loop-place.place < length all = omega (arith, length-readings_after c.args.lines.now c.args.edit.now c.requires.within, c.count_after-place-end.ensures) in
+    let inside : c.loop-place.place < length all = omega (arith, length-readings_after c.args.lines.now c.args.edit.now c.requires.within, c.count_after-count.ensures) in
     let again = c.is_encoded_again-again.ensures before all old c.requires.new in
     let grown : c.encode_if.new.meter.encoded ≤ c.loop-place.meter.encoded + cond (is_encoded_again before all (place_before c.args.edit.now) (c.loop-place.place, seen_line c.line_after-line.result.now)) 1 0
     = rw (← again) c.encode_if.ensures.encoded in
@@ -49,7 +49,7 @@ returns-in_err-push-clause-encoded c = λ before old.
 pub loop-place-preserved : goal.loop-place-preserved
 loop-place-preserved c =
     let all : List Reading = readings_in (lines_after c.args.lines.now c.args.edit.now) in
-    let inside : c.loop-place.place < length all = omega (arith, length-readings_after c.args.lines.now c.args.edit.now c.requires.within, c.count_after-place-end.ensures) in (
+    let inside : c.loop-place.place < length all = omega (arith, length-readings_after c.args.lines.now c.args.edit.now c.requires.within, c.count_after-count.ensures) in (
       (λ before old.
           let again = c.is_encoded_again-again.ensures before all old c.requires.new in
           let code : c.in_ok-encode_if.field-0 ≡ new_code before all (place_before c.args.edit.now) (c.loop-place.place, seen_line c.line_after-line.result.now)
@@ -66,7 +66,7 @@ loop-place-preserved c =
 pub returns-clause-codes : goal.returns-clause-codes
 returns-clause-codes c = λ before old.
     let all : List Reading = readings_in (lines_after c.args.lines.now c.args.edit.now) in
-    let whole = take_all c.loop-place.place (enumerate_from 0 all) (omega (arith, length-enumerate_from 0 all, length-readings_after c.args.lines.now c.args.edit.now c.requires.within, c.count_after-place-end.ensures)) in
+    let whole = take_all c.loop-place.place (enumerate_from 0 all) (omega (arith, length-enumerate_from 0 all, length-readings_after c.args.lines.now c.args.edit.now c.requires.within, c.count_after-count.ensures)) in
     c.loop-place.invariant.0 before old ∙ ap (map (new_code before all (place_before c.args.edit.now))) whole
 
 pub returns-clause-encoded : goal.returns-clause-encoded

@@ -1,4 +1,4 @@
-use Rattle.std.proofs.Common.{◌≡◌, ◌∙◌, ℕ, ◌+◌, ◌-◌, ◌<◌, ◌≤◌, arith, length, ap, sym, refl, Option, Some, None, take, get_or, vec_len, subst}
+use Rattle.std.proofs.Common.{◌≡◌, ◌∙◌, ◌+◌, ◌-◌, arith, length, ap, sym, refl, Option, None, get_or, vec_len, subst}
 use Rattle.std.proofs.lemmas.List.{take_all, length-take}
 use Rattle.chip_lang.specs.declared.code.Coded.{Coded}
 use Rattle.chip_asm.proofs.KeptWrites.{Written, written-none, written-kept, written-new, merged, popped}

@@ -1,6 +1,4 @@
-use Rattle.std.proofs.Common.{◌∙◌, sym, ap}
-use Rattle.std.specs.List.{list_all}
-use Rattle.chip_asm.specs.declared.block.Block.{Block}
+use Rattle.std.proofs.Common.{◌∙◌, sym}
 use Rattle.chip_lang.specs.SeenLine.{seen_body}
 use Rattle.chip_asm.proofs.BlockSteps.{live_elsewhere, not_side}
 use Rattle.chip_asm.proofs.pass.Pass.is_live.Goals as goal

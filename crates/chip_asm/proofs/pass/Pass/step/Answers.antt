@@ -1,10 +1,9 @@
-use Rattle.std.proofs.Common.{◌≡◌, ◌∙◌, ◌+◌, ap, sym, refl, arith, w32, to_z, of_z, reverse}
+use Rattle.std.proofs.Common.{◌≡◌, ◌∙◌, ◌+◌, ap, sym, refl, arith, w32, to_z, of_z}
 use Rattle.std.proofs.lemmas.Int.{to_z-of_z}
-use Rattle.chip_asm.specs.declared.block.Block.{Block}
 use Rattle.chip_lang.specs.SeenLine.{seen_line}
 use Rattle.chip_asm.specs.Layout.{placed, condition_of, body_of}
 use Rattle.chip_asm.proofs.Placing.{length-placed}
-use Rattle.chip_asm.proofs.NextLine.{follows-push, Advances}
+use Rattle.chip_asm.proofs.NextLine.{follows-push}
 use Rattle.chip_asm.proofs.pass.Pass.step.Goals as goal
 
 pub returns-clause-follows : goal.returns-clause-follows

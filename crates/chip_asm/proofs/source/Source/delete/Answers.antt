@@ -1,8 +1,7 @@
-use Rattle.std.proofs.Common.{◌≡◌, ◌∙◌, ◌+◌, ◌-◌, ◌≤◌, ap, sym, arith, refl, length, List, ℕ, remove, map, vec_len}
+use Rattle.std.proofs.Common.{◌≡◌, ◌∙◌, ◌-◌, ap, sym, arith, length, remove, map}
 use Rattle.chip_lang.specs.Line.{reading_of}
 use Rattle.chip_asm.specs.Edits.{delete_refusal, before_delete}
-use Rattle.chip_asm.specs.Records.{reading_in, readings_in, texts_in}
-use Rattle.chip_asm.specs.Work.{needs_count, lines_to_encode}
+use Rattle.chip_asm.specs.Records.{readings_in, texts_in}
 use Rattle.chip_asm.proofs.EditTexts.{texts-remove, read-remove, count-texts}
 use Rattle.chip_asm.proofs.Views.{needs-view}
 use Rattle.chip_asm.proofs.source.Source.delete.Goals as goal

@@ -1,4 +1,4 @@
-use Rattle.std.proofs.Common.{◌≡◌, ◌∙◌, ap, sym, List, ℕ}
+use Rattle.std.proofs.Common.{◌≡◌, ◌∙◌, ap}
 use Rattle.chip_asm.specs.Program.{faults_of_lines, faults_of}
 use Rattle.chip_asm.specs.Records.{readings_in}
 use Rattle.chip_asm.proofs.Views.{faults-view}

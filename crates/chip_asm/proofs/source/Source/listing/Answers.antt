@@ -1,4 +1,4 @@
-use Rattle.std.proofs.Common.{◌≡◌, ◌∙◌, ap, sym, List, ℕ}
+use Rattle.std.proofs.Common.{◌≡◌, ◌∙◌, ap}
 use Rattle.chip_asm.specs.Layout.{placed}
 use Rattle.chip_asm.specs.Listing.{lines_shown, listing_of}
 use Rattle.chip_asm.specs.Records.{readings_in, texts_in}

@@ -1,9 +1,6 @@
-use Rattle.std.proofs.Common.{◌≡◌, ◌∙◌, ap, sym, arith, refl, length, List, [], Some}
-use Rattle.chip_lang.specs.Line.{Reading}
+use Rattle.std.proofs.Common.{◌≡◌, ap, arith, refl, length, [], Some}
 use Rattle.chip_asm.specs.Layout.{placed, address}
-use Rattle.chip_asm.specs.Layouts.{IsLayoutOf}
 use Rattle.chip_asm.specs.Program.{image_of_lines}
-use Rattle.chip_asm.specs.Records.{readings_in}
 use Rattle.chip_asm.proofs.source.Source.new.Goals as goal
 
 empty_image : Some [] ≡ image_of_lines []

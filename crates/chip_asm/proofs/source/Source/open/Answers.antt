@@ -1,4 +1,4 @@
-use Rattle.std.proofs.Common.{◌≡◌, ◌∙◌, ◌+◌, ◌≤◌, ◌++◌, ℕ, arith, ap, sym, subst, length, take, drop, List, [], map, Option, Some}
+use Rattle.std.proofs.Common.{◌∙◌, ◌+◌, ◌≤◌, arith, ap, sym, length, List, [], map, Some}
 use Rattle.std.specs.List.{enumerate_from}
 use Rattle.std.proofs.lemmas.List.{length-map}
 use Rattle.std.proofs.lemmas.List.FromFn.{length-enumerate_from}
@@ -6,7 +6,7 @@ use Rattle.chip_lang.specs.Line.{Reading, reading_of}
 use Rattle.chip_asm.specs.Records.{reading_in, readings_in, texts_in}
 use Rattle.chip_asm.specs.Recode.{new_codes, new_code}
 use Rattle.chip_asm.specs.Program.{image_of_lines}
-use Rattle.chip_asm.specs.Work.{accepted_of, accepted_lines, needs_count}
+use Rattle.chip_asm.specs.Work.{needs_count}
 use Rattle.chip_asm.specs.Kept.{AreCurrent, IsMerged}
 use Rattle.chip_asm.proofs.KeptAfter.{current-merged, had-none}
 use Rattle.chip_asm.proofs.KeptWrites.{refilled}

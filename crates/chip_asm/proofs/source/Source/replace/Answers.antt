@@ -1,8 +1,7 @@
-use Rattle.std.proofs.Common.{◌≡◌, ◌∙◌, ◌+◌, ◌-◌, ◌≤◌, ap, sym, arith, refl, length, List, ℕ, set, map, vec_len}
+use Rattle.std.proofs.Common.{◌≡◌, ◌∙◌, ◌-◌, ap, sym, arith, length, set, map}
 use Rattle.chip_lang.specs.Line.{reading_of}
 use Rattle.chip_asm.specs.Edits.{replace_refusal, before_replace}
-use Rattle.chip_asm.specs.Records.{reading_in, readings_in, texts_in}
-use Rattle.chip_asm.specs.Work.{needs_count, lines_to_encode}
+use Rattle.chip_asm.specs.Records.{readings_in, texts_in}
 use Rattle.chip_asm.proofs.EditTexts.{texts-set, read-set, count-texts}
 use Rattle.chip_asm.proofs.Views.{needs-view}
 use Rattle.chip_asm.proofs.source.Source.replace.Goals as goal

@@ -1,4 +1,4 @@
-use Rattle.std.proofs.Common.{◌≡◌, ◌∙◌, ap, sym}
+use Rattle.std.proofs.Common.{◌≡◌, ◌∙◌, ap}
 use Rattle.chip_asm.specs.Program.{symbols_of}
 use Rattle.chip_asm.proofs.Views.{symbols-view}
 use Rattle.chip_asm.proofs.source.Source.symbols.Goals as goal

@@ -1,0 +1,22 @@
+use Rattle.std.proofs.Common.{◌≡◌, ◌∙◌, sym, ap, arith, Some}
+use Rattle.std.proofs.lemmas.Int.{to_z-of_z}
+use Rattle.std.proofs.lemmas.Slice.Eq.{bytes_eq-Decides}
+use Rattle.chip_asm.proofs.TableSteps.{valued-at, valued-past}
+use Rattle.chip_asm.proofs.table.Table.has_same_value_at.Goals as goal
+
+pub returns-then-symbol-other_symbol : goal.returns-then-symbol-other_symbol
+returns-then-symbol-other_symbol c = λ same.
+    let one = c.in-Some-Some.symbol.now.value in
+    let other = c.in-Some-Some.other_symbol.now.value in
+    let value : one ≡ other = grind (arith, to_z-of_z, c.if-symbol-other_symbol.true) in
+    let name : c.in-Some-Some.name.now.items ≡ c.in-Some-Some.other_name.now.items
+    = sym c.as_slice.ensures.value ∙ (bytes_eq-Decides c.as_slice.result.now c.as_slice-then-symbol-other_symbol.result.now).0 (sym c.eq.ensures ∙ same) ∙ c.as_slice-then-symbol-other_symbol.ensures.value in
+    valued-at c.self.inside.symbols.entries c.args.self.now c.args.index (c.in-Some-Some.name.now, c.in-Some-Some.symbol.now) c.self.view_is c.in-Some-Some.ensures.entry
+    ∙ ap (λ v. Some (c.in-Some-Some.name.now.items, v)) value
+    ∙ ap (λ n. Some (n, other)) name
+    ∙ sym (valued-at c.other.inside.symbols.entries c.args.other.now c.args.index (c.in-Some-Some.other_name.now, c.in-Some-Some.other_symbol.now) c.other.view_is c.in-Some-Some.ensures'.entry)
+
+pub returns-in-None-None : goal.returns-in-None-None
+returns-in-None-None c = λ same.
+    valued-past c.self.inside.symbols.entries c.args.self.now c.args.index c.self.view_is c.in-None-None.ensures.entry
+    ∙ sym (valued-past c.other.inside.symbols.entries c.args.other.now c.args.index c.other.view_is c.in-None-None.ensures'.entry)

@@ -1,0 +1,18 @@
+use Rattle.std.proofs.Common.{◌∙◌, ◌≤◌, sym, ap, arith, length}
+use Rattle.std.specs.FinMap as finite
+use Rattle.std.proofs.lemmas.List.{take_all}
+use Rattle.chip_asm.specs.Names.{valued, values_of}
+use Rattle.chip_asm.proofs.TableSteps.{take-same, length-valued}
+use Rattle.chip_asm.proofs.table.Table.has_same_values.Goals as goal
+
+pub loop-index-preserved : goal.loop-index-preserved
+loop-index-preserved c = take-same c.loop-index.index (valued c.args.self.now) (valued c.args.other.now) c.loop-index.invariant (c.has_same_value_at.ensures c.if-not-has_same_value_at.false)
+
+pub returns : goal.returns
+unfolding values_of
+returns c = λ same.
+    let mine = length-valued c.self.inside.symbols.entries c.args.self.now c.self.view_is in
+    let others = length-valued c.other.inside.symbols.entries c.args.other.now c.other.view_is in
+    let past : length (valued c.args.self.now) ≤ c.loop-index.index = omega (arith, mine, c.len-index-end.ensures.len, c.loop-index-test.false) in
+    let past_other : length (valued c.args.other.now) ≤ c.loop-index.index = omega (arith, others, past, mine, c.len.ensures.len, c.len-2.ensures.len, c.if-len.false) in
+    ap finite.from_entries (sym (take_all c.loop-index.index (valued c.args.self.now) past) ∙ c.loop-index.invariant ∙ take_all c.loop-index.index (valued c.args.other.now) past_other)
