@@ -13,6 +13,7 @@ use crate::answer::{faults_answer, listing_answer};
 use crate::bench::Bench;
 use crate::command_line::{CommandLine, SettingWords, not_text, parse_words};
 use crate::counted::Counted;
+use crate::image_file::write_file;
 use crate::question::Question;
 use crate::refusal::Refusal;
 use crate::server::{ServeError, serve};
@@ -121,6 +122,9 @@ impl<'a> From<clap::Error> for Failure<'a> {
 /// The program, with the words after its name. The answer is its status: 0 where it did what it was asked, 1 where the
 /// source has faults or doesn't open, 2 for words that it doesn't take, 3 where a file, input or output failed or there was
 /// too much input, and 4 for want of memory.
+///
+/// `asm` writes the whole image to its file, or leaves what was there. Only what isn't a file, such as a pipe, may have taken
+/// some bytes before a failure.
 ///
 /// Without words it carries out the script that `input` gives, on the empty source, and writes the answers to `output`.
 /// What hinders it is said on `errors`; a failure there is ignored.
@@ -295,8 +299,9 @@ fn asm<'a, F: Files, O: Write>(
         print(&faults, output)?;
         return Ok(Ending::Faulty);
     };
-    match fs::write(files, image, bytes) {
+    match write_file(alloc, files, image, bytes) {
         Ok(()) => Ok(Ending::Done),
+        Err(error) if error.kind() == io::ErrorKind::OutOfMemory => Err(Failure::OutOfMemory),
         Err(_) => Err(Failure::CannotWrite(image)),
     }
 }
