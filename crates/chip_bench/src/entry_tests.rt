@@ -94,12 +94,28 @@ fn answers_a_script(rt: HostRuntime) -> Result<(), Fail> {
 
 #[test]
 fn shows_help(rt: HostRuntime) -> Result<(), Fail> {
-    let all: [&[&str]; 4] = [&["--help"], &["help"], &["help", "asm"], &["debug", "-h"]];
-    for words in all {
+    let all: [(&[&str], &str); 6] = [
+        (&["--help"], "chipbench run game.asm --steps 1000\n"),
+        (&["help"], "chipbench run game.asm --steps 1000\n"),
+        (
+            &["debug", "-h"],
+            "chipbench debug game.asm --rate 15 --seed 7\n",
+        ),
+        (&["help", "asm"], "chipbench asm game.asm game.ch8\n"),
+        (&["list", "--help"], "chipbench list game.asm\n"),
+        (
+            &["run", "--help"],
+            "chipbench run game.asm --steps 1000 --tape 0fa3\n",
+        ),
+    ];
+    for (words, example) in all {
         let run = run_on(rt.alloc(), &rt, words, b"")?;
         assert_eq!(rt; run.status, 0);
-        assert!(rt; !run.output.is_empty());
         assert!(rt; run.errors.is_empty());
+        assert!(rt;
+            run.output.as_slice().ends_with(example.as_bytes()),
+            "at {words:?}"
+        );
     }
     Ok(())
 }
