@@ -3,10 +3,11 @@ ghost use Rattle.std.specs.Prelude.{◌≡◌, [], ◌∷◌, Ok, Err, None, IfO
 ghost use Rattle.chip_bench.specs.Settings.{default_settings};
 ghost use Rattle.chip_bench.specs.SettingWords.{default_words};
 ghost use Rattle.chip_bench.specs.Serving.{Exchanges};
-ghost use Rattle.chip_bench.specs.Running.{Carried, Ran, ending_status, failure_status, settings_failure, no_memory, AreFaulty, IsUsage};
+ghost use Rattle.chip_bench.specs.Running.{Carried, Ran, ending_status, failure_status, settings_failure, words_failure, no_memory, AreFaulty, IsUsage, IsWithoutWords};
 ghost use Rattle.chip_bench.specs.CommandLine.{chipbench};
-ghost use Rattle.clap.specs.Words.{fault_of};
+ghost use Rattle.clap.specs.Words.{fault_of, kind_of};
 ghost use Rattle.std.specs.Io.KnownBytes.{Keeps};
+ghost use Rattle.std.specs.IoError.{error_kind};
 ghost use Rattle.chip_asm.specs.declared.refusal.OpenError.TheVariants.{OutOfMemory as memory};
 
 use crate::answer::{faults_answer, listing_answer};
@@ -109,7 +110,7 @@ impl<'a> From<SetError> for Failure<'a> {
 }
 
 impl<'a> From<clap::Error> for Failure<'a> {
-    ghost from_gives = { λ _ failure. (failure_status failure ≡ 2) ⊎ (failure_status failure ≡ 4) };
+    ghost from_gives = { λ error failure. failure ≡ words_failure (kind_of error) error };
 
     fn from(error: clap::Error) -> Failure<'a> {
         match error.kind() {
@@ -152,7 +153,9 @@ pub fn program<F: Files, S: AsStr, I: Read, O: Write, E: Write>(
 }
 
 /// The program's answer where the system can't give its words as text.
-pub fn refuse_words<E: Write>(alloc: Global, error: &io::Error, errors: &mut E) -> u8 {
+pub fn refuse_words<E: Write>(alloc: Global, error: &io::Error, errors: &mut E) -> u8
+    ensures { IsWithoutWords (error_kind error.now) result }
+{
     if error.kind() == io::ErrorKind::OutOfMemory {
         return report(Failure::OutOfMemory, errors);
     }

@@ -11,9 +11,9 @@ const MOST_PARTS: u32 = 100;
 
 /// Writes the file of a name whole. On an error it is as it was, or there is none, as before.
 ///
-/// The bytes go to a new file in the same folder, `NAME.part1`, say, that gets the name once they are on the disk, and that
-/// is taken away on an error. A file of that name is replaced with its permissions kept, and only if it may be written;
-/// where the name is a link, the file that it leads to is replaced.
+/// The bytes go to a new file in the same folder, `NAME.part1`, say, which gets the name once they are on the disk, and
+/// which is taken away on an error. A file of that name is replaced if it may be written, and its permissions are kept. Where
+/// the name is a link to a file, that file is replaced; a link that leads nowhere gives way to the new file.
 ///
 /// What stands there and is no file, such as a terminal or a pipe, can't be replaced: the bytes go straight to it, and
 /// some may have gone there before an error.
