@@ -26,7 +26,8 @@ use std::marker::Model;
 /// How many bytes an image has at most.
 const IMAGE_ROOM: usize = 3584;
 
-/// A bench: a source as edited so far, the settings, and the replay of the last image that the lines had, under the key events as edited so far.
+/// A bench: a source as edited so far, the settings, and the replay of the last image that the lines had, under the key
+/// events as edited so far.
 #[derive(Drop)]
 pub struct Bench {
     source: Source,

@@ -137,10 +137,16 @@ fn stays(rt: &HostRuntime, hindrance: Hindrance, status: u8) -> Result<bool, Fai
 #[test]
 fn leaves_what_was_there_where_a_call_fails(rt: HostRuntime) -> Result<(), Fail> {
     for call in [Call::Write, Call::Sync, Call::Rename] {
-        for (reason, status) in [(ErrorKind::StorageFull, 3), (ErrorKind::OutOfMemory, 4)] {
-            let hindrance = Hindrance { call, reason };
-            assert!(rt; stays(&rt, hindrance, status)?, "at {call:?}, {status}");
-        }
+        let full_disk = Hindrance {
+            call,
+            reason: ErrorKind::StorageFull,
+        };
+        let no_memory = Hindrance {
+            call,
+            reason: ErrorKind::OutOfMemory,
+        };
+        assert!(rt; stays(&rt, full_disk, 3)?, "at {call:?}");
+        assert!(rt; stays(&rt, no_memory, 4)?, "at {call:?}");
     }
     Ok(())
 }
