@@ -1,7 +1,11 @@
 -- What a run of the program reads, writes and answers (own).
 use Rattle.std.specs.Prelude.{◌≡◌, ◌≢◌, ◌⊎◌, ℕ, List, [], Result, Ok, Err}
 use Rattle.clap.specs.Kinds.{Kinds, IsAmong}
+use Rattle.clap.specs.declared.error.Error.{Error}
+use Rattle.clap.specs.declared.error.kind.ErrorKind.{ErrorKind}
 use Rattle.clap.specs.declared.error.kind.ErrorKind.TheVariants as kind
+use Rattle.std.specs.declared.io.ErrorKind.{ErrorKind as IoErrorKind}
+use Rattle.std.specs.declared.io.ErrorKind.TheVariants as io_kind
 use Rattle.chip_bench.specs.Settings.{default_settings}
 use Rattle.chip_bench.specs.Session.{session_of}
 use Rattle.chip_bench.specs.Serving.{Served}
@@ -43,6 +47,16 @@ settings_failure set.OutOfMemory = failure.OutOfMemory
 
 abbrev pub no_memory : Failure
 no_memory = failure.OutOfMemory
+
+-- what hinders the program where `clap` answers an error of that kind
+abbrev pub words_failure : ErrorKind → Error → Failure
+words_failure kind.OutOfMemory error = failure.OutOfMemory
+words_failure _ error = failure.Usage error
+
+-- the status where the system can't give the program's words as text; 4 after any error where there is no memory to say so
+abbrev pub IsWithoutWords : IoErrorKind → ℕ → Type 0
+IsWithoutWords io_kind.OutOfMemory status = status ≡ 4
+IsWithoutWords _ status = (status ≡ 2) ⊎ (status ≡ 4)
 
 abbrev pub ending_status : Ending → ℕ
 ending_status Done = 0

@@ -92,7 +92,7 @@ pub record ReachesStep {A E : Type 0} (step : ℕ) (result : Result A E) (reach 
   pub reached : OnOk result (step ≤ new_reach)
   pub steps : OnOk result (new_ran ≤ ran + (step - spacing * (min reach step / spacing)))
 
--- a question without a step changes neither
+-- neither changes, as by a question without a step, or by one that is refused though there is memory
 pub record StaysPut (reach ran new_reach new_ran : ℕ) : Type 0 where
   pub same_reach : new_reach ≡ reach
   pub same_ran : new_ran ≡ ran

@@ -1,11 +1,11 @@
 //! The answers to questions about the machine at a step.
-ghost use Rattle.std.specs.Prelude.{◌≡◌, ◌∷◌, [], ◌++◌, ℕ, List, false, Ok, IfOk, IfErr};
+ghost use Rattle.std.specs.Prelude.{◌≡◌, ◌≢◌, ◌∷◌, [], ◌++◌, ℕ, List, false, Ok, IfOk, IfErr};
 ghost use Rattle.std.specs.Option.{option_copied};
 ghost use Rattle.chip_asm.specs.Program.{image_of};
 ghost use Rattle.chip_bench.specs.Session.{session_with};
 ghost use Rattle.chip_bench.specs.Kept.{Replays, IsLastImage};
 ghost use Rattle.chip_bench.specs.Answers.{is_past_end, state_answer, step_refusal, answer_at, image_answer, answer_to, step_asked};
-ghost use Rattle.chip_bench.specs.Workbench.{ReachesStep, ReusesRun};
+ghost use Rattle.chip_bench.specs.Workbench.{ReachesStep, ReusesRun, StaysPut};
 ghost use Rattle.chip_bench.specs.IsAnswer.{IsAnswered, IsUnanswered};
 
 use crate::answer::{faults_answer, hex_line, listing_answer, symbols_answer};
@@ -81,6 +81,7 @@ fn answer_at(
     ensures replays { Replays settings.now last.now replay.new }
     ensures keys { replay.new.keys ≡ replay.old.keys }
     ensures reuses { ReachesStep step result replay.old.reach replay.old.ran replay.new.reach replay.new.ran }
+    ensures refused { IfErr result (λ e. e ≢ Refusal.AnswerMemory → StaysPut replay.old.reach replay.old.ran replay.new.reach replay.new.ran) }
 {
     if image.is_none() {
         return Err(Refusal::NoImage);
@@ -113,6 +114,7 @@ pub(crate) fn answer(
     ensures replays { Replays settings.now last.now replay.new }
     ensures keys { replay.new.keys ≡ replay.old.keys }
     ensures reuses { ReusesRun (step_asked question.now) result replay.old.reach replay.old.ran replay.new.reach replay.new.ran }
+    ensures refused { IfErr result (λ e. e ≢ Refusal.AnswerMemory → StaysPut replay.old.reach replay.old.ran replay.new.reach replay.new.ran) }
 {
     match *question {
         Question::Image => image_answer(alloc, source.image()),

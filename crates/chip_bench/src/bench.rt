@@ -1,14 +1,14 @@
 //! A session: edits of the source and of the key events, and questions about both.
-ghost use Rattle.std.specs.Prelude.{◌≡◌, ◌≤◌, ◌⊎◌, ℕ, List, min, None, Some, Ok, Err, OnOk, OnErr, IfOk, IfErr, IsOkAnd, ◌++◌, length, vec_capacity};
+ghost use Rattle.std.specs.Prelude.{◌≡◌, ◌≢◌, ◌≤◌, ◌⊎◌, [], None, Some, Ok, OnOk, OnErr, IfOk, IfErr, IsOkAnd, ◌++◌, length, unwrap_or};
 ghost use Rattle.chip_bench.specs.Answers.{answer_to, step_asked};
 ghost use Rattle.chip_bench.specs.IsAnswer.{IsUnanswered};
 ghost use Rattle.chip_asm.specs.Lines.{open_fault};
+ghost use Rattle.chip_asm.specs.Program.{image_of};
 ghost use Rattle.chip_asm.specs.Work.{accepted_of};
-ghost use Rattle.chip_bench.specs.Settings.{SessionSettings};
-ghost use Rattle.chip_bench.specs.Session.{session_of, session_with, edited, IsRefused, insert_line, replace_line, delete_line, insert_event, replace_event, delete_event};
+ghost use Rattle.chip_bench.specs.Session.{session_of, edited, IsRefused};
 ghost use Rattle.chip_bench.specs.Changes.{change_of};
 ghost use Rattle.chip_bench.specs.Costs.{Costs};
-ghost use Rattle.chip_bench.specs.Workbench.{workbench, IsInStep, Follows, FollowsLines, FollowsEvent, Reuses};
+ghost use Rattle.chip_bench.specs.Workbench.{Follows, Reuses, StaysPut};
 
 use crate::ask::answer;
 use crate::edit::Edit;
@@ -26,178 +26,8 @@ use std::marker::Model;
 /// How many bytes an image has at most.
 const IMAGE_ROOM: usize = 3584;
 
-/// Puts a text before a line.
-fn insert_line(
-    alloc: Global,
-    source: &mut Source,
-    settings: &Settings,
-    replay: &mut Replay<Machine>,
-    last: &mut Vec<u8>,
-    line: u32,
-    text: &[u8],
-) -> Result<(), Refusal>
-    requires { IsInStep source.old.lines settings.now replay.old last.old.items (vec_capacity last.old) }
-    ensures in_step { IsInStep source.new.lines settings.now replay.new last.new.items (vec_capacity last.new) }
-    ensures ok { OnOk result (edited (session_with source.old.lines replay.old.keys settings.now) (insert_line line text.now)
-        ≡ Ok (session_with source.new.lines replay.new.keys settings.now)) }
-    ensures err { IfErr result (IsRefused (session_with source.old.lines replay.old.keys settings.now) (insert_line line text.now)) }
-    ensures lines { OnErr result (source.new.lines ≡ source.old.lines) }
-    ensures replay { OnErr result (replay.new ≡ replay.old) }
-    ensures last { OnErr result (last.new.items ≡ last.old.items) }
-    ensures follows { OnOk result (FollowsLines (workbench source.old settings.now replay.old last.old.items)
-        (workbench source.new settings.now replay.new last.new.items)) }
-    ensures costs { Costs (insert_line line text.now) source.old.lines source.old.work source.new.work }
-    ensures ran { replay.new.ran ≡ replay.old.ran }
-{
-    source.insert(alloc, line as usize, text)?;
-    follow_image(settings, replay, last, source.image());
-    Ok(())
-}
-
-/// Puts a text in the place of a line.
-fn replace_line(
-    alloc: Global,
-    source: &mut Source,
-    settings: &Settings,
-    replay: &mut Replay<Machine>,
-    last: &mut Vec<u8>,
-    line: u32,
-    text: &[u8],
-) -> Result<(), Refusal>
-    requires { IsInStep source.old.lines settings.now replay.old last.old.items (vec_capacity last.old) }
-    ensures in_step { IsInStep source.new.lines settings.now replay.new last.new.items (vec_capacity last.new) }
-    ensures ok { OnOk result (edited (session_with source.old.lines replay.old.keys settings.now) (replace_line line text.now)
-        ≡ Ok (session_with source.new.lines replay.new.keys settings.now)) }
-    ensures err { IfErr result (IsRefused (session_with source.old.lines replay.old.keys settings.now) (replace_line line text.now)) }
-    ensures lines { OnErr result (source.new.lines ≡ source.old.lines) }
-    ensures replay { OnErr result (replay.new ≡ replay.old) }
-    ensures last { OnErr result (last.new.items ≡ last.old.items) }
-    ensures follows { OnOk result (FollowsLines (workbench source.old settings.now replay.old last.old.items)
-        (workbench source.new settings.now replay.new last.new.items)) }
-    ensures costs { Costs (replace_line line text.now) source.old.lines source.old.work source.new.work }
-    ensures ran { replay.new.ran ≡ replay.old.ran }
-{
-    source.replace(alloc, line as usize, text)?;
-    follow_image(settings, replay, last, source.image());
-    Ok(())
-}
-
-/// Takes a line out.
-fn delete_line(
-    alloc: Global,
-    source: &mut Source,
-    settings: &Settings,
-    replay: &mut Replay<Machine>,
-    last: &mut Vec<u8>,
-    line: u32,
-) -> Result<(), Refusal>
-    requires { IsInStep source.old.lines settings.now replay.old last.old.items (vec_capacity last.old) }
-    ensures in_step { IsInStep source.new.lines settings.now replay.new last.new.items (vec_capacity last.new) }
-    ensures ok { OnOk result (edited (session_with source.old.lines replay.old.keys settings.now) (delete_line line)
-        ≡ Ok (session_with source.new.lines replay.new.keys settings.now)) }
-    ensures err { IfErr result (IsRefused (session_with source.old.lines replay.old.keys settings.now) (delete_line line)) }
-    ensures lines { OnErr result (source.new.lines ≡ source.old.lines) }
-    ensures replay { OnErr result (replay.new ≡ replay.old) }
-    ensures last { OnErr result (last.new.items ≡ last.old.items) }
-    ensures follows { OnOk result (FollowsLines (workbench source.old settings.now replay.old last.old.items)
-        (workbench source.new settings.now replay.new last.new.items)) }
-    ensures costs { Costs (delete_line line) source.old.lines source.old.work source.new.work }
-    ensures ran { replay.new.ran ≡ replay.old.ran }
-{
-    source.delete(alloc, line as usize)?;
-    follow_image(settings, replay, last, source.image());
-    Ok(())
-}
-
-/// Adds a key event.
-fn insert_event(
-    replay: &mut Replay<Machine>,
-    step: u32,
-    key: u32,
-    down: bool,
-) -> Result<(), Refusal>
-    ensures ok { (lines : List (List ℕ)) (settings : SessionSettings) → OnOk result (edited (session_with lines replay.old.keys settings) (insert_event step key down) ≡ Ok (session_with lines replay.new.keys settings)) }
-    ensures err { (lines : List (List ℕ)) (settings : SessionSettings) → IfErr result (IsRefused (session_with lines replay.old.keys settings) (insert_event step key down)) }
-    ensures same { OnErr result (replay.new ≡ replay.old) }
-    ensures start { replay.new.start ≡ replay.old.start }
-    ensures rate { replay.new.rate ≡ replay.old.rate }
-    ensures reach { OnOk result (min replay.old.reach step ≤ replay.new.reach) }
-    ensures ran { replay.new.ran ≡ replay.old.ran }
-{
-    replay.insert_key(step, key, down)?;
-    Ok(())
-}
-
-/// Changes what a key event says.
-fn replace_event(
-    replay: &mut Replay<Machine>,
-    step: u32,
-    key: u32,
-    down: bool,
-) -> Result<(), Refusal>
-    ensures ok { (lines : List (List ℕ)) (settings : SessionSettings) → OnOk result (edited (session_with lines replay.old.keys settings) (replace_event step key down) ≡ Ok (session_with lines replay.new.keys settings)) }
-    ensures err { (lines : List (List ℕ)) (settings : SessionSettings) → IfErr result (IsRefused (session_with lines replay.old.keys settings) (replace_event step key down)) }
-    ensures same { OnErr result (replay.new ≡ replay.old) }
-    ensures start { replay.new.start ≡ replay.old.start }
-    ensures rate { replay.new.rate ≡ replay.old.rate }
-    ensures reach { OnOk result (min replay.old.reach step ≤ replay.new.reach) }
-    ensures ran { replay.new.ran ≡ replay.old.ran }
-{
-    replay.replace_key(step, key, down)?;
-    Ok(())
-}
-
-/// Takes a key event out.
-fn delete_event(replay: &mut Replay<Machine>, step: u32, key: u32) -> Result<(), Refusal>
-    ensures ok { (lines : List (List ℕ)) (settings : SessionSettings) → OnOk result (edited (session_with lines replay.old.keys settings) (delete_event step key) ≡ Ok (session_with lines replay.new.keys settings)) }
-    ensures err { (lines : List (List ℕ)) (settings : SessionSettings) → IfErr result (IsRefused (session_with lines replay.old.keys settings) (delete_event step key)) }
-    ensures same { OnErr result (replay.new ≡ replay.old) }
-    ensures start { replay.new.start ≡ replay.old.start }
-    ensures rate { replay.new.rate ≡ replay.old.rate }
-    ensures reach { OnOk result (min replay.old.reach step ≤ replay.new.reach) }
-    ensures ran { replay.new.ran ≡ replay.old.ran }
-{
-    replay.delete_key(step, key)?;
-    Ok(())
-}
-
-/// Makes a change of one line or of one key event.
-fn change(
-    alloc: Global,
-    source: &mut Source,
-    settings: &Settings,
-    replay: &mut Replay<Machine>,
-    last: &mut Vec<u8>,
-    edit: &Edit<'_>,
-) -> Result<(), Refusal>
-    requires { IsInStep source.old.lines settings.now replay.old last.old.items (vec_capacity last.old) }
-    ensures in_step { IsInStep source.new.lines settings.now replay.new last.new.items (vec_capacity last.new) }
-    ensures ok { OnOk result (edited (session_with source.old.lines replay.old.keys settings.now) (change_of edit.now)
-        ≡ Ok (session_with source.new.lines replay.new.keys settings.now)) }
-    ensures err { IfErr result (IsRefused (session_with source.old.lines replay.old.keys settings.now) (change_of edit.now)) }
-    ensures lines { OnErr result (source.new.lines ≡ source.old.lines) }
-    ensures replay { OnErr result (replay.new ≡ replay.old) }
-    ensures last { OnErr result (last.new.items ≡ last.old.items) }
-    ensures follows { OnOk result (Follows (change_of edit.now) (workbench source.old settings.now replay.old last.old.items)
-        (workbench source.new settings.now replay.new last.new.items)) }
-    ensures costs { Costs (change_of edit.now) source.old.lines source.old.work source.new.work }
-    ensures ran { replay.new.ran ≡ replay.old.ran }
-{
-    match *edit {
-        Edit::Insert { line, text } => {
-            insert_line(alloc, source, settings, replay, last, line, text)
-        }
-        Edit::Replace { line, text } => {
-            replace_line(alloc, source, settings, replay, last, line, text)
-        }
-        Edit::Delete { line } => delete_line(alloc, source, settings, replay, last, line),
-        Edit::InsertKey { step, key, down } => insert_event(replay, step, key, down),
-        Edit::ReplaceKey { step, key, down } => replace_event(replay, step, key, down),
-        Edit::DeleteKey { step, key } => delete_event(replay, step, key),
-    }
-}
-
-/// A bench: a source as edited so far, the settings, and the replay of the last image that the lines had, under the key events as edited so far.
+/// A bench: a source as edited so far, the settings, and the replay of the last image that the lines had, under the key
+/// events as edited so far.
 #[derive(Drop)]
 pub struct Bench {
     source: Source,
@@ -229,6 +59,8 @@ impl Bench {
         ensures ok { IfOk result (λ bench. (open_fault source.now ≡ None) × (bench.session ≡ session_of settings source.now)) }
         ensures parsed { IfOk result (λ bench. bench.work.parsed ≡ length bench.session.lines) }
         ensures encoded { IfOk result (λ bench. bench.work.encoded ≤ accepted_of bench.session.lines) }
+        ensures last_image { IfOk result (λ bench. bench.last_image ≡ unwrap_or (image_of bench.session.lines) []) }
+        ensures ran { IfOk result (λ bench. bench.ran ≡ 0) }
         ensures err { IfErr result (λ e. (e ≡ OpenError.OutOfMemory) ⊎ (open_fault source.now ≡ Some e)) }
     {
         let source = Source::open(alloc, source)?;
@@ -257,18 +89,30 @@ impl Bench {
         ensures err { IfErr result (IsRefused self.old.session (change_of edit.now)) }
         ensures same { OnErr result (self.new.session ≡ self.old.session) }
         ensures follows { OnOk result (Follows (change_of edit.now) self.old self.new) }
+        ensures last_image { OnErr result (self.new.last_image ≡ self.old.last_image) }
         ensures reach { OnErr result (self.new.reach ≡ self.old.reach) }
         ensures costs { Costs (change_of edit.now) self.old.session.lines self.old.work self.new.work }
         ensures ran { self.new.ran ≡ self.old.ran }
     {
-        change(
-            alloc,
-            &mut self.source,
+        match *edit {
+            Edit::Insert { line, text } => self.source.insert(alloc, line as usize, text)?,
+            Edit::Replace { line, text } => self.source.replace(alloc, line as usize, text)?,
+            Edit::Delete { line } => self.source.delete(alloc, line as usize)?,
+            Edit::InsertKey { step, key, down } => {
+                return Ok(self.replay.insert_key(step, key, down)?);
+            }
+            Edit::ReplaceKey { step, key, down } => {
+                return Ok(self.replay.replace_key(step, key, down)?);
+            }
+            Edit::DeleteKey { step, key } => return Ok(self.replay.delete_key(step, key)?),
+        }
+        follow_image(
             &self.settings,
             &mut self.replay,
             &mut self.last_image,
-            edit,
-        )
+            self.source.image(),
+        );
+        Ok(())
     }
 
     /// Appends the answer to a question.
@@ -287,7 +131,9 @@ impl Bench {
         ensures same { OnErr result (out.new.items ≡ out.old.items) }
         ensures session { self.new.session ≡ self.old.session }
         ensures work { self.new.work ≡ self.old.work }
+        ensures last_image { self.new.last_image ≡ self.old.last_image }
         ensures reuses { Reuses (step_asked question.now) result self.old self.new }
+        ensures refused { IfErr result (λ e. e ≢ Refusal.AnswerMemory → StaysPut self.old.reach self.old.ran self.new.reach self.new.ran) }
     {
         let answer = answer(
             alloc,

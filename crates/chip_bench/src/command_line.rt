@@ -12,6 +12,11 @@ use std::convert::AsStr;
 
 const DEFAULT_RATE: u32 = 10;
 
+const PROGRAM_NOTES: &str = "\
+Without a command the program is `debug` with an empty source.
+
+Example: chipbench run game.asm --steps 1000";
+
 /// What the program is asked to do.
 #[derive(Clone, Copy, Debug, PartialEq, Eq)]
 pub enum CommandLine<'a> {
@@ -123,7 +128,7 @@ fn chipbench<'a>(alloc: Global) -> Result<Command<'a>, AllocError>
 {
     let command = Command::new(alloc, "chipbench")
         .about("An assembler for SUPER-CHIP 1.1, and a debugger that replays the image to any step")
-        .after_help("Without a command the program is `debug` with an empty source.")
+        .after_help(PROGRAM_NOTES)
         .no_binary_name(true)
         .bin_name("chipbench")?
         .subcommand(debug_command(alloc)?)?
@@ -139,6 +144,7 @@ fn debug_command<'a>(alloc: Global) -> Result<Command<'a>, AllocError>
 {
     let command = Command::new(alloc, "debug")
         .about("Answers the edits and questions on standard input, one a line")
+        .after_help("Example: chipbench debug game.asm --rate 15 --seed 7")
         .arg(source_argument(alloc).help("The source to begin with [default: the empty source]"))?
         .arg(rate_argument(alloc))?
         .arg(tape_argument(alloc))?
@@ -152,6 +158,7 @@ fn asm_command<'a>(alloc: Global) -> Result<Command<'a>, AllocError>
 {
     let command = Command::new(alloc, "asm")
         .about("Writes the image of a source to a file, or prints the source's faults")
+        .after_help("Example: chipbench asm game.asm game.ch8")
         .arg(source_argument(alloc).required(true))?
         .arg(image_argument(alloc))?;
     Ok(command)
@@ -163,6 +170,7 @@ fn list_command<'a>(alloc: Global) -> Result<Command<'a>, AllocError>
 {
     let command = Command::new(alloc, "list")
         .about("Prints the listing of a source")
+        .after_help("Example: chipbench list game.asm")
         .arg(source_argument(alloc).required(true))?;
     Ok(command)
 }
@@ -173,6 +181,7 @@ fn run_command<'a>(alloc: Global) -> Result<Command<'a>, AllocError>
 {
     let command = Command::new(alloc, "run")
         .about("Prints the registers and the screen after a number of steps")
+        .after_help("Example: chipbench run game.asm --steps 1000 --tape 0fa3")
         .arg(source_argument(alloc).required(true))?
         .arg(steps_argument(alloc))?
         .arg(rate_argument(alloc))?
@@ -197,7 +206,7 @@ fn image_argument<'a>(alloc: Global) -> Arg<'a>
 {
     Arg::new(alloc, "image")
         .value_name("IMAGE")
-        .help("The file to write")
+        .help("The file to write, as a whole or not at all")
         .action(ArgAction::Set)
         .required(true)
 }
@@ -231,7 +240,7 @@ fn tape_argument<'a>(alloc: Global) -> Arg<'a>
     ensures local { result.global ≡ false }
 {
     Arg::new(alloc, "tape").long("tape").value_name("HEX").help(
-        "The random bytes, 1 to 4096 of them in hexadecimal [default: 00]",
+        "The random bytes, 1 to 4096 of them in hexadecimal, used over and over [default: 00]",
     )
 }
 
@@ -242,6 +251,8 @@ fn seed_argument<'a>(alloc: Global) -> Arg<'a>
     Arg::new(alloc, "seed")
         .long("seed")
         .value_name("N")
-        .help("Makes the random bytes from a number, in the place of --tape")
+        .help(
+            "Makes 256 random bytes from a number, 0 to 18446744073709551615, in the place of --tape",
+        )
         .value_parser(value_parser!(u64))
 }

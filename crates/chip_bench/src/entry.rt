@@ -3,16 +3,18 @@ ghost use Rattle.std.specs.Prelude.{◌≡◌, [], ◌∷◌, Ok, Err, None, IfO
 ghost use Rattle.chip_bench.specs.Settings.{default_settings};
 ghost use Rattle.chip_bench.specs.SettingWords.{default_words};
 ghost use Rattle.chip_bench.specs.Serving.{Exchanges};
-ghost use Rattle.chip_bench.specs.Running.{Carried, Ran, ending_status, failure_status, settings_failure, no_memory, AreFaulty, IsUsage};
+ghost use Rattle.chip_bench.specs.Running.{Carried, Ran, ending_status, failure_status, settings_failure, words_failure, no_memory, AreFaulty, IsUsage, IsWithoutWords};
 ghost use Rattle.chip_bench.specs.CommandLine.{chipbench};
-ghost use Rattle.clap.specs.Words.{fault_of};
+ghost use Rattle.clap.specs.Words.{fault_of, kind_of};
 ghost use Rattle.std.specs.Io.KnownBytes.{Keeps};
+ghost use Rattle.std.specs.IoError.{error_kind};
 ghost use Rattle.chip_asm.specs.declared.refusal.OpenError.TheVariants.{OutOfMemory as memory};
 
 use crate::answer::{faults_answer, listing_answer};
 use crate::bench::Bench;
 use crate::command_line::{CommandLine, SettingWords, not_text, parse_words};
 use crate::counted::Counted;
+use crate::image_file::write_file;
 use crate::question::Question;
 use crate::refusal::Refusal;
 use crate::server::{ServeError, serve};
@@ -108,7 +110,7 @@ impl<'a> From<SetError> for Failure<'a> {
 }
 
 impl<'a> From<clap::Error> for Failure<'a> {
-    ghost from_gives = { λ _ failure. (failure_status failure ≡ 2) ⊎ (failure_status failure ≡ 4) };
+    ghost from_gives = { λ error failure. failure ≡ words_failure (kind_of error) error };
 
     fn from(error: clap::Error) -> Failure<'a> {
         match error.kind() {
@@ -121,6 +123,9 @@ impl<'a> From<clap::Error> for Failure<'a> {
 /// The program, with the words after its name. The answer is its status: 0 where it did what it was asked, 1 where the
 /// source has faults or doesn't open, 2 for words that it doesn't take, 3 where a file, input or output failed or there was
 /// too much input, and 4 for want of memory.
+///
+/// `asm` writes the whole image to its file, or leaves what was there. Only what isn't a file, such as a pipe, may have taken
+/// some bytes before a failure.
 ///
 /// Without words it carries out the script that `input` gives, on the empty source, and writes the answers to `output`.
 /// What hinders it is said on `errors`; a failure there is ignored.
@@ -148,7 +153,9 @@ pub fn program<F: Files, S: AsStr, I: Read, O: Write, E: Write>(
 }
 
 /// The program's answer where the system can't give its words as text.
-pub fn refuse_words<E: Write>(alloc: Global, error: &io::Error, errors: &mut E) -> u8 {
+pub fn refuse_words<E: Write>(alloc: Global, error: &io::Error, errors: &mut E) -> u8
+    ensures { IsWithoutWords (error_kind error.now) result }
+{
     if error.kind() == io::ErrorKind::OutOfMemory {
         return report(Failure::OutOfMemory, errors);
     }
@@ -295,8 +302,9 @@ fn asm<'a, F: Files, O: Write>(
         print(&faults, output)?;
         return Ok(Ending::Faulty);
     };
-    match fs::write(files, image, bytes) {
+    match write_file(alloc, files, image, bytes) {
         Ok(()) => Ok(Ending::Done),
+        Err(error) if error.kind() == io::ErrorKind::OutOfMemory => Err(Failure::OutOfMemory),
         Err(_) => Err(Failure::CannotWrite(image)),
     }
 }

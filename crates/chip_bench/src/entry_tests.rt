@@ -1,7 +1,7 @@
+use crate::hindered_files::{Call, HinderedFiles, Hindrance};
 use crate::tests::Crosses;
 use crate::{Counted, program, refuse_words, tape_of};
 use std::alloc::Global;
-use std::fs::{File, Metadata, OpenOptions};
 use std::io::{Read, Write};
 use std::rt::Files;
 use std::test::Fail;
@@ -9,13 +9,18 @@ use std::{env, fs, io};
 
 // What a run of the program answered and wrote.
 #[derive(Debug, Drop)]
-struct Ran {
-    status: u8,
-    output: Vec<u8>,
-    errors: Vec<u8>,
+pub(crate) struct Ran {
+    pub(crate) status: u8,
+    pub(crate) output: Vec<u8>,
+    pub(crate) errors: Vec<u8>,
 }
 
-fn run_on<F: Files>(alloc: Global, files: &F, words: &[&str], script: &[u8]) -> Result<Ran, Fail> {
+pub(crate) fn run_on<F: Files>(
+    alloc: Global,
+    files: &F,
+    words: &[&str],
+    script: &[u8],
+) -> Result<Ran, Fail> {
     let mut input = Counted::new(script);
     let mut output = Counted::new(Vec::new(alloc));
     let mut errors = Vec::new(alloc);
@@ -66,56 +71,6 @@ impl Write for Broken {
     }
 }
 
-// Files of which none can be opened, for the one reason.
-#[derive(Drop)]
-struct NoFiles(io::ErrorKind);
-
-impl Files for NoFiles {
-    type File = File;
-
-    type Dir = File;
-
-    fn open_file(&self, _how: &OpenOptions, _path: &str) -> io::Result<File> {
-        Err(io::Error::from(self.0))
-    }
-
-    fn open_dir(&self, _path: &str) -> io::Result<File> {
-        Err(io::Error::from(self.0))
-    }
-
-    fn metadata(&self, _path: &str) -> io::Result<Metadata> {
-        Err(io::Error::from(self.0))
-    }
-
-    fn symlink_metadata(&self, _path: &str) -> io::Result<Metadata> {
-        Err(io::Error::from(self.0))
-    }
-
-    fn copy(&self, _from: &str, _to: &str) -> io::Result<u64> {
-        Err(io::Error::from(self.0))
-    }
-
-    fn rename(&self, _from: &str, _to: &str) -> io::Result<()> {
-        Err(io::Error::from(self.0))
-    }
-
-    fn remove_file(&self, _path: &str) -> io::Result<()> {
-        Err(io::Error::from(self.0))
-    }
-
-    fn create_dir(&self, _path: &str) -> io::Result<()> {
-        Err(io::Error::from(self.0))
-    }
-
-    fn remove_dir(&self, _path: &str) -> io::Result<()> {
-        Err(io::Error::from(self.0))
-    }
-
-    fn remove_dir_all<B: std::alloc::Allocator>(&self, _alloc: B, _path: &str) -> io::Result<()> {
-        Err(io::Error::from(self.0))
-    }
-}
-
 const SCRIPT: &[u8] = b"ins 1 CLS\ndel 9\n";
 
 const ANSWERS: &[u8] = b"ok\nno N1\n";
@@ -139,12 +94,28 @@ fn answers_a_script(rt: HostRuntime) -> Result<(), Fail> {
 
 #[test]
 fn shows_help(rt: HostRuntime) -> Result<(), Fail> {
-    let all: [&[&str]; 4] = [&["--help"], &["help"], &["help", "asm"], &["debug", "-h"]];
-    for words in all {
+    let all: [(&[&str], &str); 6] = [
+        (&["--help"], "chipbench run game.asm --steps 1000\n"),
+        (&["help"], "chipbench run game.asm --steps 1000\n"),
+        (
+            &["debug", "-h"],
+            "chipbench debug game.asm --rate 15 --seed 7\n",
+        ),
+        (&["help", "asm"], "chipbench asm game.asm game.ch8\n"),
+        (&["list", "--help"], "chipbench list game.asm\n"),
+        (
+            &["run", "--help"],
+            "chipbench run game.asm --steps 1000 --tape 0fa3\n",
+        ),
+    ];
+    for (words, example) in all {
         let run = run_on(rt.alloc(), &rt, words, b"")?;
         assert_eq!(rt; run.status, 0);
-        assert!(rt; !run.output.is_empty());
         assert!(rt; run.errors.is_empty());
+        assert!(rt;
+            run.output.as_slice().ends_with(example.as_bytes()),
+            "at {words:?}"
+        );
     }
     Ok(())
 }
@@ -259,7 +230,14 @@ fn says_what_it_cannot_read(rt: HostRuntime) -> Result<(), Fail> {
 
 #[test]
 fn says_that_memory_ran_out(rt: HostRuntime) -> Result<(), Fail> {
-    let files = NoFiles(io::ErrorKind::OutOfMemory);
+    let hindrance = Hindrance {
+        call: Call::Open,
+        reason: io::ErrorKind::OutOfMemory,
+    };
+    let files = HinderedFiles {
+        system: &rt,
+        hindrance,
+    };
     let all: [&[&str]; 2] = [&["list", "a"], &["debug", "a"]];
     for words in all {
         let run = run_on(rt.alloc(), &files, words, SCRIPT)?;
@@ -296,7 +274,7 @@ fn says_that_the_last_flush_failed(rt: HostRuntime) {
 }
 
 // A new folder, whose files no other run has.
-fn new_folder(rt: &HostRuntime, name: &str) -> Result<String, Fail> {
+pub(crate) fn new_folder(rt: &HostRuntime, name: &str) -> Result<String, Fail> {
     let place = env::temp_dir(rt)?;
     let place = place.as_path();
     let number = std::process::id(rt.process());

@@ -9,6 +9,7 @@ mod command_line;
 mod counted;
 mod edit;
 mod entry;
+mod image_file;
 mod image_kept;
 mod machine_answer;
 mod question;
@@ -35,5 +36,9 @@ pub use tape::tape_of;
 mod count_tests;
 #[cfg(test)]
 mod entry_tests;
+#[cfg(test)]
+mod hindered_files;
+#[cfg(test)]
+mod image_file_tests;
 #[cfg(test)]
 mod tests;

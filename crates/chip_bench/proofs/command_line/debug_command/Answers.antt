@@ -7,7 +7,7 @@ use Rattle.chip_bench.proofs.command_line.debug_command.Goals as goal
 
 pub returns-clause-app : goal.returns-clause-app
 returns-clause-app c =
-    let start : app_of c.about.result ≡ new_app (codes "debug") = search rules in
+    let start : app_of c.after_help.result ≡ new_app (codes "debug") = search rules in
     let source_is : rule_of c.help.result ≡ line.source = search rules in
     let local : c.help.result.global ≡ false = search rules in
     let step-0 = added start source_is local c.in_ok-arg.ensures in
@@ -17,7 +17,7 @@ returns-clause-app c =
 
 pub returns-clause-local : goal.returns-clause-local
 returns-clause-local c =
-    let start : (fields_of c.about.result).has_globals ≡ false = search rules in
+    let start : (fields_of c.after_help.result).has_globals ≡ false = search rules in
     let local : c.help.result.global ≡ false = search rules in
     let step-0 = added_local start local c.in_ok-arg.ensures in
     let step-1 = added_local step-0 c.rate_argument.ensures.local c.in_ok-arg-2.ensures in
