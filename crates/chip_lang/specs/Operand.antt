@@ -16,7 +16,7 @@ operand_of (Register x) = register x
 operand_of (Special s) = special s
 operand_of (Value e) = expression (tree_of e)
 
--- a register is one of V0 to VF
+-- an operand whose register, if it is one, is V0 to VF
 abbrev pub is_of_machine : Operand → Bool
 is_of_machine (register x) = nat_lt x 16
 is_of_machine o = true
