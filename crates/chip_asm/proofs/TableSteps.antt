@@ -1,5 +1,5 @@
 -- The table of names: what is found in it.
-use Rattle.std.proofs.Common.{◌≡◌, ◌+◌, ℕ, ℤ, Bool, true, false, cond, List, [], ◌∷◌, map, refl, ap, sym, ◌∙◌, Option, Some, None, option_map, option_to_list, drop, take, slice_get, zero, suc, ◌++◌, arith, length}
+use Rattle.std.proofs.Common.{◌≡◌, ◌+◌, ℕ, ℤ, Bool, true, false, cond, List, [], ◌∷◌, map, refl, ap, sym, ◌∙◌, Option, Some, None, option_map, option_to_list, drop, take, slice_get, zero, suc, ◌++◌, arith, length, unwrap_or}
 use Rattle.std.specs.Str.{bytes_eq}
 use Rattle.std.specs.Map.{lookup}
 use Rattle.std.specs.Ordering.{nat_cmp}
@@ -74,3 +74,10 @@ take-same i xs ys h e =
 -- there are as many names as entries
 pub length-valued : (entries : List (Vec ℕ × Symbol)) (names : List (Name × Symbol)) → map seen entries ≡ names → length (valued names) ≡ length entries
 length-valued entries names view = length-map names (λ (e : Name × Symbol). (e.0, e.1.value)) ∙ ap length (sym view) ∙ length-map entries seen
+
+-- names with values that are one have one name, and one value
+pub same-parts : {n m : Name} {v w : ℤ} → ◌≡◌ {A = Option (Name × ℤ)} (Some (n, v)) (Some (m, w)) → (n ≡ m) × (v ≡ w)
+same-parts {n} {m} {v} {w} e =
+    let name : n ≡ m = ap (λ (o : Option (Name × ℤ)). (unwrap_or o (n, v)).0) e in
+    let value : v ≡ w = ap (λ (o : Option (Name × ℤ)). (unwrap_or o (n, v)).1) e in
+    (name, value)

@@ -1,5 +1,5 @@
 //! The names of a source.
-ghost use Rattle.std.specs.Prelude.{◌≡◌, ◌++◌, [], ◌∷◌, OnOk, IfOk, None, Some, true, length, map, slice_get, ◌<◌};
+ghost use Rattle.std.specs.Prelude.{◌≡◌, ◌≢◌, ◌++◌, [], ◌∷◌, OnOk, IfOk, None, Some, true, false, length, map, slice_get, ◌<◌};
 ghost use Rattle.std.specs.Str.{bytes_eq};
 ghost use Rattle.chip_lang.specs.Line.{upper};
 ghost use Rattle.chip_asm.specs.Names.{lookup_name, valued, values_of};
@@ -112,7 +112,8 @@ impl Table {
 
     /// Whether both tables have the same names with the same values, in the same order.
     pub(crate) fn has_same_values(&self, other: &Table) -> bool
-        ensures { result ≡ true → values_of self.now ≡ values_of other.now }
+        ensures same { result ≡ true → values_of self.now ≡ values_of other.now }
+        ensures differs { result ≡ false → valued self.now ≢ valued other.now }
     {
         if self.symbols.len() != other.symbols.len() {
             return false;
@@ -127,7 +128,8 @@ impl Table {
 
     /// Whether both tables have the same name with the same value at an index, or none there.
     fn has_same_value_at(&self, other: &Table, index: usize) -> bool
-        ensures { result ≡ true → slice_get (valued self.now) index ≡ slice_get (valued other.now) index }
+        ensures same { result ≡ true → slice_get (valued self.now) index ≡ slice_get (valued other.now) index }
+        ensures differs { result ≡ false → slice_get (valued self.now) index ≢ slice_get (valued other.now) index }
     {
         match (
             self.symbols.get_index(index),

@@ -1,4 +1,4 @@
-use Rattle.std.proofs.Common.{◌∙◌, ◌≤◌, sym, ap, arith, length}
+use Rattle.std.proofs.Common.{◌∙◌, ◌≤◌, sym, ap, slice_get, arith, length}
 use Rattle.std.specs.FinMap as finite
 use Rattle.std.proofs.lemmas.List.{take_all}
 use Rattle.chip_asm.specs.Names.{valued, values_of}
@@ -6,13 +6,23 @@ use Rattle.chip_asm.proofs.TableSteps.{take-same, length-valued}
 use Rattle.chip_asm.proofs.table.Table.has_same_values.Goals as goal
 
 pub loop-index-preserved : goal.loop-index-preserved
-loop-index-preserved c = take-same c.loop-index.index (valued c.args.self.now) (valued c.args.other.now) c.loop-index.invariant (c.has_same_value_at.ensures c.if-not-has_same_value_at.false)
+loop-index-preserved c = take-same c.loop-index.index (valued c.args.self.now) (valued c.args.other.now) c.loop-index.invariant (c.has_same_value_at.ensures.same c.if-not-has_same_value_at.false)
 
-pub returns : goal.returns
+pub returns-clause-same : goal.returns-clause-same
 unfolding values_of
-returns c = λ same.
+returns-clause-same c = λ same.
     let mine = length-valued c.self.inside.symbols.entries c.args.self.now c.self.view_is in
     let others = length-valued c.other.inside.symbols.entries c.args.other.now c.other.view_is in
     let past : length (valued c.args.self.now) ≤ c.loop-index.index = omega (arith, mine, c.len-index-end.ensures.len, c.loop-index-test.false) in
     let past_other : length (valued c.args.other.now) ≤ c.loop-index.index = omega (arith, others, past, mine, c.len.ensures.len, c.len-2.ensures.len, c.if-len.false) in
     ap finite.from_entries (sym (take_all c.loop-index.index (valued c.args.self.now) past) ∙ c.loop-index.invariant ∙ take_all c.loop-index.index (valued c.args.other.now) past_other)
+
+pub returns-then-len-clause-differs : goal.returns-then-len-clause-differs
+returns-then-len-clause-differs c = λ differs equal.
+    let mine = length-valued c.self.inside.symbols.entries c.args.self.now c.self.view_is in
+    let others = length-valued c.other.inside.symbols.entries c.args.other.now c.other.view_is in
+    c.if-len.true (c.len.ensures.len ∙ sym mine ∙ ap length equal ∙ others ∙ sym c.len-2.ensures.len)
+
+pub returns-then-not-has_same_value_at-clause-differs : goal.returns-then-not-has_same_value_at-clause-differs
+returns-then-not-has_same_value_at-clause-differs c = λ differs equal.
+    c.has_same_value_at.ensures.differs c.if-not-has_same_value_at.true (ap (λ names. slice_get names c.loop-index.index) equal)
