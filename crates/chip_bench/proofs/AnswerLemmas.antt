@@ -1,5 +1,5 @@
 -- An answer from the replay is the answer of the definition.
-use Rattle.std.proofs.Common.{◌≡◌, ℕ, ◌++◌, List, Option, Some, None, Ok, true, false, refl, sym, ap, ◌∙◌}
+use Rattle.std.proofs.Common.{◌≡◌, ℕ, List, Option, Some, None, Ok, false, refl, sym, ap, ◌∙◌}
 use Rattle.std.specs.Prelude.{is_none}
 use Rattle.chip_machine.specs.declared.stop.Profile.TheVariants.{Schip}
 use Rattle.chip_machine.specs.State.{State}

@@ -1,5 +1,5 @@
 -- The replay after the image has changed.
-use Rattle.std.proofs.Common.{◌≡◌, ℕ, ◌≤◌, ◌++◌, List, length, take, drop, sym, ap, ◌∙◌}
+use Rattle.std.proofs.Common.{◌≡◌, ℕ, ◌≤◌, ◌++◌, List, length, take, sym, ap, ◌∙◌}
 use Rattle.std.proofs.lemmas.List.{take-append-drop}
 use Rattle.chip_machine.specs.declared.stop.Profile.TheVariants.{Schip}
 use Rattle.chip_machine.specs.State.{State, with_memory}

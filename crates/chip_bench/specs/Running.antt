@@ -1,5 +1,7 @@
 -- What a run of the program reads, writes and answers (own).
-use Rattle.std.specs.Prelude.{◌≡◌, ◌≢◌, ◌⊎◌, ℕ, List, [], Result, Ok, Err}
+use Rattle.std.specs.Prelude.{◌≡◌, ◌≢◌, ◌⊎◌, ℕ, List, [], Result, Ok, Err, codes}
+use Rattle.chip_asm.specs.declared.refusal.OpenError.{OpenError}
+use Rattle.chip_asm.specs.declared.refusal.OpenError.TheVariants as unopened
 use Rattle.clap.specs.Kinds.{Kinds, IsAmong}
 use Rattle.clap.specs.declared.error.Error.{Error}
 use Rattle.clap.specs.declared.error.kind.ErrorKind.{ErrorKind}
@@ -52,6 +54,12 @@ no_memory = failure.OutOfMemory
 abbrev pub words_failure : ErrorKind → Error → Failure
 words_failure kind.OutOfMemory error = failure.OutOfMemory
 words_failure _ error = failure.Usage error
+
+-- why a source doesn't open, as the program prints it; nothing for want of memory
+abbrev pub unopened_text : OpenError → List ℕ
+unopened_text (unopened.LineTooLong number) = codes "no O1\n"
+unopened_text unopened.TooManyLines = codes "no O2\n"
+unopened_text unopened.OutOfMemory = []
 
 -- the status where the system can't give the program's words as text; 4 after any error where there is no memory to say so
 abbrev pub IsWithoutWords : IoErrorKind → ℕ → Type 0

@@ -1,6 +1,7 @@
 //! What the words of the command line ask for.
-ghost use Rattle.std.specs.Prelude.{◌≡◌, [], Ok, None, IfOk, false, map};
-ghost use Rattle.clap.specs.Words.{FailsBy, app_of, fault_of, rule_of};
+ghost use Rattle.std.specs.Prelude.{◌≡◌, [], Ok, None, IfOk, false, map, unwrap_or};
+ghost use Rattle.clap.specs.Matches.{first_value, found_of};
+ghost use Rattle.clap.specs.Words.{FailsBy, app_of, fault_of, kind_of, rule_of};
 ghost use Rattle.clap.specs.declared.builder.command.Command.TheViews.{out-Command as fields_of};
 ghost use Rattle.chip_bench.specs.CommandLine as line;
 ghost use Rattle.chip_bench.specs.SettingWords.{default_words};
@@ -103,7 +104,9 @@ pub fn parse_words<'a, S: AsStr>(alloc: Global, words: &'a [S]) -> Result<Comman
 }
 
 /// The fault of words that aren't text.
-pub(crate) fn not_text(alloc: Global) -> Result<Error, AllocError> {
+pub(crate) fn not_text(alloc: Global) -> Result<Error, AllocError>
+    ensures { IfOk result (λ error. kind_of error ≡ ErrorKind.InvalidValue) }
+{
     chipbench(alloc)?.error(
         ErrorKind::InvalidValue,
         "invalid UTF-8 was detected in one or more arguments",
@@ -111,7 +114,9 @@ pub(crate) fn not_text(alloc: Global) -> Result<Error, AllocError> {
 }
 
 // The text of an argument without which `clap` refuses the words.
-fn required_text<'a>(found: &ArgMatches<'a>, id: &str) -> &'a str {
+fn required_text<'a>(found: &ArgMatches<'a>, id: &str) -> &'a str
+    ensures { result.now ≡ unwrap_or (first_value (found_of found.now) id.now) [] }
+{
     found.get_str(id).unwrap_or("")
 }
 

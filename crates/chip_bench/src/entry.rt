@@ -1,12 +1,16 @@
 //! The program behind `main`.
-ghost use Rattle.std.specs.Prelude.{◌≡◌, [], ◌∷◌, Ok, Err, None, IfOk, IfErr, ◌⊎◌, map};
+ghost use Rattle.std.specs.Prelude.{◌≡◌, ◌↔◌, [], ◌∷◌, Ok, Err, None, IfOk, IfErr, OnOk, IsErr, IsSome, ◌⊎◌, map};
 ghost use Rattle.chip_bench.specs.Settings.{default_settings};
 ghost use Rattle.chip_bench.specs.SettingWords.{default_words};
 ghost use Rattle.chip_bench.specs.Serving.{Exchanges};
-ghost use Rattle.chip_bench.specs.Running.{Carried, Ran, ending_status, failure_status, settings_failure, words_failure, no_memory, AreFaulty, IsUsage, IsWithoutWords};
+ghost use Rattle.chip_bench.specs.Running.{Carried, Ran, ending_status, failure_status, settings_failure, words_failure, no_memory, AreFaulty, IsUsage, IsWithoutWords, unopened_text};
 ghost use Rattle.chip_bench.specs.CommandLine.{chipbench};
+ghost use Rattle.chip_bench.specs.Answers.{faults_text, listing_text};
+ghost use Rattle.chip_asm.specs.Program.{image_of, faults_of};
+ghost use Rattle.chip_asm.specs.Listing.{listing_of};
+ghost use Rattle.hex.specs.Hex.{decode_of};
 ghost use Rattle.clap.specs.Words.{fault_of, kind_of};
-ghost use Rattle.std.specs.Io.KnownBytes.{Keeps};
+ghost use Rattle.std.specs.Io.KnownBytes.{Keeps, Appends};
 ghost use Rattle.std.specs.IoError.{error_kind};
 ghost use Rattle.chip_asm.specs.declared.refusal.OpenError.TheVariants.{OutOfMemory as memory};
 
@@ -207,7 +211,9 @@ fn carry_out<'a, F: Files, S: AsStr, I: Read, O: Write>(
 fn show_help<'a, O: Write>(
     help: &clap::Error,
     output: &mut Counted<O>,
-) -> Result<Ending, Failure<'a>> {
+) -> Result<Ending, Failure<'a>>
+    ensures { (result ≡ Ok Ending.Done) ⊎ (result ≡ Err Failure.Output) }
+{
     match write!(output, "{help}") {
         Ok(()) => Ok(Ending::Done),
         Err(_) => Err(Failure::Output),
@@ -237,7 +243,11 @@ fn tape_bytes<'a>(alloc: Global, words: &SettingWords<'_>) -> Result<Vec<u8>, Fa
     }
 }
 
-fn tape_from_hex<'a>(alloc: Global, digits: &str) -> Result<Vec<u8>, Failure<'a>> {
+fn tape_from_hex<'a>(alloc: Global, digits: &str) -> Result<Vec<u8>, Failure<'a>>
+    ensures ok { IfOk result (λ tape. decode_of digits.now ≡ Ok tape.items) }
+    ensures err { IfErr result (λ failure. (failure ≡ Failure.OutOfMemory)
+        ⊎ ((failure ≡ Failure.BadTape) × IsErr (decode_of digits.now))) }
+{
     match hex::decode(alloc, digits) {
         Ok(tape) => Ok(tape),
         Err(FromHexError::OutOfMemory) => Err(Failure::OutOfMemory),
@@ -298,9 +308,7 @@ fn asm<'a, F: Files, O: Write>(
         return Ok(Ending::Faulty);
     };
     let Some(bytes) = source.image() else {
-        let faults = faults_answer(alloc, &source)?;
-        print(&faults, output)?;
-        return Ok(Ending::Faulty);
+        return print_faults(alloc, &source, output);
     };
     match write_file(alloc, files, image, bytes) {
         Ok(()) => Ok(Ending::Done),
@@ -318,12 +326,38 @@ fn list<'a, F: Files, O: Write>(
     let Some(source) = open(alloc, files, source, output)? else {
         return Ok(Ending::Faulty);
     };
-    let listing = listing_answer(alloc, &source)?;
+    print_listing(alloc, &source, output)
+}
+
+fn print_listing<'a, O: Write>(
+    alloc: Global,
+    source: &Source,
+    output: &mut Counted<O>,
+) -> Result<Ending, Failure<'a>>
+    ensures ok { OnOk result (Appends (O.contents output.old.inner) (O.contents output.new.inner)
+        (listing_text (listing_of source.now.lines))) }
+    ensures ending { IfOk result (λ ending. ending ≡ Ending.Done ↔ IsSome (image_of source.now.lines)) }
+{
+    let listing = listing_answer(alloc, source)?;
     print(&listing, output)?;
     match source.image() {
         Some(_) => Ok(Ending::Done),
         None => Ok(Ending::Faulty),
     }
+}
+
+fn print_faults<'a, O: Write>(
+    alloc: Global,
+    source: &Source,
+    output: &mut Counted<O>,
+) -> Result<Ending, Failure<'a>>
+    ensures ok { OnOk result (Appends (O.contents output.old.inner) (O.contents output.new.inner)
+        (faults_text (faults_of source.now.lines))) }
+    ensures ending { IfOk result (λ ending. ending ≡ Ending.Faulty) }
+{
+    let faults = faults_answer(alloc, source)?;
+    print(&faults, output)?;
+    Ok(Ending::Faulty)
 }
 
 // Prints the answers to the questions about a step, or the faults where there is no image.
@@ -349,7 +383,7 @@ fn run<'a, F: Files, O: Write>(
     for question in questions {
         match bench.ask(alloc, &question, &mut answers) {
             Ok(()) => {}
-            Err(Refusal::NoImage) => return print_faults(alloc, &mut bench, output),
+            Err(Refusal::NoImage) => return print_bench_faults(alloc, &mut bench, output),
             Err(_) => return Err(Failure::OutOfMemory),
         }
     }
@@ -357,11 +391,15 @@ fn run<'a, F: Files, O: Write>(
     Ok(Ending::Done)
 }
 
-fn print_faults<'a, O: Write>(
+fn print_bench_faults<'a, O: Write>(
     alloc: Global,
     bench: &mut Bench,
     output: &mut Counted<O>,
-) -> Result<Ending, Failure<'a>> {
+) -> Result<Ending, Failure<'a>>
+    ensures ok { OnOk result (Appends (O.contents output.old.inner) (O.contents output.new.inner)
+        (faults_text (faults_of bench.old.session.lines))) }
+    ensures ending { IfOk result (λ ending. ending ≡ Ending.Faulty) }
+{
     let mut faults = Vec::new(alloc);
     if bench.ask(alloc, &Question::Faults, &mut faults).is_err() {
         return Err(Failure::OutOfMemory);
@@ -410,7 +448,9 @@ fn refuse_source<'a, O: Write>(
     error: OpenError,
     output: &mut Counted<O>,
 ) -> Result<Ending, Failure<'a>>
-    ensures { error ≡ memory → (result ≡ Err Failure.OutOfMemory) × (output.new ≡ output.old) }
+    ensures ok { OnOk result (Appends (O.contents output.old.inner) (O.contents output.new.inner) (unopened_text error)) }
+    ensures ending { IfOk result (λ ending. ending ≡ Ending.Faulty) }
+    ensures memory { error ≡ memory → (result ≡ Err Failure.OutOfMemory) × (output.new ≡ output.old) }
 {
     let answer: &[u8] = match error {
         OpenError::LineTooLong(_) => b"no O1\n",
@@ -421,7 +461,10 @@ fn refuse_source<'a, O: Write>(
     Ok(Ending::Faulty)
 }
 
-fn print<'a, O: Write>(bytes: &[u8], output: &mut Counted<O>) -> Result<(), Failure<'a>> {
+fn print<'a, O: Write>(bytes: &[u8], output: &mut Counted<O>) -> Result<(), Failure<'a>>
+    ensures ok { OnOk result (Appends (O.contents output.old.inner) (O.contents output.new.inner) bytes.now) }
+    ensures err { IfErr result (λ failure. failure ≡ Failure.Output) }
+{
     match output.write_all(bytes) {
         Ok(()) => Ok(()),
         Err(_) => Err(Failure::Output),

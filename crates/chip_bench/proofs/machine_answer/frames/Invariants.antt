@@ -1,4 +1,4 @@
-use Rattle.std.proofs.Common.{◌≡◌, ◌≤◌, take, length}
+use Rattle.std.proofs.Common.{◌≡◌, take}
 use Rattle.chip_bench.proofs.machine_answer.frames.Given as goal
 
 abbrev pub invariant-loop-place : goal.invariant-loop-place
