@@ -61,6 +61,10 @@ unopened_text (unopened.LineTooLong number) = codes "no O1\n"
 unopened_text unopened.TooManyLines = codes "no O2\n"
 unopened_text unopened.OutOfMemory = []
 
+-- for private contracts: what may hinder printing an answer
+abbrev pub IsOfPrinting : Failure → Type 0
+IsOfPrinting hindrance = (hindrance ≡ failure.Output) ⊎ (hindrance ≡ failure.OutOfMemory)
+
 -- the status where the system can't give the program's words as text; 4 after any error where there is no memory to say so
 abbrev pub IsWithoutWords : IoErrorKind → ℕ → Type 0
 IsWithoutWords io_kind.OutOfMemory status = status ≡ 4

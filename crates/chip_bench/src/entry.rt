@@ -3,7 +3,7 @@ ghost use Rattle.std.specs.Prelude.{◌≡◌, ◌↔◌, [], ◌∷◌, Ok, Err
 ghost use Rattle.chip_bench.specs.Settings.{default_settings};
 ghost use Rattle.chip_bench.specs.SettingWords.{default_words};
 ghost use Rattle.chip_bench.specs.Serving.{Exchanges};
-ghost use Rattle.chip_bench.specs.Running.{Carried, Ran, ending_status, failure_status, settings_failure, words_failure, no_memory, AreFaulty, IsUsage, IsWithoutWords, unopened_text};
+ghost use Rattle.chip_bench.specs.Running.{Carried, Ran, ending_status, failure_status, settings_failure, words_failure, no_memory, AreFaulty, IsUsage, IsWithoutWords, IsOfPrinting, unopened_text};
 ghost use Rattle.chip_bench.specs.CommandLine.{chipbench};
 ghost use Rattle.chip_bench.specs.Answers.{faults_text, listing_text};
 ghost use Rattle.chip_asm.specs.Program.{image_of, faults_of};
@@ -337,6 +337,7 @@ fn print_listing<'a, O: Write>(
     ensures ok { OnOk result (Appends (O.contents output.old.inner) (O.contents output.new.inner)
         (listing_text (listing_of source.now.lines))) }
     ensures ending { IfOk result (λ ending. ending ≡ Ending.Done ↔ IsSome (image_of source.now.lines)) }
+    ensures err { IfErr result IsOfPrinting }
 {
     let listing = listing_answer(alloc, source)?;
     print(&listing, output)?;
@@ -354,6 +355,7 @@ fn print_faults<'a, O: Write>(
     ensures ok { OnOk result (Appends (O.contents output.old.inner) (O.contents output.new.inner)
         (faults_text (faults_of source.now.lines))) }
     ensures ending { IfOk result (λ ending. ending ≡ Ending.Faulty) }
+    ensures err { IfErr result IsOfPrinting }
 {
     let faults = faults_answer(alloc, source)?;
     print(&faults, output)?;
@@ -399,6 +401,7 @@ fn print_bench_faults<'a, O: Write>(
     ensures ok { OnOk result (Appends (O.contents output.old.inner) (O.contents output.new.inner)
         (faults_text (faults_of bench.old.session.lines))) }
     ensures ending { IfOk result (λ ending. ending ≡ Ending.Faulty) }
+    ensures err { IfErr result IsOfPrinting }
 {
     let mut faults = Vec::new(alloc);
     if bench.ask(alloc, &Question::Faults, &mut faults).is_err() {
@@ -450,6 +453,7 @@ fn refuse_source<'a, O: Write>(
 ) -> Result<Ending, Failure<'a>>
     ensures ok { OnOk result (Appends (O.contents output.old.inner) (O.contents output.new.inner) (unopened_text error)) }
     ensures ending { IfOk result (λ ending. ending ≡ Ending.Faulty) }
+    ensures err { IfErr result IsOfPrinting }
     ensures memory { error ≡ memory → (result ≡ Err Failure.OutOfMemory) × (output.new ≡ output.old) }
 {
     let answer: &[u8] = match error {
