@@ -231,12 +231,12 @@ fn counts_each_step(rt: HostRuntime) -> Result<(), Fail> {
         steps: steps.clone()?,
     };
     let mut replay = Replay::new(rt.alloc(), machine, 10)?;
-    for step in 0..=3000 {
+    for step in 0..=50_000 {
         assert!(rt; replay.at(step).is_ok());
     }
-    assert_eq!(rt; steps.get(), 3000);
+    assert_eq!(rt; steps.get(), 50_000);
     for step in 0..20 {
-        assert!(rt; replay.at(3000 - step * 150).is_ok());
+        assert!(rt; replay.at(50_000 - step * 2150).is_ok());
         assert_eq!(rt; replay.ran(), steps.get());
     }
     replay.insert_key(1234, 0, true)?;
