@@ -31,14 +31,3 @@ pub use refusal::Refusal;
 pub use server::{ServeError, serve};
 pub use settings::{SetError, Settings};
 pub use tape::tape_of;
-
-#[cfg(test)]
-mod count_tests;
-#[cfg(test)]
-mod entry_tests;
-#[cfg(test)]
-mod hindered_files;
-#[cfg(test)]
-mod image_file_tests;
-#[cfg(test)]
-mod tests;

@@ -1,13 +1,23 @@
-//! Tests that cross crates: sessions with the answers that the assembler gives.
+//! Tests that cross crates: worked rows, sessions, the examples of the documents, and the program by its words.
 #![tactic(auto)]
 
 #[cfg(test)]
 mod commands;
 #[cfg(test)]
+mod counts;
+#[cfg(test)]
 mod documents;
 #[cfg(test)]
 mod examples;
 #[cfg(test)]
+mod hindered_files;
+#[cfg(test)]
+mod image_file;
+#[cfg(test)]
 mod rows;
 #[cfg(test)]
+mod serving;
+#[cfg(test)]
 mod sessions;
+#[cfg(test)]
+mod words;

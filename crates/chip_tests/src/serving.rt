@@ -1,4 +1,7 @@
-use super::*;
+//! Scripts in pieces, faults of reader and writer, bounds, settings, and calls of a session.
+use chip_bench::{
+    Bench, Counted, Edit, OpenError, Question, Refusal, ServeError, SetError, Settings, serve,
+};
 use std::alloc::{AllocError, Global};
 use std::io::{Error, ErrorKind, Read, Write};
 use std::test::Fail;

@@ -1,4 +1,5 @@
-use crate::{Bench, Edit, Question, Settings};
+//! What a session counts: what it reads, encodes, and runs.
+use chip_bench::{Bench, Edit, Question, Settings};
 use std::alloc::Global;
 use std::test::Fail;
 

@@ -1,6 +1,7 @@
+//! The program by its words: statuses, and what it prints.
 use crate::hindered_files::{Call, HinderedFiles, Hindrance};
-use crate::tests::Crosses;
-use crate::{Counted, program, refuse_words, tape_of};
+use crate::serving::Crosses;
+use chip_bench::{Counted, program, refuse_words, tape_of};
 use std::alloc::Global;
 use std::io::{Read, Write};
 use std::rt::Files;

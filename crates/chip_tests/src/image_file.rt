@@ -1,5 +1,6 @@
-use crate::entry_tests::{new_folder, run_on};
+//! The file of an image: written whole, or left as it was.
 use crate::hindered_files::{Call, HinderedFiles, Hindrance};
+use crate::words::{new_folder, run_on};
 use std::fs;
 use std::io::{ErrorKind, Read};
 use std::os::fd::AsRawFd;
