@@ -102,6 +102,28 @@ room-fold : (before : List Placed) (lines : List Reading) → Room before → Ro
 room-fold before [] r = r
 room-fold before (line ∷ lines) r = room-fold (onto before line) lines (room-by before (place before line) (is_accepted (place before line)) refl (stands before line) r)
 
+after-by : (a : Bool) (here : ℕ) (body : Body) (v : ℤ) → is_backwards here body v ≡ false → is_past_end a here body v ≡ false
+    → here + full_size a here body v ≤ cond (is_org_body body) (unsigned_abs v) (here + full_size a here body v)
+after-by true here (org e) v b p = let r = (org-range here v b p).0 in omega arith
+after-by false here (org e) v b p = let r = (org-range here v b p).0 in omega arith
+after-by a here body v b p = omega arith
+
+after-accepted : (before : List Placed) (p : Placed) (b : Bool) → is_accepted p ≡ b → Stands before p → p.here + p.size ≤ address (p ∷ before)
+after-accepted before p true e s =
+    let size : p.size ≡ full_size (is_aligning before) (address before) (body_of p.line) p.value = s.size ∙ (rw e refl) in
+    let parts = s.fits e in
+    rw (address-cons p before, e, size, s.here) (after-by (is_aligning before) (address before) (body_of p.line) p.value parts.0 parts.1)
+after-accepted before p false e s =
+    let size : p.size ≡ 0 = s.size ∙ (rw e refl) in
+    rw (address-cons p before, e, size, s.here) (omega arith)
+
+-- what follows a line stands past its end
+pub passes : (before : List Placed) (line : Reading) → (place before line).here + (place before line).size ≤ address (place before line ∷ before)
+passes before line = after-accepted before (place before line) (is_accepted (place before line)) refl (stands before line)
+
+pub stands-here : (before : List Placed) (line : Reading) → (place before line).here ≡ address before
+stands-here before line = (stands before line).here
+
 no_lines : Room []
 unfolding address
 no_lines = record { low = omega arith; high = omega arith; lines = tt }

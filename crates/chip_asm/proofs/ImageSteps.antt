@@ -1,20 +1,20 @@
 -- The bytes and the faults of lines, from what is kept of them.
-use Rattle.std.proofs.Common.{◌≡◌, ℕ, ◌+◌, ◌-◌, ◌<◌, ◌≤◌, Bool, true, false, cond, ◌&&◌, eqb, ltb, leb, List, [], reverse, length, set, get_or, slice_get, refl, ap, sym, ◌∙◌, arith, Option, Some, None, is_none, is_some, option_map, Result, Ok, Err, ne_eqb, nat_eq}
+use Rattle.std.proofs.Common.{◌≡◌, ℕ, ◌+◌, ◌-◌, ◌<◌, ◌≤◌, Bool, true, false, cond, ◌&&◌, eqb, ltb, leb, List, [], reverse, length, set, get_or, slice_get, refl, ap, sym, ◌∙◌, arith, Option, Some, None, is_none, is_some, option_map, Result, Ok, Err, ne_eqb, nat_eq, ◌⊎◌, inl, inr}
 use Rattle.std.specs.Option.{option_map_or}
-use Rattle.std.proofs.lemmas.Bool.{and_from, eqb-true, eqb-false}
+use Rattle.std.proofs.lemmas.Bool.{and_from, eqb-true, eqb-false, false≢true}
 use Rattle.std.proofs.lemmas.Bool.Decides.{nat_tests}
 use Rattle.std.proofs.lemmas.List.{get_or-map, length-map, get_or-set_same, get_or-set_other}
 use Rattle.std.proofs.lemmas.Option.{slice_get-get_or, slice_get-map}
 use Rattle.chip_lang.specs.declared.fault.Fault.{Fault}
 use Rattle.chip_lang.specs.declared.code.Coded.{Coded}
-use Rattle.chip_lang.specs.Line.{Body, db, dw, da, code, Reading}
+use Rattle.chip_lang.specs.Line.{Body, db, dw, da, code, ifdef, ifund, Reading}
 use Rattle.chip_lang.specs.Value.{Symbols}
 use Rattle.chip_lang.specs.Code.{own_bytes, coded}
 use Rattle.chip_asm.specs.declared.kept_line.KeptLine.{KeptLine}
 use Rattle.chip_asm.specs.declared.layout.Layout.{Layout}
 use Rattle.chip_asm.specs.declared.placement.Placement.{Placement}
 use Rattle.chip_asm.specs.Names.{values_of}
-use Rattle.chip_asm.specs.Layout.{Placed, placed, place, body_of, symbols}
+use Rattle.chip_asm.specs.Layout.{Placed, placed, place, body_of, symbols, is_if, is_if_body, is_accepted}
 use Rattle.chip_asm.specs.Layouts.{IsLayoutOf, placements_of, final_placement}
 use Rattle.chip_asm.specs.Placements.{is_placed}
 use Rattle.chip_asm.specs.Program.{fault_of, fault_of_line, first_pass_fault, code_under, fault_in_code, bytes_in_code, names_of_lines}
@@ -148,15 +148,40 @@ fault-at lines q kept i a =
     let minus : i + 1 - 1 ≡ i = omega arith in
     rw (not_zero, minus, a.at) (fault-kept lines q kept i a)
 
+coded-no_if : (b : Body) → has_code b ≡ true → is_if_body b ≡ false
+coded-no_if (ifdef n) h = cc
+coded-no_if (ifund n) h = cc
+coded-no_if _ h = refl
+
+placed-accepted : (all : List Placed) (x : Placed) → is_if x ≡ false → is_placed (final_placement all x) ≡ is_accepted x
+placed-accepted all x e = rw e refl
+
+-- the kept bytes are the line's, or the line has no size
+pub bytes-kept : (lines : List KeptLine) (q : Placement) (kept : KeptLine) (i : ℕ) (a : About lines q kept i)
+    → (kept_bytes kept ≡ bytes_in_code (code_under (placed (readings_in lines)) a.x)) ⊎ (a.x.size ≡ 0)
+bytes-kept lines q kept i a = by (has_code (body_of (reading_in kept))) (is_placed q) refl refl
+  where
+    none : has_code (body_of (reading_in kept)) ≡ false → code_under (placed (readings_in lines)) a.x ≡ Ok []
+    none n = no-code (body_of a.x.line) (values_of (symbols (placed (readings_in lines)))) (ap (λ r. has_code (body_of r)) (sym a.line) ∙ n)
+
+    by : (has accepted : Bool) → has_code (body_of (reading_in kept)) ≡ has → is_placed q ≡ accepted
+        → (kept_bytes kept ≡ bytes_in_code (code_under (placed (readings_in lines)) a.x)) ⊎ (a.x.size ≡ 0)
+    by has true h p = inl (bytes-by (has_code (body_of (reading_in kept))) kept.code (code_under (placed (readings_in lines)) a.x) (λ c. a.code p c) none)
+    by false false h p =
+        inl (bytes-by (has_code (body_of (reading_in kept))) kept.code (code_under (placed (readings_in lines)) a.x) (λ c. absurd (false≢true (sym h ∙ c))) none)
+    by true false h p =
+        let no_if : is_if a.x ≡ false = coded-no_if (body_of a.x.line) (ap (λ r. has_code (body_of r)) (sym a.line) ∙ h) in
+        inr (a.within.2 (sym (placed-accepted (placed (readings_in lines)) a.x no_if) ∙ ap is_placed (sym a.placement) ∙ p))
+
 no-first_fault : (live : Bool) (fault : Option Fault) (o : Option Fault) → cond live (cond (is_some fault) fault o) None ≡ None → live ≡ true → is_none fault ≡ true
 no-first_fault true None o e l = refl
 no-first_fault true (Some f) o e l = cc
 no-first_fault false fault o e l = cc
 
--- where no line has a fault, the kept bytes are the line's
-pub bytes-kept : (lines : List KeptLine) (q : Placement) (kept : KeptLine) (i : ℕ) (a : About lines q kept i) → fault_of (placed (readings_in lines)) a.x ≡ None → a.x.live ≡ true
+-- of a live line without a fault the kept bytes are the line's
+pub bytes-live : (lines : List KeptLine) (q : Placement) (kept : KeptLine) (i : ℕ) (a : About lines q kept i) → fault_of (placed (readings_in lines)) a.x ≡ None → a.x.live ≡ true
     → kept_bytes kept ≡ bytes_in_code (code_under (placed (readings_in lines)) a.x)
-bytes-kept lines q kept i a none live =
+bytes-live lines q kept i a none live =
     let placed_now : is_placed q ≡ true = ap is_placed a.placement ∙ and_from _ _ live (no-first_fault a.x.live (first_pass_fault (placed (readings_in lines)) a.x) _ none live) in
     bytes-by (has_code (body_of (reading_in kept))) kept.code (code_under (placed (readings_in lines)) a.x)
     (λ h. a.code placed_now h)

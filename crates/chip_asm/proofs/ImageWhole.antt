@@ -1,9 +1,9 @@
 -- The image of all lines, line by line.
-use Rattle.std.proofs.Common.{◌≡◌, ℕ, suc, zero, ◌+◌, ◌-◌, ◌<◌, ◌≤◌, Bool, true, false, cond, ◌&&◌, ltb, leb, List, [], ◌∷◌, ◌++◌, map, reverse, length, take, get_or, slice_get, find, filter_map, replicate, refl, ap, sym, ◌∙◌, arith, Option, Some, None, is_some, option_map, option_and_then, ne_eqb, nat_eq, option_to_list}
+use Rattle.std.proofs.Common.{◌≡◌, ℕ, suc, zero, ◌+◌, ◌-◌, ◌<◌, ◌≤◌, Bool, true, false, cond, ◌&&◌, ltb, leb, List, [], ◌∷◌, ◌++◌, map, reverse, length, take, get_or, slice_get, find, filter_map, refl, ap, sym, ◌∙◌, arith, Option, Some, None, option_map, ne_eqb, nat_eq, option_to_list, length-append, ◌⊎◌, inl, inr}
 use Rattle.std.specs.List.{range_with_len, cons_option}
 use Rattle.std.specs.Option.{option_map_or}
 use Rattle.std.proofs.lemmas.Bool.Decides.{nat_tests}
-use Rattle.std.proofs.lemmas.List.{length-map, take_more, take_all, get_or-replicate, get_or-take, length-take, reverse-reverse}
+use Rattle.std.proofs.lemmas.List.{length-map, take_more, take_all, get_or-take, length-take, reverse-reverse}
 use Rattle.std.proofs.lemmas.List.Elements.{filter_map-append}
 use Rattle.std.proofs.lemmas.List.FromFn.{get_or-map-range_with_len, length-range_with_len}
 use Rattle.std.proofs.lemmas.Grind.{same_number_lists}
@@ -15,14 +15,13 @@ use Rattle.chip_asm.specs.declared.layout.Layout.{Layout}
 use Rattle.chip_asm.specs.declared.placement.Placement.{Placement}
 use Rattle.chip_asm.specs.Layout.{Placed, placed, address}
 use Rattle.chip_asm.specs.Layouts.{IsLayoutOf, placements_of, final_placement}
-use Rattle.chip_asm.specs.Program.{fault_of, fault_of_line, faults_of_lines, numbered_fault, code_under, bytes_in_code, covers, byte_at, bytes_of_lines, unless_faulty, image_of_lines}
+use Rattle.chip_asm.specs.Program.{fault_of_line, faults_of_lines, numbered_fault, code_under, bytes_in_code, covers, byte_at, bytes_of_lines, unless_faulty, image_of_lines}
 use Rattle.chip_asm.specs.Records.{reading_in, readings_in}
-use Rattle.chip_asm.specs.Kept.{HasFault}
-use Rattle.chip_asm.specs.KeptCodes.{kept_fault, kept_bytes}
+use Rattle.chip_asm.specs.KeptCodes.{kept_fault, kept_bytes, count_of}
 use Rattle.chip_asm.proofs.BlockSteps.{reverse-cons}
 use Rattle.chip_asm.proofs.NeedsSteps.{length-numbered}
-use Rattle.chip_asm.proofs.Bounds.{end-low, end-high}
-use Rattle.chip_asm.proofs.ImageSteps.{About, fault-at, fault-kept, bytes-kept}
+use Rattle.chip_asm.proofs.Bounds.{end-high}
+use Rattle.chip_asm.proofs.ImageSteps.{About, fault-kept, bytes-kept}
 
 pub length-kept : (lines : List KeptLine) (layout : Layout) → IsLayoutOf layout (readings_in lines) → length layout.placements.items ≡ length lines
 unfolding placements_of
@@ -49,29 +48,23 @@ byte-by all part x at true e = rw e refl
 byte-by all part x at false e = rw e refl
 
 -- no address is covered by a line of no size
-covers-none : (at : ℕ) (x : Placed) → x.size ≡ 0 → covers at x ≡ false
+pub covers-none : (at : ℕ) (x : Placed) → x.size ≡ 0 → covers at x ≡ false
 covers-none at x e = rw e (none at x.here)
   where
     none : (at here : ℕ) → (leb here at && ltb at (here + 0)) ≡ false
     none at here = grind (arith, nat_tests)
 
-live-or : (live : Bool) → live ≡ false → (b : Bool) → (live && b) ≡ false
-live-or live e b = rw e refl
-
 -- one line more in the image
-pub image-more : (lines : List KeptLine) (q : Placement) (kept : KeptLine) (i : ℕ) (a : About lines q kept i) → fault_of (placed (readings_in lines)) a.x ≡ None
+pub image-more : (lines : List KeptLine) (q : Placement) (kept : KeptLine) (i : ℕ) (a : About lines q kept i)
     → (old new : ℕ) (part : List Placed) (k : ℕ) → new ≡ cond (leb q.here (512 + k) && ltb (512 + k) (q.here + q.size)) (get_or (kept_bytes kept) (512 + k - q.here) 0) old
     → old ≡ byte_among (placed (readings_in lines)) part (512 + k) → new ≡ byte_among (placed (readings_in lines)) (a.x ∷ part) (512 + k)
-image-more lines q kept i a none old new part k e h =
-    e ∙ (rw a.placement (by_live a.x.live refl))
+image-more lines q kept i a old new part k e h = e ∙ (rw a.placement (by (bytes-kept lines q kept i a)))
   where
-    by_live : (live : Bool) → a.x.live ≡ live
+    by : (kept_bytes kept ≡ bytes_in_code (code_under (placed (readings_in lines)) a.x)) ⊎ (a.x.size ≡ 0)
         → cond (covers (512 + k) a.x) (get_or (kept_bytes kept) (512 + k - a.x.here) 0) old ≡ byte_among (placed (readings_in lines)) (a.x ∷ part) (512 + k)
-    by_live true l =
-        rw (bytes-kept lines q kept i a none l, h) (sym (byte-by (placed (readings_in lines)) part a.x (512 + k) (covers (512 + k) a.x) refl))
-    by_live false l =
-        let no_size : a.x.size ≡ 0 = a.within.2 (live-or a.x.live l _) in
-        let not_covered : covers (512 + k) a.x ≡ false = covers-none (512 + k) a.x no_size in
+    by (inl same) = rw (same, h) (sym (byte-by (placed (readings_in lines)) part a.x (512 + k) (covers (512 + k) a.x) refl))
+    by (inr none) =
+        let not_covered : covers (512 + k) a.x ≡ false = covers-none (512 + k) a.x none in
         rw not_covered h
 
 pub part-more : (lines : List KeptLine) (q : Placement) (kept : KeptLine) (i : ℕ) (a : About lines q kept i)
@@ -94,71 +87,27 @@ byte-whole lines n at h =
     let whole : take n (reverse (placed (readings_in lines))) ≡ reverse (placed (readings_in lines)) = take_all n (reverse (placed (readings_in lines))) (omega (arith, length-numbered (readings_in lines), length-map lines reading_in)) in
     ap (λ part. byte_among (placed (readings_in lines)) (reverse part) at) whole ∙ ap (λ part. byte_among (placed (readings_in lines)) part at) (reverse-reverse (placed (readings_in lines)))
 
-pub byte-none : (lines : List KeptLine) (k : ℕ) → k < 3584 → get_or (replicate 3584 0) k 0 ≡ byte_among (placed (readings_in lines)) (reverse (take 0 (reverse (placed (readings_in lines))))) (512 + k)
-byte-none lines k h = get_or-replicate 3584 k 0 0 h
+pub byte-none : (lines : List KeptLine) (k : ℕ) → 0 ≡ byte_among (placed (readings_in lines)) (reverse (take 0 (reverse (placed (readings_in lines))))) (512 + k)
+byte-none lines k = refl
 
--- no line has a fault
-fault-opened : (lines : List Reading) (i : ℕ) (x : Placed) → slice_get (reverse (placed lines)) i ≡ Some x → fault_of_line lines (i + 1) ≡ fault_of (placed lines) x
-fault-opened lines i x at =
-    let not_zero : nat_eq (i + 1) 0 ≡ false = ne_eqb (i + 1) 0 (λ e. omega arith) in
-    let minus : i + 1 - 1 ≡ i = omega arith in
-    rw (not_zero, minus, at) refl
+-- where the faults are counted
+no-faults : (faults : List (ℕ × Fault)) → length faults ≡ 0 → faults ≡ []
+no-faults [] e = refl
+no-faults (f ∷ faults) e = absurd (omega arith)
 
-no-faults : (all xs : List Placed) → ((i : ℕ) (x : Placed) → slice_get xs i ≡ Some x → fault_of all x ≡ None) → filter_map (numbered_fault all) xs ≡ []
-no-faults all [] h = refl
-no-faults all (x ∷ xs) h = rw (h 0 x refl) (no-faults all xs (λ i y e. h (suc i) y e))
+some-fault : (faults : List (ℕ × Fault)) (bytes : List ℕ) → (length faults ≡ 0 → ⊥) → None ≡ unless_faulty faults bytes
+some-fault [] bytes h = absurd (h refl)
+some-fault (f ∷ faults) bytes h = refl
 
-pub none-faulty : (lines : List KeptLine) (n : ℕ) → length lines ≤ n → ((i : ℕ) → i < n → fault_of_line (readings_in lines) (i + 1) ≡ None) → faults_of_lines (readings_in lines) ≡ []
-none-faulty lines n long h =
-    no-faults (placed (readings_in lines)) (reverse (placed (readings_in lines)))
-    (λ i x e. sym (fault-opened (readings_in lines) i x e) ∙ h i (let k = slice_get_within (reverse (placed (readings_in lines))) i x e in omega (arith, length-numbered (readings_in lines), length-map lines reading_in)))
-
-some-fault : (all xs : List Placed) (i : ℕ) (x : Placed) (fault : Fault) (bytes : List ℕ) → slice_get xs i ≡ Some x → fault_of all x ≡ Some fault → unless_faulty (filter_map (numbered_fault all) xs) bytes ≡ None
-some-fault all [] i x fault bytes at e = cc
-some-fault all (y ∷ xs) zero x fault bytes at e =
-    let same : y ≡ x = cc in
-    rw (same, e) refl
-some-fault all (y ∷ xs) (suc i) x fault bytes at e = past (fault_of all y) (some-fault all xs i x fault bytes at e)
-  where
-    past : (o : Option Fault) → unless_faulty (filter_map (numbered_fault all) xs) bytes ≡ None → unless_faulty (cons_option (option_map (λ f. (y.number, f)) o) (filter_map (numbered_fault all) xs)) bytes ≡ None
-    past None h = h
-    past (Some f) h = refl
-
-at-place : (lines : List Reading) (i : ℕ) (fault : Fault) (o : Option Placed) → slice_get (reverse (placed lines)) i ≡ o → option_and_then (fault_of (placed lines)) o ≡ Some fault → (bytes : List ℕ)
-    → unless_faulty (faults_of_lines lines) bytes ≡ None
-at-place lines i fault None at e bytes = cc
-at-place lines i fault (Some x) at e bytes = some-fault (placed lines) (reverse (placed lines)) i x fault bytes at e
-
-pub faulty-image : (lines : List Reading) → HasFault lines → None ≡ image_of_lines lines
-faulty-image lines h =
-    let not_zero : nat_eq (h.at + 1) 0 ≡ false = ne_eqb (h.at + 1) 0 (λ e. omega arith) in
-    let minus : h.at + 1 - 1 ≡ h.at = omega arith in
-    let opened : option_and_then (fault_of (placed lines)) (slice_get (reverse (placed lines)) h.at) ≡ Some h.fault = rw (not_zero, minus) at h.is in
-    sym (at-place lines h.at h.fault (slice_get (reverse (placed lines)) h.at) refl opened (bytes_of_lines (placed lines)))
-
-pub has-fault : (lines : List KeptLine) (q : Placement) (kept : KeptLine) (i : ℕ) → About lines q kept i → i < length lines → is_some (kept_fault q kept) ≡ true → HasFault (readings_in lines)
-has-fault lines q kept i a inside h = by (kept_fault q kept) refl h
-  where
-    by : (o : Option Fault) → kept_fault q kept ≡ o → is_some o ≡ true → HasFault (readings_in lines)
-    by None e n = cc
-    by (Some f) e n = record { at = i; fault = f; inside = omega (arith, length-map lines reading_in); is = sym (fault-at lines q kept i a) ∙ e }
-
-none-is : (o : Option Fault) → is_some o ≡ false → o ≡ None
-none-is None e = refl
-none-is (Some f) e = cc
-
-pub no-fault : (lines : List KeptLine) (q : Placement) (kept : KeptLine) (i : ℕ) (a : About lines q kept i) → is_some (kept_fault q kept) ≡ false
-    → (fault_of (placed (readings_in lines)) a.x ≡ None) × (fault_of_line (readings_in lines) (i + 1) ≡ None)
-no-fault lines q kept i a h =
-    (sym (fault-kept lines q kept i a) ∙ none-is (kept_fault q kept) h, sym (fault-at lines q kept i a) ∙ none-is (kept_fault q kept) h)
+pub faulty-image : (lines : List Reading) (count : ℕ) → count ≡ length (faults_of_lines lines) → (count ≡ 0 → ⊥) → None ≡ image_of_lines lines
+faulty-image lines count e h = some-fault (faults_of_lines lines) (bytes_of_lines (placed lines)) (λ n. h (e ∙ n))
 
 -- the whole image
-pub image-made : (lines : List KeptLine) (image : List ℕ) (size : ℕ) → length image ≡ 3584 → size ≡ address (placed (readings_in lines)) - 512
-    → faults_of_lines (readings_in lines) ≡ [] → ((k : ℕ) → k < 3584 → get_or image k 0 ≡ byte_at (placed (readings_in lines)) (512 + k))
+pub image-made : (lines : List KeptLine) (image : List ℕ) (size : ℕ) → size ≤ length image → size ≡ address (placed (readings_in lines)) - 512
+    → 0 ≡ length (faults_of_lines (readings_in lines)) → ((k : ℕ) → k < 3584 → get_or image k 0 ≡ byte_at (placed (readings_in lines)) (512 + k))
     → Some (take size image) ≡ image_of_lines (readings_in lines)
-image-made lines image size long is_size none h =
-    let all : List Placed = placed (readings_in lines) in
-    let low = end-low (readings_in lines) in
+image-made lines image size long is_size counted h =
+    let none = no-faults (faults_of_lines (readings_in lines)) (sym counted) in
     let high = end-high (readings_in lines) in
     let count : length (take size image) ≡ size = omega (arith, length-take size image) in
     rw (none, ← is_size) (ap Some (same_number_lists (take size image) (map (byte_at (placed (readings_in lines))) (range_with_len 512 size)) (count ∙ sym (length-made (byte_at (placed (readings_in lines))) 512 size))
@@ -188,3 +137,26 @@ faults-more lines q kept i a =
 pub faults-all : (lines : List KeptLine) (n : ℕ) → length lines ≤ n → filter_map (numbered_fault (placed (readings_in lines))) (take n (reverse (placed (readings_in lines)))) ≡ faults_of_lines (readings_in lines)
 faults-all lines n h =
     ap (filter_map (numbered_fault (placed (readings_in lines)))) (take_all n (reverse (placed (readings_in lines))) (omega (arith, length-numbered (readings_in lines), length-map lines reading_in)))
+
+-- a zero at the end of bytes
+pub zero-more : (bytes : List ℕ) (k : ℕ) → get_or (bytes ++ 0 ∷ []) k 0 ≡ get_or bytes k 0
+zero-more [] zero = refl
+zero-more [] (suc k) = refl
+zero-more (b ∷ bytes) zero = refl
+zero-more (b ∷ bytes) (suc k) = zero-more bytes k
+
+one-more : (n : ℕ) (o : Option Fault) → length {A = ℕ × Fault} (option_to_list (option_map (λ f. (n, f)) o)) ≡ count_of o
+one-more n None = refl
+one-more n (Some f) = refl
+
+pub count-more : (lines : List KeptLine) (q : Placement) (kept : KeptLine) (i : ℕ) (a : About lines q kept i)
+    → length (filter_map (numbered_fault (placed (readings_in lines))) (take (i + 1) (reverse (placed (readings_in lines)))))
+    ≡ length (filter_map (numbered_fault (placed (readings_in lines))) (take i (reverse (placed (readings_in lines))))) + count_of (kept_fault q kept)
+count-more lines q kept i a =
+    ap length (faults-more lines q kept i a)
+    ∙ length-append (filter_map (numbered_fault (placed (readings_in lines))) (take i (reverse (placed (readings_in lines))))) (option_to_list (option_map (λ f. (q.number, f)) (kept_fault q kept)))
+    ∙ ap (λ n. length (filter_map (numbered_fault (placed (readings_in lines))) (take i (reverse (placed (readings_in lines))))) + n) (one-more q.number (kept_fault q kept))
+
+pub one-fault : (o : Option Fault) → count_of o ≤ 1
+one-fault None = omega arith
+one-fault (Some f) = omega arith

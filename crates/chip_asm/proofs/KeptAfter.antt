@@ -1,7 +1,9 @@
 -- What is kept stays right over an edit.
-use Rattle.std.proofs.Common.{◌≡◌, ℕ, ◌<◌, Bool, true, false, List, [], length, get_or, refl, ap, sym, ◌∙◌, arith, Option, Some}
+use Rattle.std.proofs.Common.{◌≡◌, ℕ, ◌<◌, Bool, true, false, List, [], length, get_or, refl, ap, sym, ◌∙◌, arith, Option, Some, subst}
 use Rattle.std.specs.Prelude.{unwrap_or}
 use Rattle.std.proofs.lemmas.List.{get_or-map, length-map}
+use Rattle.std.specs.List.{enumerate_from}
+use Rattle.std.proofs.lemmas.List.FromFn.{length-enumerate_from}
 use Rattle.chip_lang.specs.declared.code.Coded.{Coded}
 use Rattle.chip_lang.specs.Line.{Reading}
 use Rattle.chip_asm.specs.declared.kept_line.KeptLine.{KeptLine}
@@ -71,3 +73,13 @@ not_placed i = refl
 -- after no lines none stood before
 pub had-none : (lines : List KeptLine) (origin : ℕ → Option ℕ) → HadCodes [] lines origin
 had-none lines origin = λ place before line inside from was c. absurd (let bad : true ≡ false = sym was ∙ not_placed before in cc)
+
+-- new codes, one for each line, make all codes current
+pub currents : (same : SameCode) (old : List Reading) (lines : List KeptLine) (codes : List (Option Coded)) (origin : ℕ → Option ℕ) → HadCodes old lines origin
+    → codes ≡ new_codes old (readings_in lines) origin → (made : List KeptLine) → IsMerged lines codes made → AreCurrent made
+currents same old lines codes origin had e made m =
+    current-merged same old lines made origin had (subst (λ (cs : List (Option Coded)). IsMerged lines cs made) e m)
+
+pub length-codes : (old : List Reading) (lines : List KeptLine) (codes : List (Option Coded)) (origin : ℕ → Option ℕ) → codes ≡ new_codes old (readings_in lines) origin → length codes ≡ length lines
+length-codes old lines codes origin e =
+    ap length e ∙ length-map (enumerate_from 0 (readings_in lines)) (new_code old (readings_in lines) origin) ∙ length-enumerate_from 0 (readings_in lines) ∙ length-map lines reading_in

@@ -16,6 +16,12 @@ pub mod Bounds
 pub mod ImageSteps
 pub mod ImageWhole
 pub mod KeptWrites
+pub mod KeptSteps
+pub mod QuietLines
+pub mod SwappedLine
+pub mod SwappedFacts
+pub mod KeptSwapped
+pub mod ChangedBytes
 pub mod Views
 pub mod EditTexts
 pub mod CutSteps

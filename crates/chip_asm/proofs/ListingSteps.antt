@@ -14,7 +14,7 @@ use Rattle.chip_asm.specs.Listing.{bytes_shown, field_shown, more_shown, shown, 
 use Rattle.chip_asm.specs.Program.{fault_of, code_under, bytes_in_code}
 use Rattle.chip_asm.specs.Records.{reading_in, readings_in, texts_in}
 use Rattle.chip_asm.specs.KeptCodes.{kept_fault, kept_bytes}
-use Rattle.chip_asm.proofs.ImageSteps.{About, fault-kept, bytes-kept}
+use Rattle.chip_asm.proofs.ImageSteps.{About, fault-kept, bytes-live}
 
 one-byte : (b : ℕ) → flat_map hex_byte (b ∷ []) ≡ hex_byte b
 one-byte b = append-nil (hex_byte b)
@@ -50,7 +50,7 @@ same-line lines q kept i a =
     ∙ ap (λ f. shown a.x.number a.x.live a.x.here (field_shown f a.x.live (body_of (reading_in kept)) a.x.here a.x.value a.x.size (kept_bytes kept)) (more_shown f a.x.size) kept.text) (fault-kept lines q kept i a)
     ∙ ap (λ r. shown a.x.number a.x.live a.x.here (field_shown (fault_of (placed (readings_in lines)) a.x) a.x.live (body_of r) a.x.here a.x.value a.x.size (kept_bytes kept)) (more_shown (fault_of (placed (readings_in lines)) a.x) a.x.size) kept.text) a.line
     ∙ ap (λ f. shown a.x.number a.x.live a.x.here f (more_shown (fault_of (placed (readings_in lines)) a.x) a.x.size) kept.text)
-    (field-by (fault_of (placed (readings_in lines)) a.x) a.x.live (body_of a.x.line) a.x.here a.x.value a.x.size (kept_bytes kept) (bytes_in_code (code_under (placed (readings_in lines)) a.x)) (λ n l. bytes-kept lines q kept i a n l))
+    (field-by (fault_of (placed (readings_in lines)) a.x) a.x.live (body_of a.x.line) a.x.here a.x.value a.x.size (kept_bytes kept) (bytes_in_code (code_under (placed (readings_in lines)) a.x)) (λ n l. bytes-live lines q kept i a n l))
 
 some-is : {X : Type 0} (x y : X) → Some x ≡ Some y → x ≡ y
 some-is x y e = cc

@@ -1,14 +1,12 @@
 -- What a source keeps beside the texts of its lines (own).
-use Rattle.std.specs.Prelude.{◌≡◌, ℕ, ◌+◌, ◌<◌, ◌≤◌, true, List, map, length, slice_index_or, Option, Some, None, option_map, unwrap_or, IfSome, vec_len}
-use Rattle.std.specs.Global.{Vec}
+use Rattle.std.specs.Prelude.{◌≡◌, ℕ, ◌+◌, ◌<◌, ◌≤◌, true, List, map, length, slice_index, slice_index_or, Option, None, unwrap_or, vec_len}
 use Rattle.chip_lang.specs.declared.code.Coded.{Coded}
-use Rattle.chip_lang.specs.declared.fault.Fault.{Fault}
 use Rattle.chip_lang.specs.Line.{Reading, reading_of}
 use Rattle.chip_asm.specs.declared.kept_line.KeptLine.{KeptLine}
-use Rattle.chip_asm.specs.declared.layout.Layout.{Layout}
-use Rattle.chip_asm.specs.Layout.{body_of}
+use Rattle.chip_asm.specs.declared.kept.Kept.{Kept}
+use Rattle.chip_asm.specs.Layout.{body_of, placed}
 use Rattle.chip_asm.specs.Layouts.{IsLayoutOf, placements_of}
-use Rattle.chip_asm.specs.Program.{image_of_lines, fault_of_line}
+use Rattle.chip_asm.specs.Program.{faults_of_lines, byte_at}
 use Rattle.chip_asm.specs.Records.{reading_in, readings_in, texts_in}
 use Rattle.chip_asm.specs.Recode.{has_code, is_placed_at, code_among}
 
@@ -19,14 +17,21 @@ pub record AreCurrent (lines : List KeptLine) : Type 0 where
       → is_placed_at (placements_of (readings_in lines)) place ≡ true
       → (slice_index_or lines place line).code ≡ code_among (readings_in lines) (reading_in (slice_index_or lines place line))
 
+-- where the line at a place is accepted and has code, this is its code
+pub record HasCodeAt (lines : List Reading) (at : ℕ) (kept : KeptLine) : Type 0 where
+  pub is : has_code (body_of (reading_in kept)) ≡ true → is_placed_at (placements_of lines) at ≡ true → kept.code ≡ code_among lines (reading_in kept)
+
 -- what is kept is right for the texts
-pub record IsKept (lines : List KeptLine) (layout : Layout) (image : Option (Vec ℕ)) : Type 0 where
-  pub few : length lines ≤ 4000
-  pub are_read : readings_in lines ≡ map reading_of (texts_in lines)
-  pub laid_out : IsLayoutOf layout (readings_in lines)
-  pub current : AreCurrent lines
-  pub imaged : option_map (λ bytes. bytes.items) image ≡ image_of_lines (readings_in lines)
-  pub short : IfSome image (λ bytes. vec_len bytes ≤ 3584)
+pub record IsKept (kept : Kept) : Type 0 where
+  pub few : length kept.lines.items ≤ 4000
+  pub are_read : readings_in kept.lines.items ≡ map reading_of (texts_in kept.lines.items)
+  pub laid_out : IsLayoutOf kept.layout (readings_in kept.lines.items)
+  pub current : AreCurrent kept.lines.items
+  -- each byte is that at its address, also where a line has a fault; past the kept bytes they are zeros
+  pub imaged : (index : ℕ) → index < 3584 → slice_index kept.image.items index ≡ byte_at (placed (readings_in kept.lines.items)) (512 + index)
+  pub short : vec_len kept.image ≤ 3584
+  pub long : 0 < length kept.lines.items → vec_len kept.image ≡ 3584
+  pub counted : kept.faults ≡ length (faults_of_lines (readings_in kept.lines.items))
 
 -- the new codes stand in the place of the kept ones, and nothing else changed
 pub record IsMerged (kept : List KeptLine) (fresh : List (Option Coded)) (lines : List KeptLine) : Type 0 where
@@ -35,10 +40,3 @@ pub record IsMerged (kept : List KeptLine) (fresh : List (Option Coded)) (lines 
   pub readings : readings_in lines ≡ readings_in kept
   pub each : (place : ℕ) (line : KeptLine) → place < length kept
       → (slice_index_or lines place line).code ≡ unwrap_or (slice_index_or fresh place None) (slice_index_or kept place line).code
-
--- a line has a fault
-pub record HasFault (lines : List Reading) : Type 0 where
-  pub at : ℕ
-  pub fault : Fault
-  pub inside : at < length lines
-  pub is : fault_of_line lines (at + 1) ≡ Some fault

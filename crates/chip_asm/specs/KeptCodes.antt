@@ -25,3 +25,7 @@ kept_fault q kept =
 
 abbrev pub kept_bytes : KeptLine → List ℕ
 kept_bytes kept = if has_code (body_of (reading_in kept)) then coded_bytes kept.code else []
+
+abbrev pub count_of : Option Fault → ℕ
+count_of None = 0
+count_of (Some fault) = 1

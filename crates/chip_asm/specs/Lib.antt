@@ -6,11 +6,14 @@
 --     Program      names, faults and image of a source
 --     Listing      the listing
 --     Work         which lines an edit makes encode anew
+--     Changes      which places of the image an edit changes
 --     Sources      what contracts see of a source
 --   What the functions inside say of what they keep:
 --     Turns, Follows, Placements, Marks, Layouts      the first pass
---     Records, Recode, Kept                           kept lines and their codes
+--     Records, Recode, Effect, Kept                   kept lines and their codes
+pub mod Changes
 pub mod Edits
+pub mod Effect
 pub mod Follows
 pub mod Kept
 pub mod KeptCodes

@@ -1,5 +1,5 @@
 //! A change of one line, seen before it is made.
-ghost use Rattle.std.specs.Prelude.{◌≡◌, ◌<◌, ◌≤◌, length, slice_get, Some, vec_len, vec_capacity};
+ghost use Rattle.std.specs.Prelude.{◌≡◌, ◌<◌, ◌≤◌, length, slice_get, slice_set, Some, vec_len, vec_capacity};
 ghost use Rattle.chip_asm.specs.Records.{IsPlaceWithin, lines_after, readings_in, count_after, place_before};
 ghost use Rattle.chip_lang.specs.SeenLine.{seen_line};
 
@@ -102,10 +102,18 @@ pub(crate) fn make_edit(lines: &mut Vec<KeptLine>, edit: Edit)
         Edit::Insert(at, added) => {
             let _ = lines.insert(at, added);
         }
-        Edit::Replace(at, added) => lines[at] = added,
+        Edit::Replace(at, added) => replace_line(lines, at, added),
         Edit::Delete(at) => {
             let _ = lines.remove(at);
         }
         Edit::Keep => {}
     }
+}
+
+/// Puts a line in the place of another one.
+pub(crate) fn replace_line(lines: &mut Vec<KeptLine>, at: usize, added: KeptLine)
+    requires { at < vec_len lines.old }
+    ensures { lines.new.items ≡ slice_set lines.old.items at added }
+{
+    lines[at] = added;
 }

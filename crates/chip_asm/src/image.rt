@@ -1,11 +1,11 @@
 //! The image, and the faults of lines, from what is kept.
-ghost use Rattle.std.specs.Prelude.{◌≡◌, ℕ, ◌+◌, ◌-◌, ◌<◌, ◌≤◌, ◌&&◌, nat_le, nat_lt, true, false, length, replicate, slice_index, if◌then◌else◌, [], option_map, reverse, IfOk, OnOk, ◌++◌, option_to_list, IfSome, vec_len};
+ghost use Rattle.std.specs.Prelude.{◌≡◌, ℕ, ◌+◌, ◌-◌, ◌<◌, ◌≤◌, ◌&&◌, nat_le, nat_lt, length, slice_index, if◌then◌else◌, option_map, IfOk, OnOk, ◌++◌, option_to_list, vec_len};
 ghost use Rattle.chip_asm.specs.Layout.{placed};
 ghost use Rattle.chip_asm.specs.Layouts.{IsLayoutOf};
-ghost use Rattle.chip_asm.specs.Program.{faults_of_lines, image_of_lines, byte_at, fault_of_line};
+ghost use Rattle.chip_asm.specs.Program.{faults_of_lines, byte_at, fault_of_line};
 ghost use Rattle.chip_asm.specs.Records.{readings_in};
-ghost use Rattle.chip_asm.specs.Kept.{AreCurrent, HasFault};
-ghost use Rattle.chip_asm.specs.KeptCodes.{kept_fault, kept_bytes};
+ghost use Rattle.chip_asm.specs.Kept.{AreCurrent};
+ghost use Rattle.chip_asm.specs.KeptCodes.{kept_fault, kept_bytes, count_of};
 
 use crate::kept_line::KeptLine;
 use crate::layout::Layout;
@@ -36,6 +36,16 @@ pub(crate) fn kept_fault(placement: &Placement, kept: &KeptLine) -> Option<Fault
     }
 }
 
+/// 1 for a fault, 0 for none.
+pub(crate) fn count_of(fault: Option<Fault>) -> usize
+    ensures { result ≡ count_of fault }
+{
+    match fault {
+        Some(_) => 1,
+        None => 0,
+    }
+}
+
 /// The bytes of a line, from what is kept of it.
 pub(crate) fn kept_bytes(kept: &KeptLine) -> &[u8]
     ensures { result.now ≡ kept_bytes kept.now }
@@ -60,7 +70,7 @@ pub(crate) fn byte_or_zero(bytes: &[u8], index: usize) -> u8
 }
 
 /// Writes the bytes of a line at its address, and zeros up to its size.
-fn write_line(image: &mut [u8], here: usize, size: usize, bytes: &[u8])
+pub(crate) fn write_line(image: &mut [u8], here: usize, size: usize, bytes: &[u8])
     requires low { 512 ≤ here }
     requires high { here + size ≤ length image.old + 512 }
     requires memory { length image.old + 512 ≤ 4096 }
@@ -72,24 +82,48 @@ fn write_line(image: &mut [u8], here: usize, size: usize, bytes: &[u8])
     }
 }
 
-/// Writes the bytes of all lines into zeros, unless a line has a fault. Whether none has.
-fn write_lines(image: &mut [u8], lines: &[KeptLine], layout: &Layout) -> bool
-    requires zeros { image.old ≡ replicate 3584 0 }
+/// Makes each byte zero.
+pub(crate) fn clear(image: &mut [u8])
+    ensures { (index : ℕ) → slice_index image.new index ≡ 0 }
+{
+    for index in 0..image.len() {
+        image[index] = 0;
+    }
+}
+
+/// Makes an image as long as one can be, by zeros at its end.
+pub(crate) fn fill_up(image: &mut Vec<u8>) -> Result<(), AllocError>
+    requires { vec_len image.old ≤ 3584 }
+    ensures bytes { (index : ℕ) → slice_index image.new.items index ≡ slice_index image.old.items index }
+    ensures short { vec_len image.new ≤ 3584 }
+    ensures long { vec_len image.old ≡ 3584 → vec_len image.new ≡ 3584 }
+    ensures full { OnOk result (vec_len image.new ≡ 3584) }
+{
+    let count = image.len();
+    image.reserve(MAX_IMAGE - count)?;
+    for _index in count..MAX_IMAGE {
+        image.push(0)?;
+    }
+    Ok(())
+}
+
+/// Writes the bytes of all lines into zeros. How many lines have a fault.
+pub(crate) fn write_lines(image: &mut [u8], lines: &[KeptLine], layout: &Layout) -> usize
+    requires long { length image.old ≡ 3584 }
+    requires zeros { (index : ℕ) → slice_index image.old index ≡ 0 }
     requires laid_out { IsLayoutOf layout.now (readings_in lines.now) }
     requires current { AreCurrent lines.now }
-    ensures sound { result ≡ true → faults_of_lines (readings_in lines.now) ≡ [] }
-    ensures bytes { result ≡ true → (index : ℕ) → index < 3584 → slice_index image.new index ≡ byte_at (placed (readings_in lines.now)) (512 + index) }
-    ensures faulty { result ≡ false → HasFault (readings_in lines.now) }
+    ensures counted { result ≡ length (faults_of_lines (readings_in lines.now)) }
+    ensures bytes { (index : ℕ) → index < 3584 → slice_index image.new index ≡ byte_at (placed (readings_in lines.now)) (512 + index) }
 {
+    let mut faults = 0;
     for place in 0..lines.len() {
         let placement = layout.placements[place];
         let kept = &lines[place];
-        if kept_fault(&placement, kept).is_some() {
-            return false;
-        }
+        faults += count_of(kept_fault(&placement, kept));
         write_line(image, placement.here, placement.size, kept_bytes(kept));
     }
-    true
+    faults
 }
 
 /// The fault of the line with this number.
@@ -139,20 +173,4 @@ pub(crate) fn faults_in(
         push_fault(&mut faults, placement.number, fault)?;
     }
     Ok(faults)
-}
-
-/// The image of the lines, made in zeros; none where a line has a fault.
-pub(crate) fn image_of(zeros: Vec<u8>, lines: &[KeptLine], layout: &Layout) -> Option<Vec<u8>>
-    requires zeros { zeros.items ≡ replicate 3584 0 }
-    requires laid_out { IsLayoutOf layout.now (readings_in lines.now) }
-    requires current { AreCurrent lines.now }
-    ensures value { option_map (λ bytes. bytes.items) result ≡ image_of_lines (readings_in lines.now) }
-    ensures short { IfSome result (λ bytes. vec_len bytes ≤ 3584) }
-{
-    let mut image = zeros;
-    if !write_lines(&mut image, lines, layout) {
-        return None;
-    }
-    image.truncate(layout.end - 512);
-    Some(image)
 }

@@ -1,5 +1,5 @@
 //! What is kept of a line.
-ghost use Rattle.std.specs.Prelude.{◌≡◌, IfOk};
+ghost use Rattle.std.specs.Prelude.{◌≡◌, IfOk, unwrap_or};
 ghost use Rattle.chip_lang.specs.Line.{reading_of};
 ghost use Rattle.chip_lang.specs.SeenLine.{seen_line};
 ghost use Rattle.chip_lang.specs.Meter.{one_more};
@@ -32,4 +32,21 @@ pub(crate) fn read_kept(
         line,
         code: Coded::Bytes(Bytes::new(Vec::new(alloc))),
     })
+}
+
+/// The line with a new code, if there is one.
+pub(crate) fn with_code(kept: KeptLine, code: Option<Coded>) -> KeptLine
+    ensures { result ≡ record kept { code = unwrap_or code kept.code } }
+{
+    match code {
+        Some(code) => {
+            let KeptLine {
+                text,
+                line,
+                code: _,
+            } = kept;
+            KeptLine { text, line, code }
+        }
+        None => kept,
+    }
 }

@@ -1,11 +1,13 @@
 //! Whole sources of the Chipper assembler: layout, names, faults and image, kept under edits.
 #![tactic(auto)]
 
-mod apply;
 mod block;
+mod changed;
 mod cut;
 mod edit;
+mod effect;
 mod image;
+mod kept;
 mod kept_line;
 mod layout;
 mod listing;

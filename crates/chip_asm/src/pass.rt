@@ -44,7 +44,7 @@ fn or_zero(value: Result<i32, Fault>) -> i32
 }
 
 /// The bytes of a line itself.
-fn size_of_body(body: &Body, value: i32) -> usize
+pub(crate) fn size_of_body(body: &Body, value: i32) -> usize
     ensures size { result ≡ own_size (seen_body body.now) value }
     ensures bound { result < 2 ^ 64 - 1 }
 {
@@ -64,7 +64,7 @@ fn is_if(body: &Body) -> bool
     matches!(body, Body::Ifdef(_) | Body::Ifund(_))
 }
 
-fn is_data(body: &Body) -> bool
+pub(crate) fn is_data(body: &Body) -> bool
     ensures { result ≡ is_padded (seen_body body.now) }
 {
     matches!(body, Body::Db(_) | Body::Da(_) | Body::Ds(_))

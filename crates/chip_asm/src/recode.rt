@@ -1,5 +1,5 @@
 //! The lines that an edit makes encode again.
-ghost use Rattle.std.specs.Prelude.{◌≡◌, ◌<◌, ◌≤◌, ◌+◌, ℕ, List, IfOk, OnErr, Option, Result, Ok, Err, length, Some, None, true, if◌then◌else◌, vec_len};
+ghost use Rattle.std.specs.Prelude.{◌≡◌, ◌<◌, ◌≤◌, ◌+◌, ℕ, List, IfOk, OnErr, Option, Result, Ok, Err, length, Some, None, true, if◌then◌else◌, ◌&&◌, vec_len};
 ghost use Rattle.chip_lang.specs.Line.{Reading};
 ghost use Rattle.chip_lang.specs.SeenLine.{seen_line};
 ghost use Rattle.chip_lang.specs.Uses.{agree_on};
@@ -92,6 +92,22 @@ fn encode_if(
     } else {
         Ok(None)
     }
+}
+
+/// The line's code, where the line is accepted and has code.
+pub(crate) fn code_if_accepted(
+    accepted: bool,
+    alloc: Global,
+    meter: &mut Meter,
+    line: &Line,
+    names: &Table,
+) -> Result<Option<Coded>, AllocError>
+    ensures code { IfOk result (λ code. code ≡ (if accepted && has_code (body_of (seen_line line.now)) then Some (code_of (seen_line line.now) (values_of names.now)) else None)) }
+    ensures encoded { meter.new.encoded ≤ meter.old.encoded + (if accepted && has_code (body_of (seen_line line.now)) then 1 else 0) }
+    ensures parsed { meter.new.parsed ≡ meter.old.parsed }
+{
+    let wanted = accepted && has_code(line);
+    encode_if(wanted, alloc, meter, line, names)
 }
 
 /// The new codes, and none for a line whose code stands.

@@ -4,33 +4,32 @@ ghost use Rattle.std.specs.Option.{option_copied};
 ghost use Rattle.chip_lang.specs.Line.{upper};
 ghost use Rattle.chip_lang.specs.Meter.{one_more};
 ghost use Rattle.chip_asm.specs.Edits.{insert_refusal, replace_refusal, delete_refusal, before_insert, before_replace, before_delete};
+ghost use Rattle.chip_asm.specs.Changes.{ChangesWithin};
 ghost use Rattle.chip_asm.specs.Work.{lines_to_encode, accepted_of};
 ghost use Rattle.chip_asm.specs.Names.{lookup_name};
 ghost use Rattle.chip_asm.specs.Listing.{listing_of};
 ghost use Rattle.chip_asm.specs.Program.{symbols_of, fault_at, faults_of, image_of};
 
-use crate::apply::{Prepared, apply, prepare};
+use crate::changed::{Changed, NOTHING};
 use crate::cut::read_lines;
 use crate::edit::Edit;
-use crate::image::{fault_of_number, faults_in, image_of};
-use crate::kept_line::{KeptLine, read_kept};
-use crate::layout::Layout;
+use crate::image::{fault_of_number, faults_in};
+use crate::kept::Kept;
+use crate::kept_line::read_kept;
 use crate::listing::listing_in;
-use crate::recode::write_codes;
 use crate::refusal::{OpenError, Refusal, delete_refusal, insert_refusal, replace_refusal};
 use crate::table::Symbol;
-use chip_lang::laws::same_code;
 use chip_lang::{Bytes, Fault, Meter};
 use std::alloc::{AllocError, Global};
 use std::marker::Model;
+use std::ops::Range;
 
 /// The lines of a source, with all that is known of them kept under edits.
 #[derive(Drop)]
 pub struct Source {
-    lines: Vec<KeptLine>,
-    layout: Layout,
-    image: Option<Vec<u8>>,
+    kept: Kept,
     meter: Meter,
+    changed: Changed,
 }
 
 impl Model for Source {
@@ -41,9 +40,9 @@ impl Model for Source {
     ghost use Rattle.chip_asm.specs.Records.{texts_in};
     ghost use Rattle.chip_asm.specs.Kept.{IsKept};
 
-    ghost view = { λ s. record { lines = texts_in s.lines.items; work = s.meter } };
+    ghost view = { λ s. record { lines = texts_in s.kept.lines.items; work = s.meter; first_changed = s.changed.first; end_changed = s.changed.end } };
 
-    ghost invariant = { λ s. IsKept s.lines.items s.layout s.image };
+    ghost invariant = { λ s. IsKept s.kept };
 }
 
 impl Source {
@@ -58,10 +57,9 @@ impl Source {
         ensures encoded { result.work.encoded ≡ 0 }
     {
         Source {
-            lines: Vec::new(alloc),
-            layout: Layout::new(alloc),
-            image: Some(Vec::new(alloc)),
+            kept: Kept::new(alloc),
             meter: Meter::new(),
+            changed: NOTHING,
         }
     }
 
@@ -74,22 +72,12 @@ impl Source {
         ensures encoded { IfOk result (λ s. s.work.encoded ≤ accepted_of s.lines) }
     {
         let mut meter = Meter::new();
-        let mut lines = read_lines(alloc, &mut meter, source)?;
-        let before = Layout::new(alloc);
-        let prepared = prepare(alloc, &mut lines, &before, &mut meter, &Edit::Keep)?;
-        let Prepared {
-            layout,
-            codes,
-            zeros,
-        } = prepared;
-        same_code();
-        write_codes(&mut lines, codes);
-        let image = image_of(zeros, &lines, &layout);
+        let lines = read_lines(alloc, &mut meter, source)?;
+        let kept = Kept::open(alloc, &mut meter, lines)?;
         Ok(Source {
-            lines,
-            layout,
-            image,
+            kept,
             meter,
+            changed: NOTHING,
         })
     }
 
@@ -97,7 +85,7 @@ impl Source {
     pub fn lines(&self) -> usize
         ensures { result ≡ length self.now.lines }
     {
-        self.lines.len()
+        self.kept.lines.len()
     }
 
     /// What was read and encoded so far, by opening and by edits.
@@ -112,38 +100,44 @@ impl Source {
         ensures value { option_copied result ≡ image_of self.now.lines }
         ensures fits { IfSome result (λ image. length image.now ≤ 3584) }
     {
-        match &self.image {
-            Some(bytes) => Some(bytes),
-            None => None,
-        }
+        self.kept.image()
+    }
+
+    /// Which places of the image the last accepted edit changed, counted from its first byte; none before the first edit. Where there was
+    /// an image before the edit and is one after it, the two agree outside them.
+    pub fn changed(&self) -> Range<usize>
+        ensures first { result.start ≡ self.now.first_changed }
+        ensures end { result.end ≡ self.now.end_changed }
+    {
+        self.changed.first..self.changed.end
     }
 
     /// The value of a name, in either case, and the number of the line that gives it.
     pub fn symbol(&self, name: &[u8]) -> Option<Symbol>
         ensures { result ≡ lookup_name (symbols_of self.now.lines) (map upper name.now) }
     {
-        self.layout.names.symbol_in_any_case(name)
+        self.kept.layout.names.symbol_in_any_case(name)
     }
 
     /// The fault of the line of this number, counted from 1; none where the line has none or there is no such line.
     pub fn fault(&self, number: usize) -> Option<Fault>
         ensures { result ≡ fault_at self.now.lines number }
     {
-        fault_of_number(&self.lines, &self.layout, number)
+        fault_of_number(&self.kept.lines, &self.kept.layout, number)
     }
 
     /// The names that the source gives, in line order, each with its value and the number of its line. Err where memory ran out.
     pub fn symbols(&self, alloc: Global) -> Result<Vec<(Bytes, Symbol)>, AllocError>
         ensures { IfOk result (λ symbols. symbols.items ≡ symbols_of self.now.lines) }
     {
-        self.layout.names.symbols(alloc)
+        self.kept.layout.names.symbols(alloc)
     }
 
     /// All faults, in line order, each with the number of its line. Err where memory ran out.
     pub fn faults(&self, alloc: Global) -> Result<Vec<(usize, Fault)>, AllocError>
         ensures { IfOk result (λ faults. faults.items ≡ faults_of self.now.lines) }
     {
-        faults_in(alloc, &self.lines, &self.layout)
+        faults_in(alloc, &self.kept.lines, &self.kept.layout)
     }
 
     /// The listing: a line for each line, with its number, its address, its bytes or value or fault, and its text. Err where memory
@@ -151,7 +145,7 @@ impl Source {
     pub fn listing(&self, alloc: Global) -> Result<Vec<u8>, AllocError>
         ensures { IfOk result (λ listing. listing.items ≡ listing_of self.now.lines) }
     {
-        listing_in(alloc, &self.lines, &self.layout)
+        listing_in(alloc, &self.kept.lines, &self.kept.layout)
     }
 
     /// Puts a line before line `number`, counted from 1, or after the last one. A refused edit changes nothing but the work, where
@@ -160,22 +154,19 @@ impl Source {
         ensures ok { OnOk result ((insert_refusal (length self.old.lines) number text.now ≡ None) × (self.new.lines ≡ insert self.old.lines (number - 1) text.now)) }
         ensures err { IfErr result (λ e. (insert_refusal (length self.old.lines) number text.now ≡ Some e) ⊎ ((e ≡ Refusal.OutOfMemory) × (insert_refusal (length self.old.lines) number text.now ≡ None))) }
         ensures same { OnErr result (self.new.lines ≡ self.old.lines) }
+        ensures changed { OnOk result (ChangesWithin self.new.first_changed self.new.end_changed (image_of self.old.lines) (image_of self.new.lines)) }
         ensures refused { IsSome (insert_refusal (length self.old.lines) number text.now) → self.new.work ≡ self.old.work }
         ensures parsed { insert_refusal (length self.old.lines) number text.now ≡ None → self.new.work.parsed ≡ one_more self.old.work.parsed }
         ensures encoded { self.new.work.encoded ≤ self.old.work.encoded + lines_to_encode self.old.lines (insert self.old.lines (number - 1) text.now) (before_insert (number - 1)) }
     {
-        if let Some(refusal) = insert_refusal(self.lines.len(), number, text) {
+        if let Some(refusal) = insert_refusal(self.kept.lines.len(), number, text) {
             return Err(refusal);
         }
         let added = read_kept(alloc, &mut self.meter, text)?;
-        apply(
-            alloc,
-            &mut self.lines,
-            &mut self.layout,
-            &mut self.image,
-            &mut self.meter,
-            Edit::Insert(number - 1, added),
-        )?;
+        let changed = self
+            .kept
+            .edit(alloc, &mut self.meter, Edit::Insert(number - 1, added))?;
+        self.changed = changed;
         Ok(())
     }
 
@@ -184,22 +175,19 @@ impl Source {
         ensures ok { OnOk result ((replace_refusal (length self.old.lines) number text.now ≡ None) × (self.new.lines ≡ slice_set self.old.lines (number - 1) text.now)) }
         ensures err { IfErr result (λ e. (replace_refusal (length self.old.lines) number text.now ≡ Some e) ⊎ ((e ≡ Refusal.OutOfMemory) × (replace_refusal (length self.old.lines) number text.now ≡ None))) }
         ensures same { OnErr result (self.new.lines ≡ self.old.lines) }
+        ensures changed { OnOk result (ChangesWithin self.new.first_changed self.new.end_changed (image_of self.old.lines) (image_of self.new.lines)) }
         ensures refused { IsSome (replace_refusal (length self.old.lines) number text.now) → self.new.work ≡ self.old.work }
         ensures parsed { replace_refusal (length self.old.lines) number text.now ≡ None → self.new.work.parsed ≡ one_more self.old.work.parsed }
         ensures encoded { self.new.work.encoded ≤ self.old.work.encoded + lines_to_encode self.old.lines (slice_set self.old.lines (number - 1) text.now) (before_replace (number - 1)) }
     {
-        if let Some(refusal) = replace_refusal(self.lines.len(), number, text) {
+        if let Some(refusal) = replace_refusal(self.kept.lines.len(), number, text) {
             return Err(refusal);
         }
         let added = read_kept(alloc, &mut self.meter, text)?;
-        apply(
-            alloc,
-            &mut self.lines,
-            &mut self.layout,
-            &mut self.image,
-            &mut self.meter,
-            Edit::Replace(number - 1, added),
-        )?;
+        let changed = self
+            .kept
+            .edit(alloc, &mut self.meter, Edit::Replace(number - 1, added))?;
+        self.changed = changed;
         Ok(())
     }
 
@@ -208,21 +196,34 @@ impl Source {
         ensures ok { OnOk result ((delete_refusal (length self.old.lines) number ≡ None) × (self.new.lines ≡ remove self.old.lines (number - 1))) }
         ensures err { IfErr result (λ e. (delete_refusal (length self.old.lines) number ≡ Some e) ⊎ ((e ≡ Refusal.OutOfMemory) × (delete_refusal (length self.old.lines) number ≡ None))) }
         ensures same { OnErr result (self.new.lines ≡ self.old.lines) }
+        ensures changed { OnOk result (ChangesWithin self.new.first_changed self.new.end_changed (image_of self.old.lines) (image_of self.new.lines)) }
         ensures refused { IsSome (delete_refusal (length self.old.lines) number) → self.new.work ≡ self.old.work }
         ensures parsed { self.new.work.parsed ≡ self.old.work.parsed }
         ensures encoded { self.new.work.encoded ≤ self.old.work.encoded + lines_to_encode self.old.lines (remove self.old.lines (number - 1)) (before_delete (number - 1)) }
     {
-        if let Some(refusal) = delete_refusal(self.lines.len(), number) {
+        if let Some(refusal) = delete_refusal(self.kept.lines.len(), number) {
             return Err(refusal);
         }
-        apply(
-            alloc,
-            &mut self.lines,
-            &mut self.layout,
-            &mut self.image,
-            &mut self.meter,
-            Edit::Delete(number - 1),
-        )?;
+        let changed = self
+            .kept
+            .edit(alloc, &mut self.meter, Edit::Delete(number - 1))?;
+        self.changed = changed;
         Ok(())
+    }
+
+    /// Whether a text in the place of the line at a place, counted from 0, would change that line alone.
+    #[cfg(test)]
+    pub(crate) fn is_rewritten(
+        &self,
+        alloc: Global,
+        place: usize,
+        text: &[u8],
+    ) -> Result<bool, AllocError> {
+        if place >= self.kept.lines.len() {
+            return Ok(false);
+        }
+        let mut meter = Meter::new();
+        let added = read_kept(alloc, &mut meter, text)?;
+        Ok(self.kept.has_same_effect(place, &added.line))
     }
 }

@@ -1,5 +1,8 @@
+mod sessions;
+
 use crate::{OpenError, Refusal, Source};
 use chip_lang::Fault;
+use std::alloc::Global;
 use std::test::Fail;
 
 fn has_image(source: &Source, expected: &[u8]) -> bool {
@@ -7,6 +10,19 @@ fn has_image(source: &Source, expected: &[u8]) -> bool {
         Some(image) => image == expected,
         None => false,
     }
+}
+
+// Edits without their clauses, of which the tests have no use: a test of many of them would be proved slowly.
+fn insert(alloc: Global, source: &mut Source, line: usize, text: &[u8]) -> Result<(), Refusal> {
+    source.insert(alloc, line, text)
+}
+
+fn replace(alloc: Global, source: &mut Source, line: usize, text: &[u8]) -> Result<(), Refusal> {
+    source.replace(alloc, line, text)
+}
+
+fn delete(alloc: Global, source: &mut Source, line: usize) -> Result<(), Refusal> {
+    source.delete(alloc, line)
 }
 
 const COUNTING: &[u8] = b"LD V0, 5\nLOOP: ADD V0, 1\nJP LOOP\n";
@@ -19,7 +35,7 @@ fn an_edit_encodes_only_what_needs_it(rt: HostRuntime) -> Result<(), Fail> {
     assert_eq!(rt; source.work().parsed, 3);
     assert_eq!(rt; source.work().encoded, 3);
     assert!(rt; has_image(&source, &[0x60, 5, 0x70, 1, 0x12, 2]));
-    source.insert(alloc, 2, b"CLS")?;
+    insert(alloc, &mut source, 2, b"CLS")?;
     assert_eq!(rt; source.work().parsed, 4);
     assert_eq!(rt; source.work().encoded, 5);
     assert!(rt; has_image(&source, &[0x60, 5, 0, 0xe0, 0x70, 1, 0x12, 4]));
@@ -35,22 +51,28 @@ fn an_edit_encodes_only_what_needs_it(rt: HostRuntime) -> Result<(), Fail> {
 fn lines_are_edited_one_after_another(rt: HostRuntime) -> Result<(), Fail> {
     let alloc = rt.alloc();
     let mut source = Source::new(alloc);
-    source.insert(alloc, 1, b"LD V0, 5")?;
-    source.insert(alloc, 2, b"LOOP: ADD V0, 1")?;
-    source.insert(alloc, 3, b"JP LOOP")?;
-    source.insert(alloc, 2, b"CLS")?;
+    insert(alloc, &mut source, 1, b"LD V0, 5")?;
+    insert(alloc, &mut source, 2, b"LOOP: ADD V0, 1")?;
+    insert(alloc, &mut source, 3, b"JP LOOP")?;
+    insert(alloc, &mut source, 2, b"CLS")?;
     assert!(rt; has_image(&source, &[0x60, 5, 0, 0xe0, 0x70, 1, 0x12, 4]));
-    assert_eq!(rt; source.delete(alloc, 9), Err(Refusal::NoSuchLine));
-    assert_eq!(rt; source.insert(alloc, 0, b""), Err(Refusal::NoSuchLine));
-    assert_eq!(rt; source.replace(alloc, 1, b"a\rb"), Err(Refusal::LineBreak));
+    assert_eq!(rt; delete(alloc, &mut source, 9), Err(Refusal::NoSuchLine));
     assert_eq!(rt;
-        source.insert(alloc, 1, [b' '; 201].as_slice()),
+        insert(alloc, &mut source, 0, b""),
+        Err(Refusal::NoSuchLine)
+    );
+    assert_eq!(rt;
+        replace(alloc, &mut source, 1, b"a\rb"),
+        Err(Refusal::LineBreak)
+    );
+    assert_eq!(rt;
+        insert(alloc, &mut source, 1, [b' '; 201].as_slice()),
         Err(Refusal::TextTooLong)
     );
-    source.replace(alloc, 1, b"LD V0, 9")?;
-    source.delete(alloc, 2)?;
+    replace(alloc, &mut source, 1, b"LD V0, 9")?;
+    delete(alloc, &mut source, 2)?;
     assert!(rt; has_image(&source, &[0x60, 9, 0x70, 1, 0x12, 2]));
-    source.delete(alloc, 2)?;
+    delete(alloc, &mut source, 2)?;
     assert_eq!(rt; source.fault(2), Some(Fault::UndefinedName));
     assert!(rt; source.image().is_none());
     Ok(())
@@ -67,7 +89,7 @@ fn a_listing_shows_addresses_and_bytes(rt: HostRuntime) -> Result<(), Fail> {
     );
     let mut source = Source::open(alloc, b"IFDEF X\nDB 1\nELSE\nDB 2\nENDIF")?;
     assert!(rt; has_image(&source, &[2, 0]));
-    source.insert(alloc, 1, b"X EQU 7")?;
+    insert(alloc, &mut source, 1, b"X EQU 7")?;
     assert!(rt; has_image(&source, &[1, 0]));
     assert_eq!(rt;
         source.listing(alloc)?.as_slice(),
@@ -175,34 +197,40 @@ fn a_source_has_at_most_4000_lines(rt: HostRuntime) -> Result<(), Fail> {
     let mut text = vec![in alloc; b'\n'; 4000]?;
     let mut source = Source::open(alloc, &text)?;
     assert_eq!(rt; source.lines(), 4000);
-    assert_eq!(rt; source.insert(alloc, 4002, &long), Err(Refusal::NoSuchLine));
     assert_eq!(rt;
-        source.insert(alloc, 4001, &long),
-        Err(Refusal::TextTooLong)
-    );
-    assert_eq!(rt;
-        source.insert(alloc, 4001, b"a\rb"),
-        Err(Refusal::TooManyLines)
-    );
-    assert_eq!(rt;
-        source.replace(alloc, 4001, &long),
+        insert(alloc, &mut source, 4002, &long),
         Err(Refusal::NoSuchLine)
     );
     assert_eq!(rt;
-        source.replace(alloc, 4000, &long),
+        insert(alloc, &mut source, 4001, &long),
         Err(Refusal::TextTooLong)
     );
     assert_eq!(rt;
-        source.replace(alloc, 4000, b"a\nb"),
+        insert(alloc, &mut source, 4001, b"a\rb"),
+        Err(Refusal::TooManyLines)
+    );
+    assert_eq!(rt;
+        replace(alloc, &mut source, 4001, &long),
+        Err(Refusal::NoSuchLine)
+    );
+    assert_eq!(rt;
+        replace(alloc, &mut source, 4000, &long),
+        Err(Refusal::TextTooLong)
+    );
+    assert_eq!(rt;
+        replace(alloc, &mut source, 4000, b"a\nb"),
         Err(Refusal::LineBreak)
     );
-    assert_eq!(rt; source.delete(alloc, 4001), Err(Refusal::NoSuchLine));
+    assert_eq!(rt; delete(alloc, &mut source, 4001), Err(Refusal::NoSuchLine));
     assert_eq!(rt; source.lines(), 4000);
     assert_eq!(rt; source.work().parsed, 4000);
-    source.replace(alloc, 4000, b"DB 7")?;
-    source.delete(alloc, 1)?;
-    source.insert(alloc, 4000, b"DB 8")?;
-    assert_eq!(rt; source.insert(alloc, 1, b""), Err(Refusal::TooManyLines));
+    replace(alloc, &mut source, 4000, b"DB 7")?;
+    delete(alloc, &mut source, 1)?;
+    insert(alloc, &mut source, 4000, b"DB 8")?;
+    assert_eq!(rt;
+        insert(alloc, &mut source, 1, b""),
+        Err(Refusal::TooManyLines)
+    );
     assert!(rt; has_image(&source, &[7, 0, 8, 0]));
     text.push(b'x')?;
     assert_eq!(rt;
@@ -217,8 +245,8 @@ fn a_line_has_at_most_200_bytes(rt: HostRuntime) -> Result<(), Fail> {
     let alloc = rt.alloc();
     let mut text = vec![in alloc; b' '; 200]?;
     let mut source = Source::open(alloc, &text)?;
-    source.insert(alloc, 1, &text)?;
-    source.replace(alloc, 2, &text)?;
+    insert(alloc, &mut source, 1, &text)?;
+    replace(alloc, &mut source, 2, &text)?;
     assert_eq!(rt; source.lines(), 2);
     text.push(b'\r')?;
     assert_eq!(rt;
@@ -242,23 +270,23 @@ fn kept_codes_are_used_again(rt: HostRuntime) -> Result<(), Fail> {
     assert_eq!(rt; source.work().parsed, 4);
     assert!(rt; source.work().encoded <= 4);
     assert!(rt; has_image(&source, &[1, 0, 5, 0, 0x60, 1]));
-    source.replace(alloc, 1, b"N EQU 2")?;
+    replace(alloc, &mut source, 1, b"N EQU 2")?;
     assert_eq!(rt; source.work().parsed, 5);
     assert!(rt; source.work().encoded <= 7);
     assert!(rt; has_image(&source, &[2, 0, 5, 0, 0x60, 2]));
-    source.replace(alloc, 1, b"N EQU 2")?;
+    replace(alloc, &mut source, 1, b"N EQU 2")?;
     assert_eq!(rt; source.work().parsed, 6);
     assert!(rt; source.work().encoded <= 8);
-    source.insert(alloc, 1, b"IFDEF ZZ")?;
+    insert(alloc, &mut source, 1, b"IFDEF ZZ")?;
     assert_eq!(rt; source.work().parsed, 7);
     assert!(rt; source.work().encoded <= 8);
     assert_eq!(rt; source.fault(1), Some(Fault::UnclosedIf));
     assert!(rt; source.image().is_none());
-    source.insert(alloc, 6, b"ENDIF")?;
+    insert(alloc, &mut source, 6, b"ENDIF")?;
     assert_eq!(rt; source.work().parsed, 8);
     assert!(rt; source.work().encoded <= 10);
     assert!(rt; has_image(&source, &[]));
-    source.insert(alloc, 1, b"DEFINE ZZ")?;
+    insert(alloc, &mut source, 1, b"DEFINE ZZ")?;
     assert_eq!(rt; source.work().parsed, 9);
     assert!(rt; source.work().encoded <= 15);
     assert!(rt; has_image(&source, &[2, 0, 5, 0, 0x60, 2]));

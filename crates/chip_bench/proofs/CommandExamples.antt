@@ -1,6 +1,6 @@
 -- Worked examples: command lines with the kinds of fault that `clap` finds in them.
-use Rattle.std.proofs.Common.{◌≡◌, [], ◌∷◌, codes, true, refl, Some, option_map}
-use Rattle.clap.specs.Words.{fault_of, is_simple_and_free, subcommand_of, one_of}
+use Rattle.std.proofs.Common.{◌≡◌, [], ◌∷◌, codes, true, refl, Some, None, option_map}
+use Rattle.clap.specs.Words.{fault_of, first_of, is_simple, is_simple_and_free, subcommand_of, one_of}
 use Rattle.clap.specs.declared.error.kind.ErrorKind.TheVariants as kind
 use Rattle.clap.proofs.OnLiterals.{clap_on_literals}
 use Rattle.chip_bench.specs.CommandLine.{chipbench}
@@ -32,3 +32,19 @@ shows_help = refl
 default_rate : option_map (λ p. one_of (codes "rate") p.1) (subcommand_of chipbench (codes "debug" ∷ [])) ≡ Some (Some (codes "10"))
 unfolding clap_on_literals
 default_rate = refl
+
+pub is_plain : is_simple chipbench ≡ true
+unfolding clap_on_literals
+is_plain = refl
+
+pub no_words_no_command : subcommand_of chipbench [] ≡ None
+unfolding clap_on_literals
+no_words_no_command = refl
+
+every_is_for_debug : fault_of chipbench (codes "run" ∷ codes "a" ∷ codes "--steps" ∷ codes "1" ∷ codes "--every" ∷ codes "1000" ∷ []) ≡ kind.UnknownArgument ∷ []
+unfolding clap_on_literals
+every_is_for_debug = refl
+
+names_a_profile : option_map (λ p. first_of (codes "profile") p.1) (subcommand_of chipbench (codes "debug" ∷ codes "--profile" ∷ codes "vip" ∷ [])) ≡ Some (Some (codes "vip"))
+unfolding clap_on_literals
+names_a_profile = refl

@@ -1,7 +1,12 @@
 -- The replay after the image has changed.
-use Rattle.std.proofs.Common.{◌≡◌, ℕ, ◌≤◌, ◌++◌, List, length, take, sym, ap, ◌∙◌}
+use Rattle.std.proofs.Common.{◌≡◌, ℕ, ◌+◌, ◌<◌, ◌≤◌, ◌++◌, List, length, take, sym, ap, ◌∙◌, arith, slice_index, inl, inr}
+use Rattle.std.specs.Prelude.{slice_set, min}
+use Rattle.std.proofs.lemmas.Bool.{cases_lt}
+use Rattle.std.proofs.lemmas.Grind.{same_number_lists, get_or-set_at}
+use Rattle.std.proofs.lemmas.List.{get_or_past, get_or-set_other, length-set}
+use Rattle.chip_replay.specs.Image.{AgreeOutside}
 use Rattle.std.proofs.lemmas.List.{take-append-drop}
-use Rattle.chip_machine.specs.declared.stop.Profile.TheVariants.{Schip}
+use Rattle.chip_machine.specs.declared.profile.Profile.{Profile}
 use Rattle.chip_machine.specs.State.{State, with_memory}
 use Rattle.chip_machine.specs.Start.{start_of, start_core, start_memory}
 use Rattle.chip_machine.specs.ImageLaw.{ImageAndZeros, SameBelowTheImage}
@@ -20,17 +25,61 @@ other_image old new there below fits =
     ∙ take-append-drop 512 (start_memory new)
 
 -- a machine at the start with another image is one that starts with it
-pub restarted : (old new tape : List ℕ) → ImageAndZeros → SameBelowTheImage → length new ≤ 3584 →
-    with_image memory_of with_memory new (start_of old tape Schip) ≡ start_of new tape Schip
-restarted old new tape there below fits =
-    ap (λ (memory : List ℕ). let state : State = record { core = start_core tape Schip; memory = memory } in state) (other_image old new there below fits)
+pub restarted : (old new tape : List ℕ) (profile : Profile) → ImageAndZeros → SameBelowTheImage → length new ≤ 3584 →
+    with_image memory_of with_memory new (start_of old tape profile) ≡ start_of new tape profile
+restarted old new tape profile there below fits =
+    ap (λ (memory : List ℕ). let state : State = record { core = start_core tape profile; memory = memory } in state) (other_image old new there below fits)
 
 pub replays_next : (settings : SessionSettings) (old new : List ℕ) (before after : History State) → Replays settings old before →
     ImageAndZeros → SameBelowTheImage → length new ≤ 3584 →
-    after.start ≡ with_image memory_of with_memory new before.start → after.rate ≡ before.rate → Replays settings new after
-replays_next settings old new before after kept there below fits start rate =
+    after.start ≡ with_image memory_of with_memory new before.start → after.rate ≡ before.rate → after.spacing ≡ before.spacing → Replays settings new after
+replays_next settings old new before after kept there below fits start rate spacing =
     record {
-      start = start ∙ ap (with_image memory_of with_memory new) kept.start ∙ restarted old new settings.tape there below fits;
+      start = start ∙ ap (with_image memory_of with_memory new) kept.start ∙ restarted old new settings.tape settings.profile there below fits;
       rate = rate ∙ kept.rate;
+      spacing = spacing ∙ kept.spacing;
       fits = fits;
     }
+
+-- two images of one length agree up to a place, and from another one on
+pub record AgreeFrom (place end : ℕ) (last image : List ℕ) : Type 0 where
+  pub same_length : length last ≡ length image
+  pub copied : (i : ℕ) → i < place → slice_index last i ≡ slice_index image i
+  pub after : (i : ℕ) → end ≤ i → slice_index last i ≡ slice_index image i
+
+pub agree_start : (first end stop : ℕ) (last image : List ℕ) → AgreeOutside first end last image → length last ≡ length image → stop ≡ min end (length image) →
+    AgreeFrom first stop last image
+agree_start first end stop last image alike same is =
+    record {
+      same_length = same;
+      copied = alike.before;
+      after = λ i from. elim (cases_lt i end) [
+        | inl below ↦ get_or_past last i 0 (omega arith) ∙ sym (get_or_past image i 0 (omega arith))
+        | inr above ↦ alike.after i above
+      ];
+    }
+
+pub agree_more : (place end : ℕ) (last image : List ℕ) → AgreeFrom place end last image → place < length image → place < end →
+    AgreeFrom (place + 1) end (slice_set last place (slice_index image place)) image
+agree_more place end last image agree inside before =
+    let other : (i : ℕ) → (i ≡ place → ⊥) → slice_index (slice_set last place (slice_index image place)) i ≡ slice_index last i =
+    λ i apart. get_or-set_other last place i (slice_index image place) 0 apart in
+    record {
+      same_length = length-set last place (slice_index image place) ∙ agree.same_length;
+      copied = λ i lt. elim (cases_lt i place) [
+        | inl below ↦ other i (λ e. omega (arith, e)) ∙ agree.copied i below
+        | inr above ↦
+            let here : i ≡ place = omega arith in
+            let fits : place < length last = rw agree.same_length inside in
+            get_or-set_at last place i (slice_index image place) 0 here fits ∙ ap (slice_index image) (sym here)
+      ];
+      after = λ i from. other i (λ e. omega (arith, e)) ∙ agree.after i from;
+    }
+
+pub agree_all : (place end : ℕ) (last image : List ℕ) → AgreeFrom place end last image → end ≤ place → last ≡ image
+agree_all place end last image agree reached =
+    same_number_lists last image agree.same_length
+    (λ k lt. elim (cases_lt k place) [
+      | inl below ↦ agree.copied k below
+      | inr above ↦ agree.after k (omega arith)
+    ])

@@ -11,3 +11,6 @@ pub mod AnswerLemmas
 pub mod ImageLemmas
 pub mod Parts
 pub mod TapeLemmas
+pub mod TextLemmas
+pub mod WordLemmas
+pub mod RowLemmas

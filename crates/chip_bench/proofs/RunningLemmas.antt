@@ -1,35 +1,21 @@
 -- What a run of the program exchanges, from what `serve` does.
-use Rattle.std.proofs.Common.{◌≡◌, ℕ, List, [], ◌∷◌, Option, Some, None, Result, Ok, Err, refl, sym, ap, inl, inr, ◌⊎◌}
+use Rattle.std.proofs.Common.{◌≡◌, ◌⊎◌, inl, inr, ℕ, Bool, List, [], ◌++◌, take, Option, Some, None, Result, Ok, Err, IfSome, option_map, refl, sym, ◌∙◌, ap, subst}
 use Rattle.std.proofs.lemmas.List.{append-nil}
-use Rattle.chip_bench.specs.Settings.{default_settings, settings_fault}
-use Rattle.chip_bench.specs.declared.settings.SetError.{SetError}
-use Rattle.chip_bench.specs.declared.settings.SetError.TheVariants as set
-use Rattle.chip_bench.specs.Session.{session_of}
-use Rattle.chip_bench.specs.Serving.{Served, Exchanges}
 use Rattle.std.specs.Io.KnownBytes.{Keeps}
-use Rattle.chip_bench.proofs.WriteLemmas.{keeps_known}
-use Rattle.chip_bench.specs.Running.{Ends, Ran, Carried, CarriedAs, failure_of, failure_status, settings_failure}
-use Rattle.chip_bench.specs.declared.entry.Ending.{Ending}
-use Rattle.chip_bench.specs.declared.entry.Ending.TheVariants.{Done}
-use Rattle.chip_bench.specs.declared.entry.Failure.{Failure}
-use Rattle.chip_bench.specs.declared.entry.Failure.TheVariants as failure
+use Rattle.chip_asm.specs.Lines.{open_fault}
+use Rattle.chip_asm.specs.declared.refusal.OpenError.{OpenError}
+use Rattle.chip_asm.specs.declared.refusal.OpenError.TheVariants as unopened
+use Rattle.chip_bench.specs.Settings.{SessionSettings, default_settings}
+use Rattle.chip_bench.specs.Serving.{Exchanges}
+use Rattle.chip_bench.specs.Printing.{Refuses}
+use Rattle.chip_bench.specs.Running.{AnswersAs, AnswersIfAsked, AnswersScript, Converses, Declines, RunsSession, status_after, status_of}
+use Rattle.chip_bench.specs.Tally.{Tally}
+use Rattle.chip_bench.specs.declared.ending.Ending.{Ending}
+use Rattle.chip_bench.specs.declared.ending.Failure.{Failure}
+use Rattle.chip_bench.specs.declared.ending.Failure.TheVariants as failure
 use Rattle.chip_bench.specs.declared.server.ServeError.{ServeError}
 use Rattle.chip_bench.specs.declared.server.ServeError.TheVariants as fault
-
--- the same exchange, of which another thing is said
-pub exchanges_as : (had left held holds : Option (List ℕ)) (P Q : List ℕ → List ℕ → List ℕ → Type 0) →
-    ((given rest written : List ℕ) → P given rest written → Q given rest written) → Exchanges had left held holds P → Exchanges had left held holds Q
-exchanges_as None left held holds P Q f e = tt
-exchanges_as (Some all) left None holds P Q f e = tt
-exchanges_as (Some all) left (Some before) holds P Q f e = record {
-  given = e.given;
-  rest = e.rest;
-  written = e.written;
-  read = e.read;
-  left_is = e.left_is;
-  wrote = e.wrote;
-  outcome = f e.given e.rest e.written e.outcome;
-}
+use Rattle.chip_bench.proofs.WriteLemmas.{keeps_known}
 
 -- nothing was read or written
 pub exchanges_none : (had held : Option (List ℕ)) (P : List ℕ → List ℕ → List ℕ → Type 0) → ((all : List ℕ) → P [] all []) → Exchanges had had held held P
@@ -37,22 +23,6 @@ exchanges_none None held P f = tt
 exchanges_none (Some all) None P f = tt
 exchanges_none (Some all) (Some before) P f =
     record { given = []; rest = all; written = []; read = refl; left_is = refl; wrote = ap Some (sym (append-nil before)); outcome = f all }
-
-pub carried_by : (e : ServeError) (result : Result Ending Failure) → result ≡ Err (failure_of e) → (given rest written : List ℕ) →
-    Served (Err e) (session_of default_settings []) given rest written → Carried result given rest written
-carried_by e result h given rest written s = (Err e, h, s)
-
-pub carried_ok : (given rest written : List ℕ) → Served (Ok tt) (session_of default_settings []) given rest written → Carried (Ok Done) given rest written
-carried_ok given rest written s = (Ok tt, refl, s)
-
--- there was no memory for the settings
-pub carried_none : (result : Result Ending Failure) → result ≡ Err failure.OutOfMemory → (all : List ℕ) → Carried result [] all []
-carried_none result h all = (Err fault.OutOfMemory, h, (0, refl))
-
--- the default settings are refused for want of memory alone
-pub no_settings : (e : SetError) → (settings_fault 10 (0 ∷ []) ≡ Some e) ⊎ ((e ≡ set.OutOfMemory) × (settings_fault 10 (0 ∷ []) ≡ None)) → settings_failure e ≡ failure.OutOfMemory
-no_settings e (inl h) = cc
-no_settings e (inr h) = ap settings_failure h.0
 
 -- the writer keeps its bytes afterwards
 pub exchanges_kept : (had left held holds now : Option (List ℕ)) (P : List ℕ → List ℕ → List ℕ → Type 0) → Keeps holds now → Exchanges had left held holds P → Exchanges had left held now P
@@ -68,20 +38,104 @@ exchanges_kept (Some all) left (Some before) holds now P k e = record {
   outcome = e.outcome;
 }
 
-same_failure : (f g : Failure) → ◌≡◌ {A = Result Ending Failure} (Err f) (Err g) → f ≡ g
-same_failure f g h = cc
+-- what is read of a reader up to a number of bytes
+pub taken : (known : Option (List ℕ)) (most : ℕ) (old new : List ℕ) →
+    IfSome (option_map (λ all. take most all) known) (λ some. new ≡ old ++ some) → IfSome known (λ all. new ≡ old ++ take most all)
+taken None most old new h = tt
+taken (Some all) most old new h = h
 
-no_ending : (f : Failure) (e : Ending) → ◌≡◌ {A = Result Ending Failure} (Err f) (Ok e) → ⊥
-no_ending f e h = cc
+empty_opens : open_fault [] ≡ None
+empty_opens = refl
 
--- the status of what hindered the program
-ends_hindered : (f : Failure) (served : Result Unit ServeError) → CarriedAs (Err f) served → Ends served (failure_status f)
-ends_hindered f (Ok _) c = absurd (no_ending f Done c)
-ends_hindered f (Err fault.ReaderFailed) c = ap failure_status (same_failure f _ c)
-ends_hindered f (Err fault.WriterFailed) c = ap failure_status (same_failure f _ c)
-ends_hindered f (Err fault.TooMuchInput) c = ap failure_status (same_failure f _ c)
-ends_hindered f (Err fault.OutOfMemory) c = ap failure_status (same_failure f _ c)
-ends_hindered f (Err (fault.Source e)) c = ap failure_status (same_failure f _ c)
+module _ {R W : Type 0} (remaining : R → Option (List ℕ)) (contents : W → Option (List ℕ)) where
+  -- nothing was read or written for want of memory
+  stays_put : (settings : SessionSettings) (input : Tally R) (output : Tally W) →
+      Converses remaining contents settings [] input input output output (Err fault.OutOfMemory)
+  stays_put settings input output = record {
+    transcript = exchanges_none _ _ _ (λ all. (0, refl));
+    opens = empty_opens;
+    reader_failed = refl;
+    writer_failed = refl;
+  }
 
-pub ran_hindered : (f : Failure) (given rest written : List ℕ) → Carried (Err f) given rest written → Ran (failure_status f) given rest written
-ran_hindered f given rest written (served, c, s) = (served, ends_hindered f served c, s)
+  -- there are no settings
+  pub unsettled : (asked : Option SessionSettings) (why : Failure) (result : Result Ending Failure) (input : Tally R) (output : Tally W) →
+      result ≡ Err why → (why ≡ failure.OutOfMemory) ⊎ ((why ≡ failure.BadTape) × (asked ≡ None)) →
+      AnswersIfAsked remaining contents [] input input output output asked result
+  unsettled None why result input output e (inl m) = (inr (e ∙ ap (λ f. Err f) m), refl, refl)
+  unsettled None why result input output e (inr b) = (inl (e ∙ ap (λ f. Err f) b.0), refl, refl)
+  unsettled (Some settings) why result input output e (inl m) =
+      (Err fault.OutOfMemory, (e ∙ ap (λ f. Err f) m, stays_put settings input output))
+  unsettled (Some settings) why result input output e (inr b) = absurd (some_is_none b.1)
+    where
+      some_is_none : Some settings ≡ None → ⊥
+      some_is_none h = cc
+
+  -- the writer is flushed after the session
+  converses_flushed : (settings : SessionSettings) (source : List ℕ) (in_old in_new : Tally R) (out_old out_mid out_new : Tally W) (served : Result Unit ServeError) →
+      Keeps (contents out_mid.inner) (contents out_new.inner) → out_new.failures ≡ out_mid.failures →
+      Converses remaining contents settings source in_old in_new out_old out_mid served →
+      Converses remaining contents settings source in_old in_new out_old out_new served
+  converses_flushed settings source in_old in_new out_old out_mid out_new served kept same c = record {
+    transcript = exchanges_kept _ _ _ _ _ _ kept c.transcript;
+    opens = c.opens;
+    reader_failed = c.reader_failed;
+    writer_failed = same ∙ c.writer_failed;
+  }
+
+  -- the empty source opens unless there is no memory
+  declined : (settings : SessionSettings) (in_old in_new : Tally R) (out_old out_mid : Tally W) (e : OpenError) (ended : Result Ending Failure) →
+      Declines remaining contents settings [] in_old in_new out_old out_mid e ended →
+      (ended ≡ Err failure.OutOfMemory) × Converses remaining contents settings [] in_old in_new out_old out_mid (Err (fault.Source e))
+  declined settings in_old in_new out_old out_mid e ended d = by_fault d.fault
+    where
+      none_is_some : ◌≡◌ {A = Option OpenError} None (Some e) → ⊥
+      none_is_some h = cc
+
+      by_memory : e ≡ unopened.OutOfMemory →
+          (ended ≡ Err failure.OutOfMemory) × Converses remaining contents settings [] in_old in_new out_old out_mid (Err (fault.Source e))
+      by_memory m =
+          let refused = subst (λ (x : OpenError). Refuses contents out_old out_mid x ended) m d.refused in (
+            refused.0,
+            record {
+              transcript = rw (d.unread, refused.1) (exchanges_none _ _ _ (λ all. (refl, refl)));
+              opens = inl m;
+              reader_failed = ap (λ (t : Tally R). t.failures) d.unread;
+              writer_failed = ap (λ (t : Tally W). t.failures) refused.1;
+            },
+          )
+
+      by_fault : (e ≡ unopened.OutOfMemory) ⊎ (open_fault [] ≡ Some e) →
+          (ended ≡ Err failure.OutOfMemory) × Converses remaining contents settings [] in_old in_new out_old out_mid (Err (fault.Source e))
+      by_fault (inl m) = by_memory m
+      by_fault (inr h) = absurd (none_is_some (sym empty_opens ∙ h))
+
+  -- from a session and a flush to the program's status
+  pub runs_session : (in_old in_new : Tally R) (out_old out_mid out_new : Tally W) (ended : Result Ending Failure) (flushed : Bool) (status : ℕ) →
+      Keeps (contents out_mid.inner) (contents out_new.inner) → out_new.failures ≡ out_mid.failures → status ≡ status_of ended flushed →
+      AnswersScript remaining contents default_settings [] in_old in_new out_old out_mid ended →
+      RunsSession remaining contents in_old in_new out_old out_new status
+  runs_session in_old in_new out_old out_mid out_new ended flushed status kept same s (served, a) = by_ending served a
+    where
+      finished : (served : Result Unit ServeError) → Converses remaining contents default_settings [] in_old in_new out_old out_mid served →
+          status_of ended flushed ≡ status_after served flushed → RunsSession remaining contents in_old in_new out_old out_new status
+      finished served c e = record {
+        served = served;
+        flushed = flushed;
+        conversed = converses_flushed default_settings [] in_old in_new out_old out_mid out_new served kept same c;
+        status_is = s ∙ e;
+      }
+
+      as_status : (other : Result Ending Failure) → ended ≡ other → status_of ended flushed ≡ status_of other flushed
+      as_status other e = ap (λ (r : Result Ending Failure). status_of r flushed) e
+
+      by_ending : (served : Result Unit ServeError) → AnswersAs remaining contents default_settings [] in_old in_new out_old out_mid ended served →
+          RunsSession remaining contents in_old in_new out_old out_new status
+      by_ending (Ok u) a = finished (Ok tt) a.1 (as_status _ a.0)
+      by_ending (Err fault.ReaderFailed) a = finished _ a.1 (as_status _ a.0)
+      by_ending (Err fault.WriterFailed) a = finished _ a.1 (as_status _ a.0)
+      by_ending (Err fault.OutOfMemory) a = finished _ a.1 (as_status _ a.0)
+      by_ending (Err fault.TooMuchInput) a = finished _ a.1 (as_status _ a.0)
+      by_ending (Err (fault.Source e)) a =
+          let d = declined default_settings in_old in_new out_old out_mid e ended a in
+          finished (Err (fault.Source e)) d.1 (as_status _ d.0)

@@ -8,7 +8,6 @@ use Rattle.chip_lang.specs.FaultNumber.{number_of_fault}
 use Rattle.chip_asm.specs.declared.table.Symbol.{Symbol}
 use Rattle.chip_asm.specs.Program.{image_of, symbols_of, faults_of}
 use Rattle.chip_asm.specs.Listing.{listing_of}
-use Rattle.chip_machine.specs.declared.stop.Profile.TheVariants.{Schip}
 use Rattle.chip_machine.specs.State.{State}
 use Rattle.chip_machine.specs.Start.{start_of}
 use Rattle.chip_machine.specs.Step.{step_of}
@@ -21,6 +20,8 @@ use Rattle.chip_bench.specs.declared.refusal.Refusal.{Refusal}
 use Rattle.chip_bench.specs.declared.refusal.Refusal.TheVariants.{NoImage, StepPastLast, AddressPastEnd}
 use Rattle.chip_bench.specs.declared.question.Question.{Question}
 use Rattle.chip_bench.specs.declared.question.Question.TheVariants.{Image, Symbols, Listing, Faults, Registers, Memory, Screen, Disassembly}
+use Rattle.chip_bench.specs.declared.question.StateQuestion.{StateQuestion}
+use Rattle.chip_bench.specs.declared.question.StateQuestion.TheVariants as state
 
 -- a line of bytes in lower case hexadecimal
 abbrev pub hex_line : List ℕ → List ℕ
@@ -57,41 +58,44 @@ step_asked (Registers step) = Some step
 step_asked (Memory step at count) = Some step
 step_asked (Screen step) = Some step
 step_asked (Disassembly step at count) = Some step
-step_asked question = None
+step_asked Image = None
+step_asked Symbols = None
+step_asked Listing = None
+step_asked Faults = None
 
 -- the bytes asked for pass the end of the memory
-abbrev pub is_past_end : Question → Bool
-is_past_end (Memory step at count) = nat_lt 4096 (at + count)
-is_past_end (Disassembly step at count) = nat_lt 4096 (at + 2 * count)
-is_past_end question = false
+abbrev pub is_past_end : StateQuestion → Bool
+is_past_end (state.Memory at count) = nat_lt 4096 (at + count)
+is_past_end (state.Disassembly at count) = nat_lt 4096 (at + 2 * count)
+is_past_end state.Registers = false
+is_past_end state.Screen = false
 
--- what a question asks of a state
-abbrev pub state_answer : Question → State → List ℕ
-state_answer (Registers step) state = registers_of state
-state_answer (Memory step at count) state = memory_of state at count
-state_answer (Screen step) state = screen_of state
-state_answer (Disassembly step at count) state = disassembly_of state at count
-state_answer question state = []
+-- what is asked of a state
+abbrev pub state_answer : StateQuestion → State → List ℕ
+state_answer state.Registers s = registers_of s
+state_answer (state.Memory at count) s = memory_of s at count
+state_answer state.Screen s = screen_of s
+state_answer (state.Disassembly at count) s = disassembly_of s at count
 
 -- the machine with this image after so many steps from step 0, under the keys and the settings of the session
 unfoldable pub machine_at : Session → List ℕ → ℕ → State
 machine_at session image step =
-    run step_of session.settings.rate (held session.keys) (start_of image session.settings.tape Schip) step
+    run step_of session.settings.rate (held session.keys) (start_of image session.settings.tape session.settings.profile) step
 
 -- the first refusal of a question about a step, if there is one
-abbrev pub step_refusal : Question → ℕ → Option Refusal
-step_refusal question step =
-    if nat_lt last_step step then Some StepPastLast else if is_past_end question then Some AddressPastEnd else None
+abbrev pub step_refusal : StateQuestion → ℕ → Option Refusal
+step_refusal asked step =
+    if nat_lt last_step step then Some StepPastLast else if is_past_end asked then Some AddressPastEnd else None
 
 abbrev pub unless_refused : Option Refusal → List ℕ → Result (List ℕ) Refusal
 unless_refused (Some why) bytes = Err why
 unless_refused None bytes = Ok bytes
 
 -- the answer to a question about a step of the image's run
-abbrev pub answer_at : Session → Question → ℕ → Option (List ℕ) → Result (List ℕ) Refusal
-answer_at session question step None = Err NoImage
-answer_at session question step (Some image) =
-    unless_refused (step_refusal question step) (state_answer question (machine_at session image step))
+abbrev pub answer_at : Session → StateQuestion → ℕ → Option (List ℕ) → Result (List ℕ) Refusal
+answer_at session asked step None = Err NoImage
+answer_at session asked step (Some image) =
+    unless_refused (step_refusal asked step) (state_answer asked (machine_at session image step))
 
 -- the bytes that answer a question, or the first refusal that applies
 abbrev pub answer_to : Session → Question → Result (List ℕ) Refusal
@@ -99,7 +103,7 @@ answer_to session Image = image_answer (image_of session.lines)
 answer_to session Symbols = Ok (symbols_text (symbols_of session.lines))
 answer_to session Listing = Ok (listing_text (listing_of session.lines))
 answer_to session Faults = Ok (faults_text (faults_of session.lines))
-answer_to session (Registers step) = answer_at session (Registers step) step (image_of session.lines)
-answer_to session (Memory step at count) = answer_at session (Memory step at count) step (image_of session.lines)
-answer_to session (Screen step) = answer_at session (Screen step) step (image_of session.lines)
-answer_to session (Disassembly step at count) = answer_at session (Disassembly step at count) step (image_of session.lines)
+answer_to session (Registers step) = answer_at session state.Registers step (image_of session.lines)
+answer_to session (Memory step at count) = answer_at session (state.Memory at count) step (image_of session.lines)
+answer_to session (Screen step) = answer_at session state.Screen step (image_of session.lines)
+answer_to session (Disassembly step at count) = answer_at session (state.Disassembly at count) step (image_of session.lines)

@@ -1,6 +1,8 @@
 -- The command line of the program, as `clap` sees it (own).
 use Rattle.std.specs.Prelude.{[], ◌∷◌, Some, codes, true, pos}
 use Rattle.clap.specs.Words.{App, Rule, new_app, new_rule, with_rule, with_subcommand}
+use Rattle.chip_replay.specs.declared.limits.TheConstants.{LAST_STEP, LEAST_SPACING, MOST_SPACING}
+use Rattle.chip_bench.specs.declared.settings.TheConstants.{MOST_RATE}
 use Rattle.clap.specs.declared.builder.action.ArgAction.TheVariants.{Set}
 use Rattle.clap.specs.declared.builder.value_parser.ValueParser.TheVariants as vp
 
@@ -17,7 +19,7 @@ abbrev pub steps : Rule
 steps = record (new_rule (codes "steps")) {
   long = Some (codes "steps");
   value_names = 1;
-  parser = Some (vp.Signed (pos 0) (pos 100000));
+  parser = Some (vp.Signed (pos 0) (pos LAST_STEP));
   required = true;
 }
 
@@ -25,7 +27,7 @@ abbrev pub rate : Rule
 rate = record (new_rule (codes "rate")) {
   long = Some (codes "rate");
   value_names = 1;
-  parser = Some (vp.Signed (pos 1) (pos 1000));
+  parser = Some (vp.Signed (pos 1) (pos MOST_RATE));
   defaults = codes "10" ∷ [];
 }
 
@@ -39,17 +41,31 @@ seed = record (new_rule (codes "seed")) {
   parser = Some (vp.Unsigned 0 18446744073709551615);
 }
 
+-- any text: the names of the profiles are no part of what `clap` judges
+abbrev pub profile : Rule
+profile = record (new_rule (codes "profile")) { long = Some (codes "profile"); value_names = 1 }
+
+abbrev pub every : Rule
+every = record (new_rule (codes "every")) {
+  long = Some (codes "every");
+  value_names = 1;
+  parser = Some (vp.Signed (pos LEAST_SPACING) (pos MOST_SPACING));
+}
+
 abbrev pub with_settings : App → App
-with_settings app = with_rule (with_rule (with_rule app rate) tape) seed
+with_settings app = with_rule (with_rule (with_rule (with_rule app rate) tape) seed) profile
 
 abbrev pub debug : App
-debug = with_settings (with_rule (new_app (codes "debug")) source)
+debug = with_rule (with_settings (with_rule (new_app (codes "debug")) source)) every
 
 abbrev pub asm : App
 asm = with_rule (with_rule (new_app (codes "asm")) needed_source) image
 
 abbrev pub list : App
 list = with_rule (new_app (codes "list")) needed_source
+
+abbrev pub dis : App
+dis = with_rule (new_app (codes "dis")) image
 
 abbrev pub run : App
 run = with_settings (with_rule (with_rule (new_app (codes "run")) needed_source) steps)
@@ -59,5 +75,5 @@ without_name app = record app { top = record app.top { no_binary_name = true } }
 
 -- the program's commands
 abbrev pub chipbench : App
-chipbench = with_subcommand (with_subcommand (with_subcommand (with_subcommand
-    (without_name (new_app (codes "chipbench"))) debug.top) asm.top) list.top) run.top
+chipbench = with_subcommand (with_subcommand (with_subcommand (with_subcommand (with_subcommand
+    (without_name (new_app (codes "chipbench"))) debug.top) asm.top) list.top) dis.top) run.top

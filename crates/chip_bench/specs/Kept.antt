@@ -1,15 +1,15 @@
 -- What a bench keeps beside its lines: a replay of the last image that the lines had (own).
 use Rattle.std.specs.Prelude.{◌≡◌, ℕ, ◌≤◌, List, length, Option, Some}
-use Rattle.chip_machine.specs.declared.stop.Profile.TheVariants.{Schip}
 use Rattle.chip_machine.specs.State.{State}
 use Rattle.chip_machine.specs.Start.{start_of}
 use Rattle.chip_replay.specs.History.{History}
 use Rattle.chip_bench.specs.Settings.{SessionSettings}
 
--- the replay starts from the last image, and has the session's rate
+-- the replay starts from the last image, and has the session's rate and spacing
 pub record Replays (settings : SessionSettings) (last : List ℕ) (replay : History State) : Type 0 where
-  pub start : replay.start ≡ start_of last settings.tape Schip
+  pub start : replay.start ≡ start_of last settings.tape settings.profile
   pub rate : replay.rate ≡ settings.rate
+  pub spacing : replay.spacing ≡ settings.spacing
   pub fits : length last ≤ 3584
 
 -- the last image is that of the lines, where they have one

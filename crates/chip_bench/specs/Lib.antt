@@ -41,3 +41,5 @@ pub mod Text
 pub mod Workbench
 pub mod Tape
 pub mod SettingWords
+pub mod Printing
+pub mod CommandWords

@@ -1,5 +1,5 @@
 -- The answers to questions about the machine's state (own; the state is that of the COSMAC VIP manual and the SUPER-CHIP 1.1 documentation).
-use Rattle.std.specs.Prelude.{ℕ, ◌+◌, ◌*◌, Bool, List, [], ◌∷◌, ◌++◌, map, Option, Some, None, if◌then◌else◌, slice_index, codes, nat_lt}
+use Rattle.std.specs.Prelude.{ℕ, ◌+◌, ◌*◌, Bool, List, [], ◌∷◌, ◌++◌, map, Option, Some, None, if◌then◌else◌, slice_range, codes, nat_lt}
 use Rattle.std.specs.List.{flat_map, list_any, range_with_len}
 use Rattle.std.specs.Fmt.{decimal}
 use Rattle.hex.specs.Hex.{encode_lower}
@@ -24,17 +24,9 @@ abbrev pub state_name : Option Stop → List ℕ
 state_name None = codes "run"
 state_name (Some stop) = 83 ∷ decimal (stop_number stop)
 
--- V0 to VF
-unfoldable pub register_values : Core → List ℕ
-register_values c = map (slice_index c.registers) (from_on 0 16)
-
--- the eight flag registers
-unfoldable pub flag_values : Core → List ℕ
-flag_values c = map (slice_index c.flags) (from_on 0 8)
-
 -- `v` and V0 to VF
 abbrev pub register_line : Core → List ℕ
-register_line c = codes "v" ++ spaced hex_byte (register_values c) ++ 10 ∷ []
+register_line c = codes "v" ++ spaced hex_byte c.registers ++ 10 ∷ []
 
 -- where the machine stands
 abbrev pub place_part : Core → List ℕ
@@ -54,7 +46,7 @@ state_line c = place_part c ++ timer_part c ++ condition_part c
 -- the eight flag registers, and the frames, the oldest first
 abbrev pub flag_line : Core → List ℕ
 flag_line c =
-    codes "flags" ++ spaced hex_byte (flag_values c) ++ codes " stack" ++ spaced hex_word c.frames ++ 10 ∷ []
+    codes "flags" ++ spaced hex_byte c.flags ++ codes " stack" ++ spaced hex_word c.frames ++ 10 ∷ []
 
 unfoldable pub registers_of : State → List ℕ
 registers_of s = register_line s.core ++ state_line s.core ++ flag_line s.core
@@ -63,7 +55,7 @@ registers_of s = register_line s.core ++ state_line s.core ++ flag_line s.core
 
 -- so many bytes from an address
 abbrev pub bytes_at : State → ℕ → ℕ → List ℕ
-bytes_at s at count = map (slice_index s.memory) (from_on at count)
+bytes_at s at count = slice_range s.memory at (at + count)
 
 unfoldable pub memory_of : State → ℕ → ℕ → List ℕ
 memory_of s at count = encode_lower (bytes_at s at count) ++ 10 ∷ []

@@ -1,50 +1,98 @@
 -- What a run of the program reads, writes and answers (own).
-use Rattle.std.specs.Prelude.{◌≡◌, ◌≢◌, ◌⊎◌, ℕ, List, [], Result, Ok, Err, codes}
+use Rattle.std.specs.Prelude.{◌≡◌, ◌≢◌, ◌⊎◌, ℕ, Bool, List, [], Option, Some, None, Result, Ok, Err, if◌then◌else◌}
+use Rattle.chip_asm.specs.Lines.{open_fault}
 use Rattle.chip_asm.specs.declared.refusal.OpenError.{OpenError}
-use Rattle.chip_asm.specs.declared.refusal.OpenError.TheVariants as unopened
+use Rattle.chip_asm.specs.declared.refusal.OpenError.TheVariants.{OutOfMemory as unopened_memory}
 use Rattle.clap.specs.Kinds.{Kinds, IsAmong}
 use Rattle.clap.specs.declared.error.Error.{Error}
 use Rattle.clap.specs.declared.error.kind.ErrorKind.{ErrorKind}
 use Rattle.clap.specs.declared.error.kind.ErrorKind.TheVariants as kind
+use Rattle.std.specs.Borrow.{Bor}
+use Rattle.std.specs.declared.io.Error.{Error as IoError}
 use Rattle.std.specs.declared.io.ErrorKind.{ErrorKind as IoErrorKind}
 use Rattle.std.specs.declared.io.ErrorKind.TheVariants as io_kind
-use Rattle.chip_bench.specs.Settings.{default_settings}
+use Rattle.chip_bench.specs.Settings.{SessionSettings, default_settings}
 use Rattle.chip_bench.specs.Session.{session_of}
-use Rattle.chip_bench.specs.Serving.{Served}
-use Rattle.chip_bench.specs.declared.entry.Ending.{Ending}
-use Rattle.chip_bench.specs.declared.entry.Ending.TheVariants.{Done, Faulty}
-use Rattle.chip_bench.specs.declared.entry.Failure.{Failure}
-use Rattle.chip_bench.specs.declared.entry.Failure.TheVariants as failure
+use Rattle.chip_bench.specs.Serving.{Served, Exchanges, Opens, reader_failures, writer_failures}
+use Rattle.chip_bench.specs.Printing.{Refuses}
+use Rattle.chip_bench.specs.Tally.{Tally}
+use Rattle.chip_bench.specs.declared.ending.Ending.{Ending}
+use Rattle.chip_bench.specs.declared.ending.Ending.TheVariants.{Done, Faulty}
+use Rattle.chip_bench.specs.declared.ending.Failure.{Failure}
+use Rattle.chip_bench.specs.declared.ending.Failure.TheVariants as failure
 use Rattle.chip_bench.specs.declared.server.ServeError.{ServeError}
 use Rattle.chip_bench.specs.declared.server.ServeError.TheVariants as fault
 use Rattle.chip_bench.specs.declared.settings.SetError.{SetError}
 use Rattle.chip_bench.specs.declared.settings.SetError.TheVariants as set
 
--- the status that the program has after a way to end `serve`; 3 after a whole script where the flush at the end failed
-abbrev pub Ends : Result Unit ServeError → ℕ → Type 0
-Ends (Ok _) status = (status ≡ 0) ⊎ (status ≡ 3)
-Ends (Err fault.ReaderFailed) status = status ≡ 3
-Ends (Err fault.WriterFailed) status = status ≡ 3
-Ends (Err fault.TooMuchInput) status = status ≡ 3
-Ends (Err fault.OutOfMemory) status = status ≡ 4
-Ends (Err (fault.Source e)) status = status ≡ 4
+-- the status of the program after a way to end a session on a source that opens, and a flush that went well or didn't
+abbrev pub status_after : Result Unit ServeError → Bool → ℕ
+status_after (Ok _) flushed = if flushed then 0 else 3
+status_after (Err fault.ReaderFailed) flushed = 3
+status_after (Err fault.WriterFailed) flushed = 3
+status_after (Err fault.TooMuchInput) flushed = 3
+status_after (Err fault.OutOfMemory) flushed = 4
+status_after (Err (fault.Source e)) flushed = 4
 
--- The program without words, where the reader gave `given` and has `rest` left and this was written: it is a session on
--- the empty source, which opens unless there is no memory.
-abbrev pub Ran : ℕ → List ℕ → List ℕ → List ℕ → Type 0
-Ran status given rest written = (served : Result Unit ServeError) × Ends served status × Served served (session_of default_settings []) given rest written
+-- how the program ends after a session on a source that opens, before the flush
+abbrev pub result_after : Result Unit ServeError → Result Ending Failure
+result_after (Ok _) = Ok Done
+result_after (Err fault.ReaderFailed) = Err failure.Input
+result_after (Err fault.WriterFailed) = Err failure.Output
+result_after (Err fault.TooMuchInput) = Err failure.TooMuchInput
+result_after (Err fault.OutOfMemory) = Err failure.OutOfMemory
+result_after (Err (fault.Source e)) = Err failure.OutOfMemory
 
--- for private contracts: what hinders the program after a way to end `serve` on the empty source
-abbrev pub failure_of : ServeError → Failure
-failure_of fault.ReaderFailed = failure.Input
-failure_of fault.WriterFailed = failure.Output
-failure_of fault.TooMuchInput = failure.TooMuchInput
-failure_of fault.OutOfMemory = failure.OutOfMemory
-failure_of (fault.Source e) = failure.OutOfMemory
+module _ {R W : Type 0} (remaining : R → Option (List ℕ)) (contents : W → Option (List ℕ)) (settings : SessionSettings) (source : List ℕ)
+    (in_old in_new : Tally R) (out_old out_new : Tally W) where
+  -- A session on a source that ended so: what it read and wrote is its transcript, as far as that ending says, and the reader or the
+  -- writer counts one failure more just where the ending names it.
+  pub record Converses (served : Result Unit ServeError) : Type 0 where
+    pub transcript : Exchanges (remaining in_old.inner) (remaining in_new.inner) (contents out_old.inner) (contents out_new.inner)
+        (Served served (session_of settings source))
+    pub opens : Opens (open_fault source) served
+    pub reader_failed : in_new.failures ≡ reader_failures served in_old.failures
+    pub writer_failed : out_new.failures ≡ writer_failures served out_old.failures
+
+  -- a source that doesn't open, or want of memory to open it: nothing was read, and it is refused
+  pub record Declines (e : OpenError) (result : Result Ending Failure) : Type 0 where
+    pub fault : (e ≡ unopened_memory) ⊎ (open_fault source ≡ Some e)
+    pub unread : in_new ≡ in_old
+    pub refused : Refuses contents out_old out_new e result
+
+  -- what the program did with a script on a source, where the session ended so
+  abbrev pub AnswersAs : Result Ending Failure → Result Unit ServeError → Type 0
+  AnswersAs result (Err (fault.Source e)) = Declines e result
+  AnswersAs result (Ok _) = (result ≡ result_after (Ok tt)) × Converses (Ok tt)
+  AnswersAs result (Err fault.ReaderFailed) = (result ≡ result_after (Err fault.ReaderFailed)) × Converses (Err fault.ReaderFailed)
+  AnswersAs result (Err fault.WriterFailed) = (result ≡ result_after (Err fault.WriterFailed)) × Converses (Err fault.WriterFailed)
+  AnswersAs result (Err fault.OutOfMemory) = (result ≡ result_after (Err fault.OutOfMemory)) × Converses (Err fault.OutOfMemory)
+  AnswersAs result (Err fault.TooMuchInput) = (result ≡ result_after (Err fault.TooMuchInput)) × Converses (Err fault.TooMuchInput)
+
+  abbrev pub AnswersScript : Result Ending Failure → Type 0
+  AnswersScript result = (served : Result Unit ServeError) × AnswersAs result served
+
+-- The same where the words ask for these settings. Where they ask for none, the tape is bad; either way memory may be short.
+-- Then nothing was read or written.
+module _ {R W : Type 0} (remaining : R → Option (List ℕ)) (contents : W → Option (List ℕ)) (source : List ℕ)
+    (in_old in_new : Tally R) (out_old out_new : Tally W) where
+  abbrev pub AnswersIfAsked : Option SessionSettings → Result Ending Failure → Type 0
+  AnswersIfAsked (Some settings) result = AnswersScript remaining contents settings source in_old in_new out_old out_new result
+  AnswersIfAsked None result = ((result ≡ Err failure.BadTape) ⊎ (result ≡ Err failure.OutOfMemory)) × (in_new ≡ in_old) × (out_new ≡ out_old)
+
+-- The program without words: a session on the empty source, which opens unless there is no memory. `flushed` says whether the
+-- flush at the end went well.
+module _ {R W : Type 0} (remaining : R → Option (List ℕ)) (contents : W → Option (List ℕ)) (in_old in_new : Tally R) (out_old out_new : Tally W) where
+  pub record RunsSession (status : ℕ) : Type 0 where
+    pub served : Result Unit ServeError
+    pub flushed : Bool
+    pub conversed : Converses remaining contents default_settings [] in_old in_new out_old out_new served
+    pub status_is : status ≡ status_after served flushed
 
 abbrev pub settings_failure : SetError → Failure
 settings_failure set.RateOutOfRange = failure.BadTape
 settings_failure set.TapeLength = failure.BadTape
+settings_failure set.SpacingOutOfRange = failure.BadTape
 settings_failure set.OutOfMemory = failure.OutOfMemory
 
 abbrev pub no_memory : Failure
@@ -54,16 +102,6 @@ no_memory = failure.OutOfMemory
 abbrev pub words_failure : ErrorKind → Error → Failure
 words_failure kind.OutOfMemory error = failure.OutOfMemory
 words_failure _ error = failure.Usage error
-
--- why a source doesn't open, as the program prints it; nothing for want of memory
-abbrev pub unopened_text : OpenError → List ℕ
-unopened_text (unopened.LineTooLong number) = codes "no O1\n"
-unopened_text unopened.TooManyLines = codes "no O2\n"
-unopened_text unopened.OutOfMemory = []
-
--- for private contracts: what may hinder printing an answer
-abbrev pub IsOfPrinting : Failure → Type 0
-IsOfPrinting hindrance = (hindrance ≡ failure.Output) ⊎ (hindrance ≡ failure.OutOfMemory)
 
 -- the status where the system can't give the program's words as text; 4 after any error where there is no memory to say so
 abbrev pub IsWithoutWords : IoErrorKind → ℕ → Type 0
@@ -77,20 +115,17 @@ ending_status Faulty = 1
 abbrev pub failure_status : Failure → ℕ
 failure_status (failure.Usage error) = 2
 failure_status failure.BadTape = 2
-failure_status (failure.CannotRead name) = 3
-failure_status (failure.CannotWrite name) = 3
+failure_status (failure.CannotRead name error) = 3
+failure_status (failure.CannotWrite name error) = 3
 failure_status failure.Input = 3
 failure_status failure.Output = 3
 failure_status failure.TooMuchInput = 3
 failure_status failure.OutOfMemory = 4
 
--- for private contracts: the same as `Ran`, before the flush at the end
-abbrev pub CarriedAs : Result Ending Failure → Result Unit ServeError → Type 0
-CarriedAs result (Ok _) = result ≡ Ok Done
-CarriedAs result (Err e) = result ≡ Err (failure_of e)
-
-abbrev pub Carried : Result Ending Failure → List ℕ → List ℕ → List ℕ → Type 0
-Carried result given rest written = (served : Result Unit ServeError) × CarriedAs result served × Served served (session_of default_settings []) given rest written
+-- the status after a way to end and a flush: a flush that failed takes the place of a good ending alone
+abbrev pub status_of : Result Ending Failure → Bool → ℕ
+status_of (Ok ending) flushed = if flushed then ending_status ending else 3
+status_of (Err failure) flushed = failure_status failure
 
 -- words with a fault: they are no request for help, nor in order
 abbrev pub AreFaulty : Kinds → Type 0
@@ -100,3 +135,11 @@ AreFaulty kinds = (kinds ≢ []) × (IsAmong kind.DisplayHelp kinds → ⊥) × 
 abbrev pub IsUsage : Result Ending Failure → Type 0
 IsUsage (Ok ending) = ⊥
 IsUsage (Err failure) = (failure_status failure ≡ 2) ⊎ (failure_status failure ≡ 4)
+
+-- for private contracts: what hinders reading a file of that name
+abbrev pub IsUnread : Bor (List ℕ) → Failure → Type 0
+IsUnread name hindrance = (hindrance ≡ failure.OutOfMemory) ⊎ ((why : IoError) × (hindrance ≡ failure.CannotRead name why))
+
+-- for private contracts: how many bytes of a source are read; one of that length or more doesn't open
+abbrev pub source_bytes_read : ℕ
+source_bytes_read = 808001

@@ -1,6 +1,44 @@
--- What the words of the command line say of the settings, where they say nothing (own).
-use Rattle.std.specs.Prelude.{None}
+-- The settings that the words of the command line ask for (own).
+use Rattle.std.specs.Prelude.{ℕ, List, [], ◌∷◌, Option, Some, None, Result, Ok, Err, option_and_then}
+use Rattle.std.specs.Borrow.{Bor}
+use Rattle.hex.specs.Hex.{decode_of}
+use Rattle.chip_machine.specs.declared.profile.Profile.TheVariants.{Schip}
+use Rattle.chip_replay.specs.declared.limits.TheConstants.{LEAST_SPACING}
+use Rattle.chip_bench.specs.Settings.{SessionSettings, settings_fault, spacing_fault}
+use Rattle.chip_bench.specs.Tape.{tape_of}
 use Rattle.chip_bench.specs.declared.command_line.SettingWords.{SettingWords}
+use Rattle.chip_bench.specs.declared.settings.SetError.{SetError}
 
+-- where the words say nothing of the settings
 abbrev pub default_words : SettingWords
-default_words = record { rate = 10; tape = None; seed = None }
+default_words = record { rate = 10; tape = None; seed = None; profile = Schip; spacing = LEAST_SPACING }
+
+abbrev pub if_ok : {T E : Type 0} → Result T E → Option T
+if_ok (Ok value) = Some value
+if_ok (Err e) = None
+
+abbrev pub tape_by : Option (Bor (List ℕ)) → Option ℕ → Option (List ℕ)
+tape_by (Some digits) (Some seed) = None
+tape_by (Some digits) None = if_ok (decode_of digits.now)
+tape_by None (Some seed) = Some (tape_of seed)
+tape_by None None = Some (0 ∷ [])
+
+-- The tape of `--tape HEX` or of `--seed N`, or one zero byte without both. Both together ask for none, and so do digits that stand
+-- for no bytes.
+abbrev pub tape_asked : SettingWords → Option (List ℕ)
+tape_asked words = tape_by words.tape words.seed
+
+-- the settings, where nothing is wrong with them
+abbrev pub unless_faulty : Option SetError → SessionSettings → Option SessionSettings
+unless_faulty None settings = Some settings
+unless_faulty (Some why) settings = None
+
+-- the settings of a tape and of what else the words say
+abbrev pub settings_with : SettingWords → List ℕ → Option SessionSettings
+settings_with words tape =
+    option_and_then (unless_faulty (spacing_fault words.spacing))
+    (unless_faulty (settings_fault words.rate tape) (record { rate = words.rate; tape = tape; profile = words.profile; spacing = words.spacing }))
+
+-- the settings that the words ask for, or none where their tape is bad
+abbrev pub settings_asked : SettingWords → Option SessionSettings
+settings_asked words = option_and_then (settings_with words) (tape_asked words)

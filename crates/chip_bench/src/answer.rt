@@ -4,6 +4,7 @@ ghost use Rattle.chip_asm.specs.Program.{symbols_of, faults_of};
 ghost use Rattle.chip_asm.specs.Listing.{listing_of};
 ghost use Rattle.chip_bench.specs.Answers.{hex_line, symbol_line, symbols_text, fault_line, faults_text, listing_text};
 
+use crate::text::{push_decimal, push_hex, push_signed};
 use chip_asm::{Source, Symbol};
 use chip_lang::{Bytes, Fault};
 use std::alloc::{AllocError, Global};
@@ -12,7 +13,8 @@ use std::alloc::{AllocError, Global};
 pub(crate) fn hex_line(alloc: Global, bytes: &[u8]) -> Result<Vec<u8>, AllocError>
     ensures { IfOk result (λ text. text.items ≡ hex_line bytes.now) }
 {
-    let mut text = hex::encode(alloc, bytes)?.into_bytes();
+    let mut text = Vec::new(alloc);
+    push_hex(&mut text, bytes)?;
     text.push(b'\n')?;
     Ok(text)
 }
@@ -30,23 +32,22 @@ fn symbols_text(alloc: Global, symbols: &[(Bytes, Symbol)]) -> Result<Vec<u8>, A
 {
     let mut text = Vec::new(alloc);
     for (name, symbol) in symbols {
-        push_symbol(alloc, &mut text, name, symbol)?;
+        push_symbol(&mut text, name, symbol)?;
     }
     text.extend_from_slice(b".\n")?;
     Ok(text)
 }
 
-fn push_symbol(
-    alloc: Global,
-    text: &mut Vec<u8>,
-    name: &Bytes,
-    symbol: &Symbol,
-) -> Result<(), AllocError>
+fn push_symbol(text: &mut Vec<u8>, name: &Bytes, symbol: &Symbol) -> Result<(), AllocError>
     ensures { OnOk result (text.new.items ≡ text.old.items ++ symbol_line (name.now, symbol.now)) }
 {
-    let rest = format!(in alloc; " {} {}\n", symbol.value, symbol.line)?;
     text.extend_from_slice(name.get())?;
-    text.extend_from_slice(rest.as_bytes())
+    text.push(b' ')?;
+    push_signed(text, symbol.value)?;
+    text.push(b' ')?;
+    push_decimal(text, symbol.line as u64)?;
+    text.push(b'\n')?;
+    Ok(())
 }
 
 /// A line for each line with a fault.
@@ -62,22 +63,20 @@ fn faults_text(alloc: Global, faults: &[(usize, Fault)]) -> Result<Vec<u8>, Allo
 {
     let mut text = Vec::new(alloc);
     for (line, fault) in faults {
-        push_fault(alloc, &mut text, *line, *fault)?;
+        push_fault(&mut text, *line, *fault)?;
     }
     text.extend_from_slice(b".\n")?;
     Ok(text)
 }
 
-fn push_fault(
-    alloc: Global,
-    text: &mut Vec<u8>,
-    line: usize,
-    fault: Fault,
-) -> Result<(), AllocError>
+fn push_fault(text: &mut Vec<u8>, line: usize, fault: Fault) -> Result<(), AllocError>
     ensures { OnOk result (text.new.items ≡ text.old.items ++ fault_line (line, fault)) }
 {
-    let code = format!(in alloc; "{} F{}\n", line, fault.number())?;
-    text.extend_from_slice(code.as_bytes())
+    push_decimal(text, line as u64)?;
+    text.extend_from_slice(b" F")?;
+    push_decimal(text, u64::from(fault.number()))?;
+    text.push(b'\n')?;
+    Ok(())
 }
 
 /// The listing, and a line with a full stop.

@@ -10,7 +10,7 @@ ghost use Rattle.chip_bench.specs.IsAnswer.{IsAnswered, IsUnanswered};
 
 use crate::answer::{faults_answer, hex_line, listing_answer, symbols_answer};
 use crate::machine_answer::{disassembly, memory_line, registers, screen};
-use crate::question::Question;
+use crate::question::{Question, StateQuestion};
 use crate::refusal::Refusal;
 use crate::settings::Settings;
 use chip_asm::Source;
@@ -18,46 +18,43 @@ use chip_machine::Machine;
 use chip_replay::{LAST_STEP, Replay};
 use std::alloc::{AllocError, Global};
 
-/// What a question asks of a machine.
+/// What is asked of a machine's state.
 fn state_answer(
     alloc: Global,
-    question: &Question,
+    asked: StateQuestion,
     machine: &Machine,
 ) -> Result<Vec<u8>, AllocError>
-    requires { is_past_end question.now ≡ false }
-    ensures { IfOk result (λ answer. answer.items ≡ state_answer question.now machine.now) }
+    requires { is_past_end asked ≡ false }
+    ensures { IfOk result (λ answer. answer.items ≡ state_answer asked machine.now) }
 {
-    match *question {
-        Question::Registers { .. } => registers(alloc, machine),
-        Question::Memory { at, count, .. } => memory_line(alloc, machine, at as u16, count as u16),
-        Question::Screen { .. } => screen(alloc, machine),
-        Question::Disassembly { at, count, .. } => {
+    match asked {
+        StateQuestion::Registers => registers(alloc, machine),
+        StateQuestion::Memory { at, count } => memory_line(alloc, machine, at as u16, count as u16),
+        StateQuestion::Screen => screen(alloc, machine),
+        StateQuestion::Disassembly { at, count } => {
             disassembly(alloc, machine, at as u16, count as u16)
-        }
-        Question::Image | Question::Symbols | Question::Listing | Question::Faults => {
-            Ok(Vec::new(alloc))
         }
     }
 }
 
 /// Whether the bytes asked for pass the end of the memory.
-fn is_past_end(question: &Question) -> bool
-    ensures { result ≡ is_past_end question.now }
+fn is_past_end(asked: StateQuestion) -> bool
+    ensures { result ≡ is_past_end asked }
 {
-    match *question {
-        Question::Memory { at, count, .. } => u64::from(at) + u64::from(count) > 4096,
-        Question::Disassembly { at, count, .. } => u64::from(at) + 2 * u64::from(count) > 4096,
-        _ => false,
+    match asked {
+        StateQuestion::Memory { at, count } => u64::from(at) + u64::from(count) > 4096,
+        StateQuestion::Disassembly { at, count } => u64::from(at) + 2 * u64::from(count) > 4096,
+        StateQuestion::Registers | StateQuestion::Screen => false,
     }
 }
 
 /// The first refusal of a question about a step, if there is one.
-fn step_refusal(question: &Question, step: u32) -> Option<Refusal>
-    ensures { result ≡ step_refusal question.now step }
+fn step_refusal(asked: StateQuestion, step: u32) -> Option<Refusal>
+    ensures { result ≡ step_refusal asked step }
 {
     if step > LAST_STEP {
         Some(Refusal::StepPastLast)
-    } else if is_past_end(question) {
+    } else if is_past_end(asked) {
         Some(Refusal::AddressPastEnd)
     } else {
         None
@@ -71,26 +68,26 @@ fn answer_at(
     settings: &Settings,
     last: &[u8],
     replay: &mut Replay<Machine>,
-    question: &Question,
+    asked: StateQuestion,
     step: u32,
 ) -> Result<Vec<u8>, Refusal>
     requires replays { Replays settings.now last.now replay.old }
     requires is_last { IsLastImage (option_copied image) last.now }
-    ensures ok { (lines : List (List ℕ)) → IfOk result (λ v. IsAnswered (answer_at (session_with lines replay.old.keys settings.now) question.now step (option_copied image.entry)) v.items) }
-    ensures err { (lines : List (List ℕ)) → IfErr result (IsUnanswered (answer_at (session_with lines replay.old.keys settings.now) question.now step (option_copied image.entry))) }
+    ensures ok { (lines : List (List ℕ)) → IfOk result (λ v. IsAnswered (answer_at (session_with lines replay.old.keys settings.now) asked step (option_copied image.entry)) v.items) }
+    ensures err { (lines : List (List ℕ)) → IfErr result (IsUnanswered (answer_at (session_with lines replay.old.keys settings.now) asked step (option_copied image.entry))) }
     ensures replays { Replays settings.now last.now replay.new }
     ensures keys { replay.new.keys ≡ replay.old.keys }
-    ensures reuses { ReachesStep step result replay.old.reach replay.old.ran replay.new.reach replay.new.ran }
+    ensures reuses { ReachesStep settings.now.spacing step result replay.old.reach replay.old.ran replay.new.reach replay.new.ran }
     ensures refused { IfErr result (λ e. e ≢ Refusal.AnswerMemory → StaysPut replay.old.reach replay.old.ran replay.new.reach replay.new.ran) }
 {
     if image.is_none() {
         return Err(Refusal::NoImage);
     }
-    if let Some(why) = step_refusal(question, step) {
+    if let Some(why) = step_refusal(asked, step) {
         return Err(why);
     }
     match replay.at(step) {
-        Ok(machine) => match state_answer(alloc, question, machine) {
+        Ok(machine) => match state_answer(alloc, asked, machine) {
             Ok(answer) => Ok(answer),
             Err(_) => Err(Refusal::AnswerMemory),
         },
@@ -113,26 +110,45 @@ pub(crate) fn answer(
     ensures err { IfErr result (IsUnanswered (answer_to (session_with source.now.lines replay.old.keys settings.now) question.now)) }
     ensures replays { Replays settings.now last.now replay.new }
     ensures keys { replay.new.keys ≡ replay.old.keys }
-    ensures reuses { ReusesRun (step_asked question.now) result replay.old.reach replay.old.ran replay.new.reach replay.new.ran }
+    ensures reuses { ReusesRun settings.now.spacing (step_asked question.now) result replay.old.reach replay.old.ran replay.new.reach replay.new.ran }
     ensures refused { IfErr result (λ e. e ≢ Refusal.AnswerMemory → StaysPut replay.old.reach replay.old.ran replay.new.reach replay.new.ran) }
 {
+    let image = source.image();
     match *question {
-        Question::Image => image_answer(alloc, source.image()),
+        Question::Image => image_answer(alloc, image),
         Question::Symbols => told(symbols_answer(alloc, source)),
         Question::Listing => told(listing_answer(alloc, source)),
         Question::Faults => told(faults_answer(alloc, source)),
-        Question::Registers { step }
-        | Question::Memory { step, .. }
-        | Question::Screen { step }
-        | Question::Disassembly { step, .. } => answer_at(
-            alloc,
-            source.image(),
-            settings,
-            last,
-            replay,
-            question,
-            step,
-        ),
+        Question::Registers { step } => {
+            answer_at(
+                alloc,
+                image,
+                settings,
+                last,
+                replay,
+                StateQuestion::Registers,
+                step,
+            )
+        }
+        Question::Memory { step, at, count } => {
+            let asked = StateQuestion::Memory { at, count };
+            answer_at(alloc, image, settings, last, replay, asked, step)
+        }
+        Question::Screen { step } => {
+            answer_at(
+                alloc,
+                image,
+                settings,
+                last,
+                replay,
+                StateQuestion::Screen,
+                step,
+            )
+        }
+        Question::Disassembly { step, at, count } => {
+            let asked = StateQuestion::Disassembly { at, count };
+            answer_at(alloc, image, settings, last, replay, asked, step)
+        }
     }
 }
 

@@ -18,13 +18,11 @@ use crate::refusal::Refusal;
 use crate::settings::Settings;
 use chip_asm::{OpenError, Source};
 use chip_lang::Meter;
-use chip_machine::{Machine, Profile};
+use chip_machine::Machine;
+use chip_machine::limits::IMAGE_BYTES;
 use chip_replay::Replay;
 use std::alloc::Global;
 use std::marker::Model;
-
-/// How many bytes an image has at most.
-const IMAGE_ROOM: usize = 3584;
 
 /// A bench: a source as edited so far, the settings, and the replay of the last image that the lines had, under the key
 /// events as edited so far.
@@ -64,13 +62,25 @@ impl Bench {
         ensures err { IfErr result (λ e. (e ≡ OpenError.OutOfMemory) ⊎ (open_fault source.now ≡ Some e)) }
     {
         let source = Source::open(alloc, source)?;
-        let mut last_image = Vec::with_capacity(alloc, IMAGE_ROOM)?;
-        let machine = match Machine::start(alloc, &last_image, settings.tape(), Profile::Schip) {
+        let mut last_image = Vec::with_capacity(alloc, IMAGE_BYTES)?;
+        let machine = match Machine::start(
+            alloc,
+            &last_image,
+            settings.tape(),
+            settings.profile(),
+        ) {
             Ok(machine) => machine,
             Err(_) => return Err(OpenError::OutOfMemory),
         };
-        let mut replay = Replay::new(alloc, machine, settings.rate())?;
-        follow_image(&settings, &mut replay, &mut last_image, source.image());
+        let mut replay = Replay::new(alloc, machine, settings.rate(), settings.spacing())?;
+        let image = source.image();
+        follow_image(
+            &settings,
+            &mut replay,
+            &mut last_image,
+            image,
+            0..IMAGE_BYTES,
+        );
         Ok(Bench {
             source,
             settings,
@@ -94,6 +104,7 @@ impl Bench {
         ensures costs { Costs (change_of edit.now) self.old.session.lines self.old.work self.new.work }
         ensures ran { self.new.ran ≡ self.old.ran }
     {
+        let had_image = self.source.image().is_some();
         match *edit {
             Edit::Insert { line, text } => self.source.insert(alloc, line as usize, text)?,
             Edit::Replace { line, text } => self.source.replace(alloc, line as usize, text)?,
@@ -106,11 +117,18 @@ impl Bench {
             }
             Edit::DeleteKey { step, key } => return Ok(self.replay.delete_key(step, key)?),
         }
+        // Without an image before the edit, the last one may be any.
+        let changed = if had_image {
+            self.source.changed()
+        } else {
+            0..IMAGE_BYTES
+        };
         follow_image(
             &self.settings,
             &mut self.replay,
             &mut self.last_image,
             self.source.image(),
+            changed,
         );
         Ok(())
     }

@@ -1,11 +1,16 @@
 //! What the words of the command line ask for.
-ghost use Rattle.std.specs.Prelude.{◌≡◌, [], Ok, None, IfOk, false, map, unwrap_or};
-ghost use Rattle.clap.specs.Matches.{first_value, found_of};
-ghost use Rattle.clap.specs.Words.{FailsBy, app_of, fault_of, kind_of, rule_of};
+ghost use Rattle.std.specs.Prelude.{◌≡◌, [], Ok, Err, None, IfOk, IfErr, false, map, unwrap_or, option_copied, codes, ◌⊎◌, ◌∷◌};
+ghost use Rattle.clap.specs.Matches.{found_of};
+ghost use Rattle.clap.specs.Words.{FailsBy, app_of, first_of, kind_of, one_of, rows_of, rule_of};
 ghost use Rattle.clap.specs.declared.builder.command.Command.TheViews.{out-Command as fields_of};
 ghost use Rattle.chip_bench.specs.CommandLine as line;
 ghost use Rattle.chip_bench.specs.SettingWords.{default_words};
+ghost use Rattle.chip_bench.specs.CommandWords.{Asks, AsksFor, AsksSettings, IsProfile, Reads, ReadsOr, faults_of, needed, profile_fault};
 
+use crate::settings::MOST_RATE;
+use chip_machine::Profile;
+use chip_machine::profile::PROFILES;
+use chip_replay::{LAST_STEP, LEAST_SPACING, MOST_SPACING};
 use clap::error::ErrorKind;
 use clap::{Arg, ArgAction, ArgMatches, Command, Error, value_parser};
 use std::alloc::{AllocError, Global};
@@ -17,6 +22,14 @@ const PROGRAM_NOTES: &str = "\
 Without a command the program is `debug` with an empty source.
 
 Example: chipbench run game.asm --steps 1000";
+
+const PROFILE_HELP: &str = "\
+Which machine: `schip` is SUPER-CHIP 1.1, `vip` the COSMAC VIP, without the instructions that SUPER-CHIP added, and with \
+other results of shifts, of FX55 and FX65, of BNNN, of OR, AND and XOR, and of the height 0 [default: schip]";
+
+const EVERY_HELP: &str = "\
+How many steps lie between two checkpoints of the run, 1000 to 100000: more take less memory, fewer make edits and \
+questions faster; no answer depends on it [default: 1000]";
 
 /// What the program is asked to do.
 #[derive(Clone, Copy, Debug, PartialEq, Eq)]
@@ -35,6 +48,10 @@ pub enum CommandLine<'a> {
     List {
         source: &'a str,
     },
+    /// To print a source of an image.
+    Dis {
+        image: &'a str,
+    },
     /// To run a source's image.
     Run {
         source: &'a str,
@@ -52,6 +69,10 @@ pub struct SettingWords<'a> {
     pub tape: Option<&'a str>,
     /// The seed of the tape.
     pub seed: Option<u64>,
+    /// Which machine it is.
+    pub profile: Profile,
+    /// How many steps lie between two checkpoints of a session's run.
+    pub spacing: u32,
 }
 
 impl<'a> SettingWords<'a> {
@@ -60,6 +81,8 @@ impl<'a> SettingWords<'a> {
         rate: DEFAULT_RATE,
         tape: None,
         seed: None,
+        profile: Profile::Schip,
+        spacing: LEAST_SPACING,
     };
 }
 
@@ -69,7 +92,8 @@ impl<'a> SettingWords<'a> {
 ///
 /// A fault of the words, a request for help, or want of memory.
 pub fn parse_words<'a, S: AsStr>(alloc: Global, words: &'a [S]) -> Result<CommandLine<'a>, Error>
-    ensures fault { FailsBy (fault_of line.chipbench (map S.text words.entry.now)) result }
+    ensures fault { FailsBy (faults_of (map S.text words.entry.now)) result }
+    ensures asked { IfOk result (AsksFor (map S.text words.entry.now)) }
     ensures none { words.entry.now ≡ [] → result ≡ Ok (CommandLine.Debug None default_words) }
 {
     if words.is_empty() {
@@ -79,26 +103,44 @@ pub fn parse_words<'a, S: AsStr>(alloc: Global, words: &'a [S]) -> Result<Comman
         });
     }
     let matches = chipbench(alloc)?.try_get_matches_from(words)?;
-    Ok(match matches.subcommand() {
-        Some(("asm", found)) => CommandLine::Asm {
+    match matches.subcommand() {
+        Some((name, found)) => command_asked(alloc, name, found),
+        None => Ok(CommandLine::Debug {
+            source: None,
+            settings: SettingWords::DEFAULT,
+        }),
+    }
+}
+
+// What the values of a command of that name ask for.
+fn command_asked<'a>(
+    alloc: Global,
+    name: &str,
+    found: &ArgMatches<'a>,
+) -> Result<CommandLine<'a>, Error>
+    ensures asked { IfOk result (Asks name.now (rows_of (found_of found.now))) }
+    ensures fault { FailsBy (profile_fault (first_of (codes "profile") (rows_of (found_of found.now)))) result }
+{
+    let profile = profile_asked(alloc, found.get_str("profile"))?;
+    Ok(match name {
+        "asm" => CommandLine::Asm {
             source: required_text(found, "source"),
             image: required_text(found, "image"),
         },
-        Some(("list", found)) => CommandLine::List {
+        "list" => CommandLine::List {
             source: required_text(found, "source"),
         },
-        Some(("run", found)) => CommandLine::Run {
-            source: required_text(found, "source"),
-            steps: found.get_one("steps").unwrap_or(0),
-            settings: setting_words(found),
+        "dis" => CommandLine::Dis {
+            image: required_text(found, "image"),
         },
-        Some((_, found)) => CommandLine::Debug {
+        "run" => CommandLine::Run {
+            source: required_text(found, "source"),
+            steps: number(found, "steps", 0),
+            settings: setting_words(found, profile),
+        },
+        _ => CommandLine::Debug {
             source: found.get_str("source"),
-            settings: setting_words(found),
-        },
-        None => CommandLine::Debug {
-            source: None,
-            settings: SettingWords::DEFAULT,
+            settings: setting_words(found, profile),
         },
     })
 }
@@ -113,18 +155,60 @@ pub(crate) fn not_text(alloc: Global) -> Result<Error, AllocError>
     )
 }
 
+// The profile of a name, which is SUPER-CHIP where there is no name.
+fn profile_asked(alloc: Global, name: Option<&str>) -> Result<Profile, Error>
+    ensures asked { IfOk result (IsProfile (option_copied name.entry)) }
+    ensures fault { FailsBy (profile_fault (option_copied name.entry)) result }
+{
+    let Some(name) = name else {
+        return Ok(Profile::Schip);
+    };
+    match Profile::from_name(name) {
+        Some(profile) => Ok(profile),
+        None => Err(no_such_profile(alloc, name)?),
+    }
+}
+
+fn no_such_profile(alloc: Global, name: &str) -> Result<Error, AllocError>
+    ensures { IfOk result (λ error. kind_of error ≡ ErrorKind.InvalidValue) }
+{
+    let names = PROFILES.join(alloc, ", ")?;
+    let message = format!(in alloc;
+        "invalid value '{name}' for '--profile <NAME>'\n  [possible values: {names}]"
+    )?;
+    chipbench(alloc)?.error(ErrorKind::InvalidValue, message.as_str())
+}
+
 // The text of an argument without which `clap` refuses the words.
 fn required_text<'a>(found: &ArgMatches<'a>, id: &str) -> &'a str
-    ensures { result.now ≡ unwrap_or (first_value (found_of found.now) id.now) [] }
+    ensures { result.now ≡ needed id.now (rows_of (found_of found.now)) }
 {
     found.get_str(id).unwrap_or("")
 }
 
-fn setting_words<'a>(found: &ArgMatches<'a>) -> SettingWords<'a> {
+// The number of an argument, or one in its place.
+fn number(found: &ArgMatches<'_>, id: &str, default: u32) -> u32
+    ensures { ReadsOr 32 (one_of id.now (rows_of (found_of found.now))) default result }
+{
+    found.get_one(id).unwrap_or(default)
+}
+
+fn seed_asked(found: &ArgMatches<'_>) -> Option<u64>
+    ensures { Reads 64 (one_of (codes "seed") (rows_of (found_of found.now))) result }
+{
+    found.get_one("seed")
+}
+
+fn setting_words<'a>(found: &ArgMatches<'a>, profile: Profile) -> SettingWords<'a>
+    ensures { IsProfile (first_of (codes "profile") (rows_of (found_of found.now))) profile
+        → AsksSettings (rows_of (found_of found.now)) result }
+{
     SettingWords {
-        rate: found.get_one("rate").unwrap_or(DEFAULT_RATE),
+        rate: number(found, "rate", DEFAULT_RATE),
         tape: found.get_str("tape"),
-        seed: found.get_one("seed"),
+        seed: seed_asked(found),
+        profile,
+        spacing: number(found, "every", LEAST_SPACING),
     }
 }
 
@@ -139,6 +223,7 @@ fn chipbench<'a>(alloc: Global) -> Result<Command<'a>, AllocError>
         .subcommand(debug_command(alloc)?)?
         .subcommand(asm_command(alloc)?)?
         .subcommand(list_command(alloc)?)?
+        .subcommand(dis_command(alloc)?)?
         .subcommand(run_command(alloc)?)?;
     Ok(command)
 }
@@ -150,10 +235,8 @@ fn debug_command<'a>(alloc: Global) -> Result<Command<'a>, AllocError>
     let command = Command::new(alloc, "debug")
         .about("Answers the edits and questions on standard input, one a line")
         .after_help("Example: chipbench debug game.asm --rate 15 --seed 7")
-        .arg(source_argument(alloc).help("The source to begin with [default: the empty source]"))?
-        .arg(rate_argument(alloc))?
-        .arg(tape_argument(alloc))?
-        .arg(seed_argument(alloc))?;
+        .arg(source_argument(alloc).help("The source to begin with [default: the empty source]"))?;
+    let command = with_settings(alloc, command)?.arg(every_argument(alloc))?;
     Ok(command)
 }
 
@@ -180,6 +263,17 @@ fn list_command<'a>(alloc: Global) -> Result<Command<'a>, AllocError>
     Ok(command)
 }
 
+fn dis_command<'a>(alloc: Global) -> Result<Command<'a>, AllocError>
+    ensures app { IfOk result (λ command. app_of command ≡ line.dis) }
+    ensures local { IfOk result (λ command. (fields_of command).has_globals ≡ false) }
+{
+    let command = Command::new(alloc, "dis")
+        .about("Prints a source whose image is that of a file")
+        .after_help("Example: chipbench dis game.ch8")
+        .arg(image_argument(alloc).help("The image, a file of at most 3584 bytes"))?;
+    Ok(command)
+}
+
 fn run_command<'a>(alloc: Global) -> Result<Command<'a>, AllocError>
     ensures app { IfOk result (λ command. app_of command ≡ line.run) }
     ensures local { IfOk result (λ command. (fields_of command).has_globals ≡ false) }
@@ -188,10 +282,22 @@ fn run_command<'a>(alloc: Global) -> Result<Command<'a>, AllocError>
         .about("Prints the registers and the screen after a number of steps")
         .after_help("Example: chipbench run game.asm --steps 1000 --tape 0fa3")
         .arg(source_argument(alloc).required(true))?
-        .arg(steps_argument(alloc))?
+        .arg(steps_argument(alloc))?;
+    let command = with_settings(alloc, command)?;
+    Ok(command)
+}
+
+// Adds the arguments that give settings.
+fn with_settings<'a>(alloc: Global, command: Command<'a>) -> Result<Command<'a>, AllocError>
+    ensures app { IfOk result (λ with. app_of with ≡ line.with_settings (app_of command.entry)) }
+    ensures local { IfOk result (λ with. (fields_of command.entry).has_globals ≡ false
+        → (fields_of with).has_globals ≡ false) }
+{
+    let command = command
         .arg(rate_argument(alloc))?
         .arg(tape_argument(alloc))?
-        .arg(seed_argument(alloc))?;
+        .arg(seed_argument(alloc))?
+        .arg(profile_argument(alloc))?;
     Ok(command)
 }
 
@@ -223,8 +329,8 @@ fn steps_argument<'a>(alloc: Global) -> Arg<'a>
     Arg::new(alloc, "steps")
         .long("steps")
         .value_name("N")
-        .help("How many steps to run, 0 to 100000")
-        .value_parser(value_parser!(u32).range(0..=100_000))
+        .help("How many steps to run, 0 to 1000000")
+        .value_parser(value_parser!(u32).range(0..=i64::from(LAST_STEP)))
         .required(true)
 }
 
@@ -236,7 +342,7 @@ fn rate_argument<'a>(alloc: Global) -> Arg<'a>
         .long("rate")
         .value_name("N")
         .help("How many steps lie between two ticks of the timers, 1 to 1000")
-        .value_parser(value_parser!(u32).range(1..=1000))
+        .value_parser(value_parser!(u32).range(1..=i64::from(MOST_RATE)))
         .default_value("10")
 }
 
@@ -260,4 +366,25 @@ fn seed_argument<'a>(alloc: Global) -> Arg<'a>
             "Makes 256 random bytes from a number, 0 to 18446744073709551615, in the place of --tape",
         )
         .value_parser(value_parser!(u64))
+}
+
+fn profile_argument<'a>(alloc: Global) -> Arg<'a>
+    ensures rule { rule_of result ≡ line.profile }
+    ensures local { result.global ≡ false }
+{
+    Arg::new(alloc, "profile")
+        .long("profile")
+        .value_name("NAME")
+        .help(PROFILE_HELP)
+}
+
+fn every_argument<'a>(alloc: Global) -> Arg<'a>
+    ensures rule { rule_of result ≡ line.every }
+    ensures local { result.global ≡ false }
+{
+    Arg::new(alloc, "every")
+        .long("every")
+        .value_name("P")
+        .help(EVERY_HELP)
+        .value_parser(value_parser!(u32).range(i64::from(LEAST_SPACING)..=i64::from(MOST_SPACING)))
 }

@@ -1,135 +1,37 @@
 //! The program behind `main`.
-ghost use Rattle.std.specs.Prelude.{◌≡◌, ◌↔◌, [], ◌∷◌, Ok, Err, None, IfOk, IfErr, OnOk, IsErr, IsSome, ◌⊎◌, map};
-ghost use Rattle.chip_bench.specs.Settings.{default_settings};
-ghost use Rattle.chip_bench.specs.SettingWords.{default_words};
-ghost use Rattle.chip_bench.specs.Serving.{Exchanges};
-ghost use Rattle.chip_bench.specs.Running.{Carried, Ran, ending_status, failure_status, settings_failure, words_failure, no_memory, AreFaulty, IsUsage, IsWithoutWords, IsOfPrinting, unopened_text};
-ghost use Rattle.chip_bench.specs.CommandLine.{chipbench};
-ghost use Rattle.chip_bench.specs.Answers.{faults_text, listing_text};
-ghost use Rattle.chip_asm.specs.Program.{image_of, faults_of};
-ghost use Rattle.chip_asm.specs.Listing.{listing_of};
+ghost use Rattle.std.specs.Prelude.{◌≡◌, [], Ok, Err, None, Some, IfOk, IfErr, IsErr, OnOk, IfSome, ◌⊎◌, ◌++◌, map, take};
 ghost use Rattle.hex.specs.Hex.{decode_of};
-ghost use Rattle.clap.specs.Words.{fault_of, kind_of};
-ghost use Rattle.std.specs.Io.KnownBytes.{Keeps, Appends};
+ghost use Rattle.chip_bench.specs.Settings.{default_settings};
+ghost use Rattle.chip_bench.specs.SettingWords.{settings_asked, tape_asked};
+ghost use Rattle.chip_bench.specs.Running.{AnswersScript, AnswersIfAsked, RunsSession, status_of, failure_status, AreFaulty, IsUsage, IsWithoutWords, IsUnread, source_bytes_read};
+ghost use Rattle.chip_bench.specs.CommandWords.{faults_of};
+ghost use Rattle.std.specs.Io.KnownBytes.{Keeps};
 ghost use Rattle.std.specs.IoError.{error_kind};
-ghost use Rattle.chip_asm.specs.declared.refusal.OpenError.TheVariants.{OutOfMemory as memory};
 
-use crate::answer::{faults_answer, listing_answer};
-use crate::bench::Bench;
 use crate::command_line::{CommandLine, SettingWords, not_text, parse_words};
 use crate::counted::Counted;
+use crate::ending::{Ending, Failure};
 use crate::image_file::write_file;
-use crate::question::Question;
-use crate::refusal::Refusal;
-use crate::server::{ServeError, serve};
-use crate::settings::{SetError, Settings};
+use crate::output::{answer_script, image_or_faults, list_source, print_source, run_source};
+use crate::settings::Settings;
 use crate::tape::tape_of;
-use chip_asm::{OpenError, Source};
-use clap::error::ErrorKind;
+use chip_machine::limits::IMAGE_BYTES;
 use hex::FromHexError;
-use std::alloc::{AllocError, Global};
+use std::alloc::Global;
 use std::convert::AsStr;
 use std::io::{Read, Write};
 use std::rt::Files;
 use std::{fs, io};
-use thiserror::Error;
 
 // A source of this length or more doesn't open.
 const MOST_SOURCE: u64 = 808_001;
-
-// How the program ends where nothing hinders it.
-#[derive(Clone, Copy)]
-enum Ending {
-    Done,
-    // The source's faults, or why it doesn't open, are printed.
-    Faulty,
-}
-
-// What hinders the program. The text is for the standard error.
-#[derive(Debug, Drop, Error)]
-enum Failure<'a> {
-    #[error("{0}")]
-    Usage(clap::Error),
-    #[error("chipbench: bad tape\n")]
-    BadTape,
-    #[error("chipbench: cannot read {0}\n")]
-    CannotRead(&'a str),
-    #[error("chipbench: cannot write {0}\n")]
-    CannotWrite(&'a str),
-    #[error("chipbench: input fault\n")]
-    Input,
-    #[error("chipbench: output fault\n")]
-    Output,
-    #[error("chipbench: too much input\n")]
-    TooMuchInput,
-    #[error("chipbench: out of memory\n")]
-    OutOfMemory,
-}
-
-impl Ending {
-    fn status(self) -> u8
-        ensures { result ≡ ending_status self }
-    {
-        match self {
-            Ending::Done => 0,
-            Ending::Faulty => 1,
-        }
-    }
-}
-
-impl<'a> Failure<'a> {
-    fn status(&self) -> u8
-        ensures { result ≡ failure_status self.now }
-    {
-        match self {
-            Failure::Usage(_) | Failure::BadTape => 2,
-            Failure::CannotRead(_)
-            | Failure::CannotWrite(_)
-            | Failure::Input
-            | Failure::Output
-            | Failure::TooMuchInput => 3,
-            Failure::OutOfMemory => 4,
-        }
-    }
-}
-
-impl<'a> From<AllocError> for Failure<'a> {
-    ghost from_gives = { λ _ failure. failure ≡ no_memory };
-
-    fn from(_error: AllocError) -> Failure<'a> {
-        Failure::OutOfMemory
-    }
-}
-
-// The command line has numbers in their ranges alone, so the tape is all that settings can find bad.
-impl<'a> From<SetError> for Failure<'a> {
-    ghost from_gives = { λ error failure. failure ≡ settings_failure error };
-
-    fn from(error: SetError) -> Failure<'a> {
-        match error {
-            SetError::OutOfMemory => Failure::OutOfMemory,
-            SetError::RateOutOfRange | SetError::TapeLength => Failure::BadTape,
-        }
-    }
-}
-
-impl<'a> From<clap::Error> for Failure<'a> {
-    ghost from_gives = { λ error failure. failure ≡ words_failure (kind_of error) error };
-
-    fn from(error: clap::Error) -> Failure<'a> {
-        match error.kind() {
-            ErrorKind::OutOfMemory => Failure::OutOfMemory,
-            _ => Failure::Usage(error),
-        }
-    }
-}
 
 /// The program, with the words after its name. The answer is its status: 0 where it did what it was asked, 1 where the
 /// source has faults or doesn't open, 2 for words that it doesn't take, 3 where a file, input or output failed or there was
 /// too much input, and 4 for want of memory.
 ///
-/// `asm` writes the whole image to its file, or leaves what was there. Only what isn't a file, such as a pipe, may have taken
-/// some bytes before a failure.
+/// `asm` writes the whole image to its file, or leaves what was there. Only what is written in place, such as a pipe or a
+/// file of several names, may have taken some bytes before a failure.
 ///
 /// Without words it carries out the script that `input` gives, on the empty source, and writes the answers to `output`.
 /// What hinders it is said on `errors`; a failure there is ignored.
@@ -141,19 +43,14 @@ pub fn program<F: Files, S: AsStr, I: Read, O: Write, E: Write>(
     output: &mut Counted<O>,
     errors: &mut E,
 ) -> u8
-    ensures session { words.now ≡ [] → Exchanges (I.remaining input.old.inner) (I.remaining input.new.inner)
-        (O.contents output.old.inner) (O.contents output.new.inner) (Ran result) }
+    ensures session { words.now ≡ [] → RunsSession I.remaining O.contents input.old input.new output.old output.new result }
     // Words with a fault are refused, and nothing is read or written.
-    ensures usage { AreFaulty (fault_of chipbench (map S.text words.now)) → ((result ≡ 2) ⊎ (result ≡ 4))
+    ensures usage { AreFaulty (faults_of (map S.text words.now)) → ((result ≡ 2) ⊎ (result ≡ 4))
         × (input.new ≡ input.old) × Keeps (O.contents output.old.inner) (O.contents output.new.inner) }
 {
     let ended = carry_out(alloc, files, words, input, output);
     let flushed = output.flush();
-    match ended {
-        Ok(_) if flushed.is_err() => report(Failure::Output, errors),
-        Ok(ending) => ending.status(),
-        Err(failure) => report(failure, errors),
-    }
+    finish(ended, flushed.is_ok(), errors)
 }
 
 /// The program's answer where the system can't give its words as text.
@@ -166,6 +63,17 @@ pub fn refuse_words<E: Write>(alloc: Global, error: &io::Error, errors: &mut E) 
     match not_text(alloc) {
         Ok(error) => report(Failure::Usage(error), errors),
         Err(_) => report(Failure::OutOfMemory, errors),
+    }
+}
+
+// The status, once the output was flushed.
+fn finish<E: Write>(ended: Result<Ending, Failure<'_>>, is_flushed: bool, errors: &mut E) -> u8
+    ensures { result ≡ status_of ended.entry is_flushed }
+{
+    match ended {
+        Ok(ending) if is_flushed => ending.status(),
+        Ok(_) => report(Failure::Output, errors),
+        Err(failure) => report(failure, errors),
     }
 }
 
@@ -184,9 +92,9 @@ fn carry_out<'a, F: Files, S: AsStr, I: Read, O: Write>(
     input: &mut Counted<I>,
     output: &mut Counted<O>,
 ) -> Result<Ending, Failure<'a>>
-    ensures session { words.entry.now ≡ [] → Exchanges (I.remaining input.old.inner) (I.remaining input.new.inner)
-        (O.contents output.old.inner) (O.contents output.new.inner) (Carried result) }
-    ensures usage { AreFaulty (fault_of chipbench (map S.text words.entry.now)) → IsUsage result
+    ensures session { words.entry.now ≡ [] → AnswersScript I.remaining O.contents default_settings []
+        input.old input.new output.old output.new result }
+    ensures usage { AreFaulty (faults_of (map S.text words.entry.now)) → IsUsage result
         × (input.new ≡ input.old) × (output.new ≡ output.old) }
 {
     let line = match parse_words(alloc, words) {
@@ -199,7 +107,11 @@ fn carry_out<'a, F: Files, S: AsStr, I: Read, O: Write>(
             debug(alloc, files, source, &settings, input, output)
         }
         CommandLine::Asm { source, image } => asm(alloc, files, source, image, output),
-        CommandLine::List { source } => list(alloc, files, source, output),
+        CommandLine::List { source } => {
+            let bytes = read_source(alloc, files, source)?;
+            list_source(alloc, &bytes, output)
+        }
+        CommandLine::Dis { image } => dis(alloc, files, image, output),
         CommandLine::Run {
             source,
             steps,
@@ -222,18 +134,20 @@ fn show_help<'a, O: Write>(
 
 // The settings that the words ask for.
 fn settings_of<'a>(alloc: Global, words: &SettingWords<'_>) -> Result<Settings, Failure<'a>>
-    ensures ok { words.now ≡ default_words → IfOk result (λ settings. settings ≡ default_settings) }
-    ensures err { words.now ≡ default_words → IfErr result (λ failure. failure ≡ Failure.OutOfMemory) }
+    ensures ok { IfOk result (λ settings. settings_asked words.now ≡ Some settings) }
+    ensures err { IfErr result (λ failure. (failure ≡ Failure.OutOfMemory)
+        ⊎ ((failure ≡ Failure.BadTape) × (settings_asked words.now ≡ None))) }
 {
     let tape = tape_bytes(alloc, words)?;
-    let settings = Settings::new(alloc, words.rate, &tape)?;
-    Ok(settings)
+    let settings = Settings::new(alloc, words.rate, &tape)?.with_profile(words.profile);
+    Ok(settings.with_spacing(words.spacing)?)
 }
 
 // The tape that the words ask for. A tape and a seed don't go together.
 fn tape_bytes<'a>(alloc: Global, words: &SettingWords<'_>) -> Result<Vec<u8>, Failure<'a>>
-    ensures ok { words.now ≡ default_words → IfOk result (λ tape. tape.items ≡ 0 ∷ []) }
-    ensures err { words.now ≡ default_words → IfErr result (λ failure. failure ≡ Failure.OutOfMemory) }
+    ensures ok { IfOk result (λ tape. tape_asked words.now ≡ Some tape.items) }
+    ensures err { IfErr result (λ failure. (failure ≡ Failure.OutOfMemory)
+        ⊎ ((failure ≡ Failure.BadTape) × (tape_asked words.now ≡ None))) }
 {
     match (words.tape, words.seed) {
         (Some(_), Some(_)) => Err(Failure::BadTape),
@@ -255,6 +169,7 @@ fn tape_from_hex<'a>(alloc: Global, digits: &str) -> Result<Vec<u8>, Failure<'a>
     }
 }
 
+// The settings are judged before SOURCE is read.
 fn debug<'a, F: Files, I: Read, O: Write>(
     alloc: Global,
     files: &F,
@@ -263,8 +178,8 @@ fn debug<'a, F: Files, I: Read, O: Write>(
     input: &mut Counted<I>,
     output: &mut Counted<O>,
 ) -> Result<Ending, Failure<'a>>
-    ensures { source.entry ≡ None → words.now ≡ default_words → Exchanges (I.remaining input.old.inner) (I.remaining input.new.inner)
-        (O.contents output.old.inner) (O.contents output.new.inner) (Carried result) }
+    ensures { source.entry ≡ None → AnswersIfAsked I.remaining O.contents [] input.old input.new output.old output.new
+        (settings_asked words.now) result }
 {
     let settings = settings_of(alloc, words)?;
     match source {
@@ -276,27 +191,6 @@ fn debug<'a, F: Files, I: Read, O: Write>(
     }
 }
 
-// A session on standard input and output.
-fn answer_script<'a, I: Read, O: Write>(
-    alloc: Global,
-    source: &[u8],
-    settings: Settings,
-    input: &mut Counted<I>,
-    output: &mut Counted<O>,
-) -> Result<Ending, Failure<'a>>
-    ensures { source.now ≡ [] → settings ≡ default_settings → Exchanges (I.remaining input.old.inner) (I.remaining input.new.inner)
-        (O.contents output.old.inner) (O.contents output.new.inner) (Carried result) }
-{
-    match serve(alloc, source, settings, input, output) {
-        Ok(()) => Ok(Ending::Done),
-        Err(ServeError::Source(error)) => refuse_source(error, output),
-        Err(ServeError::ReaderFailed) => Err(Failure::Input),
-        Err(ServeError::WriterFailed) => Err(Failure::Output),
-        Err(ServeError::OutOfMemory) => Err(Failure::OutOfMemory),
-        Err(ServeError::TooMuchInput) => Err(Failure::TooMuchInput),
-    }
-}
-
 fn asm<'a, F: Files, O: Write>(
     alloc: Global,
     files: &F,
@@ -304,65 +198,31 @@ fn asm<'a, F: Files, O: Write>(
     image: &'a str,
     output: &mut Counted<O>,
 ) -> Result<Ending, Failure<'a>> {
-    let Some(source) = open(alloc, files, source, output)? else {
+    let bytes = read_source(alloc, files, source)?;
+    let Some(assembled) = image_or_faults(alloc, &bytes, output)? else {
         return Ok(Ending::Faulty);
     };
-    let Some(bytes) = source.image() else {
-        return print_faults(alloc, &source, output);
-    };
-    match write_file(alloc, files, image, bytes) {
+    match write_file(alloc, files, source, image, &assembled) {
         Ok(()) => Ok(Ending::Done),
         Err(error) if error.kind() == io::ErrorKind::OutOfMemory => Err(Failure::OutOfMemory),
-        Err(_) => Err(Failure::CannotWrite(image)),
+        Err(error) => Err(Failure::CannotWrite(image, error)),
     }
 }
 
-fn list<'a, F: Files, O: Write>(
+fn dis<'a, F: Files, O: Write>(
     alloc: Global,
     files: &F,
-    source: &'a str,
+    image: &'a str,
     output: &mut Counted<O>,
 ) -> Result<Ending, Failure<'a>> {
-    let Some(source) = open(alloc, files, source, output)? else {
-        return Ok(Ending::Faulty);
-    };
-    print_listing(alloc, &source, output)
-}
-
-fn print_listing<'a, O: Write>(
-    alloc: Global,
-    source: &Source,
-    output: &mut Counted<O>,
-) -> Result<Ending, Failure<'a>>
-    ensures ok { OnOk result (Appends (O.contents output.old.inner) (O.contents output.new.inner)
-        (listing_text (listing_of source.now.lines))) }
-    ensures ending { IfOk result (λ ending. ending ≡ Ending.Done ↔ IsSome (image_of source.now.lines)) }
-    ensures err { IfErr result IsOfPrinting }
-{
-    let listing = listing_answer(alloc, source)?;
-    print(&listing, output)?;
-    match source.image() {
-        Some(_) => Ok(Ending::Done),
-        None => Ok(Ending::Faulty),
+    let bytes = read_source(alloc, files, image)?;
+    if bytes.len() > IMAGE_BYTES {
+        let error = io::Error::new(io::ErrorKind::InvalidData, "it has over 3584 bytes");
+        return Err(Failure::CannotRead(image, error));
     }
+    print_source(alloc, &bytes, output)
 }
 
-fn print_faults<'a, O: Write>(
-    alloc: Global,
-    source: &Source,
-    output: &mut Counted<O>,
-) -> Result<Ending, Failure<'a>>
-    ensures ok { OnOk result (Appends (O.contents output.old.inner) (O.contents output.new.inner)
-        (faults_text (faults_of source.now.lines))) }
-    ensures ending { IfOk result (λ ending. ending ≡ Ending.Faulty) }
-    ensures err { IfErr result IsOfPrinting }
-{
-    let faults = faults_answer(alloc, source)?;
-    print(&faults, output)?;
-    Ok(Ending::Faulty)
-}
-
-// Prints the answers to the questions about a step, or the faults where there is no image.
 fn run<'a, F: Files, O: Write>(
     alloc: Global,
     files: &F,
@@ -373,104 +233,29 @@ fn run<'a, F: Files, O: Write>(
 ) -> Result<Ending, Failure<'a>> {
     let settings = settings_of(alloc, words)?;
     let bytes = read_source(alloc, files, source)?;
-    let mut bench = match Bench::open(alloc, &bytes, settings) {
-        Ok(bench) => bench,
-        Err(error) => return refuse_source(error, output),
-    };
-    let questions = [
-        Question::Registers { step: steps },
-        Question::Screen { step: steps },
-    ];
-    let mut answers = Vec::new(alloc);
-    for question in questions {
-        match bench.ask(alloc, &question, &mut answers) {
-            Ok(()) => {}
-            Err(Refusal::NoImage) => return print_bench_faults(alloc, &mut bench, output),
-            Err(_) => return Err(Failure::OutOfMemory),
-        }
-    }
-    print(&answers, output)?;
-    Ok(Ending::Done)
-}
-
-fn print_bench_faults<'a, O: Write>(
-    alloc: Global,
-    bench: &mut Bench,
-    output: &mut Counted<O>,
-) -> Result<Ending, Failure<'a>>
-    ensures ok { OnOk result (Appends (O.contents output.old.inner) (O.contents output.new.inner)
-        (faults_text (faults_of bench.old.session.lines))) }
-    ensures ending { IfOk result (λ ending. ending ≡ Ending.Faulty) }
-    ensures err { IfErr result IsOfPrinting }
-{
-    let mut faults = Vec::new(alloc);
-    if bench.ask(alloc, &Question::Faults, &mut faults).is_err() {
-        return Err(Failure::OutOfMemory);
-    }
-    print(&faults, output)?;
-    Ok(Ending::Faulty)
-}
-
-// The source of that name. Where it doesn't open there is none, and the fault is printed.
-fn open<'a, F: Files, O: Write>(
-    alloc: Global,
-    files: &F,
-    name: &'a str,
-    output: &mut Counted<O>,
-) -> Result<Option<Source>, Failure<'a>> {
-    let bytes = read_source(alloc, files, name)?;
-    match Source::open(alloc, &bytes) {
-        Ok(source) => Ok(Some(source)),
-        Err(error) => {
-            refuse_source(error, output)?;
-            Ok(None)
-        }
-    }
+    run_source(alloc, &bytes, steps, settings, output)
 }
 
 fn read_source<'a, F: Files>(
     alloc: Global,
     files: &F,
     name: &'a str,
-) -> Result<Vec<u8>, Failure<'a>> {
+) -> Result<Vec<u8>, Failure<'a>>
+    ensures { IfErr result (IsUnread name.entry) }
+{
     let mut bytes = Vec::new(alloc);
-    match read_file(files, name, &mut bytes) {
+    match fs::open(files, name).and_then(|file| read_most(file, &mut bytes)) {
         Ok(()) => Ok(bytes),
         Err(error) if error.kind() == io::ErrorKind::OutOfMemory => Err(Failure::OutOfMemory),
-        Err(_) => Err(Failure::CannotRead(name)),
+        Err(error) => Err(Failure::CannotRead(name, error)),
     }
 }
 
-fn read_file<F: Files>(files: &F, name: &str, bytes: &mut Vec<u8>) -> io::Result<()> {
-    fs::open(files, name)?.take(MOST_SOURCE).read_to_end(bytes)?;
+// Appends what a reader has, up to the length from which on no source opens.
+fn read_most<R: Read + Drop>(reader: R, bytes: &mut Vec<u8>) -> io::Result<()>
+    ensures { OnOk result (IfSome (R.remaining reader)
+        (λ all. bytes.new.items ≡ bytes.old.items ++ take source_bytes_read all)) }
+{
+    reader.take(MOST_SOURCE).read_to_end(bytes)?;
     Ok(())
-}
-
-// Prints why a source doesn't open.
-fn refuse_source<'a, O: Write>(
-    error: OpenError,
-    output: &mut Counted<O>,
-) -> Result<Ending, Failure<'a>>
-    ensures ok { OnOk result (Appends (O.contents output.old.inner) (O.contents output.new.inner) (unopened_text error)) }
-    ensures ending { IfOk result (λ ending. ending ≡ Ending.Faulty) }
-    ensures err { IfErr result IsOfPrinting }
-    ensures memory { error ≡ memory → (result ≡ Err Failure.OutOfMemory) × (output.new ≡ output.old) }
-{
-    let answer: &[u8] = match error {
-        OpenError::LineTooLong(_) => b"no O1\n",
-        OpenError::TooManyLines => b"no O2\n",
-        OpenError::OutOfMemory => return Err(Failure::OutOfMemory),
-    };
-    print(answer, output)?;
-    Ok(Ending::Faulty)
-}
-
-fn print<'a, O: Write>(bytes: &[u8], output: &mut Counted<O>) -> Result<(), Failure<'a>>
-    ensures ok { OnOk result (Appends (O.contents output.old.inner) (O.contents output.new.inner) bytes.now) }
-    ensures err { IfErr result (λ failure. failure ≡ Failure.Output) }
-{
-    match output.write_all(bytes) {
-        Ok(()) => Ok(()),
-        Err(_) => Err(Failure::Output),
-    }
 }

@@ -2,10 +2,10 @@
 
 ghost use Rattle.std.specs.Prelude.{◌≡◌, ◌+◌, ◌*◌, ◌<◌, ◌≤◌, ◌^◌, ◌++◌, ◌∷◌, [], ℕ, List, IfOk, OnOk, slice_index};
 ghost use Rattle.chip_machine.specs.Step.{word_at};
-ghost use Rattle.chip_bench.specs.MachineAnswers.{from_on, size_name, state_name, register_values, flag_values, register_line, place_part, timer_part, condition_part, state_line, flag_line, registers_of, bytes_at, memory_of, word_line, disassembly_of, row_byte, row_bytes, has_lit, row_line, row_lines, two_digits, screen_of, point};
+ghost use Rattle.chip_bench.specs.MachineAnswers.{from_on, size_name, state_name, register_line, place_part, timer_part, condition_part, state_line, flag_line, registers_of, bytes_at, memory_of, word_line, disassembly_of, row_byte, row_bytes, has_lit, row_line, row_lines, two_digits, screen_of, point};
 
 use crate::text::{push_decimal, push_hex, push_hex_word, push_spaced_bytes, push_spaced_words};
-use chip_lang::{Reg, show};
+use chip_lang::show;
 use chip_machine::{Machine, Stop};
 use std::alloc::{AllocError, Global};
 
@@ -15,131 +15,67 @@ pub fn registers(alloc: Global, machine: &Machine) -> Result<Vec<u8>, AllocError
     ensures { IfOk result (λ answer. answer.items ≡ registers_of machine.now) }
 {
     let mut answer = Vec::new(alloc);
-    push_register_line(alloc, &mut answer, machine)?;
-    push_state_line(alloc, &mut answer, machine)?;
-    push_flag_line(alloc, &mut answer, machine)?;
+    push_register_line(&mut answer, machine)?;
+    push_state_line(&mut answer, machine)?;
+    push_flag_line(&mut answer, machine)?;
     Ok(answer)
 }
 
-/// V0 to VF.
-#[tactic(auto, unfolding(crate::specs::MachineAnswers::register_values))]
-fn register_bytes(alloc: Global, machine: &Machine) -> Result<Vec<u8>, AllocError>
-    ensures { IfOk result (λ bytes. bytes.items ≡ register_values machine.now.core) }
-{
-    let mut bytes = Vec::new(alloc);
-    for number in 0..16u8 {
-        bytes.push(register(machine, number))?;
-    }
-    Ok(bytes)
-}
-
-fn register(machine: &Machine, number: u8) -> u8
-    requires { number < 16 }
-    ensures { result ≡ slice_index machine.now.core.registers number }
-{
-    match Reg::new(number) {
-        Some(register) => machine.reg(register),
-        None => unreachable!(),
-    }
-}
-
-/// The eight flag registers.
-#[tactic(auto, unfolding(crate::specs::MachineAnswers::flag_values))]
-fn flag_bytes(alloc: Global, machine: &Machine) -> Result<Vec<u8>, AllocError>
-    ensures { IfOk result (λ bytes. bytes.items ≡ flag_values machine.now.core) }
-{
-    let mut bytes = Vec::new(alloc);
-    for number in 0..8usize {
-        bytes.push(flag(machine, number))?;
-    }
-    Ok(bytes)
-}
-
-fn flag(machine: &Machine, number: usize) -> u8
-    ensures { result ≡ slice_index machine.now.core.flags number }
-{
-    machine.flag(number).unwrap_or(0)
-}
-
-/// The frames, the oldest first.
-fn frames(alloc: Global, machine: &Machine) -> Result<Vec<u16>, AllocError>
-    ensures { IfOk result (λ words. words.items ≡ machine.now.core.frames) }
-{
-    let mut words = Vec::new(alloc);
-    for place in 0..machine.depth() {
-        words.push(frame(machine, place))?;
-    }
-    Ok(words)
-}
-
-fn frame(machine: &Machine, place: usize) -> u16
-    ensures { result ≡ slice_index machine.now.core.frames place }
-{
-    machine.frame(place).unwrap_or(0)
-}
-
-fn push_register_line(
-    alloc: Global,
-    answer: &mut Vec<u8>,
-    machine: &Machine,
-) -> Result<(), AllocError>
+fn push_register_line(answer: &mut Vec<u8>, machine: &Machine) -> Result<(), AllocError>
     ensures { OnOk result (answer.new.items ≡ answer.old.items ++ register_line machine.now.core) }
 {
-    let registers = register_bytes(alloc, machine)?;
     answer.extend_from_slice(b"v")?;
-    push_spaced_bytes(alloc, answer, &registers)?;
+    push_spaced_bytes(answer, machine.registers())?;
     answer.push(b'\n')?;
     Ok(())
 }
 
-fn push_place(alloc: Global, answer: &mut Vec<u8>, machine: &Machine) -> Result<(), AllocError>
+fn push_place(answer: &mut Vec<u8>, machine: &Machine) -> Result<(), AllocError>
     ensures { OnOk result (answer.new.items ≡ answer.old.items ++ place_part machine.now.core) }
 {
     answer.extend_from_slice(b"pc ")?;
-    push_hex_word(alloc, answer, machine.pc())?;
+    push_hex_word(answer, machine.pc())?;
     answer.extend_from_slice(b" i ")?;
-    push_hex_word(alloc, answer, machine.index())
+    push_hex_word(answer, machine.index())
 }
 
-fn push_timers(alloc: Global, answer: &mut Vec<u8>, machine: &Machine) -> Result<(), AllocError>
+fn push_timers(answer: &mut Vec<u8>, machine: &Machine) -> Result<(), AllocError>
     ensures { OnOk result (answer.new.items ≡ answer.old.items ++ timer_part machine.now.core) }
 {
     answer.extend_from_slice(b" dt ")?;
-    push_hex(alloc, answer, &[machine.delay()])?;
+    push_hex(answer, &[machine.delay()])?;
     answer.extend_from_slice(b" st ")?;
-    push_hex(alloc, answer, &[machine.sound()])
+    push_hex(answer, &[machine.sound()])
 }
 
-fn push_condition(alloc: Global, answer: &mut Vec<u8>, machine: &Machine) -> Result<(), AllocError>
+fn push_condition(answer: &mut Vec<u8>, machine: &Machine) -> Result<(), AllocError>
     ensures { OnOk result (answer.new.items ≡ answer.old.items ++ condition_part machine.now.core) }
 {
     answer.extend_from_slice(b" draws ")?;
-    push_decimal(alloc, answer, machine.draws())?;
+    push_decimal(answer, machine.draws())?;
     answer.extend_from_slice(b" ")?;
     answer.extend_from_slice(size_name(machine.high()))?;
     answer.extend_from_slice(b" ")?;
-    push_state_name(alloc, answer, machine.stopped())?;
+    push_state_name(answer, machine.stopped())?;
     answer.push(b'\n')?;
     Ok(())
 }
 
-fn push_state_line(alloc: Global, answer: &mut Vec<u8>, machine: &Machine) -> Result<(), AllocError>
+fn push_state_line(answer: &mut Vec<u8>, machine: &Machine) -> Result<(), AllocError>
     ensures { OnOk result (answer.new.items ≡ answer.old.items ++ state_line machine.now.core) }
 {
-    push_place(alloc, answer, machine)?;
-    push_timers(alloc, answer, machine)?;
-    push_condition(alloc, answer, machine)
+    push_place(answer, machine)?;
+    push_timers(answer, machine)?;
+    push_condition(answer, machine)
 }
 
-fn push_flag_line(alloc: Global, answer: &mut Vec<u8>, machine: &Machine) -> Result<(), AllocError>
+fn push_flag_line(answer: &mut Vec<u8>, machine: &Machine) -> Result<(), AllocError>
     ensures { OnOk result (answer.new.items ≡ answer.old.items ++ flag_line machine.now.core) }
 {
-    let flags = flag_bytes(alloc, machine)?;
-    let frames = frames(alloc, machine)?;
     answer.extend_from_slice(b"flags")?;
-    push_spaced_bytes(alloc, answer, &flags)?;
+    push_spaced_bytes(answer, machine.flags())?;
     answer.extend_from_slice(b" stack")?;
-    push_spaced_words(alloc, answer, &frames)?;
+    push_spaced_words(answer, machine.frames())?;
     answer.push(b'\n')?;
     Ok(())
 }
@@ -150,11 +86,7 @@ fn size_name(high: bool) -> &'static [u8]
     if high { b"high" } else { b"low" }
 }
 
-fn push_state_name(
-    alloc: Global,
-    answer: &mut Vec<u8>,
-    stopped: Option<Stop>,
-) -> Result<(), AllocError>
+fn push_state_name(answer: &mut Vec<u8>, stopped: Option<Stop>) -> Result<(), AllocError>
     ensures { OnOk result (answer.new.items ≡ answer.old.items ++ state_name stopped) }
 {
     match stopped {
@@ -164,32 +96,9 @@ fn push_state_name(
         }
         Some(stop) => {
             answer.push(b'S')?;
-            push_decimal(alloc, answer, u64::from(stop.number()))
+            push_decimal(answer, u64::from(stop.number()))
         }
     }
-}
-
-/// So many bytes from an address, which stay in the memory.
-fn memory_bytes(
-    alloc: Global,
-    machine: &Machine,
-    at: u16,
-    count: u16,
-) -> Result<Vec<u8>, AllocError>
-    requires { at + count ≤ 4096 }
-    ensures { IfOk result (λ bytes. bytes.items ≡ bytes_at machine.now at count) }
-{
-    let mut bytes = Vec::new(alloc);
-    for place in 0..count {
-        bytes.push(byte(machine, at + place))?;
-    }
-    Ok(bytes)
-}
-
-fn byte(machine: &Machine, at: u16) -> u8
-    ensures { result ≡ slice_index machine.now.memory at }
-{
-    machine.byte_at(at).unwrap_or(0)
 }
 
 /// So many bytes from an address, in hexadecimal.
@@ -203,9 +112,10 @@ pub fn memory_line(
     requires { at + count ≤ 4096 }
     ensures { IfOk result (λ answer. answer.items ≡ memory_of machine.now at count) }
 {
-    let bytes = memory_bytes(alloc, machine, at, count)?;
+    let start = usize::from(at);
+    let end = start + usize::from(count);
     let mut answer = Vec::new(alloc);
-    push_hex(alloc, &mut answer, &bytes)?;
+    push_hex(&mut answer, &machine.memory()[start..end])?;
     answer.push(b'\n')?;
     Ok(answer)
 }
@@ -240,9 +150,9 @@ fn push_word_line(
 {
     let word = word_at(machine, at);
     let text = show(alloc, word)?;
-    push_hex_word(alloc, answer, at)?;
+    push_hex_word(answer, at)?;
     answer.push(b' ')?;
-    push_hex_word(alloc, answer, word)?;
+    push_hex_word(answer, word)?;
     answer.push(b' ')?;
     answer.extend_from_slice(text.as_bytes())?;
     answer.push(b'\n')?;
@@ -253,7 +163,9 @@ fn word_at(machine: &Machine, at: u16) -> u16
     requires { at < 4095 }
     ensures { result ≡ word_at machine.now.memory at }
 {
-    u16::from(byte(machine, at)) * 256 + u16::from(byte(machine, at + 1))
+    let memory = machine.memory();
+    let start = usize::from(at);
+    u16::from(memory[start]) * 256 + u16::from(memory[start + 1])
 }
 
 /// The size of the screen, and each row with a lit point.
@@ -293,27 +205,27 @@ fn push_row_line(
         return Ok(());
     }
     let bytes = row_bytes(alloc, machine, row)?;
-    push_two_digits(alloc, answer, row as u64)?;
+    push_two_digits(answer, row as u64)?;
     answer.push(b' ')?;
-    push_hex(alloc, answer, &bytes)?;
+    push_hex(answer, &bytes)?;
     answer.push(b'\n')?;
     Ok(())
 }
 
-fn push_two_digits(alloc: Global, answer: &mut Vec<u8>, number: u64) -> Result<(), AllocError>
+fn push_two_digits(answer: &mut Vec<u8>, number: u64) -> Result<(), AllocError>
     ensures { OnOk result (answer.new.items ≡ answer.old.items ++ two_digits number) }
 {
     if number < 10 {
         answer.push(b'0')?;
     }
-    push_decimal(alloc, answer, number)
+    push_decimal(answer, number)
 }
 
-#[tactic(auto, unfolding(crate::specs::MachineAnswers::has_lit))]
+#[tactic(auto, using(crate::proofs::RowLemmas::dark_row))]
 fn has_lit(machine: &Machine, row: usize) -> bool
     ensures { result ≡ has_lit machine.now.core.lit row }
 {
-    (0..128usize).any(|column| machine.lit(column, row))
+    machine.row(row) != 0
 }
 
 #[tactic(auto, unfolding(crate::specs::MachineAnswers::row_bytes))]

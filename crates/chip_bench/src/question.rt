@@ -20,3 +20,16 @@ pub enum Question {
     /// So many words of the memory at a step, from an address, with their source texts.
     Disassembly { step: u32, at: u32, count: u32 },
 }
+
+/// What is asked of a machine's state.
+#[derive(Clone, Copy, Debug, PartialEq, Eq)]
+pub enum StateQuestion {
+    /// The registers, timers, flags and frames.
+    Registers,
+    /// So many bytes of the memory, from an address.
+    Memory { at: u32, count: u32 },
+    /// The lit rows of the screen.
+    Screen,
+    /// So many words of the memory, from an address, with their source texts.
+    Disassembly { at: u32, count: u32 },
+}

@@ -49,7 +49,7 @@ pub enum ServeError {
 
 // Why the rest of a script is given up.
 #[derive(Clone, Copy, Debug, PartialEq, Eq)]
-enum Stop {
+pub(crate) enum Stop {
     WriterFailed,
     OutOfMemory,
     TooMuchInput,
@@ -243,7 +243,7 @@ fn say<W: Write>(
 }
 
 // Writes all the bytes. Any error ends it, and so does a write that takes none.
-fn write_whole<W: Write>(writer: &mut Counted<W>, bytes: &[u8]) -> Result<(), Stop>
+pub(crate) fn write_whole<W: Write>(writer: &mut Counted<W>, bytes: &[u8]) -> Result<(), Stop>
     ensures said { Says result (W.contents writer.old.inner) (W.contents writer.new.inner) bytes.now }
     ensures memory { result ≢ Err Stop.OutOfMemory }
     ensures failures { writer.new.failures ≡ failures_after result writer.old.failures }

@@ -1,11 +1,18 @@
 //! The settings of a session.
-ghost use Rattle.std.specs.Prelude.{◌≡◌, ◌<◌, ◌≤◌, length, ◌⊎◌, None, Some, IfOk, IfErr};
-ghost use Rattle.chip_bench.specs.Settings.{settings_fault};
+ghost use Rattle.std.specs.Prelude.{◌≡◌, ◌<◌, ◌≤◌, length, ◌⊎◌, None, Some, IfOk, IfErr, MatchOption};
+ghost use Rattle.chip_replay.specs.Limits.{IsSpacing};
+ghost use Rattle.chip_bench.specs.Settings.{settings_of, settings_fault, spacing_fault};
 ghost use Rattle.chip_bench.specs.declared.settings.SetError.TheVariants.{OutOfMemory};
 
+use chip_machine::Profile;
+use chip_machine::limits::TAPE_BYTES;
+use chip_replay::{LEAST_SPACING, MOST_SPACING};
 use std::alloc::{AllocError, Global};
 use std::marker::Model;
 use thiserror::Error;
+
+/// The most steps that may lie between two ticks of the timers.
+pub const MOST_RATE: u32 = 1000;
 
 /// Why there are no such settings.
 #[derive(Clone, Copy, Debug, PartialEq, Eq, Error)]
@@ -19,6 +26,9 @@ pub enum SetError {
     /// G3: there was no memory for the tape.
     #[error("out of memory")]
     OutOfMemory,
+    /// G4: the spacing of the checkpoints is not 1,000 to 100,000.
+    #[error("spacing not 1000 to 100000")]
+    SpacingOutOfRange,
 }
 
 impl From<AllocError> for SetError {
@@ -29,11 +39,14 @@ impl From<AllocError> for SetError {
     }
 }
 
-/// How many steps there are to a tick of the timers, and the bytes that stand for random ones.
+/// How many steps there are to a tick of the timers, the bytes that stand for random ones, which machine it is, and how
+/// many steps lie between one checkpoint of its run and the next, on which no answer depends.
 #[derive(Debug, Drop)]
 pub struct Settings {
     rate: u32,
     tape: Vec<u8>,
+    profile: Profile,
+    spacing: u32,
 }
 
 impl Model for Settings {
@@ -41,22 +54,25 @@ impl Model for Settings {
 
     ghost Value = { SessionSettings };
 
-    ghost view = { λ s. record { rate = s.rate; tape = s.tape.items } };
+    ghost view = { λ s. record { rate = s.rate; tape = s.tape.items; profile = s.profile; spacing = s.spacing } };
 
-    ghost use Rattle.std.specs.Prelude.{◌<◌, ◌≤◌, vec_len};
+    ghost use Rattle.std.specs.Prelude.{vec_len};
+    ghost use Rattle.chip_replay.specs.Limits.{IsSpacing};
+    ghost use Rattle.chip_bench.specs.Settings.{IsRate, IsTapeLength};
 
-    ghost invariant = { λ s. (0 < s.rate) × (s.rate ≤ 1000) × (0 < vec_len s.tape) × (vec_len s.tape ≤ 4096) };
+    ghost invariant = { λ s. IsRate s.rate × IsTapeLength (vec_len s.tape) × IsSpacing s.spacing };
 }
 
 impl Settings {
-    /// Settings with `rate` steps to a tick, 1 to 1000, and a tape of 1 to 4096 bytes.
+    /// Settings with `rate` steps to a tick, 1 to 1000, and a tape of 1 to 4096 bytes, for a SUPER-CHIP 1.1 with the
+    /// least spacing.
     ///
     /// # Errors
     ///
     /// The first that applies of a rate out of range, a tape that is too short or too long, and want of memory.
     pub fn new(alloc: Global, rate: u32, tape: &[u8]) -> Result<Settings, SetError>
         ensures ok { IfOk result (λ settings. (settings_fault rate tape.now ≡ None)
-            × (settings ≡ record { rate = rate; tape = tape.now })) }
+            × (settings ≡ settings_of rate tape.now)) }
         ensures err { IfErr result (λ e. (settings_fault rate tape.now ≡ Some e)
             ⊎ ((e ≡ SetError.OutOfMemory) × (settings_fault rate tape.now ≡ None))) }
     {
@@ -64,14 +80,42 @@ impl Settings {
             return Err(fault);
         }
         let tape = Vec::from_slice(alloc, tape)?;
-        Ok(Settings { rate, tape })
+        Ok(Settings {
+            rate,
+            tape,
+            profile: Profile::Schip,
+            spacing: LEAST_SPACING,
+        })
+    }
+
+    /// The same for a machine of that profile.
+    pub fn with_profile(self, profile: Profile) -> Settings
+        ensures { result ≡ record self { profile = profile } }
+    {
+        Settings { profile, ..self }
+    }
+
+    /// The same with that many steps between one checkpoint and the next, 1,000 to 100,000: fewer make an edit cheaper
+    /// to follow, more take less memory.
+    ///
+    /// # Errors
+    ///
+    /// A spacing out of range; nothing is handed back then.
+    pub fn with_spacing(self, spacing: u32) -> Result<Settings, SetError>
+        ensures { MatchOption (spacing_fault spacing) (result ≡ Ok (record self { spacing = spacing }))
+            (λ fault. result ≡ Err fault) }
+    {
+        if spacing < LEAST_SPACING || spacing > MOST_SPACING {
+            return Err(SetError::SpacingOutOfRange);
+        }
+        Ok(Settings { spacing, ..self })
     }
 
     /// How many steps there are to a tick.
     pub(crate) fn rate(&self) -> u32
         ensures value { result ≡ self.now.rate }
         ensures above { 0 < result }
-        ensures most { result ≤ 1000 }
+        ensures most { result ≤ MOST_RATE }
     {
         self.rate
     }
@@ -80,9 +124,24 @@ impl Settings {
     pub(crate) fn tape(&self) -> &[u8]
         ensures value { result.now ≡ self.now.tape }
         ensures some { 0 < length result.now }
-        ensures most { length result.now ≤ 4096 }
+        ensures most { length result.now ≤ TAPE_BYTES }
     {
         &self.tape
+    }
+
+    /// Which machine it is.
+    pub(crate) fn profile(&self) -> Profile
+        ensures { result ≡ self.now.profile }
+    {
+        self.profile
+    }
+
+    /// How many steps lie between one checkpoint and the next.
+    pub(crate) fn spacing(&self) -> u32
+        ensures value { result ≡ self.now.spacing }
+        ensures in_range { IsSpacing result }
+    {
+        self.spacing
     }
 }
 
@@ -90,10 +149,10 @@ impl Settings {
 fn fault_of(rate: u32, tape: &[u8]) -> Option<SetError>
     ensures { result ≡ settings_fault rate tape.now }
 {
-    if rate < 1 || rate > 1000 {
+    if rate < 1 || rate > MOST_RATE {
         return Some(SetError::RateOutOfRange);
     }
-    if tape.is_empty() || tape.len() > 4096 {
+    if tape.is_empty() || tape.len() > TAPE_BYTES {
         return Some(SetError::TapeLength);
     }
     None

@@ -1,65 +1,101 @@
 //! Pieces of answers.
 
-ghost use Rattle.std.specs.Prelude.{◌≡◌, ◌^◌, ◌<◌, ◌++◌, ◌∷◌, [], OnOk};
-ghost use Rattle.std.specs.Fmt.{decimal};
-ghost use Rattle.hex.specs.Hex.{encode_lower};
+ghost use Rattle.std.specs.Prelude.{◌≡◌, ◌^◌, ◌<◌, ◌*◌, ◌++◌, ◌∷◌, [], length, slice_index, OnOk};
+ghost use Rattle.std.specs.Fmt.{decimal, signed_decimal};
+ghost use Rattle.hex.specs.Hex.{encode_lower, lower_digits};
 ghost use Rattle.chip_bench.specs.Text.{spaced, hex_byte, hex_word};
 
-use std::alloc::{AllocError, Global};
+use itoa::Buffer;
+use std::alloc::AllocError;
 
 /// Adds bytes in lower case hexadecimal.
-pub(crate) fn push_hex(alloc: Global, out: &mut Vec<u8>, bytes: &[u8]) -> Result<(), AllocError>
+pub(crate) fn push_hex(out: &mut Vec<u8>, bytes: &[u8]) -> Result<(), AllocError>
     ensures { OnOk result (out.new.items ≡ out.old.items ++ encode_lower bytes.now) }
 {
-    let text = hex::encode(alloc, bytes)?;
-    out.extend_from_slice(text.as_bytes())?;
+    let start = out.len();
+    let Some(added) = bytes.len().checked_mul(2) else {
+        return Err(AllocError);
+    };
+    let Some(end) = start.checked_add(added) else {
+        return Err(AllocError);
+    };
+    out.resize(end, 0)?;
+    write_hex(bytes, &mut out[start..]);
     Ok(())
 }
 
+/// Writes bytes in lower case hexadecimal over the whole of `digits`.
+fn write_hex(bytes: &[u8], digits: &mut [u8])
+    requires { length digits.old ≡ 2 * length bytes.now }
+    ensures { digits.new ≡ encode_lower bytes.now }
+{
+    'bytes: for i in 0..bytes.len() {
+        let byte = bytes[i];
+        digits[2 * i] = hex_digit(byte / 16);
+        digits[2 * i + 1] = hex_digit(byte % 16);
+    }
+}
+
+/// The hexadecimal digit of a number below 16, by arithmetic alone, so that many are made at once.
+#[inline(always)]
+#[tactic(auto, using(crate::proofs::TextLemmas::hex_digit_is))]
+fn hex_digit(value: u8) -> u8
+    requires { value < 16 }
+    ensures { result ≡ slice_index lower_digits value }
+{
+    value + b'0' + if value > 9 { 39 } else { 0 }
+}
+
+/// Adds a byte in two hexadecimal digits.
+fn push_hex_byte(out: &mut Vec<u8>, byte: u8) -> Result<(), AllocError>
+    ensures { OnOk result (out.new.items ≡ out.old.items ++ hex_byte byte) }
+{
+    push_hex(out, &[byte])
+}
+
 /// Adds a number of 16 bits in four hexadecimal digits.
-pub(crate) fn push_hex_word(alloc: Global, out: &mut Vec<u8>, word: u16) -> Result<(), AllocError>
+pub(crate) fn push_hex_word(out: &mut Vec<u8>, word: u16) -> Result<(), AllocError>
     ensures { OnOk result (out.new.items ≡ out.old.items ++ hex_word word) }
 {
     let high = (word / 256) as u8;
     let low = (word % 256) as u8;
-    push_hex(alloc, out, &[high, low])
+    push_hex(out, &[high, low])
 }
 
 /// Adds a number in decimal.
-pub(crate) fn push_decimal(alloc: Global, out: &mut Vec<u8>, number: u64) -> Result<(), AllocError>
+pub(crate) fn push_decimal(out: &mut Vec<u8>, number: u64) -> Result<(), AllocError>
     ensures { OnOk result (out.new.items ≡ out.old.items ++ decimal number) }
 {
-    let text = format!(in alloc; "{number}")?;
-    out.extend_from_slice(text.as_bytes())?;
-    Ok(())
+    let mut digits = Buffer::new();
+    out.extend_from_slice(digits.format(number).as_bytes())
+}
+
+/// Adds a number with its sign, where it is below 0, in decimal.
+pub(crate) fn push_signed(out: &mut Vec<u8>, number: i32) -> Result<(), AllocError>
+    ensures { OnOk result (out.new.items ≡ out.old.items ++ signed_decimal number) }
+{
+    let mut digits = Buffer::new();
+    out.extend_from_slice(digits.format(number).as_bytes())
 }
 
 /// Adds bytes in hexadecimal, each after a space.
-pub(crate) fn push_spaced_bytes(
-    alloc: Global,
-    out: &mut Vec<u8>,
-    bytes: &[u8],
-) -> Result<(), AllocError>
+pub(crate) fn push_spaced_bytes(out: &mut Vec<u8>, bytes: &[u8]) -> Result<(), AllocError>
     ensures { OnOk result (out.new.items ≡ out.old.items ++ spaced hex_byte bytes.now) }
 {
     for byte in bytes {
         out.push(b' ')?;
-        push_hex(alloc, out, &[*byte])?;
+        push_hex_byte(out, *byte)?;
     }
     Ok(())
 }
 
 /// Adds numbers of 16 bits in hexadecimal, each after a space.
-pub(crate) fn push_spaced_words(
-    alloc: Global,
-    out: &mut Vec<u8>,
-    words: &[u16],
-) -> Result<(), AllocError>
+pub(crate) fn push_spaced_words(out: &mut Vec<u8>, words: &[u16]) -> Result<(), AllocError>
     ensures { OnOk result (out.new.items ≡ out.old.items ++ spaced hex_word words.now) }
 {
     for word in words {
         out.push(b' ')?;
-        push_hex_word(alloc, out, *word)?;
+        push_hex_word(out, *word)?;
     }
     Ok(())
 }

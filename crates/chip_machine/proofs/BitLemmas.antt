@@ -96,7 +96,7 @@ lights-bit_and a b column =
 dark_bit : (bits i : ℕ) → (bit_at bits i == 1) ≡ false → bit_at bits i ≡ 0
 dark_bit bits i e = let small = bit_at-lt bits i in let not_one = eqb-false _ _ e in ⊎_elim (λ z. z) (λ one. absurd (not_one one)) (one_or_zero (bit_at bits i) small)
 
-dark_row : (bits : ℕ) → bits < 2 ^ 128 → ((column : ℕ) → column < 128 → lights bits column ≡ false) → bits ≡ 0
+pub dark_row : (bits : ℕ) → bits < 2 ^ 128 → ((column : ℕ) → column < 128 → lights bits column ≡ false) → bits ≡ 0
 dark_row bits fits dark =
     same_from_bits_below 128 bits 0 fits (pow_pos 128) (λ i h.
     let back : 127 - (127 - i) ≡ i = omega arith in

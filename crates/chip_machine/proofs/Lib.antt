@@ -2,6 +2,7 @@ pub mod BitLemmas
 pub mod Examples
 pub mod PointLemmas
 pub mod RowLemmas
+pub mod SameProfile
 pub mod ScreenExamples
 pub mod Spans
 pub mod SpriteLemmas

@@ -8,74 +8,74 @@ use Rattle.std.proofs.lemmas.Nat.Bits.{bit_at-zero, bit_at_cat_low, bit_at_cat_h
 use Rattle.chip_machine.specs.Scroll.{scrolled_down, scrolled_right, scrolled_left}
 use Rattle.chip_machine.specs.Points.{points_where, symmetric_difference, meets}
 use Rattle.chip_machine.specs.Stored.{in_rows, lights, differ, any_below}
-use Rattle.chip_machine.specs.Sprite.{covers, is_set, row_bytes, scale}
+use Rattle.chip_machine.specs.Sprite.{covers_by_length, is_set, row_bytes_by_length, scale}
 use Rattle.chip_machine.proofs.PointLemmas.{toggled_where, meets_where, any_below-false, any_below_none, scrolled_down_where, scrolled_right_where, scrolled_left_where}
 use Rattle.chip_machine.proofs.SpriteLemmas.{covers-inside, covers_left, is_set_right, is_set-inside}
 use Rattle.chip_machine.proofs.BitLemmas.{lights-bit_xor, lights_shr, lights_shl, lights_shl_out, stripe_inside, stripe_left, stripe_right}
 
-pub row_bytes_few : (high : Bool) (sprite : List ℕ) → row_bytes high sprite ≤ 2
-unfolding row_bytes
+pub row_bytes_few : (high : Bool) (sprite : List ℕ) → row_bytes_by_length high sprite ≤ 2
+unfolding row_bytes_by_length
 row_bytes_few true sprite = cond_both (nat_eq (length sprite) 32) 2 1 (λ n. n ≤ 2) (λ _. omega arith) (λ _. omega arith)
 row_bytes_few false sprite = omega arith
 
-pub row_bytes-low : (sprite : List ℕ) → row_bytes false sprite ≡ 1
-unfolding row_bytes
+pub row_bytes-low : (sprite : List ℕ) → row_bytes_by_length false sprite ≡ 1
+unfolding row_bytes_by_length
 row_bytes-low sprite = refl
 
 -- the sixteen bits that a row of the sprite has
 abbrev pub IsPattern : ℕ → Bool → List ℕ → ℕ → Type 0
-IsPattern bits high sprite j = (i : ℕ) → i < 16 → (bit_at bits (15 - i) == 1) ≡ is_set (row_bytes high sprite) sprite (i / scale high) j
+IsPattern bits high sprite j = (i : ℕ) → i < 16 → (bit_at bits (15 - i) == 1) ≡ is_set (row_bytes_by_length high sprite) sprite (i / scale high) j
 
 module _ (high : Bool) (x y : ℕ) (sprite : List ℕ) (bits column row : ℕ) (fits : bits < 2 ^ 16) (on_screen : column < 128) where
   -- at one size: the premises say how a stored column goes with a point's
   covers_at : (s left : ℕ) → s ≡ scale high → left ≡ x % (128 / s) → y % (64 / s) ≤ row / s → IsPattern bits high sprite (row / s - y % (64 / s))
       → (column < s * left → column / s < left)
       → (s * left ≤ column → (left ≤ column / s) × ((column - s * left) / s ≡ column / s - left))
-      → (s * left + 16 ≤ column → 8 * row_bytes high sprite ≤ column / s - left)
-      → lights (bits * 2 ^ 112 % 2 ^ 128 / 2 ^ (s * left)) column ≡ covers high x y sprite column row
+      → (s * left + 16 ≤ column → 8 * row_bytes_by_length high sprite ≤ column / s - left)
+      → lights (bits * 2 ^ 112 % 2 ^ 128 / 2 ^ (s * left)) column ≡ covers_by_length high x y sprite column row
   covers_at s left e is_left below pattern before inside after = ⊎_elim
       (λ (out : column < s * left).
       ap (λ bit. bit == 1) (stripe_left bits (s * left) column fits on_screen out)
       ∙ sym (covers_left high x y sprite column row s e (subst (λ l. column / s < l) is_left (before out))))
       (λ (low : s * left ≤ column).
       let within : x % (128 / s) ≤ column / s = subst (λ l. l ≤ column / s) is_left (inside low).0 in
-      let covered = ap (λ l. is_set (row_bytes high sprite) sprite (column / s - l) (row / s - y % (64 / s))) is_left ∙ covers-inside high x y sprite column row s e within below in
+      let covered = ap (λ l. is_set (row_bytes_by_length high sprite) sprite (column / s - l) (row / s - y % (64 / s))) is_left ∙ covers-inside high x y sprite column row s e within below in
       ⊎_elim
       (λ (near : column < s * left + 16).
       ap (λ bit. bit == 1) (stripe_inside bits (s * left) column fits on_screen low near)
       ∙ pattern (column - s * left) (omega arith)
-      ∙ ap (λ k. is_set (row_bytes high sprite) sprite ((column - s * left) / k) (row / s - y % (64 / s))) (sym e)
-      ∙ ap (λ i. is_set (row_bytes high sprite) sprite i (row / s - y % (64 / s))) (inside low).1
+      ∙ ap (λ k. is_set (row_bytes_by_length high sprite) sprite ((column - s * left) / k) (row / s - y % (64 / s))) (sym e)
+      ∙ ap (λ i. is_set (row_bytes_by_length high sprite) sprite i (row / s - y % (64 / s))) (inside low).1
       ∙ covered)
       (λ (far : s * left + 16 ≤ column).
       ap (λ bit. bit == 1) (stripe_right bits (s * left) column fits on_screen far)
-      ∙ sym (is_set_right (row_bytes high sprite) sprite (column / s - left) (row / s - y % (64 / s)) (after far))
+      ∙ sym (is_set_right (row_bytes_by_length high sprite) sprite (column / s - left) (row / s - y % (64 / s)) (after far))
       ∙ covered)
       (cases_lt column (s * left + 16)))
       (cases_lt column (s * left))
 
 -- the bits of a row of the sprite, moved to where it starts, light the columns that it covers
 pub lights_covered : (high : Bool) (x y : ℕ) (sprite : List ℕ) (bits column row s : ℕ) → bits < 2 ^ 16 → column < 128 → s ≡ scale high → y % (64 / s) ≤ row / s → IsPattern bits high sprite (row / s - y % (64 / s))
-    → lights (bits * 2 ^ 112 % 2 ^ 128 / 2 ^ (s * (x % (128 / s)))) column ≡ covers high x y sprite column row
+    → lights (bits * 2 ^ 112 % 2 ^ 128 / 2 ^ (s * (x % (128 / s)))) column ≡ covers_by_length high x y sprite column row
 lights_covered true x y sprite bits column row s fits on_screen e =
-    subst (λ s. y % (64 / s) ≤ row / s → IsPattern bits true sprite (row / s - y % (64 / s)) → lights (bits * 2 ^ 112 % 2 ^ 128 / 2 ^ (s * (x % (128 / s)))) column ≡ covers true x y sprite column row) (sym e)
+    subst (λ s. y % (64 / s) ≤ row / s → IsPattern bits true sprite (row / s - y % (64 / s)) → lights (bits * 2 ^ 112 % 2 ^ 128 / 2 ^ (s * (x % (128 / s)))) column ≡ covers_by_length true x y sprite column row) (sym e)
     (λ below pattern. let few = row_bytes_few true sprite in
     covers_at true x y sprite bits column row fits on_screen 1 (x % 128) refl refl below pattern
     (λ out. omega arith) (λ low. (omega arith, omega arith)) (λ far. omega arith))
 lights_covered false x y sprite bits column row s fits on_screen e =
-    subst (λ s. y % (64 / s) ≤ row / s → IsPattern bits false sprite (row / s - y % (64 / s)) → lights (bits * 2 ^ 112 % 2 ^ 128 / 2 ^ (s * (x % (128 / s)))) column ≡ covers false x y sprite column row) (sym e)
+    subst (λ s. y % (64 / s) ≤ row / s → IsPattern bits false sprite (row / s - y % (64 / s)) → lights (bits * 2 ^ 112 % 2 ^ 128 / 2 ^ (s * (x % (128 / s)))) column ≡ covers_by_length false x y sprite column row) (sym e)
     (λ below pattern. let one = row_bytes-low sprite in
     covers_at false x y sprite bits column row fits on_screen 2 (x % 64) refl refl below pattern
     (λ out. omega arith) (λ low. (omega arith, omega arith)) (λ far. omega arith))
 
 -- ---- a row of a sprite as sixteen bits
 
-row_bytes-narrow : (sprite : List ℕ) → (length sprite ≡ 32 → ⊥) → row_bytes true sprite ≡ 1
-unfolding row_bytes
+row_bytes-narrow : (sprite : List ℕ) → (length sprite ≡ 32 → ⊥) → row_bytes_by_length true sprite ≡ 1
+unfolding row_bytes_by_length
 row_bytes-narrow sprite h = cond-false (nat_eq (length sprite) 32) 2 1 (ne_eqb (length sprite) 32 h)
 
-row_bytes-wide : (sprite : List ℕ) → length sprite ≡ 32 → row_bytes true sprite ≡ 2
-unfolding row_bytes
+row_bytes-wide : (sprite : List ℕ) → length sprite ≡ 32 → row_bytes_by_length true sprite ≡ 2
+unfolding row_bytes_by_length
 row_bytes-wide sprite h = cond-true (nat_eq (length sprite) 32) 2 1 (eq-eqb (length sprite) 32 h)
 
 -- a bit of the byte that holds the point
@@ -84,7 +84,7 @@ point_at w sprite i j place k within at bit = (λ t. bit_at (get_or sprite (sym 
 
 module _ (sprite : List ℕ) (j : ℕ) where
   pub pattern_low : (high : Bool) (bits byte : ℕ) → high ≡ false → byte ≡ get_or sprite j 0 → ((k : ℕ) → k < 16 → bit_at bits k ≡ bit_at byte (k / 2)) → IsPattern bits high sprite j
-  unfolding row_bytes
+  unfolding row_bytes_by_length
   pattern_low high bits byte low read twice = subst (λ h. IsPattern bits h sprite j) (sym low) (λ i within.
       ap (λ bit. bit == 1) (twice (15 - i) (omega arith))
       ∙ ap (λ b. bit_at b ((15 - i) / 2) == 1) read

@@ -13,29 +13,29 @@ abbrev one_byte : List ℕ
 one_byte = replicate 31 0 ++ 255 ∷ []
 
 -- a digit at column 60 of the low size reaches the right edge
-at_the_edge : number (λ column. covers false 60 0 zero_digit column 0) 128 ≡ 0xff
+at_the_edge : number (λ column. covers false 60 0 1 zero_digit column 0) 128 ≡ 0xff
 unfolding covers is_set row_bytes
 at_the_edge = refl
 
-hollow : number (λ column. covers false 60 0 zero_digit column 7) 128 ≡ 0xc3
+hollow : number (λ column. covers false 60 0 1 zero_digit column 7) 128 ≡ 0xc3
 unfolding covers is_set row_bytes
 hollow = refl
 
-below_it : number (λ column. covers false 60 0 zero_digit column 10) 128 ≡ 0
+below_it : number (λ column. covers false 60 0 1 zero_digit column 10) 128 ≡ 0
 unfolding covers is_set row_bytes
 below_it = refl
 
 -- at column 62 it is clipped
-clipped : number (λ column. covers false 62 0 zero_digit column 2) 128 ≡ 0x0c
+clipped : number (λ column. covers false 62 0 1 zero_digit column 2) 128 ≡ 0x0c
 unfolding covers is_set row_bytes
 clipped = refl
 
 -- the start is taken modulo the size
-around : number (λ column. covers false 64 32 zero_digit column 0) 128 ≡ 0xff000000000000000000000000000000
+around : number (λ column. covers false 64 32 1 zero_digit column 0) 128 ≡ 0xff000000000000000000000000000000
 unfolding covers is_set row_bytes
 around = refl
 
--- 32 bytes in the high size are sixteen rows of two bytes
-big : number (λ column. covers true 0 0 one_byte column 15) 128 ≡ 0x00ff0000000000000000000000000000
+-- number 0 in the high size stands for sixteen rows of two bytes
+big : number (λ column. covers true 0 0 (row_bytes true 0) one_byte column 15) 128 ≡ 0x00ff0000000000000000000000000000
 unfolding covers is_set row_bytes
 big = refl

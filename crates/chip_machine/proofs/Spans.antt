@@ -3,12 +3,13 @@ use Rattle.std.proofs.Common.{◌≡◌, ℕ, ◌+◌, ◌<◌, ◌≤◌, ◌++
 use Rattle.std.proofs.lemmas.List.Elements.{All-append}
 use Rattle.std.proofs.lemmas.List.FromFn.{get_or-range_with_len, length-range_with_len}
 use Rattle.std.specs.List.{range_with_len}
+use Rattle.chip_machine.specs.declared.limits.TheConstants.{MEMORY_BYTES}
 
 -- a run that ends within the memory
-span_in_memory : (at count : ℕ) → at + count ≤ 4096 → All (λ a. a < 4096) (range_with_len at count)
+span_in_memory : (at count : ℕ) → at + count ≤ MEMORY_BYTES → All (λ a. a < MEMORY_BYTES) (range_with_len at count)
 span_in_memory at count fits = λ k d h. let inside : k < count = rw (← length-range_with_len at count) h in rw (get_or-range_with_len at count k d inside) (omega arith)
 
 -- addresses in the memory, and such a run after them
-pub addresses_more : (all before : List ℕ) (at count : ℕ) → all ≡ before ++ range_with_len at count → at + count ≤ 4096 → All (λ a. a < 4096) before → All (λ a. a < 4096) all
+pub addresses_more : (all before : List ℕ) (at count : ℕ) → all ≡ before ++ range_with_len at count → at + count ≤ MEMORY_BYTES → All (λ a. a < MEMORY_BYTES) before → All (λ a. a < MEMORY_BYTES) all
 addresses_more all before at count e fits held =
-    subst (All (λ a. a < 4096)) (sym e) (All-append (λ a. a < 4096) before (range_with_len at count) held (span_in_memory at count fits))
+    subst (All (λ a. a < MEMORY_BYTES)) (sym e) (All-append (λ a. a < MEMORY_BYTES) before (range_with_len at count) held (span_in_memory at count fits))

@@ -1,11 +1,11 @@
 -- Which points a sprite covers, as the code finds them.
-use Rattle.std.proofs.Common.{◌≡◌, ℕ, ◌+◌, ◌-◌, ◌*◌, ◌/◌, ◌%◌, ◌<◌, ◌≤◌, Bool, true, false, ◌&&◌, ◌==◌, nat_eq, nat_lt, nat_le, min, List, length, get_or, refl, sym, ap, ◌∙◌, arith}
+use Rattle.std.proofs.Common.{◌≡◌, ℕ, ◌+◌, ◌-◌, ◌*◌, ◌/◌, ◌%◌, ◌<◌, ◌≤◌, Bool, true, false, ◌&&◌, ◌==◌, nat_eq, nat_lt, nat_le, min, List, length, get_or, refl, sym, ap, ◌∙◌, arith, ◌≢◌, ⊎_elim}
 use Rattle.std.specs.Int.{bit_at}
-use Rattle.std.proofs.lemmas.Bool.{cond_both, le-ltb, lt-ltb, le-leb, lt-leb, and_left, and_right}
+use Rattle.std.proofs.lemmas.Bool.{cond_both, cond-true, cond-false, cases_eq, eq-eqb, ne_eqb, le-ltb, lt-ltb, le-leb, lt-leb, and_left, and_right}
 use Rattle.std.proofs.lemmas.Nat.Bits.{bit_at-zero}
 use Rattle.std.proofs.lemmas.List.{get_or_past}
 use Rattle.std.proofs.Math.Nat.{mul-le-mul_right}
-use Rattle.chip_machine.specs.Sprite.{covers, is_set, row_bytes, scale}
+use Rattle.chip_machine.specs.Sprite.{covers_by_length, covers, is_set, row_bytes, row_bytes_by_length, scale, sprite_bytes}
 
 pub is_set-inside : (w : ℕ) (sprite : List ℕ) (i j : ℕ) → i < 8 * w → is_set w sprite i j ≡ (bit_at (get_or sprite (w * j + i / 8) 0) (7 - i % 8) == 1)
 unfolding is_set
@@ -35,43 +35,43 @@ three_tests a b c p q = λ i. p i && q i && c
 
 module _ (high : Bool) (x y : ℕ) (sprite : List ℕ) (column row : ℕ) where
   pub covers-inside : (s : ℕ) → s ≡ scale high → x % (128 / s) ≤ column / s → y % (64 / s) ≤ row / s
-      → is_set (row_bytes high sprite) sprite (column / s - x % (128 / s)) (row / s - y % (64 / s)) ≡ covers high x y sprite column row
+      → is_set (row_bytes_by_length high sprite) sprite (column / s - x % (128 / s)) (row / s - y % (64 / s)) ≡ covers_by_length high x y sprite column row
   unfolding covers
   covers-inside s e left top =
-      sym (three_tests _ _ (is_set (row_bytes high sprite) sprite (column / s - x % (128 / s)) (row / s - y % (64 / s))) (le-leb (x % (128 / s)) (column / s) left) (le-leb (y % (64 / s)) (row / s) top))
-      ∙ ap (λ s. nat_le (x % (128 / s)) (column / s) && nat_le (y % (64 / s)) (row / s) && is_set (row_bytes high sprite) sprite (column / s - x % (128 / s)) (row / s - y % (64 / s))) e
+      sym (three_tests _ _ (is_set (row_bytes_by_length high sprite) sprite (column / s - x % (128 / s)) (row / s - y % (64 / s))) (le-leb (x % (128 / s)) (column / s) left) (le-leb (y % (64 / s)) (row / s) top))
+      ∙ ap (λ s. nat_le (x % (128 / s)) (column / s) && nat_le (y % (64 / s)) (row / s) && is_set (row_bytes_by_length high sprite) sprite (column / s - x % (128 / s)) (row / s - y % (64 / s))) e
 
-  pub covers_left : (s : ℕ) → s ≡ scale high → column / s < x % (128 / s) → covers high x y sprite column row ≡ false
+  pub covers_left : (s : ℕ) → s ≡ scale high → column / s < x % (128 / s) → covers_by_length high x y sprite column row ≡ false
   unfolding covers
   covers_left s e out =
-      ap (λ s. nat_le (x % (128 / s)) (column / s) && nat_le (y % (64 / s)) (row / s) && is_set (row_bytes high sprite) sprite (column / s - x % (128 / s)) (row / s - y % (64 / s))) (sym e)
+      ap (λ s. nat_le (x % (128 / s)) (column / s) && nat_le (y % (64 / s)) (row / s) && is_set (row_bytes_by_length high sprite) sprite (column / s - x % (128 / s)) (row / s - y % (64 / s))) (sym e)
       ∙ and_left _ _ (and_left _ _ (lt-leb (x % (128 / s)) (column / s) out))
 
   -- below the last row of the sprite
-  pub covers_below : (s : ℕ) → s ≡ scale high → 1 ≤ row_bytes high sprite → length sprite ≤ row / s - y % (64 / s) → covers high x y sprite column row ≡ false
+  pub covers_below : (s : ℕ) → s ≡ scale high → 1 ≤ row_bytes_by_length high sprite → length sprite ≤ row / s - y % (64 / s) → covers_by_length high x y sprite column row ≡ false
   unfolding covers
   covers_below s e some past =
-      ap (λ s. nat_le (x % (128 / s)) (column / s) && nat_le (y % (64 / s)) (row / s) && is_set (row_bytes high sprite) sprite (column / s - x % (128 / s)) (row / s - y % (64 / s))) (sym e)
-      ∙ and_right (nat_le (x % (128 / s)) (column / s) && nat_le (y % (64 / s)) (row / s)) _ (is_set_below (row_bytes high sprite) sprite (column / s - x % (128 / s)) (row / s - y % (64 / s)) some past)
+      ap (λ s. nat_le (x % (128 / s)) (column / s) && nat_le (y % (64 / s)) (row / s) && is_set (row_bytes_by_length high sprite) sprite (column / s - x % (128 / s)) (row / s - y % (64 / s))) (sym e)
+      ∙ and_right (nat_le (x % (128 / s)) (column / s) && nat_le (y % (64 / s)) (row / s)) _ (is_set_below (row_bytes_by_length high sprite) sprite (column / s - x % (128 / s)) (row / s - y % (64 / s)) some past)
 
-  pub covers_above : (s : ℕ) → s ≡ scale high → row / s < y % (64 / s) → covers high x y sprite column row ≡ false
+  pub covers_above : (s : ℕ) → s ≡ scale high → row / s < y % (64 / s) → covers_by_length high x y sprite column row ≡ false
   unfolding covers
   covers_above s e out =
-      ap (λ s. nat_le (x % (128 / s)) (column / s) && nat_le (y % (64 / s)) (row / s) && is_set (row_bytes high sprite) sprite (column / s - x % (128 / s)) (row / s - y % (64 / s))) (sym e)
+      ap (λ s. nat_le (x % (128 / s)) (column / s) && nat_le (y % (64 / s)) (row / s) && is_set (row_bytes_by_length high sprite) sprite (column / s - x % (128 / s)) (row / s - y % (64 / s))) (sym e)
       ∙ and_left _ _ (and_right (nat_le (x % (128 / s)) (column / s)) _ (lt-leb (y % (64 / s)) (row / s) out))
 
-row_bytes_some : (high : Bool) (sprite : List ℕ) → 1 ≤ row_bytes high sprite
-unfolding row_bytes
+row_bytes_some : (high : Bool) (sprite : List ℕ) → 1 ≤ row_bytes_by_length high sprite
+unfolding row_bytes_by_length
 row_bytes_some true sprite = cond_both (nat_eq (length sprite) 32) 2 1 (λ n. 1 ≤ n) (λ _. omega arith) (λ _. omega arith)
 row_bytes_some false sprite = omega arith
 
 -- above the first line of a sprite nothing is covered
-pub covers_before : (high : Bool) (x y : ℕ) (sprite : List ℕ) (column row : ℕ) → row < scale high * (y % (64 / scale high)) → covers high x y sprite column row ≡ false
+pub covers_before : (high : Bool) (x y : ℕ) (sprite : List ℕ) (column row : ℕ) → row < scale high * (y % (64 / scale high)) → covers_by_length high x y sprite column row ≡ false
 covers_before true x y sprite column row before = covers_above true x y sprite column row 1 refl (omega arith)
 covers_before false x y sprite column row before = covers_above false x y sprite column row 2 refl (omega arith)
 
 -- nor from the line on where its bytes or the screen end
-pub covers_after : (high : Bool) (x y : ℕ) (sprite : List ℕ) (column row end : ℕ) → row < 64 → end ≡ min (y % (64 / scale high) + min (length sprite) 64) (64 / scale high) → scale high * end ≤ row → covers high x y sprite column row ≡ false
+pub covers_after : (high : Bool) (x y : ℕ) (sprite : List ℕ) (column row end : ℕ) → row < 64 → end ≡ min (y % (64 / scale high) + min (length sprite) 64) (64 / scale high) → scale high * end ≤ row → covers_by_length high x y sprite column row ≡ false
 covers_after true x y sprite column row end on_screen e after =
     covers_below true x y sprite column row 1 refl (row_bytes_some true sprite) (omega arith)
 covers_after false x y sprite column row end on_screen e after =
@@ -93,3 +93,17 @@ line_below false line end h on_screen = omega arith
 pub scale_step : (high : Bool) (line : ℕ) → scale high * (line + 1) ≡ scale high * line + scale high
 scale_step true line = omega arith
 scale_step false line = omega arith
+
+-- the length of a sprite of n rows tells the bytes in a row
+pub row_bytes_by_rows : (high : Bool) (n : ℕ) (sprite : List ℕ) → n < 16 → length sprite ≡ sprite_bytes high n → row_bytes_by_length high sprite ≡ row_bytes high n
+unfolding row_bytes row_bytes_by_length
+row_bytes_by_rows false n sprite small size = refl
+row_bytes_by_rows true n sprite small size =
+    ⊎_elim
+    (λ (zero : n ≡ 0).
+    let long : length sprite ≡ 32 = size ∙ cond-true (nat_eq n 0) 32 n (eq-eqb n 0 zero) in
+    cond-true (nat_eq (length sprite) 32) 2 1 (eq-eqb (length sprite) 32 long) ∙ sym (cond-true (nat_eq n 0) 2 1 (eq-eqb n 0 zero)))
+    (λ (some : n ≢ 0).
+    let long : length sprite ≡ n = size ∙ cond-false (nat_eq n 0) 32 n (ne_eqb n 0 some) in
+    cond-false (nat_eq (length sprite) 32) 2 1 (ne_eqb (length sprite) 32 (λ (e : length sprite ≡ 32). omega arith)) ∙ sym (cond-false (nat_eq n 0) 2 1 (ne_eqb n 0 some)))
+    (cases_eq n 0)

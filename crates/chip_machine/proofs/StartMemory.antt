@@ -1,6 +1,7 @@
 -- The image in the memory at the start.
 use Rattle.std.proofs.Common.{◌≡◌, ℕ, ◌+◌, ◌-◌, ◌≤◌, ◌++◌, List, length, take, drop, replicate, refl, sym, ap, ◌∙◌, arith, append_assoc, length-append}
 use Rattle.std.proofs.lemmas.List.{length-take-le, drop-replicate, take_at, drop_at, drop-drop}
+use Rattle.chip_machine.specs.declared.limits.TheConstants.{IMAGE_BYTES, IMAGE_START, MEMORY_BYTES}
 use Rattle.chip_machine.specs.State.{overwrite}
 use Rattle.chip_machine.specs.Digits.{small_shapes, big_shapes, bytes_of}
 use Rattle.chip_machine.specs.Start.{with_image, zeros}
@@ -30,11 +31,11 @@ drop-overwrite_past m i bytes n fits =
 abbrev digits_memory : List ℕ
 digits_memory = overwrite (overwrite zeros 0 (bytes_of small_shapes)) 80 (bytes_of big_shapes)
 
-length-zeros : length zeros ≡ 4096
+length-zeros : length zeros ≡ MEMORY_BYTES
 unfolding zeros
 length-zeros = refl
 
-length-digits : length digits_memory ≡ 4096
+length-digits : length digits_memory ≡ MEMORY_BYTES
 length-digits =
     length-overwrite (overwrite zeros 0 (bytes_of small_shapes)) 80 (bytes_of big_shapes) (omega (arith, length-zeros, length-overwrite zeros 0 (bytes_of small_shapes) (omega (arith, length-zeros))))
     ∙ length-overwrite zeros 0 (bytes_of small_shapes) (omega (arith, length-zeros)) ∙ length-zeros
@@ -43,26 +44,26 @@ regrouped : (n : ℕ) → 180 + n ≡ 80 + (100 + n)
 regrouped n = omega arith
 
 -- past the digits there are zeros
-zeros_past : (n : ℕ) → drop (180 + n) digits_memory ≡ replicate (4096 - (180 + n)) 0
+zeros_past : (n : ℕ) → drop (180 + n) digits_memory ≡ replicate (MEMORY_BYTES - (180 + n)) 0
 unfolding zeros
 zeros_past n =
     drop-overwrite_past (overwrite zeros 0 (bytes_of small_shapes)) 80 (bytes_of big_shapes) n (omega (arith, length-zeros, length-overwrite zeros 0 (bytes_of small_shapes) (omega (arith, length-zeros))))
     ∙ ap (λ k. drop k (overwrite zeros 0 (bytes_of small_shapes))) (regrouped n)
     ∙ drop-overwrite_past zeros 0 (bytes_of small_shapes) (100 + n) (omega (arith, length-zeros))
     ∙ ap (λ k. drop k zeros) (sym (regrouped n))
-    ∙ drop-replicate (180 + n) 4096 0
+    ∙ drop-replicate (180 + n) MEMORY_BYTES 0
 
 pub same_below_the_image : SameBelowTheImage
 unfolding with_image
 same_below_the_image old new =
-    let room : 512 ≤ length digits_memory = omega (arith, length-digits) in
-    take-overwrite digits_memory 512 old room ∙ sym (take-overwrite digits_memory 512 new room)
+    let room : IMAGE_START ≤ length digits_memory = omega (arith, length-digits) in
+    take-overwrite digits_memory IMAGE_START old room ∙ sym (take-overwrite digits_memory IMAGE_START new room)
 
 pub image_and_zeros : ImageAndZeros
 unfolding with_image
 image_and_zeros image small =
-    let room : 512 ≤ length digits_memory = omega (arith, length-digits) in
-    let past : 512 + length image ≡ 180 + (332 + length image) = omega arith in
-    let left : 4096 - (180 + (332 + length image)) ≡ 3584 - length image = omega arith in
-    drop-overwrite digits_memory 512 image room
-    ∙ ap (λ d. image ++ d) (ap (λ k. drop k digits_memory) past ∙ zeros_past (332 + length image) ∙ ap (λ k. replicate k 0) left)
+    let room : IMAGE_START ≤ length digits_memory = omega (arith, length-digits) in
+    let past : IMAGE_START + length image ≡ 180 + (IMAGE_START - 180 + length image) = omega arith in
+    let left : MEMORY_BYTES - (180 + (IMAGE_START - 180 + length image)) ≡ IMAGE_BYTES - length image = omega arith in
+    drop-overwrite digits_memory IMAGE_START image room
+    ∙ ap (λ d. image ++ d) (ap (λ k. drop k digits_memory) past ∙ zeros_past (IMAGE_START - 180 + length image) ∙ ap (λ k. replicate k 0) left)

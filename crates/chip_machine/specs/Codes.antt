@@ -3,9 +3,9 @@
 use Rattle.std.specs.Prelude.{ℕ, Bool, List, Option, refl}
 use Rattle.std.specs.Coded.{Coded, code_by, coded×, coded_ℕ, coded_bool, coded_list, coded_option}
 use Rattle.chip_machine.specs.contracts.stop.Stop as stops
-use Rattle.chip_machine.specs.contracts.stop.Profile as profiles
+use Rattle.chip_machine.specs.contracts.profile.Profile as profiles
 use Rattle.chip_machine.specs.declared.stop.Stop.{Stop}
-use Rattle.chip_machine.specs.declared.stop.Profile.{Profile}
+use Rattle.chip_machine.specs.declared.profile.Profile.{Profile}
 use Rattle.chip_machine.specs.Points.{Points, points_code}
 use Rattle.chip_machine.specs.State.{Core, State}
 

@@ -37,3 +37,7 @@ FrameLaw =
 -- a step keeps a state proper
 abbrev pub StepKeepsProper : Type 0
 StepKeepsProper = (s : State) (keys : ℕ) (tick : Bool) → IsProper s → IsProper (step_of s keys tick)
+
+-- a step keeps the profile
+abbrev pub StepKeepsProfile : Type 0
+StepKeepsProfile = (s : State) (keys : ℕ) (tick : Bool) → (step_of s keys tick).core.profile ≡ s.core.profile

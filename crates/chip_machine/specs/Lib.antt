@@ -4,6 +4,7 @@
 --   Sprite    the points that a sprite covers
 --   Scroll    the lit points moved down, right or left
 --   Digits    the shapes of the digits
+--   Profile   the two machines, and their names
 --   State     the state of the machine
 --   Start     the state before the first step
 --   Step      the table of the instructions, one step, and the addresses that it touches
@@ -22,6 +23,7 @@ pub mod ImageLaw
 pub mod Numbers
 pub mod Overwritten
 pub mod Points
+pub mod Profile
 pub mod Scroll
 pub mod Sprite
 pub mod Start

@@ -3,37 +3,48 @@
 -- SUPER-CHIP 1.1 documentation (the high size, sprites of 16 by 16); own: 8 by 16 in the low size, starts modulo the size, clipping.
 use Rattle.std.specs.Prelude.{ℕ, ◌+◌, ◌-◌, ◌*◌, ◌/◌, ◌%◌, ◌≤◌, Bool, true, false, ◌&&◌, ◌==◌, nat_lt, nat_le, List, length, slice_index, if◌then◌else◌}
 use Rattle.std.specs.Int.{bit_at}
+use Rattle.chip_machine.specs.declared.limits.TheConstants.{SPRITE_BYTES}
 use Rattle.chip_machine.specs.Points.{Points, points_where}
 
 -- how many bytes a sprite of n rows has, where n 0 stands for sixteen rows
 abbrev pub sprite_bytes : Bool → ℕ → ℕ
-sprite_bytes high n = if n == 0 then (if high then 32 else 16) else n
+sprite_bytes high n = if n == 0 then (if high then SPRITE_BYTES else 16) else n
 
 -- how many stored points wide and high a point is
 abbrev pub scale : Bool → ℕ
 scale true = 1
 scale false = 2
 
--- the bytes in a row of a sprite: two where it has 32 bytes in the high size, and otherwise one
-unfoldable pub row_bytes : Bool → List ℕ → ℕ
-row_bytes high sprite = if high && (length sprite == 32) then 2 else 1
+-- the bytes in a row of a sprite of n rows: two for sixteen rows in the high size, and otherwise one
+unfoldable pub row_bytes : Bool → ℕ → ℕ
+row_bytes high n = if high && (n == 0) then 2 else 1
 
 -- whether the point in column i and row j of a sprite with w bytes a row is set: the highest bit is at the left
 unfoldable pub is_set : ℕ → List ℕ → ℕ → ℕ → Bool
 is_set w sprite i j = nat_lt i (8 * w) && (bit_at (slice_index sprite (w * j + i / 8)) (7 - i % 8) == 1)
 
--- whether a sprite drawn at x and y, each modulo the size, has a set point over this stored point
-unfoldable pub covers : Bool → ℕ → ℕ → List ℕ → ℕ → ℕ → Bool
-covers high x y sprite column row =
+-- whether a sprite with w bytes a row, drawn at x and y, each modulo the size, has a set point over this stored point
+unfoldable pub covers : Bool → ℕ → ℕ → ℕ → List ℕ → ℕ → ℕ → Bool
+covers high x y w sprite column row =
     let left = x % (128 / scale high) in
     let top = y % (64 / scale high) in
     let across = column / scale high in
     let down = row / scale high in
-    nat_le left across && nat_le top down && is_set (row_bytes high sprite) sprite (across - left) (down - top)
+    nat_le left across && nat_le top down && is_set w sprite (across - left) (down - top)
 
--- the stored points under the set points of a sprite, as far as they are on the screen
-abbrev pub covered : Bool → ℕ → ℕ → List ℕ → Points
-covered high x y sprite = points_where (covers high x y sprite)
+-- the stored points under the set points of a sprite of n rows, as far as they are on the screen
+abbrev pub covered : Bool → ℕ → ℕ → ℕ → List ℕ → Points
+covered high x y n sprite = points_where (covers high x y (row_bytes high n) sprite)
+
+-- likewise by the sprite's bytes alone, as the code draws it: in the high size so many are sixteen rows
+unfoldable pub row_bytes_by_length : Bool → List ℕ → ℕ
+row_bytes_by_length high sprite = if high && (length sprite == SPRITE_BYTES) then 2 else 1
+
+abbrev pub covers_by_length : Bool → ℕ → ℕ → List ℕ → ℕ → ℕ → Bool
+covers_by_length high x y sprite = covers high x y (row_bytes_by_length high sprite) sprite
+
+abbrev pub covered_by_length : Bool → ℕ → ℕ → List ℕ → Points
+covered_by_length high x y sprite = points_where (covers_by_length high x y sprite)
 
 -- a sprite drawn at x starts in the right half of the stored columns: the code draws each half by a loop of its own
 abbrev pub StartsRight : Bool → ℕ → Type 0

@@ -2,18 +2,19 @@
 -- Source: own; that programs stand at 512 is of the COSMAC VIP manual.
 use Rattle.std.specs.Prelude.{ℕ, ◌<◌, ◌≤◌, List, [], length, replicate, None, false}
 use Rattle.std.specs.FinSet as set
-use Rattle.chip_machine.specs.declared.stop.Profile.{Profile}
+use Rattle.chip_machine.specs.declared.limits.TheConstants.{FLAGS, IMAGE_START, MEMORY_BYTES, TAPE_BYTES}
+use Rattle.chip_machine.specs.declared.profile.Profile.{Profile}
 use Rattle.chip_machine.specs.Digits.{small_shapes, big_shapes, bytes_of}
 use Rattle.chip_machine.specs.State.{Core, State, overwrite}
 
--- memory with the small digits written at 0, the big digits at 80 and the image at 512
+-- memory with the small digits written at 0, the big digits at 80 and the image where it stands
 unfoldable pub with_image : List ℕ → List ℕ → List ℕ
 with_image image memory =
-    overwrite (overwrite (overwrite memory 0 (bytes_of small_shapes)) 80 (bytes_of big_shapes)) 512 image
+    overwrite (overwrite (overwrite memory 0 (bytes_of small_shapes)) 80 (bytes_of big_shapes)) IMAGE_START image
 
 -- a memory of zeros
 unfoldable pub zeros : List ℕ
-zeros = replicate 4096 0
+zeros = replicate MEMORY_BYTES 0
 
 -- the memory before the first step, which is 0 elsewhere
 abbrev pub start_memory : List ℕ → List ℕ
@@ -25,11 +26,11 @@ start_core tape profile =
     record {
       registers = replicate 16 0;
       index = 0;
-      pc = 512;
+      pc = IMAGE_START;
       frames = [];
       delay = 0;
       sound = 0;
-      flags = replicate 8 0;
+      flags = replicate FLAGS 0;
       tape = tape;
       draws = 0;
       lit = set.empty;
@@ -42,6 +43,6 @@ start_core tape profile =
 abbrev pub start_of : List ℕ → List ℕ → Profile → State
 start_of image tape profile = record { core = start_core tape profile; memory = start_memory image }
 
--- a tape has 1 to 4096 bytes
+-- a tape has a byte at least
 abbrev pub IsTape : List ℕ → Type 0
-IsTape tape = (0 < length tape) × (length tape ≤ 4096)
+IsTape tape = (0 < length tape) × (length tape ≤ TAPE_BYTES)

@@ -3,6 +3,7 @@
 ghost use Rattle.std.specs.Prelude.{◌≡◌, ◌+◌, ◌<◌, ◌≤◌, ◌++◌, length, OnOk, OnErr, IfErr, Ok, Err};
 ghost use Rattle.chip_machine.specs.Step.{effect, perform, accessed};
 
+use crate::limits::{LAST_WORD, MEMORY_BYTES};
 use crate::processor::Processor;
 use crate::stop::Stop;
 use crate::touch::Touch;
@@ -16,8 +17,8 @@ pub(crate) fn execute(
     keys: u16,
     touch: &mut Touch,
 ) -> Result<(), Stop>
-    requires size { length memory.old ≡ 4096 }
-    requires pc { processor.old.pc ≤ 4094 }
+    requires size { length memory.old ≡ MEMORY_BYTES }
+    requires pc { processor.old.pc ≤ LAST_WORD }
     requires room { length touch.old ≤ 2 }
     ensures ok { OnOk result (perform keys (record { core = processor.old; memory = memory.old }) (effect instr processor.old) ≡ Ok (record { core = processor.new; memory = memory.new })) }
     ensures why { IfErr result (λ why. perform keys (record { core = processor.old; memory = memory.old }) (effect instr processor.old) ≡ Err why) }
@@ -25,151 +26,49 @@ pub(crate) fn execute(
     ensures touched { touch.new ≡ touch.old ++ accessed processor.old.index (effect instr processor.old) }
 {
     match instr {
-        Instr::ScrollDown(n) => {
-            processor.row_scroll_down(n);
-            Ok(())
-        }
-        Instr::ClearScreen => {
-            processor.row_clear_screen();
-            Ok(())
-        }
-        Instr::Return => processor.row_return(),
-        Instr::ScrollRight => {
-            processor.row_scroll_right();
-            Ok(())
-        }
-        Instr::ScrollLeft => {
-            processor.row_scroll_left();
-            Ok(())
-        }
-        #[tactic(auto, unfolding(crate::specs::Step::effect))]
-        Instr::Exit => return Err(Stop::Exit),
-        Instr::LowSize => {
-            processor.row_low_size();
-            Ok(())
-        }
-        Instr::HighSize => {
-            processor.row_high_size();
-            Ok(())
-        }
-        Instr::Jump(address) => {
-            processor.row_jump(address);
-            Ok(())
-        }
-        Instr::Call(address) => processor.row_call(address),
-        Instr::SkipIfByte(x, byte) => {
-            processor.row_skip_if_byte(x, byte);
-            Ok(())
-        }
-        Instr::SkipUnlessByte(x, byte) => {
-            processor.row_skip_unless_byte(x, byte);
-            Ok(())
-        }
-        Instr::SkipIfEqual(x, y) => {
-            processor.row_skip_if_equal(x, y);
-            Ok(())
-        }
-        Instr::LoadByte(x, byte) => {
-            processor.row_load_byte(x, byte);
-            Ok(())
-        }
-        Instr::AddByte(x, byte) => {
-            processor.row_add_byte(x, byte);
-            Ok(())
-        }
-        Instr::Copy(x, y) => {
-            processor.row_copy(x, y);
-            Ok(())
-        }
-        Instr::Or(x, y) => {
-            processor.row_or(x, y);
-            Ok(())
-        }
-        Instr::And(x, y) => {
-            processor.row_and(x, y);
-            Ok(())
-        }
-        Instr::Xor(x, y) => {
-            processor.row_xor(x, y);
-            Ok(())
-        }
-        Instr::Add(x, y) => {
-            processor.row_add(x, y);
-            Ok(())
-        }
-        Instr::Subtract(x, y) => {
-            processor.row_subtract(x, y);
-            Ok(())
-        }
-        Instr::ShiftRight(x, y) => {
-            processor.row_shift_right(x, y);
-            Ok(())
-        }
-        Instr::SubtractFrom(x, y) => {
-            processor.row_subtract_from(x, y);
-            Ok(())
-        }
-        Instr::ShiftLeft(x, y) => {
-            processor.row_shift_left(x, y);
-            Ok(())
-        }
-        Instr::SkipUnlessEqual(x, y) => {
-            processor.row_skip_unless_equal(x, y);
-            Ok(())
-        }
-        Instr::LoadIndex(address) => {
-            processor.row_load_index(address);
-            Ok(())
-        }
-        Instr::JumpOffset(address) => {
-            processor.row_jump_offset(address);
-            Ok(())
-        }
-        Instr::Random(x, byte) => {
-            processor.row_random(x, byte);
-            Ok(())
-        }
-        Instr::Draw(x, y, n) => processor.row_draw(x, y, n, memory, touch),
-        Instr::SkipIfKey(x) => {
-            processor.row_skip_if_key(x, keys);
-            Ok(())
-        }
-        Instr::SkipUnlessKey(x) => {
-            processor.row_skip_unless_key(x, keys);
-            Ok(())
-        }
-        Instr::ReadDelay(x) => {
-            processor.row_read_delay(x);
-            Ok(())
-        }
-        Instr::WaitKey(x) => {
-            processor.row_wait_key(x, keys);
-            Ok(())
-        }
-        Instr::SetDelay(x) => {
-            processor.row_set_delay(x);
-            Ok(())
-        }
-        Instr::SetSound(x) => {
-            processor.row_set_sound(x);
-            Ok(())
-        }
-        Instr::AddIndex(x) => {
-            processor.row_add_index(x);
-            Ok(())
-        }
-        Instr::SmallDigit(x) => {
-            processor.row_small_digit(x);
-            Ok(())
-        }
-        Instr::BigDigit(x) => {
-            processor.row_big_digit(x);
-            Ok(())
-        }
-        Instr::StoreDecimal(x) => processor.row_store_decimal(x, memory, touch),
-        Instr::StoreRegisters(x) => processor.row_store_registers(x, memory, touch),
-        Instr::LoadRegisters(x) => processor.row_load_registers(x, memory, touch),
-        Instr::StoreFlags(x) => processor.row_store_flags(x),
-        Instr::LoadFlags(x) => processor.row_load_flags(x),
+        Instr::ScrollDown(n) => processor.row_scroll_down(n)?,
+        Instr::ClearScreen => processor.row_clear_screen(),
+        Instr::Return => processor.row_return()?,
+        Instr::ScrollRight => processor.row_scroll_right()?,
+        Instr::ScrollLeft => processor.row_scroll_left()?,
+        Instr::Exit => return Err(processor.row_exit()),
+        Instr::LowSize => processor.row_low_size()?,
+        Instr::HighSize => processor.row_high_size()?,
+        Instr::Jump(address) => processor.row_jump(address),
+        Instr::Call(address) => processor.row_call(address)?,
+        Instr::SkipIfByte(x, byte) => processor.row_skip_if_byte(x, byte),
+        Instr::SkipUnlessByte(x, byte) => processor.row_skip_unless_byte(x, byte),
+        Instr::SkipIfEqual(x, y) => processor.row_skip_if_equal(x, y),
+        Instr::LoadByte(x, byte) => processor.row_load_byte(x, byte),
+        Instr::AddByte(x, byte) => processor.row_add_byte(x, byte),
+        Instr::Copy(x, y) => processor.row_copy(x, y),
+        Instr::Or(x, y) => processor.row_or(x, y),
+        Instr::And(x, y) => processor.row_and(x, y),
+        Instr::Xor(x, y) => processor.row_xor(x, y),
+        Instr::Add(x, y) => processor.row_add(x, y),
+        Instr::Subtract(x, y) => processor.row_subtract(x, y),
+        Instr::ShiftRight(x, y) => processor.row_shift_right(x, y),
+        Instr::SubtractFrom(x, y) => processor.row_subtract_from(x, y),
+        Instr::ShiftLeft(x, y) => processor.row_shift_left(x, y),
+        Instr::SkipUnlessEqual(x, y) => processor.row_skip_unless_equal(x, y),
+        Instr::LoadIndex(address) => processor.row_load_index(address),
+        Instr::JumpOffset(address) => processor.row_jump_offset(address),
+        Instr::Random(x, byte) => processor.row_random(x, byte),
+        Instr::Draw(x, y, n) => processor.row_draw(x, y, n, memory, touch)?,
+        Instr::SkipIfKey(x) => processor.row_skip_if_key(x, keys),
+        Instr::SkipUnlessKey(x) => processor.row_skip_unless_key(x, keys),
+        Instr::ReadDelay(x) => processor.row_read_delay(x),
+        Instr::WaitKey(x) => processor.row_wait_key(x, keys),
+        Instr::SetDelay(x) => processor.row_set_delay(x),
+        Instr::SetSound(x) => processor.row_set_sound(x),
+        Instr::AddIndex(x) => processor.row_add_index(x),
+        Instr::SmallDigit(x) => processor.row_small_digit(x),
+        Instr::BigDigit(x) => processor.row_big_digit(x)?,
+        Instr::StoreDecimal(x) => processor.row_store_decimal(x, memory, touch)?,
+        Instr::StoreRegisters(x) => processor.row_store_registers(x, memory, touch)?,
+        Instr::LoadRegisters(x) => processor.row_load_registers(x, memory, touch)?,
+        Instr::StoreFlags(x) => processor.row_store_flags(x)?,
+        Instr::LoadFlags(x) => processor.row_load_flags(x)?,
     }
+    Ok(())
 }

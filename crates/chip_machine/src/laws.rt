@@ -1,6 +1,6 @@
 //! Laws of the machine.
 
-ghost use Rattle.chip_machine.specs.Frame.{FrameLaw, StepKeepsProper};
+ghost use Rattle.chip_machine.specs.Frame.{FrameLaw, StepKeepsProfile, StepKeepsProper};
 ghost use Rattle.chip_machine.specs.ImageLaw.{ImageAndZeros, SameBelowTheImage};
 
 /// A step neither depends on the bytes that it doesn't touch nor changes them.
@@ -13,7 +13,12 @@ pub fn step_keeps_proper()
     ensures { StepKeepsProper }
 {}
 
-/// What the image is in the memory at the start: it stands from address 512 on, with zeros after it, and nothing below depends on it.
+/// A step keeps the profile.
+pub fn step_keeps_profile()
+    ensures { StepKeepsProfile }
+{}
+
+/// What the image is in the memory at the start: it stands from its place on, with zeros after it, and nothing below depends on it.
 pub fn image_at_the_start()
     ensures from_512 { ImageAndZeros }
     ensures below { SameBelowTheImage }

@@ -1,4 +1,4 @@
-//! A SUPER-CHIP 1.1 machine: its state, one step of it, and the addresses that a step touches.
+//! A SUPER-CHIP 1.1 machine, or one after the COSMAC VIP: its state, one step of it, and the addresses that a step touches.
 #![tactic(auto)]
 
 mod digits;
@@ -8,9 +8,13 @@ mod execute;
 mod instruction_tests;
 mod keys;
 pub mod laws;
+pub mod limits;
 pub mod machine;
 mod memory;
 mod processor;
+pub mod profile;
+#[cfg(test)]
+mod profile_tests;
 mod rows;
 mod screen;
 mod sprite;
@@ -20,5 +24,6 @@ mod tests;
 pub mod touch;
 
 pub use machine::{Machine, StartError};
-pub use stop::{Profile, Stop};
+pub use profile::Profile;
+pub use stop::Stop;
 pub use touch::Touch;

@@ -5,11 +5,9 @@ ghost use Rattle.std.specs.List.{range_with_len};
 ghost use Rattle.chip_machine.specs.State.{overwrite};
 ghost use Rattle.chip_machine.specs.Step.{span_at};
 
+use crate::limits::{MEMORY_BYTES, TOUCHES};
 use crate::stop::Stop;
 use crate::touch::Touch;
-
-/// How many bytes the memory has.
-pub(crate) const MEMORY: usize = 4096;
 
 /// Reads bytes, where they are within the memory.
 pub(crate) fn load<'a>(
@@ -18,15 +16,15 @@ pub(crate) fn load<'a>(
     count: usize,
     touch: &mut Touch,
 ) -> Result<&'a [u8], Stop>
-    requires size { length memory.now ≡ 4096 }
-    requires room { length touch.old + count ≤ 34 }
-    ensures fits { IsOk result ↔ (at + count ≤ 4096) }
+    requires size { length memory.now ≡ MEMORY_BYTES }
+    requires room { length touch.old + count ≤ TOUCHES }
+    ensures fits { IsOk result ↔ (at + count ≤ MEMORY_BYTES) }
     ensures ok { IfOk result (λ bytes. bytes.now ≡ take count (drop at memory.now)) }
     ensures err { IfErr result (λ why. why ≡ Stop.AddressOutOfRange) }
     ensures touched { touch.new ≡ touch.old ++ span_at at count }
 {
     let from = at as usize;
-    if from + count > MEMORY {
+    if from + count > MEMORY_BYTES {
         return Err(Stop::AddressOutOfRange);
     }
     touch.add_span(at, count);
@@ -44,16 +42,16 @@ pub(crate) fn write_at(memory: &mut [u8], at: usize, bytes: &[u8])
 
 /// Writes bytes, where they stay within the memory.
 pub(crate) fn store(memory: &mut [u8], at: u16, bytes: &[u8], touch: &mut Touch) -> Result<(), Stop>
-    requires size { length memory.old ≡ 4096 }
-    requires room { length touch.old + length bytes.now ≤ 34 }
-    ensures fits { IsOk result ↔ (at + length bytes.now ≤ 4096) }
+    requires size { length memory.old ≡ MEMORY_BYTES }
+    requires room { length touch.old + length bytes.now ≤ TOUCHES }
+    ensures fits { IsOk result ↔ (at + length bytes.now ≤ MEMORY_BYTES) }
     ensures ok { OnOk result (memory.new ≡ overwrite memory.old at bytes.now) }
     ensures err { OnErr result (memory.new ≡ memory.old) }
     ensures why { IfErr result (λ why. why ≡ Stop.AddressOutOfRange) }
     ensures touched { touch.new ≡ touch.old ++ span_at at (length bytes.now) }
 {
     let from = at as usize;
-    if from + bytes.len() > MEMORY {
+    if from + bytes.len() > MEMORY_BYTES {
         return Err(Stop::AddressOutOfRange);
     }
     touch.add_span(at, bytes.len());

@@ -1,20 +1,22 @@
 //! All of the machine but its memory.
 
-ghost use Rattle.std.specs.Prelude.{◌≡◌, ◌+◌, ◌*◌, ◌/◌, ◌-◌, ◌<◌, ◌≤◌, ◌^◌, ◌%◌, length, slice_index, OnOk, OnErr, IfOk, IfErr, IsOk, ◌↔◌};
-ghost use Rattle.chip_machine.specs.Step.{reg, with_reg, with_flag, go_to, skip_if, next, call, return, with_index, random_byte, drawn, store_flags, load_flags, load_registers, ticked, with_size, with_lit, with_sprite};
+ghost use Rattle.std.specs.Prelude.{◌≡◌, ◌+◌, ◌*◌, ◌/◌, ◌-◌, ◌<◌, ◌≤◌, ◌^◌, ◌%◌, length, slice_index, OnOk, OnErr, IfOk, IfErr, IsOk, ◌↔◌, ◌==◌, false, ℕ};
+ghost use Rattle.chip_machine.specs.Step.{reg, with_reg, with_flag, go_to, skip_if, next, call, return, with_index, random_byte, drawn, store_flags, load_flags, load_registers, past_registers, ticked, with_size, with_lit, with_sprite, Effect, Stops, schip_only};
+ghost use Rattle.chip_machine.specs.Profile.{by_profile};
 ghost use Rattle.chip_machine.specs.Points.{is_lit, IsOnScreen};
+ghost use Rattle.chip_machine.specs.Sprite.{sprite_bytes};
+ghost use Rattle.chip_machine.specs.Stored.{lights};
 ghost use Rattle.chip_machine.specs.Scroll.{scrolled_down, scrolled_right, scrolled_left};
 ghost use Rattle.std.specs.FinSet as set;
 ghost use Rattle.chip_machine.specs.Start.{IsTape, start_core};
 
+use crate::limits::{FLAGS, FRAMES, IMAGE_START, LAST_WORD};
+use crate::profile::Profile;
 use crate::screen::Screen;
-use crate::stop::{Profile, Stop};
-use chip_lang::number::Reg;
+use crate::stop::Stop;
+use chip_lang::number::{Addr, Nibble, Reg};
 use std::alloc::{AllocError, Global};
 use std::marker::Model;
-
-/// How many calls can be open.
-pub(crate) const FRAMES: usize = 16;
 
 /// The registers, and what else is not memory.
 #[derive(Drop)]
@@ -26,7 +28,7 @@ pub(crate) struct Processor {
     depth: usize,
     delay: u8,
     sound: u8,
-    flags: [u8; 8],
+    flags: [u8; FLAGS],
     tape: Vec<u8>,
     draws: u64,
     screen: Screen,
@@ -39,6 +41,7 @@ impl Model for Processor {
     ghost use Rattle.std.specs.Prelude.{◌<◌, ◌≤◌, length, take};
     ghost use Rattle.chip_machine.specs.State.{Core};
     ghost use Rattle.chip_machine.specs.Codes.{core_code};
+    ghost use Rattle.chip_machine.specs.declared.limits.TheConstants.{FRAMES, TAPE_BYTES};
 
     ghost Value = { Core };
 
@@ -60,11 +63,11 @@ impl Model for Processor {
       profile = p.profile;
     } };
 
-    ghost invariant = { λ p. (p.depth ≤ 16) × (0 < length p.tape.items) × (length p.tape.items ≤ 4096) };
+    ghost invariant = { λ p. (p.depth ≤ FRAMES) × (0 < length p.tape.items) × (length p.tape.items ≤ TAPE_BYTES) };
 }
 
 impl Processor {
-    /// At the start: all is 0, and pc is 512.
+    /// At the start: all is 0, and pc is at the image.
     pub(crate) fn new(alloc: Global, tape: &[u8], profile: Profile) -> Result<Self, AllocError>
         requires { IsTape tape.now }
         ensures { IfOk result (λ processor. processor ≡ start_core tape.now profile) }
@@ -74,12 +77,12 @@ impl Processor {
         Ok(Processor {
             registers: [0; 16],
             index: 0,
-            pc: 512,
+            pc: IMAGE_START as u16,
             frames: [0; FRAMES],
             depth: 0,
             delay: 0,
             sound: 0,
-            flags: [0; 8],
+            flags: [0; FLAGS],
             tape,
             draws: 0,
             screen,
@@ -118,14 +121,6 @@ impl Processor {
         self.registers[x.number() as usize]
     }
 
-    /// The value of the register of this number.
-    pub(crate) fn reg_at(&self, number: u16) -> u8
-        requires { number < 16 }
-        ensures { result ≡ reg self.now number }
-    {
-        self.registers[number as usize]
-    }
-
     /// Sets a register.
     pub(crate) fn set(&mut self, x: Reg, value: u8)
         ensures { self.new ≡ with_reg x value self.old }
@@ -141,6 +136,67 @@ impl Processor {
         self.registers[15] = flag;
     }
 
+    /// Stops where the machine is one without the instructions that SUPER-CHIP added.
+    pub(crate) fn needs_schip(&self) -> Result<(), Stop>
+        ensures ok { OnOk result ((effect : Effect) → schip_only self.now effect ≡ effect) }
+        ensures why { IfErr result (λ why. (effect : Effect) → schip_only self.now effect ≡ Stops why) }
+    {
+        match self.profile {
+            Profile::Schip => Ok(()),
+            Profile::Vip => Err(Stop::NoInstruction),
+        }
+    }
+
+    /// What a shift of Vx and Vy shifts: the value of the one or of the other.
+    pub(crate) fn shifted(&self, x: Reg, y: Reg) -> u8
+        ensures { result ≡ reg self.now (by_profile self.now.profile x y) }
+    {
+        match self.profile {
+            Profile::Schip => self.reg(x),
+            Profile::Vip => self.reg(y),
+        }
+    }
+
+    /// What a jump adds to its address: the value of the register of the address's top digit, or that of V0.
+    pub(crate) fn jump_offset(&self, address: Addr) -> u8
+        ensures { result ≡ reg self.now (by_profile self.now.profile (address / 256) 0) }
+    {
+        match self.profile {
+            Profile::Schip => self.registers[address.number() as usize / 256],
+            Profile::Vip => self.registers[0],
+        }
+    }
+
+    /// Sets a register to what a logical operation gives: VF stays, or is 0 then.
+    pub(crate) fn set_logic(&mut self, x: Reg, value: u8)
+        ensures { self.new ≡ by_profile self.old.profile (with_reg x value self.old) (with_flag x value 0 self.old) }
+    {
+        match self.profile {
+            Profile::Schip => self.set(x, value),
+            Profile::Vip => self.set_with_flag(x, value, 0),
+        }
+    }
+
+    /// Ends a move of V0 to Vx to or from the memory: I stays, or moves past their bytes.
+    pub(crate) fn finish_move(&mut self, x: Reg)
+        ensures { self.new ≡ with_index (by_profile self.old.profile self.old.index (past_registers x self.old)) self.old }
+    {
+        match self.profile {
+            Profile::Schip => {}
+            Profile::Vip => self.index = self.index.wrapping_add(u16::from(x.number()) + 1),
+        }
+    }
+
+    /// Whether a sprite of this number of rows is nothing at all: of number 0, where that doesn't stand for sixteen rows.
+    pub(crate) fn draws_nothing(&self, n: Nibble) -> bool
+        ensures { result ≡ by_profile self.now.profile false (n == 0) }
+    {
+        match self.profile {
+            Profile::Schip => false,
+            Profile::Vip => n.number() == 0,
+        }
+    }
+
     /// Goes to an address.
     pub(crate) fn go_to(&mut self, address: u16)
         ensures { self.new ≡ go_to address self.old }
@@ -150,7 +206,7 @@ impl Processor {
 
     /// Goes on to the next instruction.
     pub(crate) fn advance(&mut self)
-        requires { self.old.pc ≤ 4094 }
+        requires { self.old.pc ≤ LAST_WORD }
         ensures { self.new ≡ next self.old }
     {
         self.pc += 2;
@@ -158,17 +214,18 @@ impl Processor {
 
     /// Goes on to the next instruction, or past it.
     pub(crate) fn skip_if(&mut self, test: bool)
-        requires { self.old.pc ≤ 4094 }
+        requires { self.old.pc ≤ LAST_WORD }
         ensures { self.new ≡ skip_if test self.old }
     {
         self.pc += if test { 4 } else { 2 };
     }
 
     /// V0 to VF.
-    pub(crate) fn registers(&self) -> [u8; 16]
-        ensures { result ≡ self.now.registers }
+    pub(crate) fn registers(&self) -> &[u8]
+        ensures value { result.now ≡ self.now.registers }
+        ensures size { length result.now ≡ 16 }
     {
-        self.registers
+        &self.registers
     }
 
     /// The register I.
@@ -209,15 +266,15 @@ impl Processor {
     /// Where the open calls return to, the oldest first.
     pub(crate) fn frames(&self) -> &[u16]
         ensures value { result.now ≡ self.now.frames }
-        ensures at_most { length result.now ≤ 16 }
+        ensures at_most { length result.now ≤ FRAMES }
     {
         &self.frames[..self.depth]
     }
 
     /// Calls what stands at an address.
     pub(crate) fn call(&mut self, address: u16)
-        requires next { self.old.pc ≤ 4094 }
-        requires room { length self.old.frames < 16 }
+        requires next { self.old.pc ≤ LAST_WORD }
+        requires room { length self.old.frames < FRAMES }
         ensures { self.new ≡ call address self.old }
     {
         self.frames[self.depth] = self.pc + 2;
@@ -246,7 +303,7 @@ impl Processor {
 
     /// Copies the registers up to x into the flag registers.
     pub(crate) fn store_flags(&mut self, x: Reg)
-        requires { x < 8 }
+        requires { x < FLAGS }
         ensures { self.new ≡ store_flags x self.old }
     {
         let count = x.number() as usize + 1;
@@ -256,7 +313,7 @@ impl Processor {
 
     /// Copies the flag registers up to x into the registers.
     pub(crate) fn load_flags(&mut self, x: Reg)
-        requires { x < 8 }
+        requires { x < FLAGS }
         ensures { self.new ≡ load_flags x self.old }
     {
         let count = x.number() as usize + 1;
@@ -278,6 +335,14 @@ impl Processor {
         ensures on_screen { IsOnScreen self.now.lit }
     {
         self.screen.lit(column, row)
+    }
+
+    /// The points of a row of the screen, the leftmost the highest bit.
+    pub(crate) fn row(&self, row: usize) -> u128
+        ensures points { (column : ℕ) → column < 128 → lights result column ≡ is_lit self.now.lit column row }
+        ensures dark { (result ≡ 0) ↔ ((column : ℕ) → column < 128 → is_lit self.now.lit column row ≡ false) }
+    {
+        self.screen.row(row)
     }
 
     /// Whether the screen has its high size.
@@ -322,9 +387,16 @@ impl Processor {
         self.screen.scroll_left();
     }
 
-    /// Draws a sprite, and sets VF where it covers a point that was lit.
+    /// Clears VF.
+    pub(crate) fn clear_flag(&mut self)
+        ensures { self.new ≡ with_reg 15 0 self.old }
+    {
+        self.registers[15] = 0;
+    }
+
+    /// Draws a sprite of as many rows as its bytes tell, and sets VF where it covers a point that was lit.
     pub(crate) fn draw(&mut self, x: u8, y: u8, sprite: &[u8])
-        ensures { self.new ≡ with_sprite x y sprite.now self.old }
+        ensures { (n : ℕ) → n < 16 → length sprite.now ≡ sprite_bytes self.old.high n → self.new ≡ with_sprite x y n sprite.now self.old }
     {
         let hit = self.screen.draw(self.high, x, y, sprite);
         self.registers[15] = u8::from(hit);
@@ -368,7 +440,8 @@ impl Processor {
 
     /// The flag registers.
     pub(crate) fn flags(&self) -> &[u8]
-        ensures { result.now ≡ self.now.flags }
+        ensures value { result.now ≡ self.now.flags }
+        ensures size { length result.now ≡ FLAGS }
     {
         &self.flags
     }

@@ -4,8 +4,9 @@ ghost use Rattle.std.specs.Prelude.{◌≡◌, ℕ, ◌≤◌, ◌++◌, List, [
 ghost use Rattle.chip_machine.specs.Step.{effect, Changes, Stops, perform, accessed};
 
 use crate::keys::{is_down, least_down};
+use crate::limits::{FLAGS, FRAMES, LAST_WORD, MEMORY_BYTES};
 use crate::memory::{load, store};
-use crate::processor::{FRAMES, Processor};
+use crate::processor::Processor;
 use crate::sprite::sprite_bytes;
 use crate::stop::Stop;
 use crate::touch::Touch;
@@ -24,7 +25,7 @@ impl Processor {
     /// `3XKK`, `SE Vx, kk`: skips if Vx is kk.
     #[tactic(auto, unfolding(crate::specs::Step::effect))]
     pub(crate) fn row_skip_if_byte(&mut self, x: Reg, byte: u8)
-        requires { self.old.pc ≤ 4094 }
+        requires { self.old.pc ≤ LAST_WORD }
         ensures { effect (Instr.SkipIfByte x byte) self.old ≡ Changes self.new }
     {
         let same = self.reg(x) == byte;
@@ -34,7 +35,7 @@ impl Processor {
     /// `4XKK`, `SNE Vx, kk`: skips if Vx is not kk.
     #[tactic(auto, unfolding(crate::specs::Step::effect))]
     pub(crate) fn row_skip_unless_byte(&mut self, x: Reg, byte: u8)
-        requires { self.old.pc ≤ 4094 }
+        requires { self.old.pc ≤ LAST_WORD }
         ensures { effect (Instr.SkipUnlessByte x byte) self.old ≡ Changes self.new }
     {
         let same = self.reg(x) == byte;
@@ -44,7 +45,7 @@ impl Processor {
     /// `5XY0`, `SE Vx, Vy`: skips if Vx is Vy.
     #[tactic(auto, unfolding(crate::specs::Step::effect))]
     pub(crate) fn row_skip_if_equal(&mut self, x: Reg, y: Reg)
-        requires { self.old.pc ≤ 4094 }
+        requires { self.old.pc ≤ LAST_WORD }
         ensures { effect (Instr.SkipIfEqual x y) self.old ≡ Changes self.new }
     {
         let same = self.reg(x) == self.reg(y);
@@ -54,7 +55,7 @@ impl Processor {
     /// `9XY0`, `SNE Vx, Vy`: skips if they differ.
     #[tactic(auto, unfolding(crate::specs::Step::effect))]
     pub(crate) fn row_skip_unless_equal(&mut self, x: Reg, y: Reg)
-        requires { self.old.pc ≤ 4094 }
+        requires { self.old.pc ≤ LAST_WORD }
         ensures { effect (Instr.SkipUnlessEqual x y) self.old ≡ Changes self.new }
     {
         let same = self.reg(x) == self.reg(y);
@@ -64,7 +65,7 @@ impl Processor {
     /// `6XKK`, `LD Vx, kk`: Vx becomes kk.
     #[tactic(auto, unfolding(crate::specs::Step::effect))]
     pub(crate) fn row_load_byte(&mut self, x: Reg, byte: u8)
-        requires { self.old.pc ≤ 4094 }
+        requires { self.old.pc ≤ LAST_WORD }
         ensures { effect (Instr.LoadByte x byte) self.old ≡ Changes self.new }
     {
         self.set(x, byte);
@@ -74,7 +75,7 @@ impl Processor {
     /// `7XKK`, `ADD Vx, kk`: adds kk to Vx, with no flag.
     #[tactic(auto, unfolding(crate::specs::Step::effect))]
     pub(crate) fn row_add_byte(&mut self, x: Reg, byte: u8)
-        requires { self.old.pc ≤ 4094 }
+        requires { self.old.pc ≤ LAST_WORD }
         ensures { effect (Instr.AddByte x byte) self.old ≡ Changes self.new }
     {
         let sum = self.reg(x).wrapping_add(byte);
@@ -85,7 +86,7 @@ impl Processor {
     /// `8XY0`, `LD Vx, Vy`: Vx becomes Vy.
     #[tactic(auto, unfolding(crate::specs::Step::effect))]
     pub(crate) fn row_copy(&mut self, x: Reg, y: Reg)
-        requires { self.old.pc ≤ 4094 }
+        requires { self.old.pc ≤ LAST_WORD }
         ensures { effect (Instr.Copy x y) self.old ≡ Changes self.new }
     {
         let value = self.reg(y);
@@ -93,43 +94,43 @@ impl Processor {
         self.advance();
     }
 
-    /// `8XY1`, `OR Vx, Vy`: or, with no flag.
+    /// `8XY1`, `OR Vx, Vy`: or; VF stays, or is 0 then.
     #[tactic(auto, unfolding(crate::specs::Step::effect))]
     pub(crate) fn row_or(&mut self, x: Reg, y: Reg)
-        requires { self.old.pc ≤ 4094 }
+        requires { self.old.pc ≤ LAST_WORD }
         ensures { effect (Instr.Or x y) self.old ≡ Changes self.new }
     {
         let value = self.reg(x) | self.reg(y);
-        self.set(x, value);
+        self.set_logic(x, value);
         self.advance();
     }
 
-    /// `8XY2`, `AND Vx, Vy`: and, with no flag.
+    /// `8XY2`, `AND Vx, Vy`: and; VF stays, or is 0 then.
     #[tactic(auto, unfolding(crate::specs::Step::effect))]
     pub(crate) fn row_and(&mut self, x: Reg, y: Reg)
-        requires { self.old.pc ≤ 4094 }
+        requires { self.old.pc ≤ LAST_WORD }
         ensures { effect (Instr.And x y) self.old ≡ Changes self.new }
     {
         let value = self.reg(x) & self.reg(y);
-        self.set(x, value);
+        self.set_logic(x, value);
         self.advance();
     }
 
-    /// `8XY3`, `XOR Vx, Vy`: exclusive or, with no flag.
+    /// `8XY3`, `XOR Vx, Vy`: exclusive or; VF stays, or is 0 then.
     #[tactic(auto, unfolding(crate::specs::Step::effect))]
     pub(crate) fn row_xor(&mut self, x: Reg, y: Reg)
-        requires { self.old.pc ≤ 4094 }
+        requires { self.old.pc ≤ LAST_WORD }
         ensures { effect (Instr.Xor x y) self.old ≡ Changes self.new }
     {
         let value = self.reg(x) ^ self.reg(y);
-        self.set(x, value);
+        self.set_logic(x, value);
         self.advance();
     }
 
     /// `8XY4`, `ADD Vx, Vy`: adds Vy to Vx; VF says whether the sum passes 255.
     #[tactic(auto, unfolding(crate::specs::Step::effect))]
     pub(crate) fn row_add(&mut self, x: Reg, y: Reg)
-        requires { self.old.pc ≤ 4094 }
+        requires { self.old.pc ≤ LAST_WORD }
         ensures { effect (Instr.Add x y) self.old ≡ Changes self.new }
     {
         let left = self.reg(x);
@@ -142,7 +143,7 @@ impl Processor {
     /// `8XY5`, `SUB Vx, Vy`: takes Vy from Vx; VF says whether Vx was at least Vy.
     #[tactic(auto, unfolding(crate::specs::Step::effect))]
     pub(crate) fn row_subtract(&mut self, x: Reg, y: Reg)
-        requires { self.old.pc ≤ 4094 }
+        requires { self.old.pc ≤ LAST_WORD }
         ensures { effect (Instr.Subtract x y) self.old ≡ Changes self.new }
     {
         let left = self.reg(x);
@@ -154,7 +155,7 @@ impl Processor {
     /// `8XY7`, `SUBN Vx, Vy`: Vx becomes Vy less Vx; VF says whether Vy was at least Vx.
     #[tactic(auto, unfolding(crate::specs::Step::effect))]
     pub(crate) fn row_subtract_from(&mut self, x: Reg, y: Reg)
-        requires { self.old.pc ≤ 4094 }
+        requires { self.old.pc ≤ LAST_WORD }
         ensures { effect (Instr.SubtractFrom x y) self.old ≡ Changes self.new }
     {
         let left = self.reg(x);
@@ -163,24 +164,24 @@ impl Processor {
         self.advance();
     }
 
-    /// `8XY6`, `SHR Vx, Vy`: moves Vx right by a bit, which VF gets.
+    /// `8XY6`, `SHR Vx, Vy`: Vx becomes Vx or Vy moved right by a bit, which VF gets.
     #[tactic(auto, unfolding(crate::specs::Step::effect))]
-    pub(crate) fn row_shift_right(&mut self, x: Reg, _y: Reg)
-        requires { self.old.pc ≤ 4094 }
-        ensures { effect (Instr.ShiftRight x _y) self.old ≡ Changes self.new }
+    pub(crate) fn row_shift_right(&mut self, x: Reg, y: Reg)
+        requires { self.old.pc ≤ LAST_WORD }
+        ensures { effect (Instr.ShiftRight x y) self.old ≡ Changes self.new }
     {
-        let value = self.reg(x);
+        let value = self.shifted(x, y);
         self.set_with_flag(x, value >> 1, value % 2);
         self.advance();
     }
 
-    /// `8XYE`, `SHL Vx, Vy`: moves Vx left by a bit, which VF gets.
+    /// `8XYE`, `SHL Vx, Vy`: Vx becomes Vx or Vy moved left by a bit, which VF gets.
     #[tactic(auto, unfolding(crate::specs::Step::effect))]
-    pub(crate) fn row_shift_left(&mut self, x: Reg, _y: Reg)
-        requires { self.old.pc ≤ 4094 }
-        ensures { effect (Instr.ShiftLeft x _y) self.old ≡ Changes self.new }
+    pub(crate) fn row_shift_left(&mut self, x: Reg, y: Reg)
+        requires { self.old.pc ≤ LAST_WORD }
+        ensures { effect (Instr.ShiftLeft x y) self.old ≡ Changes self.new }
     {
-        let value = self.reg(x);
+        let value = self.shifted(x, y);
         self.set_with_flag(x, value << 1, value >> 7);
         self.advance();
     }
@@ -188,27 +189,26 @@ impl Processor {
     /// `ANNN`, `LD I, a`: I becomes a.
     #[tactic(auto, unfolding(crate::specs::Step::effect))]
     pub(crate) fn row_load_index(&mut self, address: Addr)
-        requires { self.old.pc ≤ 4094 }
+        requires { self.old.pc ≤ LAST_WORD }
         ensures { effect (Instr.LoadIndex address) self.old ≡ Changes self.new }
     {
         self.set_index(address.number());
         self.advance();
     }
 
-    /// `BNNN`, `JP V0, a`: goes to a and Vx more, where x is the top digit of a.
+    /// `BNNN`, `JP V0, a`: goes to a and Vx more, where x is the top digit of a, or 0.
     #[tactic(auto, unfolding(crate::specs::Step::effect))]
     pub(crate) fn row_jump_offset(&mut self, address: Addr)
         ensures { effect (Instr.JumpOffset address) self.old ≡ Changes self.new }
     {
-        let base = address.number();
-        let offset = self.reg_at(base / 256);
-        self.go_to(base + u16::from(offset));
+        let offset = self.jump_offset(address);
+        self.go_to(address.number() + u16::from(offset));
     }
 
     /// `CXKK`, `RND Vx, kk`: Vx becomes the next random byte, masked by kk.
     #[tactic(auto, unfolding(crate::specs::Step::effect))]
     pub(crate) fn row_random(&mut self, x: Reg, byte: u8)
-        requires { self.old.pc ≤ 4094 }
+        requires { self.old.pc ≤ LAST_WORD }
         ensures { effect (Instr.Random x byte) self.old ≡ Changes self.new }
     {
         let drawn = self.draw_random();
@@ -219,7 +219,7 @@ impl Processor {
     /// `FX07`, `LD Vx, DT`: Vx becomes the delay timer.
     #[tactic(auto, unfolding(crate::specs::Step::effect))]
     pub(crate) fn row_read_delay(&mut self, x: Reg)
-        requires { self.old.pc ≤ 4094 }
+        requires { self.old.pc ≤ LAST_WORD }
         ensures { effect (Instr.ReadDelay x) self.old ≡ Changes self.new }
     {
         let value = self.delay();
@@ -230,7 +230,7 @@ impl Processor {
     /// `FX15`, `LD DT, Vx`: the delay timer becomes Vx.
     #[tactic(auto, unfolding(crate::specs::Step::effect))]
     pub(crate) fn row_set_delay(&mut self, x: Reg)
-        requires { self.old.pc ≤ 4094 }
+        requires { self.old.pc ≤ LAST_WORD }
         ensures { effect (Instr.SetDelay x) self.old ≡ Changes self.new }
     {
         let value = self.reg(x);
@@ -241,7 +241,7 @@ impl Processor {
     /// `FX18`, `LD ST, Vx`: the sound timer becomes Vx.
     #[tactic(auto, unfolding(crate::specs::Step::effect))]
     pub(crate) fn row_set_sound(&mut self, x: Reg)
-        requires { self.old.pc ≤ 4094 }
+        requires { self.old.pc ≤ LAST_WORD }
         ensures { effect (Instr.SetSound x) self.old ≡ Changes self.new }
     {
         let value = self.reg(x);
@@ -252,7 +252,7 @@ impl Processor {
     /// `FX1E`, `ADD I, Vx`: adds Vx to I.
     #[tactic(auto, unfolding(crate::specs::Step::effect))]
     pub(crate) fn row_add_index(&mut self, x: Reg)
-        requires { self.old.pc ≤ 4094 }
+        requires { self.old.pc ≤ LAST_WORD }
         ensures { effect (Instr.AddIndex x) self.old ≡ Changes self.new }
     {
         let sum = self.index().wrapping_add(u16::from(self.reg(x)));
@@ -263,7 +263,7 @@ impl Processor {
     /// `FX29`, `LD F, Vx`: I points at a small digit.
     #[tactic(auto, unfolding(crate::specs::Step::effect))]
     pub(crate) fn row_small_digit(&mut self, x: Reg)
-        requires { self.old.pc ≤ 4094 }
+        requires { self.old.pc ≤ LAST_WORD }
         ensures { effect (Instr.SmallDigit x) self.old ≡ Changes self.new }
     {
         let digit = u16::from(self.reg(x) % 16);
@@ -273,29 +273,37 @@ impl Processor {
 
     /// `FX30`, `LD HF, Vx`: I points at a large digit.
     #[tactic(auto, unfolding(crate::specs::Step::effect))]
-    pub(crate) fn row_big_digit(&mut self, x: Reg)
-        requires { self.old.pc ≤ 4094 }
-        ensures { effect (Instr.BigDigit x) self.old ≡ Changes self.new }
+    pub(crate) fn row_big_digit(&mut self, x: Reg) -> Result<(), Stop>
+        requires { self.old.pc ≤ LAST_WORD }
+        ensures ok { OnOk result (effect (Instr.BigDigit x) self.old ≡ Changes self.new) }
+        ensures why { IfErr result (λ why. effect (Instr.BigDigit x) self.old ≡ Stops why) }
+        ensures same { OnErr result (self.new ≡ self.old) }
     {
+        self.needs_schip()?;
         let digit = u16::from(self.reg(x) % 16);
         self.set_index(80 + 10 * digit);
         self.advance();
+        Ok(())
     }
 
     /// `00CN`, `SCD n`: scrolls down by n stored rows.
     #[tactic(auto, unfolding(crate::specs::Step::effect))]
-    pub(crate) fn row_scroll_down(&mut self, n: Nibble)
-        requires { self.old.pc ≤ 4094 }
-        ensures { effect (Instr.ScrollDown n) self.old ≡ Changes self.new }
+    pub(crate) fn row_scroll_down(&mut self, n: Nibble) -> Result<(), Stop>
+        requires { self.old.pc ≤ LAST_WORD }
+        ensures ok { OnOk result (effect (Instr.ScrollDown n) self.old ≡ Changes self.new) }
+        ensures why { IfErr result (λ why. effect (Instr.ScrollDown n) self.old ≡ Stops why) }
+        ensures same { OnErr result (self.new ≡ self.old) }
     {
+        self.needs_schip()?;
         self.scroll_down(n.number());
         self.advance();
+        Ok(())
     }
 
     /// `00E0`, `CLS`: makes all points dark.
     #[tactic(auto, unfolding(crate::specs::Step::effect))]
     pub(crate) fn row_clear_screen(&mut self)
-        requires { self.old.pc ≤ 4094 }
+        requires { self.old.pc ≤ LAST_WORD }
         ensures { effect Instr.ClearScreen self.old ≡ Changes self.new }
     {
         self.clear();
@@ -304,42 +312,69 @@ impl Processor {
 
     /// `00FB`, `SCR`: scrolls right by 4 stored columns.
     #[tactic(auto, unfolding(crate::specs::Step::effect))]
-    pub(crate) fn row_scroll_right(&mut self)
-        requires { self.old.pc ≤ 4094 }
-        ensures { effect Instr.ScrollRight self.old ≡ Changes self.new }
+    pub(crate) fn row_scroll_right(&mut self) -> Result<(), Stop>
+        requires { self.old.pc ≤ LAST_WORD }
+        ensures ok { OnOk result (effect Instr.ScrollRight self.old ≡ Changes self.new) }
+        ensures why { IfErr result (λ why. effect Instr.ScrollRight self.old ≡ Stops why) }
+        ensures same { OnErr result (self.new ≡ self.old) }
     {
+        self.needs_schip()?;
         self.scroll_right();
         self.advance();
+        Ok(())
     }
 
     /// `00FC`, `SCL`: scrolls left by 4 stored columns.
     #[tactic(auto, unfolding(crate::specs::Step::effect))]
-    pub(crate) fn row_scroll_left(&mut self)
-        requires { self.old.pc ≤ 4094 }
-        ensures { effect Instr.ScrollLeft self.old ≡ Changes self.new }
+    pub(crate) fn row_scroll_left(&mut self) -> Result<(), Stop>
+        requires { self.old.pc ≤ LAST_WORD }
+        ensures ok { OnOk result (effect Instr.ScrollLeft self.old ≡ Changes self.new) }
+        ensures why { IfErr result (λ why. effect Instr.ScrollLeft self.old ≡ Stops why) }
+        ensures same { OnErr result (self.new ≡ self.old) }
     {
+        self.needs_schip()?;
         self.scroll_left();
         self.advance();
+        Ok(())
+    }
+
+    /// `00FD`, `EXIT`: ends the program.
+    #[tactic(auto, unfolding(crate::specs::Step::effect))]
+    pub(crate) fn row_exit(&self) -> Stop
+        ensures { effect Instr.Exit self.now ≡ Stops result }
+    {
+        match self.needs_schip() {
+            Ok(()) => Stop::Exit,
+            Err(why) => why,
+        }
     }
 
     /// `00FE`, `LOW`: takes the low size.
     #[tactic(auto, unfolding(crate::specs::Step::effect))]
-    pub(crate) fn row_low_size(&mut self)
-        requires { self.old.pc ≤ 4094 }
-        ensures { effect Instr.LowSize self.old ≡ Changes self.new }
+    pub(crate) fn row_low_size(&mut self) -> Result<(), Stop>
+        requires { self.old.pc ≤ LAST_WORD }
+        ensures ok { OnOk result (effect Instr.LowSize self.old ≡ Changes self.new) }
+        ensures why { IfErr result (λ why. effect Instr.LowSize self.old ≡ Stops why) }
+        ensures same { OnErr result (self.new ≡ self.old) }
     {
+        self.needs_schip()?;
         self.set_size(false);
         self.advance();
+        Ok(())
     }
 
     /// `00FF`, `HIGH`: takes the high size.
     #[tactic(auto, unfolding(crate::specs::Step::effect))]
-    pub(crate) fn row_high_size(&mut self)
-        requires { self.old.pc ≤ 4094 }
-        ensures { effect Instr.HighSize self.old ≡ Changes self.new }
+    pub(crate) fn row_high_size(&mut self) -> Result<(), Stop>
+        requires { self.old.pc ≤ LAST_WORD }
+        ensures ok { OnOk result (effect Instr.HighSize self.old ≡ Changes self.new) }
+        ensures why { IfErr result (λ why. effect Instr.HighSize self.old ≡ Stops why) }
+        ensures same { OnErr result (self.new ≡ self.old) }
     {
+        self.needs_schip()?;
         self.set_size(true);
         self.advance();
+        Ok(())
     }
 
     /// `00EE`, `RET`: returns to the newest frame, which is taken off.
@@ -359,7 +394,7 @@ impl Processor {
     /// `2NNN`, `CALL a`: makes next the newest frame, and goes to a.
     #[tactic(auto, unfolding(crate::specs::Step::effect))]
     pub(crate) fn row_call(&mut self, address: Addr) -> Result<(), Stop>
-        requires { self.old.pc ≤ 4094 }
+        requires { self.old.pc ≤ LAST_WORD }
         ensures ok { OnOk result (effect (Instr.Call address) self.old ≡ Changes self.new) }
         ensures why { IfErr result (λ why. effect (Instr.Call address) self.old ≡ Stops why) }
         ensures same { OnErr result (self.new ≡ self.old) }
@@ -374,12 +409,13 @@ impl Processor {
     /// `FX75`, `LD R, Vx`: copies V0 to Vx into the flag registers.
     #[tactic(auto, unfolding(crate::specs::Step::effect))]
     pub(crate) fn row_store_flags(&mut self, x: Reg) -> Result<(), Stop>
-        requires { self.old.pc ≤ 4094 }
+        requires { self.old.pc ≤ LAST_WORD }
         ensures ok { OnOk result (effect (Instr.StoreFlags x) self.old ≡ Changes self.new) }
         ensures why { IfErr result (λ why. effect (Instr.StoreFlags x) self.old ≡ Stops why) }
         ensures same { OnErr result (self.new ≡ self.old) }
     {
-        if x.number() > 7 {
+        self.needs_schip()?;
+        if x.number() as usize >= FLAGS {
             return Err(Stop::NoFlag);
         }
         self.store_flags(x);
@@ -390,12 +426,13 @@ impl Processor {
     /// `FX85`, `LD Vx, R`: copies the flag registers into V0 to Vx.
     #[tactic(auto, unfolding(crate::specs::Step::effect))]
     pub(crate) fn row_load_flags(&mut self, x: Reg) -> Result<(), Stop>
-        requires { self.old.pc ≤ 4094 }
+        requires { self.old.pc ≤ LAST_WORD }
         ensures ok { OnOk result (effect (Instr.LoadFlags x) self.old ≡ Changes self.new) }
         ensures why { IfErr result (λ why. effect (Instr.LoadFlags x) self.old ≡ Stops why) }
         ensures same { OnErr result (self.new ≡ self.old) }
     {
-        if x.number() > 7 {
+        self.needs_schip()?;
+        if x.number() as usize >= FLAGS {
             return Err(Stop::NoFlag);
         }
         self.load_flags(x);
@@ -406,7 +443,7 @@ impl Processor {
     /// `EX9E`, `SKP Vx`: skips if the key is down.
     #[tactic(auto, unfolding(crate::specs::Step::effect))]
     pub(crate) fn row_skip_if_key(&mut self, x: Reg, keys: u16)
-        requires { self.old.pc ≤ 4094 }
+        requires { self.old.pc ≤ LAST_WORD }
         ensures done { (memory : List ℕ) → perform keys (record { core = self.old; memory = memory }) (effect (Instr.SkipIfKey x) self.old) ≡ Ok (record { core = self.new; memory = memory }) }
         ensures untouched { accessed self.old.index (effect (Instr.SkipIfKey x) self.old) ≡ [] }
     {
@@ -417,7 +454,7 @@ impl Processor {
     /// `EXA1`, `SKNP Vx`: skips if the key is up.
     #[tactic(auto, unfolding(crate::specs::Step::effect))]
     pub(crate) fn row_skip_unless_key(&mut self, x: Reg, keys: u16)
-        requires { self.old.pc ≤ 4094 }
+        requires { self.old.pc ≤ LAST_WORD }
         ensures done { (memory : List ℕ) → perform keys (record { core = self.old; memory = memory }) (effect (Instr.SkipUnlessKey x) self.old) ≡ Ok (record { core = self.new; memory = memory }) }
         ensures untouched { accessed self.old.index (effect (Instr.SkipUnlessKey x) self.old) ≡ [] }
     {
@@ -428,7 +465,7 @@ impl Processor {
     /// `FX0A`, `LD Vx, K`: Vx becomes the least key that is down; with none the machine waits.
     #[tactic(auto, unfolding(crate::specs::Step::effect))]
     pub(crate) fn row_wait_key(&mut self, x: Reg, keys: u16)
-        requires { self.old.pc ≤ 4094 }
+        requires { self.old.pc ≤ LAST_WORD }
         ensures done { (memory : List ℕ) → perform keys (record { core = self.old; memory = memory }) (effect (Instr.WaitKey x) self.old) ≡ Ok (record { core = self.new; memory = memory }) }
         ensures untouched { accessed self.old.index (effect (Instr.WaitKey x) self.old) ≡ [] }
     {
@@ -438,7 +475,7 @@ impl Processor {
         }
     }
 
-    /// `DXYN`, `DRW Vx, Vy, n`: draws the sprite at I; VF says whether it met a lit point.
+    /// `DXYN`, `DRW Vx, Vy, n`: draws the sprite at I; VF says whether it met a lit point. Of 0 rows it may be none.
     #[tactic(auto, unfolding(crate::specs::Step::effect))]
     pub(crate) fn row_draw(
         &mut self,
@@ -448,14 +485,19 @@ impl Processor {
         memory: &[u8],
         touch: &mut Touch,
     ) -> Result<(), Stop>
-        requires size { length memory.now ≡ 4096 }
-        requires pc { self.old.pc ≤ 4094 }
+        requires size { length memory.now ≡ MEMORY_BYTES }
+        requires pc { self.old.pc ≤ LAST_WORD }
         requires room { length touch.old ≤ 2 }
         ensures ok { OnOk result ((keys : ℕ) → perform keys (record { core = self.old; memory = memory.now }) (effect (Instr.Draw x y n) self.old) ≡ Ok (record { core = self.new; memory = memory.now })) }
         ensures why { IfErr result (λ why. (keys : ℕ) → perform keys (record { core = self.old; memory = memory.now }) (effect (Instr.Draw x y n) self.old) ≡ Err why) }
         ensures same { OnErr result (self.new ≡ self.old) }
         ensures touched { touch.new ≡ touch.old ++ accessed self.old.index (effect (Instr.Draw x y n) self.old) }
     {
+        if self.draws_nothing(n) {
+            self.clear_flag();
+            self.advance();
+            return Ok(());
+        }
         let count = sprite_bytes(self.high(), n);
         let sprite = load(memory, self.index(), count, touch)?;
         let left = self.reg(x);
@@ -473,8 +515,8 @@ impl Processor {
         memory: &mut [u8],
         touch: &mut Touch,
     ) -> Result<(), Stop>
-        requires size { length memory.old ≡ 4096 }
-        requires pc { self.old.pc ≤ 4094 }
+        requires size { length memory.old ≡ MEMORY_BYTES }
+        requires pc { self.old.pc ≤ LAST_WORD }
         requires room { length touch.old ≤ 2 }
         ensures ok { OnOk result ((keys : ℕ) → perform keys (record { core = self.old; memory = memory.old }) (effect (Instr.StoreDecimal x) self.old) ≡ Ok (record { core = self.new; memory = memory.new })) }
         ensures why { IfErr result (λ why. (keys : ℕ) → perform keys (record { core = self.old; memory = memory.old }) (effect (Instr.StoreDecimal x) self.old) ≡ Err why) }
@@ -488,7 +530,7 @@ impl Processor {
         Ok(())
     }
 
-    /// `FX55`, `LD [I], Vx`: stores V0 to Vx at I.
+    /// `FX55`, `LD [I], Vx`: stores V0 to Vx at I, which stays or moves past them.
     #[tactic(auto, unfolding(crate::specs::Step::effect))]
     pub(crate) fn row_store_registers(
         &mut self,
@@ -496,8 +538,8 @@ impl Processor {
         memory: &mut [u8],
         touch: &mut Touch,
     ) -> Result<(), Stop>
-        requires size { length memory.old ≡ 4096 }
-        requires pc { self.old.pc ≤ 4094 }
+        requires size { length memory.old ≡ MEMORY_BYTES }
+        requires pc { self.old.pc ≤ LAST_WORD }
         requires room { length touch.old ≤ 2 }
         ensures ok { OnOk result ((keys : ℕ) → perform keys (record { core = self.old; memory = memory.old }) (effect (Instr.StoreRegisters x) self.old) ≡ Ok (record { core = self.new; memory = memory.new })) }
         ensures why { IfErr result (λ why. (keys : ℕ) → perform keys (record { core = self.old; memory = memory.old }) (effect (Instr.StoreRegisters x) self.old) ≡ Err why) }
@@ -511,11 +553,12 @@ impl Processor {
             &registers[..x.number() as usize + 1],
             touch,
         )?;
+        self.finish_move(x);
         self.advance();
         Ok(())
     }
 
-    /// `FX65`, `LD Vx, [I]`: loads V0 to Vx from I.
+    /// `FX65`, `LD Vx, [I]`: loads V0 to Vx from I, which stays or moves past them.
     #[tactic(auto, unfolding(crate::specs::Step::effect))]
     pub(crate) fn row_load_registers(
         &mut self,
@@ -523,8 +566,8 @@ impl Processor {
         memory: &[u8],
         touch: &mut Touch,
     ) -> Result<(), Stop>
-        requires size { length memory.now ≡ 4096 }
-        requires pc { self.old.pc ≤ 4094 }
+        requires size { length memory.now ≡ MEMORY_BYTES }
+        requires pc { self.old.pc ≤ LAST_WORD }
         requires room { length touch.old ≤ 2 }
         ensures ok { OnOk result ((keys : ℕ) → perform keys (record { core = self.old; memory = memory.now }) (effect (Instr.LoadRegisters x) self.old) ≡ Ok (record { core = self.new; memory = memory.now })) }
         ensures why { IfErr result (λ why. (keys : ℕ) → perform keys (record { core = self.old; memory = memory.now }) (effect (Instr.LoadRegisters x) self.old) ≡ Err why) }
@@ -533,6 +576,7 @@ impl Processor {
     {
         let bytes = load(memory, self.index(), x.number() as usize + 1, touch)?;
         self.load(bytes);
+        self.finish_move(x);
         self.advance();
         Ok(())
     }

@@ -4,7 +4,7 @@ ghost use Rattle.std.specs.Prelude.{◌≡◌, ℕ, ◌+◌, ◌-◌, ◌*◌, �
 ghost use Rattle.std.specs.FinSet as set;
 ghost use Rattle.chip_machine.specs.Points.{Points, points_code, is_lit, IsOnScreen, symmetric_difference, meets};
 ghost use Rattle.chip_machine.specs.Stored.{in_rows, lights, differ, any_below};
-ghost use Rattle.chip_machine.specs.Sprite.{StartsRight, covers, covered, scale};
+ghost use Rattle.chip_machine.specs.Sprite.{StartsRight, covers_by_length, covers, covered_by_length, scale};
 ghost use Rattle.chip_machine.specs.Scroll.{scrolled_down, scrolled_right, scrolled_left};
 
 use crate::sprite::{HEIGHT, WIDTH, covered_bits, lines_under, scale_of, starts_right};
@@ -48,6 +48,14 @@ impl Screen {
         }
     }
 
+    /// The points of a row, the leftmost the highest bit: past the last row none is lit.
+    pub(crate) fn row(&self, row: usize) -> u128
+        ensures points { (column : ℕ) → column < 128 → lights result column ≡ is_lit self.now column row }
+        ensures dark { (result ≡ 0) ↔ ((column : ℕ) → column < 128 → is_lit self.now column row ≡ false) }
+    {
+        if row < HEIGHT { self.rows[row] } else { 0 }
+    }
+
     /// Makes every point dark.
     pub(crate) fn clear(&mut self)
         ensures { self.new ≡ set.empty }
@@ -86,8 +94,8 @@ impl Screen {
 
     /// Draws a sprite, and answers whether it covers a point that was lit.
     pub(crate) fn draw(&mut self, high: bool, x: u8, y: u8, sprite: &[u8]) -> bool
-        ensures lit { self.new ≡ symmetric_difference self.old (covered high x y sprite.now) }
-        ensures hit { result ≡ meets self.old (covered high x y sprite.now) }
+        ensures lit { self.new ≡ symmetric_difference self.old (covered_by_length high x y sprite.now) }
+        ensures hit { result ≡ meets self.old (covered_by_length high x y sprite.now) }
     {
         toggle(&mut self.rows, high, x, y, sprite)
     }
@@ -160,8 +168,8 @@ fn turn(rows: &mut [u128], from: usize, count: usize, stripe: u128) -> bool
 /// Turns each point that a sprite covers, and says whether one of them was lit.
 fn toggle(rows: &mut [u128], high: bool, x: u8, y: u8, sprite: &[u8]) -> bool
     requires { length rows.old ≡ 64 }
-    ensures turned { (row column : ℕ) → row < 64 → column < 128 → lights (slice_index rows.new row) column ≡ differ (lights (slice_index rows.old row) column) (covers high x y sprite.now column row) }
-    ensures hit { result ≡ any_below (λ row. any_below (λ column. lights (slice_index rows.old row) column && covers high x y sprite.now column row) 128) 64 }
+    ensures turned { (row column : ℕ) → row < 64 → column < 128 → lights (slice_index rows.new row) column ≡ differ (lights (slice_index rows.old row) column) (covers_by_length high x y sprite.now column row) }
+    ensures hit { result ≡ any_below (λ row. any_below (λ column. lights (slice_index rows.old row) column && covers_by_length high x y sprite.now column row) 128) 64 }
 {
     // A loop for each size and half: there both are constants, which is faster than one loop for all.
     match (high, starts_right(high, x)) {
@@ -177,8 +185,8 @@ fn toggle(rows: &mut [u128], high: bool, x: u8, y: u8, sprite: &[u8]) -> bool
 fn toggle_lines(rows: &mut [u128], high: bool, right: bool, x: u8, y: u8, sprite: &[u8]) -> bool
     requires size { length rows.old ≡ 64 }
     requires half { IsTrue right ↔ StartsRight high x }
-    ensures turned { (row column : ℕ) → row < 64 → column < 128 → lights (slice_index rows.new row) column ≡ differ (lights (slice_index rows.old row) column) (covers high x y sprite.now column row) }
-    ensures hit { result ≡ any_below (λ row. any_below (λ column. lights (slice_index rows.old row) column && covers high x y sprite.now column row) 128) 64 }
+    ensures turned { (row column : ℕ) → row < 64 → column < 128 → lights (slice_index rows.new row) column ≡ differ (lights (slice_index rows.old row) column) (covers_by_length high x y sprite.now column row) }
+    ensures hit { result ≡ any_below (λ row. any_below (λ column. lights (slice_index rows.old row) column && covers_by_length high x y sprite.now column row) 128) 64 }
 {
     let scale = scale_of(high);
     let (first, end) = lines_under(high, y, sprite);

@@ -3,9 +3,10 @@
 ghost use Rattle.std.specs.Prelude.{◌≡◌, ℕ, ◌+◌, ◌-◌, ◌*◌, ◌/◌, ◌%◌, ◌<◌, ◌≤◌, false, ◌==◌, slice_index, ◌^◌, ◌↔◌, IsTrue};
 ghost use Rattle.std.specs.Int.{bit_at};
 ghost use Rattle.chip_machine.specs.Stored.{lights};
-ghost use Rattle.chip_machine.specs.Sprite.{StartsRight, covers, is_set, row_bytes, scale, sprite_bytes};
+ghost use Rattle.chip_machine.specs.Sprite.{StartsRight, covers_by_length, covers, is_set, row_bytes_by_length, scale, sprite_bytes};
 
 use crate::doubled::DOUBLED;
+use crate::limits::SPRITE_BYTES;
 use chip_lang::number::Nibble;
 
 /// How many columns the screen has.
@@ -14,16 +15,13 @@ pub(crate) const WIDTH: usize = 128;
 /// How many rows the screen has.
 pub(crate) const HEIGHT: usize = 64;
 
-/// How many bytes a sprite of 16 by 16 points has.
-const LARGE: usize = 32;
-
 /// How many bytes a sprite of `n` rows has, where `n` 0 stands for sixteen rows.
 pub(crate) fn sprite_bytes(high: bool, n: Nibble) -> usize
     ensures value { result ≡ sprite_bytes high n }
-    ensures few { result ≤ 32 }
+    ensures few { result ≤ SPRITE_BYTES }
 {
     match n.number() {
-        0 if high => LARGE,
+        0 if high => SPRITE_BYTES,
         0 => 16,
         rows => rows as usize,
     }
@@ -50,8 +48,8 @@ pub(crate) fn lines_under(high: bool, y: u8, sprite: &[u8]) -> (usize, usize)
     ensures first { result.0 ≡ y % (64 / scale high) }
     ensures ordered { result.0 ≤ result.1 }
     ensures on_screen { scale high * result.1 ≤ 64 }
-    ensures above { (x column row : ℕ) → row < scale high * result.0 → covers high x y sprite.now column row ≡ false }
-    ensures below { (x column row : ℕ) → scale high * result.1 ≤ row → row < 64 → covers high x y sprite.now column row ≡ false }
+    ensures above { (x column row : ℕ) → row < scale high * result.0 → covers_by_length high x y sprite.now column row ≡ false }
+    ensures below { (x column row : ℕ) → scale high * result.1 ≤ row → row < 64 → covers_by_length high x y sprite.now column row ≡ false }
 {
     let height = HEIGHT / scale_of(high);
     let first = y as usize % height;
@@ -79,7 +77,7 @@ pub(crate) fn covered_bits(
     requires half { IsTrue right ↔ StartsRight high x }
     requires below_the_top { y % (64 / scale high) ≤ line }
     requires on_screen { line < 64 }
-    ensures { (column row : ℕ) → column < 128 → scale high * line ≤ row → row < scale high * line + scale high → lights result column ≡ covers high x y sprite.now column row }
+    ensures { (column row : ℕ) → column < 128 → scale high * line ≤ row → row < scale high * line + scale high → lights result column ≡ covers_by_length high x y sprite.now column row }
 {
     let scale = scale_of(high);
     let left = x as usize % (WIDTH / scale);
@@ -105,11 +103,11 @@ fn placed(columns: u16, right: bool, start: usize) -> u128
 /// The sixteen stored columns that a row of a sprite has at most, the leftmost the highest bit.
 fn pattern_at(high: bool, sprite: &[u8], row: usize) -> u16
     requires { row < 64 }
-    ensures { (i : ℕ) → i < 16 → (bit_at result (15 - i) == 1) ≡ is_set (row_bytes high sprite.now) sprite.now (i / scale high) row }
+    ensures { (i : ℕ) → i < 16 → (bit_at result (15 - i) == 1) ≡ is_set (row_bytes_by_length high sprite.now) sprite.now (i / scale high) row }
 {
     if !high {
         doubled(byte_at(sprite, row))
-    } else if sprite.len() == LARGE {
+    } else if sprite.len() == SPRITE_BYTES {
         u16::from(byte_at(sprite, 2 * row)) << 8 | u16::from(byte_at(sprite, 2 * row + 1))
     } else {
         u16::from(byte_at(sprite, row)) << 8

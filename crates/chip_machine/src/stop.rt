@@ -1,4 +1,4 @@
-//! Why a machine stops, and which machine it is.
+//! Why a machine stops.
 
 ghost use Rattle.std.specs.Prelude.{◌≡◌};
 ghost use Rattle.chip_machine.specs.Numbers.{stop_number};
@@ -10,9 +10,9 @@ pub enum Stop {
     Exit,
     /// S2: the word at pc is no instruction.
     NoInstruction,
-    /// S3: no word stands at pc, which is above 4094.
+    /// S3: no word stands at pc, which is above `LAST_WORD`.
     PcOutOfRange,
-    /// S4: a call with 16 frames.
+    /// S4: a call with `FRAMES` frames.
     FramesFull,
     /// S5: a return with no frame.
     NoFrame,
@@ -37,11 +37,4 @@ impl Stop {
             Stop::NoFlag => 7,
         }
     }
-}
-
-/// Whose behaviour the machine has.
-#[derive(Clone, Copy, PartialEq, Eq, Debug)]
-pub enum Profile {
-    /// SUPER-CHIP 1.1, with this project's choices.
-    Schip,
 }

@@ -8,12 +8,17 @@ use std::test::Fail;
 
 /// A machine with a program at 512 and the tape a5 5a.
 pub(crate) fn loaded(alloc: Global, words: &[u16]) -> Result<Machine, Fail> {
+    loaded_as(alloc, words, Profile::Schip)
+}
+
+/// The same of either profile.
+pub(crate) fn loaded_as(alloc: Global, words: &[u16], profile: Profile) -> Result<Machine, Fail> {
     let mut image = Vec::new(alloc);
     for word in words {
         image.push((*word >> 8) as u8)?;
         image.push((*word & 255) as u8)?;
     }
-    Ok(Machine::start(alloc, &image, &[0xa5, 0x5a], Profile::Schip)?)
+    Ok(Machine::start(alloc, &image, &[0xa5, 0x5a], profile)?)
 }
 
 /// Makes steps with these keys down, of which each tenth ticks.
@@ -44,7 +49,7 @@ pub(crate) fn registers(machine: &Machine) -> [u8; 5] {
 }
 
 /// The columns of a row of the screen, the leftmost the highest bit.
-fn row_bits(machine: &Machine, row: usize) -> u128 {
+pub(crate) fn row_bits(machine: &Machine, row: usize) -> u128 {
     let mut bits = 0u128;
     for column in 0..128 {
         bits = bits << 1 | u128::from(machine.lit(column, row));
@@ -238,6 +243,22 @@ fn saved_flags_are_read(rt: HostRuntime) -> Result<(), Fail> {
         (machine.flag(0), machine.flag(7), machine.flag(8)),
         (Some(9), Some(0), None)
     );
+    Ok(())
+}
+
+#[test]
+fn lent_parts(rt: HostRuntime) -> Result<(), Fail> {
+    let mut machine = loaded(rt.alloc(), &[0x6009, 0xf075, 0x2206, 0xd005])?;
+    run(&mut machine, 4, 0);
+    assert_eq!(rt; machine.registers()[0], 9);
+    assert_eq!(rt; machine.frames(), [0x206].as_slice());
+    assert_eq!(rt; machine.flags(), [9, 0, 0, 0, 0, 0, 0, 0].as_slice());
+    assert_eq!(rt; &machine.memory()[0x200..0x202], [0x60, 0x09].as_slice());
+    assert_eq!(rt; (machine.row(17), machine.row(18)), (0, 0xff << 102));
+    for row in 0..64 {
+        assert_eq!(rt; machine.row(row), row_bits(&machine, row), "row {row}");
+    }
+    assert_eq!(rt; machine.row(64), 0);
     Ok(())
 }
 

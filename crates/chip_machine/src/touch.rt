@@ -4,10 +4,8 @@ ghost use Rattle.std.specs.Prelude.{◌≡◌, ◌+◌, ◌<◌, ◌≤◌, ◌�
 ghost use Rattle.std.specs.Bool.{OnTrue, OnFalse};
 ghost use Rattle.std.specs.List.{range_with_len};
 
+use crate::limits::{MEMORY_BYTES, TOUCHES};
 use std::marker::Model;
-
-/// How many addresses a step touches at most.
-const TOUCHES: usize = 34;
 
 /// The addresses that a step read or wrote.
 #[derive(Drop)]
@@ -18,12 +16,13 @@ pub struct Touch {
 
 impl Model for Touch {
     ghost use Rattle.std.specs.Prelude.{ℕ, List, ◌<◌, ◌≤◌, take, All};
+    ghost use Rattle.chip_machine.specs.declared.limits.TheConstants.{MEMORY_BYTES, TOUCHES};
 
     ghost Value = { List ℕ };
 
     ghost view = { λ t. take t.count t.addresses };
 
-    ghost invariant = { λ t. (t.count ≤ 34) × All (λ at. at < 4096) (take t.count t.addresses) };
+    ghost invariant = { λ t. (t.count ≤ TOUCHES) × All (λ at. at < MEMORY_BYTES) (take t.count t.addresses) };
 }
 
 impl Touch {
@@ -44,10 +43,10 @@ impl Touch {
         self.count = 0;
     }
 
-    /// How many addresses are held, 0 to 34.
+    /// How many addresses are held, 0 to `TOUCHES`.
     pub fn len(&self) -> usize
         ensures value { result ≡ length self.now }
-        ensures at_most { result ≤ 34 }
+        ensures at_most { result ≤ TOUCHES }
     {
         self.count
     }
@@ -62,7 +61,7 @@ impl Touch {
     /// The address at a place, in the order in which they were added, and `None` from the length on.
     pub fn get(&self, place: usize) -> Option<u16>
         ensures value { result ≡ slice_get self.now place }
-        ensures in_memory { IfSome result (λ at. at < 4096) }
+        ensures in_memory { IfSome result (λ at. at < MEMORY_BYTES) }
     {
         if place < self.count {
             Some(self.addresses[place])
@@ -71,13 +70,13 @@ impl Touch {
         }
     }
 
-    /// Adds an address, and answers whether it did: not where 34 are held, nor from address 4096 on.
+    /// Adds an address, and answers whether it did: not where `TOUCHES` are held, nor past the end of the memory.
     pub fn add(&mut self, at: u16) -> bool
-        ensures room { IsTrue result ↔ ((length self.old < 34) × (at < 4096)) }
+        ensures room { IsTrue result ↔ ((length self.old < TOUCHES) × (at < MEMORY_BYTES)) }
         ensures added { OnTrue result (self.new ≡ self.old ++ at ∷ []) }
         ensures unchanged { OnFalse result (self.new ≡ self.old) }
     {
-        if self.count == TOUCHES || at >= 4096 {
+        if self.count == TOUCHES || at as usize >= MEMORY_BYTES {
             return false;
         }
         self.addresses[self.count] = at;
@@ -87,8 +86,8 @@ impl Touch {
 
     /// Adds the addresses of so many bytes.
     pub(crate) fn add_span(&mut self, at: u16, bytes: usize)
-        requires in_memory { at + bytes ≤ 4096 }
-        requires room { length self.old + bytes ≤ 34 }
+        requires in_memory { at + bytes ≤ MEMORY_BYTES }
+        requires room { length self.old + bytes ≤ TOUCHES }
         ensures { self.new ≡ self.old ++ range_with_len at bytes }
     {
         let end = self.count + bytes;
@@ -99,7 +98,7 @@ impl Touch {
 
 /// Fills a slice with the numbers from `start` on.
 fn count_up(numbers: &mut [u16], start: u16)
-    requires { start + length numbers.old ≤ 4096 }
+    requires { start + length numbers.old ≤ MEMORY_BYTES }
     ensures { numbers.new ≡ range_with_len start (length numbers.old) }
 {
     for (place, number) in numbers.iter_mut().enumerate() {

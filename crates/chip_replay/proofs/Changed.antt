@@ -1,5 +1,5 @@
 -- What is kept after a change of the image is sound for the new run.
-use Rattle.std.proofs.Common.{min, ◌≡◌, ℕ, zero, suc, ◌+◌, ◌-◌, ◌*◌, ◌/◌, ◌<◌, ◌≤◌, ◌^◌, Bool, true, false, cond, ltb, List, map, take, length, get_or, slice_index, Option, Some, None, refl, sym, ap, ◌∙◌, subst, arith, ◌⊎◌, inl, inr, get_or-take, length-take, ◌&&◌}
+use Rattle.std.proofs.Common.{◌≡◌, ℕ, zero, suc, ◌+◌, ◌*◌, ◌/◌, ◌<◌, ◌≤◌, Bool, true, false, cond, ltb, List, map, take, length, get_or, slice_index, Option, Some, None, refl, sym, ap, ◌∙◌, subst, arith, ◌⊎◌, inl, inr, get_or-take, length-take, ◌&&◌}
 use Rattle.std.proofs.lemmas.List.{length-map, map-id, get_or-map}
 use Rattle.std.proofs.lemmas.Bool.{cases_lt, false≢true}
 use Rattle.std.proofs.lemmas.Bool.Decides.{nat_tests}
@@ -13,12 +13,12 @@ use Rattle.chip_replay.proofs.Spaced.{multiple_within, div_mono}
 use Rattle.chip_replay.specs.Run.{run, ticks, first_below}
 use Rattle.chip_replay.specs.Image.{differs, affected, touches_change}
 use Rattle.chip_replay.specs.Patch.{patched}
-use Rattle.chip_replay.specs.History.{IsFirst, IsSound, IsLent, IsHolding}
-use Rattle.chip_replay.specs.Keys.{Events, held, HoldsFrom}
+use Rattle.chip_replay.specs.History.{IsFirst, IsSound, IsLent, IsCutBack}
 use Rattle.chip_replay.proofs.Patched.{AllUntouched, run-patched, run-proper, patched_below-proper, patched_below-touches}
+use Rattle.chip_replay.specs.Limits.{image_room, image_start, memory_size, never}
 
 -- a first step, or none, if only the steps below m are known
-first_cut_by : (b : Bool) (p q : ℕ → Bool) (n m v : ℕ) → ltb v m ≡ b → IsFirst p n v → m ≤ n → ((s : ℕ) → s < m → q s ≡ p s) → IsFirst q m (cond b v (2 ^ 32 - 1))
+first_cut_by : (b : Bool) (p q : ℕ → Bool) (n m v : ℕ) → ltb v m ≡ b → IsFirst p n v → m ≤ n → ((s : ℕ) → s < m → q s ≡ p s) → IsFirst q m (cond b v never)
 first_cut_by true p q n m v e f l same =
     let below : v < m = grind (arith, nat_tests) in
     record {
@@ -32,7 +32,7 @@ first_cut_by false p q n m v e f l same =
       passes = λ lv. absurd (omega arith);
     }
 
-pub first_cut : (p q : ℕ → Bool) (n m v : ℕ) → IsFirst p n v → m ≤ n → ((s : ℕ) → s < m → q s ≡ p s) → IsFirst q m (cond (ltb v m) v (2 ^ 32 - 1))
+pub first_cut : (p q : ℕ → Bool) (n m v : ℕ) → IsFirst p n v → m ≤ n → ((s : ℕ) → s < m → q s ≡ p s) → IsFirst q m (cond (ltb v m) v never)
 first_cut p q n m v f l same = first_cut_by (ltb v m) p q n m v refl f l same
 
 below_by : (b c : Bool) (x f : ℕ) → ltb x f ≡ b → cond b x (cond c f (suc f)) ≤ suc f
@@ -64,32 +64,65 @@ both true true p q = refl
 both true false p q = q
 both false b p q = p
 
-pub touches_change-at : {S : Type 0} (touches : S → List ℕ) (old new : List ℕ) (s : S) (i : ℕ) → i < 3584 → differs old new i ≡ true → touched touches s (512 + i) ≡ true → touches_change touches old new s ≡ true
+pub touches_change-at : {S : Type 0} (touches : S → List ℕ) (old new : List ℕ) (s : S) (i : ℕ) → i < image_room → differs old new i ≡ true → touched touches s (image_start + i) ≡ true → touches_change touches old new s ≡ true
 unfolding touches_change
 touches_change-at touches old new s i l d t =
-    let place : get_or (range_with_len 0 3584) i 0 ≡ i = get_or-range_with_len 0 3584 i 0 l ∙ omega arith in
-    list_any_at (λ i. differs old new i && touched touches s (512 + i)) (range_with_len 0 3584) i 0 (omega (arith, length-range_with_len 0 3584))
-    (ap (λ j. differs old new j && touched touches s (512 + j)) place ∙ both _ _ d t)
+    let place : get_or (range_with_len 0 image_room) i 0 ≡ i = get_or-range_with_len 0 image_room i 0 l ∙ omega arith in
+    list_any_at (λ i. differs old new i && touched touches s (image_start + i)) (range_with_len 0 image_room) i 0 (omega (arith, length-range_with_len 0 image_room))
+    (ap (λ j. differs old new j && touched touches s (image_start + j)) place ∙ both _ _ d t)
 
--- the kept run, cut off at m, for another run that is alike up to there
-pub sound_cut : {M : Type 0} (p : ℕ) (above : 0 < p) (proper : M → Type 0) (touches : M → ℕ → Bool) (state later : ℕ → M) (change : M → M) (cs : List M) (first : List ℕ) (reach m : ℕ) → IsSound p proper touches state cs first reach → m ≤ reach → proper (later 0) → ((t : ℕ) → t ≤ m → later t ≡ change (state t)) → ((t a : ℕ) → t < m → touches (later t) a ≡ touches (state t) a) → IsSound p proper touches later (map change (take (m / p) cs)) (map (λ v. cond (ltb v m) v (2 ^ 32 - 1)) first) m
-sound_cut p above proper touches state later change cs first reach m sound l start same alike =
+-- the kept run, cut off at m
+pub sound_cut : {M : Type 0} (p : ℕ) (above : 0 < p) (proper : M → Type 0) (touches : M → ℕ → Bool) (state : ℕ → M) (cs : List M) (first : List ℕ) (reach m : ℕ) → IsSound p proper touches state cs first reach → m ≤ reach → IsSound p proper touches state (take (m / p) cs) (map (λ v. cond (ltb v m) v never) first) m
+sound_cut p above proper touches state cs first reach m sound l =
     let fewer : m / p ≤ length cs = omega (arith, sound.each_spacing, div_mono m reach p above l) in
-    let few : length (map change (take (m / p) cs)) ≡ m / p = length-map _ _ ∙ length-take (m / p) cs ∙ omega arith in
+    let few : length (take (m / p) cs) ≡ m / p = length-take (m / p) cs ∙ omega arith in
     record {
-      proper_start = start;
+      proper_start = sound.proper_start;
       in_range = omega (arith, sound.in_range);
       each_spacing = few;
       checkpoint = λ i d li.
           (let inside : i < m / p = omega (arith, few) in
           let there : i < length cs = omega arith in
-          get_or-map change (take (m / p) cs) i d d (omega (arith, length-take (m / p) cs)) ∙ ap change (get_or-take (m / p) cs i d inside ∙ sound.checkpoint i d there)
-          ∙ sym (same ((i + 1) * p) (multiple_within i m p inside)));
+          get_or-take (m / p) cs i d inside ∙ sound.checkpoint i d there);
       each_address = length-map _ _ ∙ sound.each_address;
       first = λ at la.
-          subst (λ v. IsFirst (λ s. touches (later s) at) m v) (sym (get_or-map _ first at 0 0 (omega (arith, sound.each_address))))
-          (first_cut _ _ reach m _ (sound.first at la) l (λ s ls. alike s at ls));
+          subst (λ v. IsFirst (λ s. touches (state s) at) m v) (sym (get_or-map _ first at 0 0 (omega (arith, sound.each_address))))
+          (first_cut _ _ reach m _ (sound.first at la) l (λ s ls. refl));
     }
+
+pub sound_cut_to : {M : Type 0} (p : ℕ) (above : 0 < p) (proper : M → Type 0) (touches : M → ℕ → Bool) (state : ℕ → M) (cs cs' : List M) (first first' : List ℕ) (reach m : ℕ) → IsSound p proper touches state cs first reach → m ≤ reach → cs' ≡ take (m / p) cs → first' ≡ map (λ v. cond (ltb v m) v never) first → IsSound p proper touches state cs' first' m
+sound_cut_to p above proper touches state cs cs' first first' reach m sound l ec ef =
+    subst (λ xs. IsSound p proper touches state xs first' m) (sym ec)
+    (subst (λ ys. IsSound p proper touches state (take (m / p) cs) ys m) (sym ef)
+    (sound_cut p above proper touches state cs first reach m sound l))
+
+-- the kept run with its checkpoints changed, for another run that is alike up to there
+pub sound_changed : {M : Type 0} (p : ℕ) (proper : M → Type 0) (touches : M → ℕ → Bool) (state later : ℕ → M) (change : M → M) (cs : List M) (first : List ℕ) (reach : ℕ) → IsSound p proper touches state cs first reach → proper (later 0) → ((t : ℕ) → t ≤ reach → later t ≡ change (state t)) → ((t a : ℕ) → t < reach → touches (later t) a ≡ touches (state t) a) → IsSound p proper touches later (map change cs) first reach
+sound_changed p proper touches state later change cs first reach sound start same alike =
+    record {
+      proper_start = start;
+      in_range = sound.in_range;
+      each_spacing = length-map cs change ∙ sound.each_spacing;
+      checkpoint = λ i d li.
+          (let there : i < length cs = omega (arith, length-map cs change) in
+          let inside : i < reach / p = omega (arith, sound.each_spacing) in
+          get_or-map change cs i d d there ∙ ap change (sound.checkpoint i d there)
+          ∙ sym (same ((i + 1) * p) (multiple_within i reach p inside)));
+      each_address = sound.each_address;
+      first = λ at la.
+          (let was = sound.first at la in
+          record {
+            none_before = λ s ls h. was.none_before s ls (sym (alike s at ls) ∙ h);
+            passes = λ lv. (let before = was.passes lv in (before.0, alike (slice_index first at) at before.0 ∙ before.1));
+          });
+    }
+
+-- the lent state's step after a cut
+pub step_kept : {M : Type 0} (state : ℕ → M) (reach m : ℕ) (lent : M) (step step' : Option ℕ) → IsLent state reach lent step → IsCutBack reach m step step' → IfSome step' (λ t. (t ≤ m) × (step ≡ Some t))
+step_kept state reach m lent step None known kept = tt
+step_kept state reach m lent step (Some t) known kept =
+    let before : (t ≤ reach) × (lent ≡ state t) = subst (λ o. IsLent state reach lent o) kept.0 known in
+    (kept.1 before.0, kept.0)
 
 -- likewise the lent state
 pub lent_cut : {M : Type 0} (state later : ℕ → M) (change : M → M) (reach m : ℕ) (lent : M) (step step' : Option ℕ) → IsLent state reach lent step → ((t : ℕ) → t ≤ m → later t ≡ change (state t)) → IfSome step' (λ t. (t ≤ m) × (step ≡ Some t)) → IsLent later m (change lent) step'
@@ -98,49 +131,52 @@ lent_cut state later change reach m lent step (Some t) known same kept =
     let before : (t ≤ reach) × (lent ≡ state t) = subst (λ o. IsLent state reach lent o) kept.1 known in
     (kept.0, ap change before.1 ∙ sym (same t kept.0))
 
-module _ {S : Type 0} (p : ℕ) (above : 0 < p) (memory : S → List ℕ) (with_memory : S → List ℕ → S) (proper : S → Type 0) (touches : S → List ℕ) (after : S → ℕ → Bool → S) (laws : IsTraced memory with_memory proper touches after) (rate : ℕ) (held : ℕ → ℕ) (start : S) (cs : List S) (first : List ℕ) (reach m : ℕ) (sound : IsSound p proper (touched touches) (run after rate held start) cs first reach) (old new : List ℕ) (within : m ≤ reach) (least : (i : ℕ) → i < 3584 → differs old new i ≡ true → m ≤ slice_index first (512 + i)) where
-  frame : ByteLaw memory with_memory proper (touched touches) after
+-- no step below m touches a byte that no step below it is the first to touch
+pub not_touched : {M : Type 0} (p : ℕ) (proper : M → Type 0) (touches : M → ℕ → Bool) (state : ℕ → M) (cs : List M) (first : List ℕ) (reach m : ℕ) → IsSound p proper touches state cs first reach → m ≤ reach → (at : ℕ) → at < memory_size → m ≤ slice_index first at → (s : ℕ) → s < m → touches (state s) at ≡ false
+not_touched p proper touches state cs first reach m sound within at la least s l =
+    elim (touches (state s) at) as (λ b. touches (state s) at ≡ b → b ≡ false) [
+      | true ↦ λ e. absurd (omega (arith, least, (sound.first at la).none_before s (omega arith) e))
+      | false ↦ λ e. refl
+    ] refl
+
+module _ {S : Type 0} (p : ℕ) (memory : S → List ℕ) (with_memory : S → List ℕ → S) (proper : S → Type 0) (touches : S → List ℕ) (after : S → ℕ → Bool → S) (laws : IsTraced memory with_memory proper touches after) (rate : ℕ) (held : ℕ → ℕ) (start : S) (cs : List S) (first : List ℕ) (reach : ℕ) (sound : IsSound p proper (touched touches) (run after rate held start) cs first reach) (old new : List ℕ) where
+  pub frame : ByteLaw memory with_memory proper (touched touches) after
   frame = byte_law memory with_memory proper touches after laws
 
-  keeps : KeepsProper memory with_memory proper (touched touches) after
+  pub keeps : KeepsProper memory with_memory proper (touched touches) after
   keeps = keeps_proper memory with_memory proper touches after laws
 
-  not_touched : (b : Bool) (s i : ℕ) → touched touches (run after rate held start s) (512 + i) ≡ b → s < m → i < 3584 → differs old new i ≡ true → touched touches (run after rate held start s) (512 + i) ≡ false
-  not_touched true s i e l li d = absurd (omega (arith, least i li d, (sound.first (512 + i) (omega arith)).none_before s (omega arith) e))
-  not_touched false s i e l li d = e
-
-  untouched : (s : ℕ) → s < m → AllUntouched memory with_memory proper (touched touches) after frame keeps old new (run after rate held start s)
-  untouched s l i li d = not_touched _ s i refl l li d
-
-  same_touches : (s : S) → proper s → AllUntouched memory with_memory proper (touched touches) after frame keeps old new s → (a : ℕ) → touched touches (patched memory with_memory old new s) a ≡ touched touches s a
-  unfolding patched
-  same_touches s p u a = patched_below-touches memory with_memory proper (touched touches) after frame keeps old new s p 3584 (omega arith) u a
-
-  proper_start : proper (patched memory with_memory old new start)
-  unfolding patched
-  proper_start = patched_below-proper memory with_memory proper (touched touches) after frame keeps old new start sound.proper_start 3584 (omega arith)
-
-  pub later_is : (t : ℕ) → t ≤ m → run after rate held (patched memory with_memory old new start) t ≡ patched memory with_memory old new (run after rate held start t)
-  later_is t l = run-patched memory with_memory proper (touched touches) after frame keeps old new rate held start sound.proper_start t (λ r lr. untouched r (omega arith))
-
-  pub sound_patched : IsSound p proper (touched touches) (run after rate held (patched memory with_memory old new start)) (map (patched memory with_memory old new) (take (m / p) cs)) (map (λ v. cond (ltb v m) v (2 ^ 32 - 1)) first) m
-  sound_patched =
-      sound_cut p above proper (touched touches) (run after rate held start) (run after rate held (patched memory with_memory old new start)) (patched memory with_memory old new) cs first reach m sound within proper_start later_is
-      (λ t a l. ap (λ s. touched touches s a) (later_is t (omega arith)) ∙ same_touches (run after rate held start t) (run-proper memory with_memory proper (touched touches) after frame keeps rate held start sound.proper_start t) (untouched t l) a)
-
-  pub lent_patched : (lent : S) (step step' : Option ℕ) → IsLent (run after rate held start) reach lent step → IfSome step' (λ t. (t ≤ m) × (step ≡ Some t)) → IsLent (run after rate held (patched memory with_memory old new start)) m (patched memory with_memory old new lent) step'
-  lent_patched lent step step' known kept = lent_cut (run after rate held start) (run after rate held (patched memory with_memory old new start)) (patched memory with_memory old new) reach m lent step step' known later_is kept
-
-  pub affected_le : (m ≡ reach) ⊎ ((i : ℕ) × (i < 3584) × (differs old new i ≡ true) × (m ≡ slice_index first (512 + i))) → affected touches after rate held old new start reach ≤ m
-  affected_le (inl e) = omega (arith, first_below-le (λ s. touches_change touches old new (run after rate held start s)) reach)
-  affected_le (inr (i, li, d, e)) =
+  pub affected_le : (m : ℕ) → m ≤ reach → (m ≡ reach) ⊎ ((i : ℕ) × (i < image_room) × (differs old new i ≡ true) × (m ≡ slice_index first (image_start + i))) → affected touches after rate held old new start reach ≤ m
+  affected_le m within (inl e) = omega (arith, first_below-le (λ s. touches_change touches old new (run after rate held start s)) reach)
+  affected_le m within (inr (i, li, d, e)) =
       elim (cases_lt m reach) [
         | inl a ↦
-            (let hit = (sound.first (512 + i) (omega arith)).passes (omega (arith, sound.in_range)) in
+            (let hit = (sound.first (image_start + i) (omega arith)).passes (omega (arith, sound.in_range)) in
             first_below-hit (λ s. touches_change touches old new (run after rate held start s)) reach m a
-            (touches_change-at touches old new (run after rate held start m) i li d (ap (λ s. touched touches (run after rate held start s) (512 + i)) e ∙ hit.1)))
+            (touches_change-at touches old new (run after rate held start m) i li d (ap (λ s. touched touches (run after rate held start s) (image_start + i)) e ∙ hit.1)))
         | inr a ↦ omega (arith, first_below-le (λ s. touches_change touches old new (run after rate held start s)) reach)
       ]
+
+  -- where no step touches a byte at which the images differ
+  module _ (untouched : (s : ℕ) → s < reach → AllUntouched memory with_memory proper (touched touches) after frame keeps old new (run after rate held start s)) where
+    same_touches : (s : S) → proper s → AllUntouched memory with_memory proper (touched touches) after frame keeps old new s → (a : ℕ) → touched touches (patched memory with_memory old new s) a ≡ touched touches s a
+    unfolding patched
+    same_touches s ps u a = patched_below-touches memory with_memory proper (touched touches) after frame keeps old new s ps image_room (omega arith) u a
+
+    proper_start : proper (patched memory with_memory old new start)
+    unfolding patched
+    proper_start = patched_below-proper memory with_memory proper (touched touches) after frame keeps old new start sound.proper_start image_room (omega arith)
+
+    pub later_is : (t : ℕ) → t ≤ reach → run after rate held (patched memory with_memory old new start) t ≡ patched memory with_memory old new (run after rate held start t)
+    later_is t l = run-patched memory with_memory proper (touched touches) after frame keeps old new rate held start sound.proper_start t (λ r lr. untouched r (omega arith))
+
+    pub sound_patched : IsSound p proper (touched touches) (run after rate held (patched memory with_memory old new start)) (map (patched memory with_memory old new) cs) first reach
+    sound_patched =
+        sound_changed p proper (touched touches) (run after rate held start) (run after rate held (patched memory with_memory old new start)) (patched memory with_memory old new) cs first reach sound proper_start later_is
+        (λ t a l. ap (λ s. touched touches s a) (later_is t (omega arith)) ∙ same_touches (run after rate held start t) (run-proper memory with_memory proper (touched touches) after frame keeps rate held start sound.proper_start t) (untouched t l) a)
+
+    pub lent_patched : (before : ℕ) (lent : S) (step step' : Option ℕ) → IsLent (run after rate held start) before lent step → IfSome step' (λ t. (t ≤ reach) × (step ≡ Some t)) → IsLent (run after rate held (patched memory with_memory old new start)) reach (patched memory with_memory old new lent) step'
+    lent_patched before lent step step' known kept = lent_cut (run after rate held start) (run after rate held (patched memory with_memory old new start)) (patched memory with_memory old new) before reach lent step step' known later_is kept
 
 -- a run under keys that are alike in the steps below m
 run-same : {S : Type 0} (after : S → ℕ → Bool → S) (rate : ℕ) (held later : ℕ → ℕ) (start : S) (t : ℕ) → ((s : ℕ) → s < t → later s ≡ held s) → run after rate later start t ≡ run after rate held start t
@@ -153,18 +189,11 @@ module _ {S : Type 0} (after : S → ℕ → Bool → S) (rate : ℕ) (held late
   alike : (t : ℕ) → t ≤ m → run after rate later start t ≡ run after rate held start t
   alike t l = run-same after rate held later start t (λ s ls. same s (omega arith))
 
-  pub sound_keys : (p : ℕ) (above : 0 < p) (proper : S → Type 0) (touches : S → ℕ → Bool) (cs : List S) (first : List ℕ) (reach : ℕ) → IsSound p proper touches (run after rate held start) cs first reach → m ≤ reach → IsSound p proper touches (run after rate later start) (take (m / p) cs) (map (λ v. cond (ltb v m) v (2 ^ 32 - 1)) first) m
-  sound_keys p above proper touches cs first reach sound l =
-      subst (λ xs. IsSound p proper touches (run after rate later start) xs (map (λ v. cond (ltb v m) v (2 ^ 32 - 1)) first) m) (map-id (take (m / p) cs))
-      (sound_cut p above proper touches (run after rate held start) (run after rate later start) (λ x. x) cs first reach m sound l sound.proper_start alike
+  pub sound_keys : (p : ℕ) (proper : S → Type 0) (touches : S → ℕ → Bool) (cs : List S) (first : List ℕ) → IsSound p proper touches (run after rate held start) cs first m → IsSound p proper touches (run after rate later start) cs first m
+  sound_keys p proper touches cs first sound =
+      subst (λ xs. IsSound p proper touches (run after rate later start) xs first m) (map-id cs)
+      (sound_changed p proper touches (run after rate held start) (run after rate later start) (λ x. x) cs first m sound sound.proper_start alike
       (λ t a lt. ap (λ s. touches s a) (alike t (omega arith))))
 
   pub lent_keys : (reach : ℕ) (lent : S) (step step' : Option ℕ) → IsLent (run after rate held start) reach lent step → IfSome step' (λ t. (t ≤ m) × (step ≡ Some t)) → IsLent (run after rate later start) m lent step'
   lent_keys reach lent step step' known kept = lent_cut (run after rate held start) (run after rate later start) (λ x. x) reach m lent step step' known alike kept
-
--- the keys that are known of the lent state's step, under events that are alike in the steps below from
-pub holding_cut : (events later : Events) (m from keys until : ℕ) (step step' : Option ℕ) → IsHolding events step keys until → ((s : ℕ) → s < from → held later s ≡ held events s) → IfSome step' (λ t. (t ≤ m) × (step ≡ Some t)) → IsHolding later step' keys (min until from)
-holding_cut events later m from keys until step None known same kept = tt
-holding_cut events later m from keys until step (Some t) known same kept = λ s ls lu.
-    let before : HoldsFrom events t keys until = subst (λ o. IsHolding events o keys until) kept.1 known in
-    before s ls (omega arith) ∙ sym (same s (omega arith))

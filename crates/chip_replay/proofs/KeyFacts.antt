@@ -1,17 +1,20 @@
 -- Facts on masks of keys.
-use Rattle.std.proofs.Common.{◌≡◌, ℕ, zero, suc, ◌+◌, ◌<◌, ◌≤◌, ◌^◌, Bool, true, false, cond, ltb, leb, Some, None, is_some, unwrap_or, ◌≢◌, refl, ap, ◌∙◌, arith}
+use Rattle.std.proofs.Common.{◌≡◌, ℕ, zero, suc, ◌+◌, ◌<◌, ◌≤◌, ◌^◌, Bool, true, false, cond, ltb, leb, eqb, ◌&&◌, List, Option, Some, None, is_some, unwrap_or, ◌≢◌, refl, sym, ap, ◌∙◌, arith}
 use Rattle.std.specs.FinMap as map
 use Rattle.std.proofs.lemmas.Bool.Decides.{nat_tests}
 use Rattle.std.proofs.Math.Nat.{pow-suc}
 use Rattle.std.proofs.Math.Pow.{pow_mono}
 use Rattle.std.specs.Ordering.{eq_by_cmp, is_eq}
+use Rattle.std.specs.Cmp.{eq_by_cmp_equiv}
 use Rattle.std.specs.declared.cmp.Ordering.TheVariants.{Less, Equal, Greater}
 use Rattle.chip_replay.specs.declared.keys.Moment.{Moment}
-use Rattle.chip_replay.proofs.LastEvent.{is_down-stays}
 use Rattle.chip_replay.proofs.Moments.{exact_moments, moments_total}
+use Rattle.chip_replay.specs.Changes.{change_at, SaysTheSame}
 use Rattle.chip_replay.specs.Mask.{mask}
 use Rattle.chip_replay.specs.Keys.{Events, held, is_down, event_at, moment_cmp, insert_fault, edit_fault}
+use Rattle.chip_replay.specs.declared.keys.KeyFault.{KeyFault}
 use Rattle.chip_replay.specs.declared.keys.KeyFault.TheVariants.{StepTooLarge, NoSuchKey, EventThere, NoEvent, TooManyEvents}
+use Rattle.chip_replay.specs.Limits.{last_step, most_events}
 
 digit-le : (b : Bool) (m : ℕ) → cond b m 0 ≤ m
 digit-le true m = omega arith
@@ -29,22 +32,45 @@ not_above : (a b : ℕ) → b ≤ a → ltb a b ≡ false
 not_above a b l = grind (arith, nat_tests)
 
 -- the fault of an edit whose step and key are in range
-pub edit_fault-in_range : (events : Events) (step key : ℕ) (b : Bool) → step ≤ 100000 → key ≤ 15 → is_some (event_at events step key) ≡ b → edit_fault events step key ≡ cond b None (Some NoEvent)
+pub edit_fault-in_range : (events : Events) (step key : ℕ) (b : Bool) → step ≤ last_step → key ≤ 15 → is_some (event_at events step key) ≡ b → edit_fault events step key ≡ cond b None (Some NoEvent)
 edit_fault-in_range events step key b s k e =
-    rw (not_above 100000 step s, not_above 15 key k) (ap (λ t. cond t None (Some NoEvent)) e)
+    rw (not_above last_step step s, not_above 15 key k) (ap (λ t. cond t None (Some NoEvent)) e)
 
-pub insert_fault-in_range : (events : Events) (step key : ℕ) (b c : Bool) → step ≤ 100000 → key ≤ 15 → is_some (event_at events step key) ≡ b → leb 10000 (map.len events) ≡ c → insert_fault events step key ≡ cond b (Some EventThere) (cond c (Some TooManyEvents) None)
+pub insert_fault-in_range : (events : Events) (step key : ℕ) (b c : Bool) → step ≤ last_step → key ≤ 15 → is_some (event_at events step key) ≡ b → leb most_events (map.len events) ≡ c → insert_fault events step key ≡ cond b (Some EventThere) (cond c (Some TooManyEvents) None)
 insert_fault-in_range events step key b c s k e f =
-    rw (not_above 100000 step s, not_above 15 key k) (ap (λ t. cond t (Some EventThere) (cond (leb 10000 (map.len events)) (Some TooManyEvents) None)) e ∙ ap (λ t. cond b (Some EventThere) (cond t (Some TooManyEvents) None)) f)
+    rw (not_above last_step step s, not_above 15 key k) (ap (λ t. cond t (Some EventThere) (cond (leb most_events (map.len events)) (Some TooManyEvents) None)) e ∙ ap (λ t. cond b (Some EventThere) (cond t (Some TooManyEvents) None)) f)
 
 -- where an edit is not refused, its event is there
 pub there_if_no_fault : (events : Events) (step key : ℕ) → edit_fault events step key ≡ None → is_some (event_at events step key) ≡ true
 there_if_no_fault events step key h =
-    elim (ltb 100000 step) as (λ a. cond a (Some StepTooLarge) (cond (ltb 15 key) (Some NoSuchKey) (cond (is_some (event_at events step key)) None (Some NoEvent))) ≡ None → is_some (event_at events step key) ≡ true) [
+    elim (ltb last_step step) as (λ a. cond a (Some StepTooLarge) (cond (ltb 15 key) (Some NoSuchKey) (cond (is_some (event_at events step key)) None (Some NoEvent))) ≡ None → is_some (event_at events step key) ≡ true) [
       | true ↦ λ e. (cc)
       | false ↦ elim (ltb 15 key) as (λ b. cond b (Some NoSuchKey) (cond (is_some (event_at events step key)) None (Some NoEvent)) ≡ None → is_some (event_at events step key) ≡ true) [
         | true ↦ λ e. (cc)
         | false ↦ elim (is_some (event_at events step key)) as (λ t. cond t None (Some NoEvent) ≡ None → t ≡ true) [ true ↦ λ e. refl | false ↦ λ e. (cc) ]
+      ]
+    ] h
+
+below_by : (b : Bool) (key : ℕ) (rest : Option KeyFault) → ltb 15 key ≡ b → cond b (Some NoSuchKey) rest ≡ None → key < 16
+below_by true key rest e h = let h' : cond true (Some NoSuchKey) rest ≡ None = h in (cc)
+below_by false key rest e h = let l : key ≤ 15 = grind (arith, nat_tests) in omega arith
+
+-- and its key is one of the 16
+pub key_if_no_fault : (events : Events) (step key : ℕ) → edit_fault events step key ≡ None → key < 16
+key_if_no_fault events step key h =
+    elim (ltb last_step step) as (λ a. cond a (Some StepTooLarge) (cond (ltb 15 key) (Some NoSuchKey) (cond (is_some (event_at events step key)) None (Some NoEvent))) ≡ None → key < 16) [
+      | true ↦ λ e. (cc)
+      | false ↦ below_by (ltb 15 key) key _ refl
+    ] h
+
+-- where an event may be added, none is there
+pub absent_if_no_fault : (events : Events) (step key : ℕ) → insert_fault events step key ≡ None → event_at events step key ≡ None
+absent_if_no_fault events step key h =
+    elim (ltb last_step step) as (λ a. cond a (Some StepTooLarge) (cond (ltb 15 key) (Some NoSuchKey) (cond (is_some (event_at events step key)) (Some EventThere) (cond (leb most_events (map.len events)) (Some TooManyEvents) None))) ≡ None → event_at events step key ≡ None) [
+      | true ↦ λ e. (cc)
+      | false ↦ elim (ltb 15 key) as (λ b. cond b (Some NoSuchKey) (cond (is_some (event_at events step key)) (Some EventThere) (cond (leb most_events (map.len events)) (Some TooManyEvents) None)) ≡ None → event_at events step key ≡ None) [
+        | true ↦ λ e. (cc)
+        | false ↦ elim (event_at events step key) as (λ o. cond (is_some o) (Some EventThere) (cond (leb most_events (map.len events)) (Some TooManyEvents) None) ≡ None → o ≡ None) [ None ↦ λ e. refl | Some x ↦ λ e. (cc) ]
       ]
     ] h
 
@@ -57,18 +83,57 @@ leb-below a b l = grind (arith, nat_tests)
 pub pow-small : (k : ℕ) → k < 16 → 2 ^ k ≤ 32768
 pow-small k l = let h : 2 ^ k ≤ 2 ^ 15 = pow_mono {i = k} {j = 15} (omega arith) in h
 
-mask-same : (p q : ℕ → Bool) (n : ℕ) → ((k : ℕ) → k < n → p k ≡ q k) → mask p n ≡ mask q n
+pub mask-same : (p q : ℕ → Bool) (n : ℕ) → ((k : ℕ) → k < n → p k ≡ q k) → mask p n ≡ mask q n
 mask-same p q zero same = refl
 mask-same p q (suc n) same =
     ap (λ m. m + cond (p n) (2 ^ n) 0) (mask-same p q n (λ k l. same k (omega arith))) ∙ ap (λ b. mask q n + cond b (2 ^ n) 0) (same n (omega arith))
 
-apart : (q m : Moment) → q.step ≢ m.step → eq_by_cmp moment_cmp q m ≡ false
+apart : (q m : Moment) → q ≢ m → eq_by_cmp moment_cmp q m ≡ false
 apart q m n =
     elim (moment_cmp q m) as (λ r. moment_cmp q m ≡ r → is_eq r ≡ false) [
       | Less ↦ λ e. refl
-      | Equal ↦ λ e. absurd (n (ap (λ (x : Moment). x.step) (exact_moments q m e)))
+      | Equal ↦ λ e. absurd (n (exact_moments q m e))
       | Greater ↦ λ e. refl
     ] refl
+
+-- whether two moments are one
+module _ (step key s k : ℕ) where
+  abbrev there : Moment
+  there = record { step = step; key = key }
+
+  abbrev here : Moment
+  here = record { step = s; key = k }
+
+  same_by : (b c : Bool) → eqb s step ≡ b → eqb k key ≡ c → eq_by_cmp moment_cmp here there ≡ (b && c)
+  same_by true true e f =
+      let same_step : s ≡ step = grind (arith, nat_tests) in
+      let same_key : k ≡ key = grind (arith, nat_tests) in
+      let same : here ≡ there = ap (λ n. let m : Moment = record { step = n; key = k } in m) same_step ∙ ap (λ n. let m : Moment = record { step = step; key = n } in m) same_key in
+      ap (λ m. eq_by_cmp moment_cmp m there) same ∙ (eq_by_cmp_equiv moments_total).refl there
+  same_by true false e f =
+      let n : k ≢ key = grind (arith, nat_tests) in
+      apart here there (λ m. n (ap (λ (x : Moment). x.key) m))
+  same_by false c e f =
+      let n : s ≢ step = grind (arith, nat_tests) in
+      apart here there (λ m. n (ap (λ (x : Moment). x.step) m))
+
+  pub same_moment : eq_by_cmp moment_cmp here there ≡ (eqb s step && eqb k key)
+  same_moment = same_by _ _ refl refl
+
+pub event_at-insert : (events : Events) (step key : ℕ) (down : Bool) (s k : ℕ) → event_at (map.insert events (record { step = step; key = key }) down) s k ≡ cond (eqb s step && eqb k key) (Some down) (event_at events s k)
+event_at-insert events step key down s k =
+    map.get-insert moments_total events (record { step = step; key = key }) down (record { step = s; key = k })
+    ∙ ap (λ b. cond b (Some down) (event_at events s k)) (same_moment step key s k)
+
+pub event_at-remove : (events : Events) (step key s k : ℕ) → event_at (map.remove events (record { step = step; key = key })) s k ≡ cond (eqb s step && eqb k key) None (event_at events s k)
+event_at-remove events step key s k =
+    map.get-remove moments_total events (record { step = step; key = key }) (record { step = s; key = k })
+    ∙ ap (λ b. cond b None (event_at events s k)) (same_moment step key s k)
+
+-- the entries by step follow an edit of the events
+pub says_set : (events later : Events) (es fs : List (ℕ × List (Option Bool))) (step key : ℕ) (event : Option Bool) → SaysTheSame events es → ((s k : ℕ) → change_at fs s k ≡ cond (eqb s step && eqb k key) event (change_at es s k)) → ((s k : ℕ) → event_at later s k ≡ cond (eqb s step && eqb k key) event (event_at events s k)) → SaysTheSame later fs
+says_set events later es fs step key event says set edited = λ s k l.
+    set s k ∙ ap (cond (eqb s step && eqb k key) event) (says s k l) ∙ sym (edited s k)
 
 -- events that are alike in the steps up to s hold the same keys at s
 is_down-same : (events later : Events) (key s : ℕ) → ((r : ℕ) → r ≤ s → event_at later r key ≡ event_at events r key) → is_down later key s ≡ is_down events key s
@@ -76,23 +141,34 @@ is_down-same events later key zero same = ap (λ o. unwrap_or o false) (same 0 (
 is_down-same events later key (suc s) same =
     ap (λ o. unwrap_or o (is_down later key s)) (same (suc s) (omega arith)) ∙ ap (unwrap_or (event_at events (suc s) key)) (is_down-same events later key s (λ r l. same r (omega arith)))
 
-held-same : (events later : Events) (s : ℕ) → ((r key : ℕ) → r ≤ s → event_at later r key ≡ event_at events r key) → held later s ≡ held events s
+before : (a b : ℕ) → a < b → eqb a b ≡ false
+before a b l = let n : a ≢ b = λ e. omega (arith, e) in grind (arith, nat_tests)
+
+insert_before : (events : Events) (step key : ℕ) (down : Bool) (r k : ℕ) → r < step → event_at (map.insert events (record { step = step; key = key }) down) r k ≡ event_at events r k
+insert_before events step key down r k l =
+    event_at-insert events step key down r k ∙ ap (λ b. cond (b && eqb k key) (Some down) (event_at events r k)) (before r step l)
+
+remove_before : (events : Events) (step key r k : ℕ) → r < step → event_at (map.remove events (record { step = step; key = key })) r k ≡ event_at events r k
+remove_before events step key r k l =
+    event_at-remove events step key r k ∙ ap (λ b. cond (b && eqb k key) None (event_at events r k)) (before r step l)
+
+-- an edit leaves the keys before its step as they are
+pub is_down-insert : (events : Events) (step key : ℕ) (down : Bool) (s : ℕ) → s < step → (k : ℕ) → is_down (map.insert events (record { step = step; key = key }) down) k s ≡ is_down events k s
+is_down-insert events step key down s l k =
+    is_down-same events (map.insert events (record { step = step; key = key }) down) k s (λ r lr. insert_before events step key down r k (omega arith))
+
+pub is_down-remove : (events : Events) (step key s : ℕ) → s < step → (k : ℕ) → is_down (map.remove events (record { step = step; key = key })) k s ≡ is_down events k s
+is_down-remove events step key s l k =
+    is_down-same events (map.remove events (record { step = step; key = key })) k s (λ r lr. remove_before events step key r k (omega arith))
+
+held-by : (events later : Events) (s : ℕ) → ((k : ℕ) → is_down later k s ≡ is_down events k s) → held later s ≡ held events s
 unfolding held
-held-same events later s same = mask-same _ _ 16 (λ key l. is_down-same events later key s (λ r l. same r key l))
+held-by events later s same = mask-same _ _ 16 (λ k l. same k)
 
 pub held-insert : (events : Events) (step key : ℕ) (down : Bool) (s : ℕ) → s < step → held (map.insert events (record { step = step; key = key }) down) s ≡ held events s
 held-insert events step key down s l =
-    held-same events (map.insert events (record { step = step; key = key }) down) s (λ r k lr.
-    map.get-insert moments_total events (record { step = step; key = key }) down (record { step = r; key = k })
-    ∙ ap (λ b. cond b (Some down) (event_at events r k)) (apart (record { step = r; key = k }) (record { step = step; key = key }) (λ e. omega arith)))
+    held-by events (map.insert events (record { step = step; key = key }) down) s (is_down-insert events step key down s l)
 
-pub held-remove : (events : Events) (step key : ℕ) (s : ℕ) → s < step → held (map.remove events (record { step = step; key = key })) s ≡ held events s
+pub held-remove : (events : Events) (step key s : ℕ) → s < step → held (map.remove events (record { step = step; key = key })) s ≡ held events s
 held-remove events step key s l =
-    held-same events (map.remove events (record { step = step; key = key })) s (λ r k lr.
-    map.get-remove moments_total events (record { step = step; key = key }) (record { step = r; key = k })
-    ∙ ap (λ b. cond b None (event_at events r k)) (apart (record { step = r; key = k }) (record { step = step; key = key }) (λ e. omega arith)))
-
--- no event of a key between two steps: the same keys are held
-pub held-stays : (events : Events) (from to : ℕ) → from ≤ to → ((key s : ℕ) → key < 16 → from < s → s ≤ to → event_at events s key ≡ None) → held events to ≡ held events from
-unfolding held
-held-stays events from to l none = mask-same _ _ 16 (λ key lk. is_down-stays events key from to l (λ s lf ls. none key s lk lf ls))
+    held-by events (map.remove events (record { step = step; key = key })) s (is_down-remove events step key s l)

@@ -33,7 +33,7 @@ is_down-last events key t (suc step) down l there none =
 abbrev moment : ℕ → ℕ → Moment
 moment key step = record { key = key; step = step }
 
-not_after : (a b : ℕ) → is_gt (nat_cmp a b) ≡ false → a ≤ b
+pub not_after : (a b : ℕ) → is_gt (nat_cmp a b) ≡ false → a ≤ b
 not_after a b h =
     elim (nat_cmp a b) as (λ r. nat_cmp a b ≡ r → is_gt r ≡ false → a ≤ b) [
       | Less ↦ λ p h. (let l : a < b = ranked a b Less (sym p) in omega arith)
@@ -41,7 +41,7 @@ not_after a b h =
       | Greater ↦ λ p h. absurd (false≢true (sym h))
     ] refl h
 
-is_not_after : (a b : ℕ) → a ≤ b → is_gt (nat_cmp a b) ≡ false
+pub is_not_after : (a b : ℕ) → a ≤ b → is_gt (nat_cmp a b) ≡ false
 is_not_after a b l =
     elim (nat_cmp a b) as (λ r. nat_cmp a b ≡ r → is_gt r ≡ false) [
       | Less ↦ λ p. refl

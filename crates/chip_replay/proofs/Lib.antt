@@ -9,3 +9,4 @@ pub mod Bytes
 pub mod KeyFacts
 pub mod Moments
 pub mod LastEvent
+pub mod ByStep

@@ -4,7 +4,9 @@ use Rattle.std.specs.BTreeMap.{is_at}
 use Rattle.std.specs.Map.{lookup}
 use Rattle.std.specs.FinMap as map
 use Rattle.std.specs.Cmp.{IsTotalOrder, eq_by_cmp_equiv, nat_cmp_total}
-use Rattle.std.specs.Ordering.{nat_cmp}
+use Rattle.std.specs.Ordering.{nat_cmp, eq_by_cmp, is_eq}
+use Rattle.std.specs.declared.cmp.Ordering.{Ordering}
+use Rattle.std.specs.declared.cmp.Ordering.TheVariants.{Less, Equal, Greater}
 use Rattle.std.proofs.lemmas.Cmp.{on_total, then_total}
 use Rattle.std.proofs.lemmas.Map.Lookups.{CmpEqualImpliesEq, exact_pairs, exact_unsigned}
 use Rattle.chip_replay.specs.declared.keys.Moment.{Moment}
@@ -56,3 +58,15 @@ len_removed es fs m is len less =
     less_by : (b : Bool) (n m : ℕ) → m + cond b 1 0 ≡ n → cond b (n - 1) n ≡ m
     less_by true n m e = omega arith
     less_by false n m e = omega arith
+
+-- an event that is put in where none was and taken out again
+pub set_removed : (events : map.FinMap moment_cmp Bool) (m : Moment) (down : Bool) → map.get events m ≡ None → map.remove (map.insert events m down) m ≡ events
+set_removed events m down absent = map.same_map moments_total exact_moments _ _ (λ q.
+    map.get-remove moments_total (map.insert events m down) m q
+    ∙ ap (cond (eq_by_cmp moment_cmp q m) None) (map.get-insert moments_total events m down q)
+    ∙ by_test q (moment_cmp q m) refl)
+  where
+    by_test : (q : Moment) (r : Ordering) → moment_cmp q m ≡ r → cond (is_eq r) None (cond (is_eq r) (Some down) (map.get events q)) ≡ map.get events q
+    by_test q Less e = refl
+    by_test q Equal e = sym absent ∙ ap (map.get events) (sym (exact_moments q m e))
+    by_test q Greater e = refl

@@ -7,6 +7,7 @@ use Rattle.std.proofs.lemmas.Bool.{cases_eq, false≢true}
 use Rattle.std.proofs.lemmas.Bool.Decides.{nat_tests}
 use Rattle.chip_replay.specs.Machine.{is_among, touched, poked}
 use Rattle.chip_replay.specs.Frame.{AgreeOff, IsFramed}
+use Rattle.chip_replay.specs.Limits.{memory_size}
 
 same_place : (a b : ℕ) → eqb a b ≡ true → b ≡ a
 same_place a b e = grind (arith, nat_tests)
@@ -52,8 +53,8 @@ module _ {S : Type 0} (memory : S → List ℕ) (with_memory : S → List ℕ �
   module _ (proper : S → Type 0) (touches : S → ℕ → Bool) (after : S → ℕ → Bool → S) where
     -- a byte that the step does not touch: the step does the same, and the byte stays
     pub record ByteLaw : Type 0 where
-      pub same_touches : (s : S) (at byte a : ℕ) → proper s → at < 4096 → touches s at ≡ false → touches (poked memory with_memory s at byte) a ≡ touches s a
-      pub same_step : (s : S) (at byte keys : ℕ) (tick : Bool) → proper s → at < 4096 → touches s at ≡ false → after (poked memory with_memory s at byte) keys tick ≡ poked memory with_memory (after s keys tick) at byte
+      pub same_touches : (s : S) (at byte a : ℕ) → proper s → at < memory_size → touches s at ≡ false → touches (poked memory with_memory s at byte) a ≡ touches s a
+      pub same_step : (s : S) (at byte keys : ℕ) (tick : Bool) → proper s → at < memory_size → touches s at ≡ false → after (poked memory with_memory s at byte) keys tick ≡ poked memory with_memory (after s keys tick) at byte
 
     pub record KeepsProper : Type 0 where
       pub by_step : (s : S) (keys : ℕ) (tick : Bool) → proper s → proper (after s keys tick)
@@ -62,8 +63,8 @@ module _ {S : Type 0} (memory : S → List ℕ) (with_memory : S → List ℕ �
 -- the laws of a machine, as its trait has them
 pub record IsTraced {S : Type 0} (memory : S → List ℕ) (with_memory : S → List ℕ → S) (proper : S → Type 0) (touches : S → List ℕ) (after : S → ℕ → Bool → S) : Type 0 where
   pub part : IsMemory memory with_memory
-  pub size : (s : S) → proper s → length (memory s) ≡ 4096
-  pub changed : (s : S) (m : List ℕ) → proper s → length m ≡ 4096 → proper (with_memory s m)
+  pub size : (s : S) → proper s → length (memory s) ≡ memory_size
+  pub changed : (s : S) (m : List ℕ) → proper s → length m ≡ memory_size → proper (with_memory s m)
   pub by_step : (s : S) (keys : ℕ) (tick : Bool) → proper s → proper (after s keys tick)
   pub frame : (set : ℕ → Bool) (keys : ℕ) (tick : Bool) (a b : S) → proper a → proper b → AgreeOff memory with_memory set a b → All (λ at. IsFalse (set at)) (touches a) → IsFramed memory with_memory (λ s. after s keys tick) touches set a b
 
@@ -95,12 +96,12 @@ module _ {S : Type 0} (memory : S → List ℕ) (with_memory : S → List ℕ �
       laws.frame (λ a. eqb at a) keys tick s (poked memory with_memory s at byte) p (keeps_proper.by_poke s at byte p) (agree s at byte) (misses s at off)
 
   -- the memories after the step differ by the same byte
-  same_bytes : (s : S) (at byte keys : ℕ) (tick : Bool) → proper s → at < 4096 → touched touches s at ≡ false → memory (after (poked memory with_memory s at byte) keys tick) ≡ set (memory (after s keys tick)) at byte
+  same_bytes : (s : S) (at byte keys : ℕ) (tick : Bool) → proper s → at < memory_size → touched touches s at ≡ false → memory (after (poked memory with_memory s at byte) keys tick) ≡ set (memory (after s keys tick)) at byte
   same_bytes s at byte keys tick p la off =
       let t = poked memory with_memory s at byte in
       let law = framed s at byte keys tick p off in
-      let first : length (memory (after s keys tick)) ≡ 4096 = laws.size _ (laws.by_step s keys tick p) in
-      let second : length (memory (after t keys tick)) ≡ 4096 = laws.size _ (laws.by_step t keys tick (keeps_proper.by_poke s at byte p)) in
+      let first : length (memory (after s keys tick)) ≡ memory_size = laws.size _ (laws.by_step s keys tick p) in
+      let second : length (memory (after t keys tick)) ≡ memory_size = laws.size _ (laws.by_step t keys tick (keeps_proper.by_poke s at byte p)) in
       let back : memory t ≡ set (memory s) at byte = laws.part.read_back s (set (memory s) at byte) in
       ext_get_or 0 (memory (after t keys tick)) (set (memory (after s keys tick)) at byte)
       (second ∙ sym (length-set (memory (after s keys tick)) at byte ∙ first))

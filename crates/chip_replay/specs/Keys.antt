@@ -4,9 +4,8 @@
 --     Events          what each event says, down (true) or up, by its step and key
 --     is_down         whether a key is down in a step
 --     held            the mask of the 16 keys in a step
---     HoldsFrom       which keys are held in some steps on end
 --     insert_fault, edit_fault      why an event cannot be inserted; why one cannot be replaced or deleted
-use Rattle.std.specs.Prelude.{◌≡◌, ℕ, ◌<◌, ◌≤◌, zero, suc, Bool, false, Option, Some, None, nat_lt, nat_le, is_some, unwrap_or, if◌then◌else◌}
+use Rattle.std.specs.Prelude.{ℕ, zero, suc, Bool, false, Option, Some, None, nat_lt, nat_le, is_some, unwrap_or, if◌then◌else◌}
 use Rattle.std.specs.declared.cmp.Ordering.{Ordering}
 use Rattle.std.specs.Ordering.{nat_cmp, ordering_then}
 use Rattle.std.specs.FinMap as map
@@ -42,10 +41,6 @@ is_down events key (suc step) = unwrap_or (event_at events (suc step) key) (is_d
 -- key k at bit k
 unfoldable pub held : Events → ℕ → ℕ
 held events step = mask (λ key. is_down events key step) 16
-
--- these keys are held in the steps from one on, up to another
-abbrev pub HoldsFrom : Events → ℕ → ℕ → ℕ → Type 0
-HoldsFrom events from keys until = (s : ℕ) → from ≤ s → s < until → keys ≡ held events s
 
 -- the first refusal, in the order of the tests
 abbrev pub insert_fault : Events → ℕ → ℕ → Option KeyFault

@@ -8,6 +8,7 @@
 --     Patch        the exchange of one image for another, byte by byte
 --     Mask         the keys that are down as one number
 --     Keys         key events, which keys they hold down, and why an edit of them is refused
+--     Changes      the key events in the order of their steps, and what is known of the keys in a step
 --     History      what a replay is seen as, what it keeps, and what a question changes
 --     MachineFrame the frame law of the machine, in the form of the trait
 --     Toy          the small machines of the tests
@@ -19,6 +20,7 @@ pub mod Image
 pub mod Patch
 pub mod Mask
 pub mod Keys
+pub mod Changes
 pub mod History
 pub mod MachineFrame
 pub mod Toy

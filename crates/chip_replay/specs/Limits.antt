@@ -1,15 +1,32 @@
--- The limits of a replay.
--- Source: own.
+-- The limits of a replay: the constants of the code, under the names that the definitions use.
+-- Source: COSMAC VIP manual for the memory and the address of a program; own for the rest.
 --     last_step      the last step that is answered, and that an event may have
---     spacing        how many steps lie between one checkpoint and the next
 --     most_events    how many key events there may be
-use Rattle.std.specs.Prelude.{ℕ}
+--     IsSpacing      how many steps may lie between one checkpoint and the next
+--     memory_size    how many bytes the memory has
+--     image_start    the first address of an image
+--     image_room     the most bytes of an image
+--     never          no step
+use Rattle.std.specs.Prelude.{ℕ, ◌≤◌}
+use Rattle.chip_replay.specs.declared.limits.TheConstants.{LAST_STEP, MOST_EVENTS, LEAST_SPACING, MOST_SPACING, MEMORY, IMAGE_START, IMAGE_ROOM, NEVER}
 
 abbrev pub last_step : ℕ
-last_step = 100000
-
-abbrev pub spacing : ℕ
-spacing = 1000
+last_step = LAST_STEP
 
 abbrev pub most_events : ℕ
-most_events = 10000
+most_events = MOST_EVENTS
+
+abbrev pub IsSpacing : ℕ → Type 0
+IsSpacing p = (LEAST_SPACING ≤ p) × (p ≤ MOST_SPACING)
+
+abbrev pub memory_size : ℕ
+memory_size = MEMORY
+
+abbrev pub image_start : ℕ
+image_start = IMAGE_START
+
+abbrev pub image_room : ℕ
+image_room = IMAGE_ROOM
+
+abbrev pub never : ℕ
+never = NEVER

@@ -5,6 +5,7 @@
 use Rattle.std.specs.Prelude.{◌≡◌, ℕ, ◌+◌, ◌%◌, ◌^◌, Bool, List, [], ◌∷◌, All, IsFalse, length, slice_index, refl}
 use Rattle.std.specs.Coded.{Coded, code_by, coded×, coded_ℕ, coded_list}
 use Rattle.std.proofs.Common.{ap, ◌∙◌, sym, arith}
+use Rattle.chip_replay.specs.Limits.{memory_size}
 use Rattle.chip_replay.specs.Frame.{AgreeOff, IsFramed}
 
 pub record ToyState : Type 0 where
@@ -22,14 +23,14 @@ abbrev pub toy_with_memory : ToyState → List ℕ → ToyState
 toy_with_memory s bytes = record s { bytes = bytes }
 
 abbrev pub IsToy : ToyState → Type 0
-IsToy s = length s.bytes ≡ 4096
+IsToy s = length s.bytes ≡ memory_size
 
 abbrev pub toy_touches : ToyState → List ℕ
-toy_touches s = s.counter % 4096 ∷ []
+toy_touches s = s.counter % memory_size ∷ []
 
 abbrev pub toy_after : ToyState → ℕ → Bool → ToyState
 toy_after s keys tick =
-    record { bytes = s.bytes; counter = (s.counter + 1) % 2 ^ 64; sum = (s.sum + slice_index s.bytes (s.counter % 4096)) % 256 }
+    record { bytes = s.bytes; counter = (s.counter + 1) % 2 ^ 64; sum = (s.sum + slice_index s.bytes (s.counter % memory_size)) % 256 }
 
 -- a step of one of two states that agree off a set
 abbrev pub ToyFramed : (ℕ → Bool) → ℕ → Bool → ToyState → ToyState → Type 0
@@ -39,13 +40,13 @@ pub toy_framed : (set : ℕ → Bool) (keys : ℕ) (tick : Bool) (a b : ToyState
 toy_framed set keys tick a b pa pb agree misses =
     let counter : a.counter ≡ b.counter = ap (λ (s : ToyState). s.counter) agree.rest in
     let sum : a.sum ≡ b.sum = ap (λ (s : ToyState). s.sum) agree.rest in
-    let same : slice_index a.bytes (a.counter % 4096) ≡ slice_index b.bytes (a.counter % 4096) = agree.bytes (a.counter % 4096) (misses 0 0 (omega arith)) in
-    let read : slice_index a.bytes (a.counter % 4096) ≡ slice_index b.bytes (b.counter % 4096) = same ∙ ap (λ n. slice_index b.bytes (n % 4096)) counter in
+    let same : slice_index a.bytes (a.counter % memory_size) ≡ slice_index b.bytes (a.counter % memory_size) = agree.bytes (a.counter % memory_size) (misses 0 0 (omega arith)) in
+    let read : slice_index a.bytes (a.counter % memory_size) ≡ slice_index b.bytes (b.counter % memory_size) = same ∙ ap (λ n. slice_index b.bytes (n % memory_size)) counter in
     record {
-      same_touches = ap (λ n. n % 4096 ∷ []) (sym counter);
+      same_touches = ap (λ n. n % memory_size ∷ []) (sym counter);
       still_agree = record {
-        rest = ap (λ (n : ℕ). let t : ToyState = record { bytes = b.bytes; counter = (n + 1) % 2 ^ 64; sum = (a.sum + slice_index a.bytes (a.counter % 4096)) % 256 } in t) counter
-            ∙ ap (λ (n : ℕ). let t : ToyState = record { bytes = b.bytes; counter = (b.counter + 1) % 2 ^ 64; sum = (n + slice_index a.bytes (a.counter % 4096)) % 256 } in t) sum
+        rest = ap (λ (n : ℕ). let t : ToyState = record { bytes = b.bytes; counter = (n + 1) % 2 ^ 64; sum = (a.sum + slice_index a.bytes (a.counter % memory_size)) % 256 } in t) counter
+            ∙ ap (λ (n : ℕ). let t : ToyState = record { bytes = b.bytes; counter = (b.counter + 1) % 2 ^ 64; sum = (n + slice_index a.bytes (a.counter % memory_size)) % 256 } in t) sum
             ∙ ap (λ (n : ℕ). let t : ToyState = record { bytes = b.bytes; counter = (b.counter + 1) % 2 ^ 64; sum = (b.sum + n) % 256 } in t) read;
         bytes = agree.bytes;
       };

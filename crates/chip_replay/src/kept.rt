@@ -1,38 +1,27 @@
 //! What is kept of a machine's run.
 
-ghost use Rattle.std.specs.Prelude.{◌≡◌, ℕ, ◌+◌, ◌-◌, ◌*◌, ◌/◌, ◌%◌, ◌<◌, ◌≤◌, ◌==◌, List, [], ◌∷◌, ◌++◌, length, min, None, IfOk, IfSome, OnOk, OnErr, if◌then◌else◌, slice_index, slice_index_or, take, map, nat_lt, true, ◌⊎◌};
-ghost use Rattle.chip_replay.specs.Limits.{spacing};
+ghost use Rattle.std.specs.Prelude.{◌≡◌, ℕ, ◌+◌, ◌-◌, ◌*◌, ◌/◌, ◌%◌, ◌<◌, ◌≤◌, ◌==◌, List, [], ◌∷◌, ◌++◌, length, min, None, IfOk, IfSome, OnOk, OnErr, if◌then◌else◌, slice_index, slice_index_or, slice_set, take, map, nat_lt, true, ◌⊎◌};
+ghost use Rattle.chip_replay.specs.Limits.{image_start, image_room};
 ghost use Rattle.chip_replay.specs.Machine.{is_among, touched};
 ghost use Rattle.chip_replay.specs.Run.{run};
-ghost use Rattle.chip_replay.specs.Keys.{Events, held, HoldsFrom};
-ghost use Rattle.chip_replay.specs.Image.{differs};
+ghost use Rattle.chip_replay.specs.Keys.{Events, held};
+ghost use Rattle.chip_replay.specs.Changes.{KnowsKeys};
+ghost use Rattle.chip_replay.specs.Image.{differs, AgreeOutside};
 ghost use Rattle.chip_replay.specs.Patch.{patched};
-ghost use Rattle.chip_replay.specs.History.{IsSound, IsLent, IsHolding};
+ghost use Rattle.chip_replay.specs.History.{IsSound, IsLent, IsCutBack, IsHolding};
 
-use crate::keys::{Holding, Keys, LAST_STEP};
+use crate::keys::{Holding, Keys};
+use crate::limits::{IMAGE_ROOM, IMAGE_START, LAST_STEP, MEMORY, NEVER};
 use crate::traced::Traced;
 use chip_machine::touch::Touch;
 use std::alloc::{AllocError, Global};
 
-/// The steps from one checkpoint to the next.
-pub const SPACING: u32 = 1000;
-
-/// No step, for an address that the kept run does not touch.
-const NEVER: u32 = u32::MAX;
-
-/// How many bytes the memory has.
-const MEMORY: usize = 4096;
-
-/// The first address of an image.
-const IMAGE_START: usize = 512;
-
-/// The most bytes of an image.
-const IMAGE_ROOM: usize = 3584;
-
 /// What is kept of a run.
 #[derive(Drop)]
 pub(crate) struct Kept<M: Traced> {
-    /// The states after 1000 steps, 2000 steps and so on, up to `reach`.
+    /// How many steps lie between one checkpoint and the next.
+    pub(crate) spacing: u32,
+    /// The states after `spacing` steps, twice as many and so on, up to `reach`.
     pub(crate) checkpoints: Vec<M>,
     /// For each address the first step below `reach` that touched it, or `NEVER`.
     pub(crate) first_touch: Vec<u32>,
@@ -50,22 +39,23 @@ pub(crate) struct Kept<M: Traced> {
 
 impl<M: Traced> Kept<M> {
     /// Nothing but the start state, of which `start` is a copy.
-    pub(crate) fn new(alloc: Global, start: M) -> Result<Kept<M>, AllocError>
+    pub(crate) fn new(alloc: Global, start: M, spacing: u32) -> Result<Kept<M>, AllocError>
         ensures lent { IfOk result (λ kept. (kept.lent ≡ start) × (kept.lent_step ≡ Some 0)) }
         ensures checkpoints { IfOk result (λ kept. kept.checkpoints.items ≡ []) }
         ensures table { IfOk result (λ kept. length kept.first_touch.items ≡ MEMORY) }
         ensures never { IfOk result (λ kept. (at : ℕ) → at < MEMORY → slice_index kept.first_touch.items at ≡ NEVER) }
-        ensures holding { IfOk result (λ kept. kept.holding.until ≡ 0) }
-        ensures counts { IfOk result (λ kept. (kept.reach ≡ 0) × (kept.ran ≡ 0)) }
+        ensures holding { IfOk result (λ kept. (events : Events) → KnowsKeys events 0 kept.holding) }
+        ensures counts { IfOk result (λ kept. (kept.spacing ≡ spacing) × (kept.reach ≡ 0) × (kept.ran ≡ 0)) }
     {
         let first_touch = vec![in alloc; NEVER; MEMORY]?;
         Ok(Kept {
+            spacing,
             checkpoints: Vec::new(alloc),
             first_touch,
             reach: 0,
             lent: start,
             lent_step: Some(0),
-            holding: Holding::UNKNOWN,
+            holding: Holding::NONE,
             ran: 0,
         })
     }
@@ -80,33 +70,40 @@ impl<M: Traced> Kept<M> {
         step: u32,
     ) -> Result<(), AllocError>
         requires rate { 0 < rate }
+        requires spaced { 0 < self.old.spacing }
         requires in_range { step ≤ LAST_STEP }
-        requires sound { IsSound spacing M.is_proper (touched M.touches) (run M.step_of rate (held keys.now) start.now) self.old.checkpoints.items self.old.first_touch.items self.old.reach }
+        requires sound { IsSound self.old.spacing M.is_proper (touched M.touches) (run M.step_of rate (held keys.now) start.now) self.old.checkpoints.items self.old.first_touch.items self.old.reach }
         requires lent { IsLent (run M.step_of rate (held keys.now) start.now) self.old.reach self.old.lent self.old.lent_step }
-        requires holding { IsHolding keys.now self.old.lent_step self.old.holding.keys self.old.holding.until }
-        ensures sound { IsSound spacing M.is_proper (touched M.touches) (run M.step_of rate (held keys.now) start.now) self.new.checkpoints.items self.new.first_touch.items self.new.reach }
+        requires holding { IsHolding keys.now self.old.lent_step self.old.holding }
+        ensures spacing { self.new.spacing ≡ self.old.spacing }
+        ensures sound { IsSound self.new.spacing M.is_proper (touched M.touches) (run M.step_of rate (held keys.now) start.now) self.new.checkpoints.items self.new.first_touch.items self.new.reach }
         ensures lent { IsLent (run M.step_of rate (held keys.now) start.now) self.new.reach self.new.lent self.new.lent_step }
-        ensures holding { IsHolding keys.now self.new.lent_step self.new.holding.keys self.new.holding.until }
+        ensures holding { IsHolding keys.now self.new.lent_step self.new.holding }
         ensures state { OnOk result (self.new.lent ≡ run M.step_of rate (held keys.now) start.now step) }
         ensures reached { OnOk result (step ≤ self.new.reach) }
         ensures reach_kept { self.old.reach ≤ self.new.reach }
         ensures ran_kept { self.old.ran ≤ self.new.ran }
-        ensures steps { OnOk result (self.new.ran ≤ self.old.ran + (step - spacing * (min self.old.reach step / spacing))) }
+        ensures steps { OnOk result (self.new.ran
+            ≤ self.old.ran + (step - self.old.spacing * (min self.old.reach step / self.old.spacing))) }
     {
-        let from = self.set_out(start, step)?;
+        let from = self.set_out(start, keys, step)?;
         self.lent_step = None;
         let mut touch = Touch::new();
+        let mut to_tick = rate - from % rate;
+        let mut to_checkpoint = self.spacing - self.reach % self.spacing;
         for s in from..step {
-            self.holding = keys.holding(self.holding, s);
-            self.lent
-                .step(self.holding.keys, (s + 1) % rate == 0, &mut touch);
+            keys.hold(&mut self.holding, s);
+            let tick = count_down(&mut to_tick, rate);
+            self.lent.step(self.holding.keys, tick, &mut touch);
             self.ran = self.ran.saturating_add(1);
             if s >= self.reach {
+                let due = count_down(&mut to_checkpoint, self.spacing);
                 extend(
                     &mut self.checkpoints,
                     &mut self.first_touch,
                     &self.lent,
                     &touch,
+                    due,
                     s,
                 )?;
                 self.reach = s + 1;
@@ -118,29 +115,30 @@ impl<M: Traced> Kept<M> {
 
     /// Makes the lent state one from which the run can go on to a step, and answers which step it is
     /// of: it stays where no checkpoint up to that step is nearer. An error changes nothing.
-    fn set_out(&mut self, start: &M, step: u32) -> Result<u32, AllocError>
-        requires { self.old.reach / spacing ≤ length self.old.checkpoints.items }
+    fn set_out(&mut self, start: &M, keys: &Keys, step: u32) -> Result<u32, AllocError>
+        requires spaced { 0 < self.old.spacing }
+        requires each { self.old.reach / self.old.spacing ≤ length self.old.checkpoints.items }
         ensures within { IfOk result (λ from. from ≤ step) }
-        ensures near { IfOk result (λ from. spacing * (min self.old.reach step / spacing) ≤ from) }
+        ensures near { IfOk result (λ from.
+            self.old.spacing * (min self.old.reach step / self.old.spacing) ≤ from) }
         ensures known { (state : ℕ → M)
             → start.now ≡ state 0
-            → IsSound spacing M.is_proper (touched M.touches) state self.old.checkpoints.items self.old.first_touch.items self.old.reach
+            → IsSound self.old.spacing M.is_proper (touched M.touches) state self.old.checkpoints.items self.old.first_touch.items self.old.reach
             → IsLent state self.old.reach self.old.lent self.old.lent_step
             → IfOk result (λ from. (from ≤ self.old.reach) × (self.new.lent ≡ state from)) }
-        ensures holding { (events : Events)
-            → IsHolding events self.old.lent_step self.old.holding.keys self.old.holding.until
-            → IfOk result (λ from. HoldsFrom events from self.new.holding.keys self.new.holding.until) }
+        ensures holding { IsHolding keys.now self.old.lent_step self.old.holding
+            → IfOk result (λ from. KnowsKeys keys.now from self.new.holding) }
         ensures others { self.new ≡ record self.old { lent = self.new.lent; lent_step = self.new.lent_step; holding = self.new.holding } }
         ensures err { OnErr result (self.new ≡ self.old) }
     {
-        let place = self.reach.min(step) / SPACING;
-        let from = place * SPACING;
+        let place = self.reach.min(step) / self.spacing;
+        let from = place * self.spacing;
         match self.lent_step {
             Some(lent_step) if from <= lent_step && lent_step <= step => Ok(lent_step),
             _ => {
                 self.lent = nearest(start, &self.checkpoints, place as usize).copy_of()?;
                 self.lent_step = Some(from);
-                self.holding = Holding::UNKNOWN;
+                self.holding = keys.before(from);
                 Ok(from)
             }
         }
@@ -148,30 +146,57 @@ impl<M: Traced> Kept<M> {
 
     /// Drops what was kept of the steps from one on.
     pub(crate) fn forget(&mut self, from: u32)
-        ensures checkpoints { self.new.checkpoints.items ≡ take (min self.old.reach from / spacing) self.old.checkpoints.items }
-        ensures table { self.new.first_touch.items ≡ map (λ first. if nat_lt first (min self.old.reach from) then first else NEVER) self.old.first_touch.items }
+        requires { 0 < self.old.spacing }
+        ensures sound { (state : ℕ → M)
+            → IsSound self.old.spacing M.is_proper (touched M.touches) state self.old.checkpoints.items self.old.first_touch.items self.old.reach
+            → IsSound self.old.spacing M.is_proper (touched M.touches) state self.new.checkpoints.items self.new.first_touch.items self.new.reach }
         ensures reach { self.new.reach ≡ min self.old.reach from }
-        ensures lent { self.new.lent ≡ self.old.lent }
-        ensures lent_step { IfSome self.new.lent_step (λ t. (t ≤ min self.old.reach from) × (self.old.lent_step ≡ Some t)) }
+        ensures lent_step { IsCutBack self.old.reach self.new.reach self.old.lent_step self.new.lent_step }
         ensures holding { self.new.holding ≡ record self.old.holding { until = min self.old.holding.until from } }
-        ensures ran { self.new.ran ≡ self.old.ran }
+        ensures others { self.new ≡ record self.old {
+          checkpoints = self.new.checkpoints;
+          first_touch = self.new.first_touch;
+          reach = self.new.reach;
+          lent_step = self.new.lent_step;
+          holding = self.new.holding;
+        } }
     {
-        let reach = self.reach.min(from);
-        self.checkpoints.truncate((reach / SPACING) as usize);
+        if from < self.reach {
+            self.cut_off(from);
+        }
+        self.holding.until = self.holding.until.min(from);
+    }
+
+    /// Drops what was kept of the steps from one on, which are known.
+    fn cut_off(&mut self, reach: u32)
+        requires { 0 < self.old.spacing }
+        ensures checkpoints { self.new.checkpoints.items ≡ take (reach / self.old.spacing) self.old.checkpoints.items }
+        ensures table { self.new.first_touch.items
+            ≡ map (λ first. if nat_lt first reach then first else NEVER) self.old.first_touch.items }
+        ensures lent_step { IfSome self.new.lent_step (λ t. (t ≤ reach) × (self.old.lent_step ≡ Some t)) }
+        ensures others { self.new ≡ record self.old {
+          checkpoints = self.new.checkpoints;
+          first_touch = self.new.first_touch;
+          reach = reach;
+          lent_step = self.new.lent_step;
+        } }
+    {
+        self.checkpoints.truncate((reach / self.spacing) as usize);
         cut(&mut self.first_touch, reach);
         self.lent_step = if_within(self.lent_step, reach);
-        self.holding.until = self.holding.until.min(from);
         self.reach = reach;
     }
 
-    /// Puts the bytes of the new image in the place of the old one's in each state that is kept.
-    pub(crate) fn patch(&mut self, old: &[u8], new: &[u8])
+    /// Puts the bytes of the new image in the place of the old one's in each state that is kept. They
+    /// agree outside the places from `first` up to `end`.
+    pub(crate) fn patch(&mut self, first: usize, end: usize, old: &[u8], new: &[u8])
+        requires { AgreeOutside first end old.now new.now }
         ensures checkpoints { self.new.checkpoints.items ≡ map (patched M.memory M.with_memory old.now new.now) self.old.checkpoints.items }
         ensures lent { self.new.lent ≡ patched M.memory M.with_memory old.now new.now self.old.lent }
         ensures others { self.new ≡ record self.old { checkpoints = self.new.checkpoints; lent = self.new.lent } }
     {
-        patch_all(&mut self.checkpoints, old, new);
-        patch(&mut self.lent, old, new);
+        patch_all(&mut self.checkpoints, first, end, old, new);
+        patch(&mut self.lent, first, end, old, new);
     }
 }
 
@@ -182,15 +207,25 @@ fn byte_at(image: &[u8], place: usize) -> u8
     if place < image.len() { image[place] } else { 0 }
 }
 
-/// The first step, below `reach`, that touches a byte at which the images differ, or `reach`.
-pub(crate) fn least_touch(first_touch: &[u32], reach: u32, old: &[u8], new: &[u8]) -> u32
-    requires { length first_touch.now ≡ MEMORY }
+/// The first step, below `reach`, that touches a byte at which the images differ, or `reach`. The
+/// images agree outside the places from `first` up to `end`.
+pub(crate) fn least_touch(
+    first_touch: &[u32],
+    reach: u32,
+    first: usize,
+    end: usize,
+    old: &[u8],
+    new: &[u8],
+) -> u32
+    requires table { length first_touch.now ≡ MEMORY }
+    requires alike { AgreeOutside first end old.now new.now }
     ensures within { result ≤ reach }
-    ensures least { (i : ℕ) → i < 3584 → differs old.now new.now i ≡ true → result ≤ slice_index first_touch.now (512 + i) }
-    ensures attained { (result ≡ reach) ⊎ ((i : ℕ) × (i < 3584) × (differs old.now new.now i ≡ true) × (result ≡ slice_index first_touch.now (512 + i))) }
+    ensures least { (i : ℕ) → i < image_room → differs old.now new.now i ≡ true → result ≤ slice_index first_touch.now (image_start + i) }
+    ensures attained { (result ≡ reach) ⊎ ((i : ℕ) × (i < image_room) × (differs old.now new.now i ≡ true) × (result ≡ slice_index first_touch.now (image_start + i))) }
 {
+    let end = end.min(IMAGE_ROOM);
     let mut least = reach;
-    for i in 0..IMAGE_ROOM {
+    for i in first.min(end)..end {
         if byte_at(old, i) != byte_at(new, i) {
             least = least.min(first_touch[IMAGE_START + i]);
         }
@@ -198,11 +233,13 @@ pub(crate) fn least_touch(first_touch: &[u32], reach: u32, old: &[u8], new: &[u8
     least
 }
 
-/// Changes the bytes at which the images differ.
-pub(crate) fn patch<M: Traced>(state: &mut M, old: &[u8], new: &[u8])
+/// Changes the bytes at which the images differ. They agree outside the places from `first` up to `end`.
+pub(crate) fn patch<M: Traced>(state: &mut M, first: usize, end: usize, old: &[u8], new: &[u8])
+    requires { AgreeOutside first end old.now new.now }
     ensures { state.new ≡ patched M.memory M.with_memory old.now new.now state.old }
 {
-    for i in 0..IMAGE_ROOM {
+    let end = end.min(IMAGE_ROOM);
+    for i in first.min(end)..end {
         let byte = byte_at(new, i);
         if byte_at(old, i) != byte {
             state.poke((IMAGE_START + i) as u16, byte);
@@ -211,11 +248,12 @@ pub(crate) fn patch<M: Traced>(state: &mut M, old: &[u8], new: &[u8])
 }
 
 /// Changes the bytes at which the images differ in each state.
-fn patch_all<M: Traced>(states: &mut [M], old: &[u8], new: &[u8])
+fn patch_all<M: Traced>(states: &mut [M], first: usize, end: usize, old: &[u8], new: &[u8])
+    requires { AgreeOutside first end old.now new.now }
     ensures { states.new ≡ map (patched M.memory M.with_memory old.now new.now) states.old }
 {
     for state in states.iter_mut() {
-        patch(state, old, new);
+        patch(state, first, end, old, new);
     }
 }
 
@@ -258,33 +296,60 @@ fn nearest<'a, M: Traced>(start: &'a M, checkpoints: &'a [M], place: usize) -> &
     }
 }
 
+/// One step less to the end of a period; whether it is reached, and the next one begins.
+#[inline(always)]
+fn count_down(left: &mut u32, period: u32) -> bool
+    requires { 0 < left.old }
+    ensures ends { result ≡ (left.old == 1) }
+    ensures left { left.new ≡ (if left.old == 1 then period else left.old - 1) }
+{
+    let ends = *left == 1;
+    *left = if ends { period } else { *left - 1 };
+    ends
+}
+
+/// Keeps a checkpoint.
+#[cold]
+#[inline(never)]
+fn keep<M: Traced>(checkpoints: &mut Vec<M>, state: &M) -> Result<(), AllocError>
+    ensures kept { OnOk result (checkpoints.new.items ≡ checkpoints.old.items ++ state.now ∷ []) }
+    ensures err { OnErr result (checkpoints.new.items ≡ checkpoints.old.items) }
+{
+    let state = state.copy_of()?;
+    checkpoints.push(state)?;
+    Ok(())
+}
+
 /// Keeps what a new step left: its checkpoint, if one is due after it, and the addresses that it
 /// is the first to touch.
+#[inline(always)]
 fn extend<M: Traced>(
     checkpoints: &mut Vec<M>,
     first_touch: &mut Vec<u32>,
     state: &M,
     touch: &Touch,
+    due: bool,
     step: u32,
 ) -> Result<(), AllocError>
     requires table { length first_touch.old.items ≡ MEMORY }
     requires in_range { step < LAST_STEP }
     ensures length { length first_touch.new.items ≡ MEMORY }
     ensures kept { OnOk result (checkpoints.new.items
-        ≡ (if (step + 1) % SPACING == 0 then checkpoints.old.items ++ state.now ∷ [] else checkpoints.old.items)) }
+        ≡ (if due then checkpoints.old.items ++ state.now ∷ [] else checkpoints.old.items)) }
     ensures noted { OnOk result ((at : ℕ) → at < MEMORY → slice_index first_touch.new.items at
         ≡ (if is_among touch.now at then min (slice_index first_touch.old.items at) step else slice_index first_touch.old.items at)) }
     ensures checkpoints_stay { OnErr result (checkpoints.new.items ≡ checkpoints.old.items) }
     ensures table_stays { OnErr result (first_touch.new.items ≡ first_touch.old.items) }
 {
-    if (step + 1) % SPACING == 0 {
-        checkpoints.push(state.copy_of()?)?;
+    if due {
+        keep(checkpoints, state)?;
     }
     note(first_touch, touch, step);
     Ok(())
 }
 
 /// Notes a step at the addresses that it is the first to touch.
+#[inline(always)]
 fn note(first_touch: &mut [u32], touch: &Touch, step: u32)
     requires table { length first_touch.old ≡ MEMORY }
     ensures length { length first_touch.new ≡ MEMORY }
@@ -293,8 +358,18 @@ fn note(first_touch: &mut [u32], touch: &Touch, step: u32)
 {
     for i in 0..touch.len() {
         if let Some(at) = touch.get(i) {
-            let at = at as usize;
-            first_touch[at] = first_touch[at].min(step);
+            note_at(first_touch, at as usize, step);
         }
+    }
+}
+
+/// Notes a step at an address, where it is the first to touch it.
+#[inline(always)]
+fn note_at(first_touch: &mut [u32], at: usize, step: u32)
+    requires { at < length first_touch.old }
+    ensures { first_touch.new ≡ slice_set first_touch.old at (min (slice_index first_touch.old at) step) }
+{
+    if step < first_touch[at] {
+        first_touch[at] = step;
     }
 }

@@ -1,27 +1,21 @@
 //! The events of the keys.
 
-ghost use Rattle.std.specs.Prelude.{◌≡◌, ℕ, ◌<◌, None, MatchOption, IsOkUnless, OnOk, OnErr};
+ghost use Rattle.std.specs.Prelude.{◌≡◌, ℕ, ◌<◌, ◌≤◌, false, MatchOption, IsOkUnless, OnOk, OnErr, slice_index_or};
+ghost use Rattle.chip_replay.specs.Mask.{mask};
 
+use crate::by_step::Steps;
+use crate::limits::{KEY_COUNT, KEYS, LAST_STEP, MOST_EVENTS};
 use std::alloc::{AllocError, Global};
 use std::collections::BTreeMap;
 use std::marker::Model;
 use thiserror::Error;
-
-/// The last step that is answered, and that an event may have.
-pub const LAST_STEP: u32 = 100_000;
-
-/// How many keys there are.
-pub const KEYS: u32 = 16;
-
-/// The most events.
-pub const MOST_EVENTS: usize = 10_000;
 
 /// A key and a step, in the order of the keys and then of the steps.
 #[derive(Clone, Copy, Debug, PartialEq, Eq, PartialOrd, Ord)]
 pub struct Moment {
     /// 0 to 15.
     pub key: u32,
-    /// 0 to 100,000.
+    /// 0 to `LAST_STEP`.
     pub step: u32,
 }
 
@@ -29,7 +23,7 @@ pub struct Moment {
 #[derive(Clone, Copy, Debug, PartialEq, Eq, Error)]
 pub enum KeyFault {
     /// N5: the step is above the last one.
-    #[error("the step is above 100000")]
+    #[error("the step is above {LAST_STEP}")]
     StepTooLarge,
     /// N6: the key is above 15.
     #[error("the key is above 15")]
@@ -41,7 +35,7 @@ pub enum KeyFault {
     #[error("the key has no event at this step")]
     NoEvent,
     /// N9: there are as many events as there may be.
-    #[error("there are 10000 events")]
+    #[error("there are {MOST_EVENTS} events")]
     TooManyEvents,
     /// N10: memory ran out.
     #[error("out of memory")]
@@ -53,25 +47,35 @@ pub enum KeyFault {
 pub(crate) struct Holding {
     /// Key k at bit k.
     pub(crate) keys: u16,
+    /// The same, a key at a place.
+    pub(crate) down: [bool; KEY_COUNT],
     /// The first step for which this says nothing.
     pub(crate) until: u32,
 }
 
 impl Holding {
-    /// Nothing is known of any step.
-    pub(crate) const UNKNOWN: Holding = Holding { keys: 0, until: 0 };
+    /// Every key is up, and nothing is known of any step.
+    pub(crate) const NONE: Holding = Holding {
+        keys: 0,
+        down: [false; KEY_COUNT],
+        until: 0,
+    };
 }
 
 /// The events of the keys, each at a step: a key goes down or up, and stays so until its next event.
 #[derive(Drop)]
 pub struct Keys {
+    /// In the order of the keys, for the last event of a key up to a step.
     events: BTreeMap<Moment, bool>,
+    /// The same in the order of the steps, for the next event of any key.
+    steps: Steps,
 }
 
 impl Model for Keys {
     ghost use Rattle.std.specs.Prelude.{◌≡◌, length};
     ghost use Rattle.std.specs.FinMap as map;
     ghost use Rattle.chip_replay.specs.Keys.{Events, coded_events, moment_cmp};
+    ghost use Rattle.chip_replay.specs.Changes.{SaysTheSame};
 
     ghost Value = { Events };
 
@@ -79,12 +83,14 @@ impl Model for Keys {
 
     ghost view = { λ k. map.from_entries k.events.entries };
 
-    ghost invariant = { λ k. map.len (map.from_entries {R = moment_cmp} k.events.entries) ≡ length k.events.entries };
+    ghost invariant = { λ k. (map.len (map.from_entries {R = moment_cmp} k.events.entries) ≡ length k.events.entries)
+        × SaysTheSame (map.from_entries k.events.entries) k.steps.changes.entries };
 }
 
 impl Keys {
     ghost use Rattle.std.specs.FinMap as map;
-    ghost use Rattle.chip_replay.specs.Keys.{event_at, is_down, held, HoldsFrom, insert_fault, edit_fault};
+    ghost use Rattle.chip_replay.specs.Keys.{event_at, is_down, held, insert_fault, edit_fault};
+    ghost use Rattle.chip_replay.specs.Changes.{was_down, KnowsKeys, HoldsKeys};
 
     /// No events: every key is up.
     pub fn new(alloc: Global) -> Self
@@ -92,6 +98,7 @@ impl Keys {
     {
         Keys {
             events: BTreeMap::new(alloc),
+            steps: Steps::new(alloc),
         }
     }
 
@@ -121,48 +128,60 @@ impl Keys {
         }
     }
 
-    /// The keys that are down in a step and from there on, by what is known of the step before.
-    pub(crate) fn holding(&self, known: Holding, step: u32) -> Holding
-        requires in_range { step < LAST_STEP }
-        requires known { HoldsFrom self.now step known.keys known.until }
-        ensures within { step < result.until }
-        ensures holds { HoldsFrom self.now step result.keys result.until }
+    /// The keys that are down before the events of a step.
+    #[cold]
+    #[inline(never)]
+    pub(crate) fn before(&self, step: u32) -> Holding
+        ensures { KnowsKeys self.now step result }
     {
-        if step < known.until {
-            return known;
+        if step == 0 {
+            return Holding::NONE;
         }
-        let mut until = LAST_STEP + 1;
+        let mut down = [false; KEY_COUNT];
         for key in 0..KEYS {
-            until = until.min(self.next_event(key, step));
+            down[key as usize] = self.is_down(key, step - 1);
         }
         Holding {
-            keys: self.held(step),
-            until,
+            keys: mask_of(&down),
+            down,
+            until: 0,
         }
     }
 
-    /// The first step after one at which a key has an event, or the step after the last one.
-    fn next_event(&self, key: u32, step: u32) -> u32
-        requires { step < LAST_STEP }
-        ensures after { step < result }
-        ensures none_between { (s : ℕ) → step < s → s < result → event_at self.now s key ≡ None }
+    /// From what is known of the keys when a step begins to those that are down in it.
+    #[inline(always)]
+    pub(crate) fn hold(&self, known: &mut Holding, step: u32)
+        requires in_range { step < LAST_STEP }
+        requires known { KnowsKeys self.now step known.old }
+        ensures { HoldsKeys self.now step known.new }
     {
-        let first = Moment {
-            key,
-            step: step + 1,
-        };
-        let last = Moment {
-            key,
-            step: LAST_STEP,
-        };
-        match self.events.range(first..=last).next() {
-            Some((moment, _)) => moment.step,
-            None => LAST_STEP + 1,
+        if step >= known.until {
+            *known = self.after(known.down, step);
+        }
+    }
+
+    /// The keys that are down in a step and from there on, by those that were down before its events.
+    #[cold]
+    #[inline(never)]
+    fn after(&self, before: [bool; KEY_COUNT], step: u32) -> Holding
+        requires in_range { step < LAST_STEP }
+        requires before { (k : ℕ) → k < 16 → slice_index_or before k false ≡ was_down self.now k step }
+        ensures { HoldsKeys self.now step result }
+    {
+        let change = self.steps.at(step);
+        let mut down = before;
+        for key in 0..KEY_COUNT {
+            down[key] = change[key].unwrap_or(before[key]);
+        }
+        Holding {
+            keys: mask_of(&down),
+            down,
+            until: self.steps.next(step),
         }
     }
 
     /// Adds an event: the key goes down, or up, at the step. Errors, the first that holds: the step is
-    /// above the last one, the key is above 15, an event is there, there are 10,000 events, memory ran
+    /// above the last one, the key is above 15, an event is there, there are `MOST_EVENTS` events, memory ran
     /// out. An error changes nothing.
     pub fn insert(&mut self, step: u32, key: u32, down: bool) -> Result<(), KeyFault>
         ensures fault { MatchOption (insert_fault self.old step key)
@@ -173,9 +192,17 @@ impl Keys {
         if let Some(fault) = self.insert_fault(step, key) {
             return Err(fault);
         }
-        match self.events.insert(Moment { key, step }, down) {
-            Ok(_) => Ok(()),
-            Err(_) => Err(KeyFault::OutOfMemory),
+        let moment = Moment { key, step };
+        match self.events.insert(moment, down) {
+            Ok(_) => {}
+            Err(_) => return Err(KeyFault::OutOfMemory),
+        }
+        match self.steps.set(step, key, Some(down)) {
+            Ok(()) => Ok(()),
+            Err(_) => {
+                self.events.remove(&moment);
+                Err(KeyFault::OutOfMemory)
+            }
         }
     }
 
@@ -191,7 +218,11 @@ impl Keys {
         }
         // An event that is there is overwritten in place, so memory is not wanted.
         match self.events.insert(Moment { key, step }, down) {
-            Ok(_) => Ok(()),
+            Ok(_) => {}
+            Err(_) => return Err(KeyFault::OutOfMemory),
+        }
+        match self.steps.set(step, key, Some(down)) {
+            Ok(()) => Ok(()),
             Err(_) => Err(KeyFault::OutOfMemory),
         }
     }
@@ -206,7 +237,10 @@ impl Keys {
             return Err(fault);
         }
         self.events.remove(&Moment { key, step });
-        Ok(())
+        match self.steps.set(step, key, None) {
+            Ok(()) => Ok(()),
+            Err(_) => Err(KeyFault::OutOfMemory),
+        }
     }
 
     /// Why an event cannot be added.
@@ -244,4 +278,17 @@ impl Keys {
             Some(KeyFault::NoEvent)
         }
     }
+}
+
+/// A mask with key k at bit k.
+fn mask_of(down: &[bool; KEY_COUNT]) -> u16
+    ensures { result ≡ mask (λ k. slice_index_or down.now k false) 16 }
+{
+    let mut mask = 0;
+    for key in 0..KEY_COUNT {
+        if down[key] {
+            mask += 1 << key;
+        }
+    }
+    mask
 }

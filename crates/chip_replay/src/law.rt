@@ -1,6 +1,7 @@
 //! What the frame law says of whole runs.
 
 ghost use Rattle.std.specs.Prelude.{◌≡◌, ℕ, ◌<◌, ◌≤◌, ◌+◌, Bool, true, false, List, length, drop};
+ghost use Rattle.chip_replay.specs.Limits.{image_start, image_room};
 ghost use Rattle.chip_replay.specs.Run.{run};
 ghost use Rattle.chip_replay.specs.Machine.{touched};
 ghost use Rattle.chip_replay.specs.Image.{differs, padded, with_image};
@@ -13,12 +14,12 @@ use crate::traced::Traced;
 /// image, and zeros after it, in the place of the old one.
 pub fn patched_checkpoint<M: Traced>()
     ensures start { (start : M) (old new : List ℕ)
-        → length old ≤ 3584
-        → length new ≤ 3584
-        → drop 512 (M.memory start) ≡ padded old
+        → length old ≤ image_room
+        → length new ≤ image_room
+        → drop image_start (M.memory start) ≡ padded old
         → patched M.memory M.with_memory old new start ≡ with_image M.memory M.with_memory new start }
     ensures state { (start : M) (old new : List ℕ) (rate t : ℕ) (held : ℕ → ℕ)
         → M.is_proper start
-        → ((s i : ℕ) → s < t → i < 3584 → differs old new i ≡ true → touched M.touches (run M.step_of rate held start s) (512 + i) ≡ false)
+        → ((s i : ℕ) → s < t → i < image_room → differs old new i ≡ true → touched M.touches (run M.step_of rate held start s) (image_start + i) ≡ false)
         → run M.step_of rate held (patched M.memory M.with_memory old new start) t ≡ patched M.memory M.with_memory old new (run M.step_of rate held start t) }
 {}

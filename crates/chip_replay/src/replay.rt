@@ -3,17 +3,19 @@
 ghost use Rattle.std.specs.Prelude.{◌≡◌, ◌+◌, ◌/◌, ◌<◌, ◌≤◌, ◌↔◌, length, min, drop, IfOk, OnOk, OnErr, IsOkUnless, MatchOption};
 
 use crate::kept::{Kept, least_touch, patch};
-use crate::keys::{KeyFault, Keys, LAST_STEP};
+use crate::keys::{KeyFault, Keys};
+use crate::limits::{IMAGE_ROOM, LAST_STEP, LEAST_SPACING, MOST_SPACING};
 use crate::traced::Traced;
 use std::alloc::{AllocError, Global};
 use std::marker::Model;
+use std::ops::Range;
 use thiserror::Error;
 
 /// Why a question has no answer.
 #[derive(Clone, Copy, Debug, PartialEq, Eq, Error)]
 pub enum AtError {
     /// Q2: the step is above the last one.
-    #[error("the step is above 100000")]
+    #[error("the step is above {LAST_STEP}")]
     StepTooLarge,
     /// Q4: memory ran out.
     #[error("out of memory")]
@@ -33,7 +35,7 @@ impl<M: Traced> Model for Replay<M> {
     ghost use Rattle.std.specs.Prelude.{◌+◌, ◌<◌, length};
     ghost use Rattle.chip_replay.specs.Run.{run};
     ghost use Rattle.chip_replay.specs.Keys.{held};
-    ghost use Rattle.chip_replay.specs.Limits.{spacing};
+    ghost use Rattle.chip_replay.specs.Limits.{IsSpacing};
     ghost use Rattle.chip_replay.specs.Machine.{touched};
     ghost use Rattle.chip_replay.specs.History.{History, history_code, IsSound, IsLent, IsHolding};
 
@@ -41,32 +43,42 @@ impl<M: Traced> Model for Replay<M> {
 
     ghost coded = { history_code M.code };
 
-    ghost view = { λ a. record { start = a.start; rate = a.rate; keys = a.keys; kept = length a.kept.checkpoints.items + 1; reach = a.kept.reach; ran = a.kept.ran } };
+    ghost view = { λ a. record { start = a.start; rate = a.rate; spacing = a.kept.spacing; keys = a.keys; kept = length a.kept.checkpoints.items + 1; reach = a.kept.reach; ran = a.kept.ran } };
 
     ghost invariant = { λ a. (0 < a.rate)
-        × IsSound spacing M.is_proper (touched M.touches) (run M.step_of a.rate (held a.keys) a.start) a.kept.checkpoints.items a.kept.first_touch.items a.kept.reach
+        × IsSpacing a.kept.spacing
+        × IsSound a.kept.spacing M.is_proper (touched M.touches) (run M.step_of a.rate (held a.keys) a.start) a.kept.checkpoints.items a.kept.first_touch.items a.kept.reach
         × IsLent (run M.step_of a.rate (held a.keys) a.start) a.kept.reach a.kept.lent a.kept.lent_step
-        × IsHolding a.keys a.kept.lent_step a.kept.holding.keys a.kept.holding.until };
+        × IsHolding a.keys a.kept.lent_step a.kept.holding };
 }
 
 impl<M: Traced> Replay<M> {
     ghost use Rattle.std.specs.Borrow.{sem};
     ghost use Rattle.std.specs.Io.BufRead.{Rests};
     ghost use Rattle.std.specs.FinMap as finmap;
-    ghost use Rattle.chip_replay.specs.Limits.{last_step, spacing};
+    ghost use Rattle.chip_replay.specs.Limits.{image_start, image_room};
     ghost use Rattle.chip_replay.specs.History.{state_at, Answered};
-    ghost use Rattle.chip_replay.specs.Image.{padded, with_image, affected};
+    ghost use Rattle.chip_replay.specs.Image.{padded, with_image, affected, AgreeOutside};
     ghost use Rattle.chip_replay.specs.Keys.{held, insert_fault, edit_fault};
     ghost use Rattle.chip_replay.specs.contracts.replay.Replay.{the_row};
 
     /// The run from a state, with no events; the timers tick at each step whose number plus 1 is a
-    /// multiple of the rate, which is at least 1. Errors: memory ran out.
-    pub fn new(alloc: Global, start: M, rate: u32) -> Result<Replay<M>, AllocError>
-        requires { 0 < rate }
-        ensures { IfOk result (λ new.
-            new ≡ record { start = start; rate = rate; keys = finmap.empty; kept = 1; reach = 0; ran = 0 }) }
+    /// multiple of the rate, which is at least 1. A checkpoint is kept after each `spacing` steps.
+    /// Errors: memory ran out.
+    pub fn new(alloc: Global, start: M, rate: u32, spacing: u32) -> Result<Replay<M>, AllocError>
+        requires rate { 0 < rate }
+        requires spacing { (LEAST_SPACING ≤ spacing) × (spacing ≤ MOST_SPACING) }
+        ensures { IfOk result (λ new. new ≡ record {
+          start = start;
+          rate = rate;
+          spacing = spacing;
+          keys = finmap.empty;
+          kept = 1;
+          reach = 0;
+          ran = 0;
+        }) }
     {
-        let kept = Kept::new(alloc, start.copy_of()?)?;
+        let kept = Kept::new(alloc, start.copy_of()?, spacing)?;
         Ok(Replay {
             start,
             rate,
@@ -75,15 +87,15 @@ impl<M: Traced> Replay<M> {
         })
     }
 
-    /// How many checkpoints are held, that of step 0 included: at most 101.
+    /// How many checkpoints are held, that of step 0 included.
     pub fn kept(&self) -> usize
         ensures value { result ≡ self.now.kept }
-        ensures few { result ≤ last_step / spacing + 1 }
+        ensures few { result ≤ LAST_STEP / self.now.spacing + 1 }
     {
         self.kept.checkpoints.len() + 1
     }
 
-    /// Up to which step the kept run is sound, 0 to 100,000.
+    /// Up to which step the kept run is sound, 0 to `LAST_STEP`.
     pub fn reach(&self) -> u32
         ensures value { result ≡ self.now.reach }
         ensures in_range { result ≤ LAST_STEP }
@@ -130,7 +142,8 @@ impl<M: Traced> Replay<M> {
             (IsOkUnless result KeyFault.OutOfMemory) (λ fault. result ≡ Err fault) }
         ensures keys { OnOk result (self.new.keys ≡ finmap.insert self.old.keys (record { key = key; step = step }) down) }
         ensures reach { OnOk result (min self.old.reach step ≤ self.new.reach) }
-        ensures others { OnOk result ((self.new.start ≡ self.old.start) × (self.new.rate ≡ self.old.rate) × (self.new.ran ≡ self.old.ran)) }
+        ensures others { OnOk result ((self.new.start ≡ self.old.start) × (self.new.rate ≡ self.old.rate)
+            × (self.new.spacing ≡ self.old.spacing) × (self.new.ran ≡ self.old.ran)) }
         ensures err { OnErr result (self.new ≡ self.old) }
     {
         self.keys.insert(step, key, down)?;
@@ -145,7 +158,8 @@ impl<M: Traced> Replay<M> {
             (result ≡ Ok tt) (λ fault. result ≡ Err fault) }
         ensures keys { OnOk result (self.new.keys ≡ finmap.insert self.old.keys (record { key = key; step = step }) down) }
         ensures reach { OnOk result (min self.old.reach step ≤ self.new.reach) }
-        ensures others { OnOk result ((self.new.start ≡ self.old.start) × (self.new.rate ≡ self.old.rate) × (self.new.ran ≡ self.old.ran)) }
+        ensures others { OnOk result ((self.new.start ≡ self.old.start) × (self.new.rate ≡ self.old.rate)
+            × (self.new.spacing ≡ self.old.spacing) × (self.new.ran ≡ self.old.ran)) }
         ensures err { OnErr result (self.new ≡ self.old) }
     {
         self.keys.replace(step, key, down)?;
@@ -160,7 +174,8 @@ impl<M: Traced> Replay<M> {
             (result ≡ Ok tt) (λ fault. result ≡ Err fault) }
         ensures keys { OnOk result (self.new.keys ≡ finmap.remove self.old.keys (record { key = key; step = step })) }
         ensures reach { OnOk result (min self.old.reach step ≤ self.new.reach) }
-        ensures others { OnOk result ((self.new.start ≡ self.old.start) × (self.new.rate ≡ self.old.rate) × (self.new.ran ≡ self.old.ran)) }
+        ensures others { OnOk result ((self.new.start ≡ self.old.start) × (self.new.rate ≡ self.old.rate)
+            × (self.new.spacing ≡ self.old.spacing) × (self.new.ran ≡ self.old.ran)) }
         ensures err { OnErr result (self.new ≡ self.old) }
     {
         self.keys.delete(step, key)?;
@@ -168,22 +183,42 @@ impl<M: Traced> Replay<M> {
         Ok(())
     }
 
-    /// The machine starts with another image in its memory from now on: the bytes of `new` from address
-    /// 512 on, and zeros after them, stand in the place of those of `old`. What is kept of the run up
-    /// to the first step that touches a byte at which they differ stays. It takes no memory.
+    /// The machine starts with another image in its memory from now on: the bytes of `new`, and zeros
+    /// after them, stand in the place of those of `old`. What is kept of the run up to the first step
+    /// that touches a byte at which they differ stays. It takes no memory.
     pub fn image_changed(&mut self, old: &[u8], new: &[u8])
-        requires old_fits { length old.now ≤ 3584 }
-        requires new_fits { length new.now ≤ 3584 }
-        requires old_is_there { drop 512 (M.memory self.old.start) ≡ padded old.now }
+        requires old_fits { length old.now ≤ image_room }
+        requires new_fits { length new.now ≤ image_room }
+        requires old_is_there { drop image_start (M.memory self.old.start) ≡ padded old.now }
         ensures start { self.new.start ≡ with_image M.memory M.with_memory new.now self.old.start }
         ensures rate { self.new.rate ≡ self.old.rate }
+        ensures spacing { self.new.spacing ≡ self.old.spacing }
         ensures keys { self.new.keys ≡ self.old.keys }
         ensures ran { self.new.ran ≡ self.old.ran }
         ensures reach { affected M.touches M.step_of self.old.rate (held self.old.keys) old.now new.now self.old.start self.old.reach ≤ self.new.reach }
     {
-        let affected = least_touch(&self.kept.first_touch, self.kept.reach, old, new);
+        self.image_changed_within(0..IMAGE_ROOM, old, new);
+    }
+
+    /// As `image_changed`, where it is known outside which places of the images they agree: only
+    /// bytes at those places are read.
+    pub fn image_changed_within(&mut self, changed: Range<usize>, old: &[u8], new: &[u8])
+        requires old_fits { length old.now ≤ image_room }
+        requires new_fits { length new.now ≤ image_room }
+        requires old_is_there { drop image_start (M.memory self.old.start) ≡ padded old.now }
+        requires alike { AgreeOutside changed.start changed.end old.now new.now }
+        ensures start { self.new.start ≡ with_image M.memory M.with_memory new.now self.old.start }
+        ensures rate { self.new.rate ≡ self.old.rate }
+        ensures spacing { self.new.spacing ≡ self.old.spacing }
+        ensures keys { self.new.keys ≡ self.old.keys }
+        ensures ran { self.new.ran ≡ self.old.ran }
+        ensures reach { affected M.touches M.step_of self.old.rate (held self.old.keys) old.now new.now self.old.start self.old.reach ≤ self.new.reach }
+    {
+        let (first, end) = (changed.start, changed.end);
+        let first_touch = &self.kept.first_touch;
+        let affected = least_touch(first_touch, self.kept.reach, first, end, old, new);
         self.kept.forget(affected);
-        patch(&mut self.start, old, new);
-        self.kept.patch(old, new);
+        patch(&mut self.start, first, end, old, new);
+        self.kept.patch(first, end, old, new);
     }
 }

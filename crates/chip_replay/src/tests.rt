@@ -2,7 +2,8 @@
 
 ghost use Rattle.std.specs.Prelude.{◌≡◌, IfOk};
 
-use crate::keys::{KeyFault, Keys, MOST_EVENTS};
+use crate::keys::{KeyFault, Keys};
+use crate::limits::{LAST_STEP, LEAST_SPACING, MEMORY, MOST_EVENTS, MOST_SPACING};
 use crate::replay::{AtError, Replay};
 use crate::traced::Traced;
 use chip_machine::touch::Touch;
@@ -23,6 +24,7 @@ struct Toy {
 
 impl Model for Toy {
     ghost use Rattle.std.specs.Prelude.{◌≡◌, length};
+    ghost use Rattle.chip_replay.specs.Limits.{memory_size};
     ghost use Rattle.chip_replay.specs.Toy.{ToyState, toy_code};
 
     ghost Value = { ToyState };
@@ -31,18 +33,18 @@ impl Model for Toy {
 
     ghost view = { λ t. record { bytes = t.bytes.items; counter = t.counter; sum = t.sum } };
 
-    ghost invariant = { λ t. length t.bytes.items ≡ 4096 };
+    ghost invariant = { λ t. length t.bytes.items ≡ memory_size };
 }
 
 impl Toy {
     ghost use Rattle.std.specs.Prelude.{replicate};
 
     fn new(alloc: Global) -> Result<Toy, AllocError>
-        ensures { IfOk result (λ toy. toy ≡ record { bytes = replicate 4096 0; counter = 0; sum = 0 }) }
+        ensures { IfOk result (λ toy. toy ≡ record { bytes = replicate MEMORY 0; counter = 0; sum = 0 }) }
     {
         Ok(Toy {
             alloc,
-            bytes: vec![in alloc; 0; 4096]?,
+            bytes: vec![in alloc; 0; MEMORY]?,
             counter: 0,
             sum: 0,
         })
@@ -82,7 +84,7 @@ impl Traced for Toy {
     ghost frame_law = { toy_framed };
 
     fn step(&mut self, _keys: u16, _tick: bool, touch: &mut Touch) {
-        let at = self.counter % 4096;
+        let at = self.counter % MEMORY as u64;
         touch.clear();
         touch.add(at as u16);
         self.sum = self.sum.wrapping_add(self.bytes[at as usize]);
@@ -168,7 +170,7 @@ impl Traced for Counting {
 #[test]
 fn replays_from_checkpoints(rt: HostRuntime) -> Result<(), Fail> {
     let toy = Toy::new(rt.alloc())?;
-    let mut replay = Replay::new(rt.alloc(), toy, 10)?;
+    let mut replay = Replay::new(rt.alloc(), toy, 10, LEAST_SPACING)?;
     assert_eq!(rt; replay.at(5000)?.sum(), 0);
     assert_eq!(rt;
         (replay.ran(), replay.reach(), replay.kept()),
@@ -186,33 +188,104 @@ fn replays_from_checkpoints(rt: HostRuntime) -> Result<(), Fail> {
     assert_eq!(rt; (replay.reach(), replay.kept()), (2500, 3));
     assert!(rt; replay.at(5000).is_ok());
     assert_eq!(rt; replay.ran(), 13000);
+    Ok(())
+}
+
+#[test]
+fn goes_on_from_the_nearest_state(rt: HostRuntime) -> Result<(), Fail> {
+    let toy = Toy::new(rt.alloc())?;
+    let mut replay = Replay::new(rt.alloc(), toy, 10, LEAST_SPACING)?;
+    assert!(rt; replay.at(5000).is_ok());
 
     // An earlier step goes on from the checkpoint before it, and a later one from the state that was lent.
     assert!(rt; replay.at(4321).is_ok());
-    assert_eq!(rt; replay.ran(), 13321);
+    assert_eq!(rt; replay.ran(), 5321);
     assert!(rt; replay.at(4400).is_ok());
-    assert_eq!(rt; replay.ran(), 13400);
+    assert_eq!(rt; replay.ran(), 5400);
+    Ok(())
+}
 
-    // An edit after the lent state keeps it, and an earlier one does not.
-    replay.delete_key(2500, 3)?;
+/// An edit after the lent state keeps it, and an earlier one does not.
+#[test]
+fn keeps_the_lent_state_before_an_edit(rt: HostRuntime) -> Result<(), Fail> {
+    let toy = Toy::new(rt.alloc())?;
+    let mut replay = Replay::new(rt.alloc(), toy, 10, LEAST_SPACING)?;
     assert!(rt; replay.at(2300).is_ok());
-    assert_eq!(rt; replay.ran(), 13700);
     replay.insert_key(2301, 4, true)?;
     assert!(rt; replay.at(2310).is_ok());
-    assert_eq!(rt; replay.ran(), 13710);
+    assert_eq!(rt; replay.ran(), 2310);
     replay.replace_key(2301, 4, false)?;
     assert!(rt; replay.at(2310).is_ok());
-    assert_eq!(rt; replay.ran(), 14020);
+    assert_eq!(rt; replay.ran(), 2620);
     assert_eq!(rt; replay.keys().held(2301), 0);
+    Ok(())
+}
+
+/// A question after a key edit makes the steps from the last checkpoint before it, at any spacing.
+#[test]
+fn replays_from_checkpoints_at_each_spacing(rt: HostRuntime) -> Result<(), Fail> {
+    let spacings = [
+        (LEAST_SPACING, 6, 3, 3000),
+        (2000, 3, 2, 3000),
+        (MOST_SPACING, 1, 1, 5000),
+    ];
+    for (spacing, kept, left, more) in spacings {
+        let toy = Toy::new(rt.alloc())?;
+        let mut replay = Replay::new(rt.alloc(), toy, 10, spacing)?;
+        assert_eq!(rt; replay.at(5000)?.sum(), 0);
+        assert_eq!(rt; (replay.ran(), replay.kept()), (5000, kept));
+        replay.insert_key(2500, 1, true)?;
+        assert_eq!(rt; (replay.reach(), replay.kept()), (2500, left));
+        assert_eq!(rt; replay.at(5000)?.sum(), 0);
+        assert_eq!(rt; (replay.ran(), replay.kept()), (5000 + more, kept));
+    }
+    Ok(())
+}
+
+/// Where it is said which bytes of an image changed, the others are taken to be the same.
+#[test]
+fn follows_an_image_by_its_changed_range(rt: HostRuntime) -> Result<(), Fail> {
+    let toy = Toy::new(rt.alloc())?;
+    let mut replay = Replay::new(rt.alloc(), toy, 10, LEAST_SPACING)?;
+    assert_eq!(rt; replay.at(5000)?.sum(), 0);
+    replay.image_changed_within(0..1, &[], &[5]);
+    assert_eq!(rt; (replay.reach(), replay.kept()), (512, 1));
+    assert_eq!(rt; replay.at(5000)?.sum(), 10);
+    assert_eq!(rt; replay.ran(), 10000);
+    Ok(())
+}
+
+#[test]
+fn keeps_everything_at_an_empty_change(rt: HostRuntime) -> Result<(), Fail> {
+    let toy = Toy::new(rt.alloc())?;
+    let mut replay = Replay::new(rt.alloc(), toy, 10, LEAST_SPACING)?;
+    assert_eq!(rt; replay.at(5000)?.sum(), 0);
+    replay.image_changed_within(0..0, &[], &[]);
+    assert_eq!(rt; (replay.reach(), replay.kept()), (5000, 6));
+    assert_eq!(rt; replay.at(5000)?.sum(), 0);
+    assert_eq!(rt; replay.ran(), 5000);
+    Ok(())
+}
+
+#[test]
+fn keeps_few_checkpoints_up_to_the_last_step(rt: HostRuntime) -> Result<(), Fail> {
+    for (spacing, kept) in [(LEAST_SPACING, 1001), (MOST_SPACING, 11)] {
+        let toy = Toy::new(rt.alloc())?;
+        let mut replay = Replay::new(rt.alloc(), toy, 10, spacing)?;
+        assert!(rt; replay.at(LAST_STEP).is_ok());
+        assert_eq!(rt; (replay.reach(), replay.kept()), (LAST_STEP, kept));
+        assert!(rt; replay.at(LAST_STEP - 1).is_ok());
+        assert_eq!(rt; replay.ran(), u64::from(LAST_STEP) + u64::from(spacing) - 1);
+    }
     Ok(())
 }
 
 #[test]
 fn refuses_and_keeps_what_it_has(rt: HostRuntime) -> Result<(), Fail> {
     let toy = Toy::new(rt.alloc())?;
-    let mut replay = Replay::new(rt.alloc(), toy, 1)?;
+    let mut replay = Replay::new(rt.alloc(), toy, 1, LEAST_SPACING)?;
     assert!(rt; replay.at(1500).is_ok());
-    assert_eq!(rt; replay.at(100_001).err(), Some(AtError::StepTooLarge));
+    assert_eq!(rt; replay.at(LAST_STEP + 1).err(), Some(AtError::StepTooLarge));
     assert_eq!(rt; replay.insert_key(5, 16, true), Err(KeyFault::NoSuchKey));
     assert_eq!(rt; replay.delete_key(5, 3), Err(KeyFault::NoEvent));
     assert_eq!(rt; replay.replace_key(5, 3, true), Err(KeyFault::NoEvent));
@@ -230,7 +303,7 @@ fn counts_each_step(rt: HostRuntime) -> Result<(), Fail> {
         toy: Toy::new(rt.alloc())?,
         steps: steps.clone()?,
     };
-    let mut replay = Replay::new(rt.alloc(), machine, 10)?;
+    let mut replay = Replay::new(rt.alloc(), machine, 10, LEAST_SPACING)?;
     for step in 0..=50_000 {
         assert!(rt; replay.at(step).is_ok());
     }
@@ -258,22 +331,28 @@ fn holds_keys_from_their_last_event(rt: HostRuntime) -> Result<(), Fail> {
     keys.delete(5, 10)?;
     assert_eq!(rt; keys.held(6), 1);
     keys.replace(7, 10, true)?;
-    assert_eq!(rt; keys.held(100_000), 1025);
+    assert_eq!(rt; keys.held(LAST_STEP), 1025);
     Ok(())
 }
 
 #[test]
 fn refuses_key_edits_in_order(rt: HostRuntime) -> Result<(), Fail> {
     let mut keys = Keys::new(rt.alloc());
-    keys.insert(100_000, 15, true)?;
-    assert_eq!(rt; keys.insert(100_001, 16, true), Err(KeyFault::StepTooLarge));
+    keys.insert(LAST_STEP, 15, true)?;
     assert_eq!(rt;
-        keys.replace(100_001, 16, true),
+        keys.insert(LAST_STEP + 1, 16, true),
         Err(KeyFault::StepTooLarge)
     );
-    assert_eq!(rt; keys.delete(100_001, 16), Err(KeyFault::StepTooLarge));
+    assert_eq!(rt;
+        keys.replace(LAST_STEP + 1, 16, true),
+        Err(KeyFault::StepTooLarge)
+    );
+    assert_eq!(rt; keys.delete(LAST_STEP + 1, 16), Err(KeyFault::StepTooLarge));
     assert_eq!(rt; keys.insert(0, 16, true), Err(KeyFault::NoSuchKey));
-    assert_eq!(rt; keys.insert(100_000, 15, false), Err(KeyFault::EventThere));
+    assert_eq!(rt;
+        keys.insert(LAST_STEP, 15, false),
+        Err(KeyFault::EventThere)
+    );
     assert_eq!(rt; keys.replace(0, 15, true), Err(KeyFault::NoEvent));
     assert_eq!(rt; keys.delete(0, 15), Err(KeyFault::NoEvent));
     for place in 1..MOST_EVENTS as u32 {

@@ -2,6 +2,7 @@
 
 ghost use Rattle.std.specs.Prelude.{◌≡◌, ℕ, ◌<◌, ◌↔◌, Bool, List, All, Contains, IfOk, IsFalse, length, slice_set};
 ghost use Rattle.chip_replay.specs.Frame.{AgreeOff, IsFramed};
+ghost use Rattle.chip_replay.specs.Limits.{memory_size};
 
 use chip_machine::touch::Touch;
 use std::alloc::AllocError;
@@ -32,7 +33,7 @@ pub trait Traced: Drop + Sized {
 
     /// Changes the byte at an address.
     fn poke(&mut self, at: u16, byte: u8)
-        requires { at < 4096 }
+        requires { at < memory_size }
         ensures byte { self.new ≡ with_memory self.old (slice_set (memory self.old) at byte) }
         ensures proper { is_proper self.new };
 
@@ -49,9 +50,9 @@ pub trait Traced: Drop + Sized {
     ghost changed_twice: { (s : Self) (m n : List ℕ) → with_memory (with_memory s m) n ≡ with_memory s n };
 
     /// The memory of a proper state has 4096 bytes, and no more is asked of it.
-    ghost proper_size: { (s : Self) → is_proper s → length (memory s) ≡ 4096 };
+    ghost proper_size: { (s : Self) → is_proper s → length (memory s) ≡ memory_size };
 
-    ghost proper_changed: { (s : Self) (m : List ℕ) → is_proper s → length m ≡ 4096 → is_proper (with_memory s m) };
+    ghost proper_changed: { (s : Self) (m : List ℕ) → is_proper s → length m ≡ memory_size → is_proper (with_memory s m) };
 
     /// A step keeps a state proper.
     ghost step_keeps: { (s : Self) (keys : ℕ) (tick : Bool) → is_proper s → is_proper (step_of s keys tick) };

@@ -51,7 +51,7 @@ fn deletes_a_line(rt: HostRuntime) -> Result<(), Fail> {
 fn inserts_key_events(rt: HostRuntime) -> Result<(), Fail> {
     let source = "WAIT: LD V1, K\nJP WAIT\n";
     let session =
-        "> kins 2 5 down\nok\n> kins 4 #c up\nok\n> kins 2 5 up\nno N7\n> kins 100001 5 down\nno N5\n> kins 0 16 down\nno N6\n> regs 4\nv 00 05 00 00 00 00 00 00 00 00 00 00 00 00 00 00\npc 0200 i 0000 dt 00 st 00 draws 0 low run\nflags 00 00 00 00 00 00 00 00 stack\n";
+        "> kins 2 5 down\nok\n> kins 4 #c up\nok\n> kins 2 5 up\nno N7\n> kins 1000001 5 down\nno N5\n> kins 0 16 down\nno N6\n> regs 4\nv 00 05 00 00 00 00 00 00 00 00 00 00 00 00 00 00\npc 0200 i 0000 dt 00 st 00 draws 0 low run\nflags 00 00 00 00 00 00 00 00 stack\n";
     assert!(rt; goes_so(rt.alloc(), source, session)?);
     Ok(())
 }
@@ -115,7 +115,7 @@ fn tells_the_registers(rt: HostRuntime) -> Result<(), Fail> {
     let source =
         "HIGH\nLD V0, 7\nLD R, V0\nLD DT, V0\nCALL DOWN\nDOWN: RND V1, 255\nLD I, DOWN\nEXIT\n";
     let session =
-        "> regs 0\nv 00 00 00 00 00 00 00 00 00 00 00 00 00 00 00 00\npc 0200 i 0000 dt 00 st 00 draws 0 low run\nflags 00 00 00 00 00 00 00 00 stack\n> regs 8\nv 07 00 00 00 00 00 00 00 00 00 00 00 00 00 00 00\npc 020e i 020a dt 07 st 00 draws 1 high S1\nflags 07 00 00 00 00 00 00 00 stack 020a\n> regs 100001\nno Q2\n";
+        "> regs 0\nv 00 00 00 00 00 00 00 00 00 00 00 00 00 00 00 00\npc 0200 i 0000 dt 00 st 00 draws 0 low run\nflags 00 00 00 00 00 00 00 00 stack\n> regs 8\nv 07 00 00 00 00 00 00 00 00 00 00 00 00 00 00 00\npc 020e i 020a dt 07 st 00 draws 1 high S1\nflags 07 00 00 00 00 00 00 00 stack 020a\n> regs 1000001\nno Q2\n";
     assert!(rt; goes_so(rt.alloc(), source, session)?);
     Ok(())
 }
@@ -178,11 +178,17 @@ fn each_refusal_of_a_line_has_its_example(rt: HostRuntime) -> Result<(), Fail> {
 fn each_refusal_of_an_event_or_a_question_has_its_example(rt: HostRuntime) -> Result<(), Fail> {
     let alloc = rt.alloc();
     let events =
-        "> kins 100001 5 down\nno N5\n> kins 0 16 down\nno N6\n> kins 2 5 up\nok\n> kins 2 5 up\nno N7\n";
+        "> kins 1000001 5 down\nno N5\n> kins 0 16 down\nno N6\n> kins 2 5 up\nok\n> kins 2 5 up\nno N7\n";
     assert!(rt; goes_so(alloc, "", events)?);
     assert!(rt; goes_so(alloc, "", "> kdel 2 5\nno N8\n")?);
     assert!(rt; goes_so(alloc, "DB NONE", "> regs 0\nno Q1\n")?);
-    assert!(rt; goes_so(alloc, "", "> screen 100001\nno Q2\n> mem 0 4095 2\nno Q3\n")?);
+    assert!(rt;
+        goes_so(
+            alloc,
+            "",
+            "> screen 1000001\nno Q2\n> mem 0 4095 2\nno Q3\n"
+        )?
+    );
     Ok(())
 }
 

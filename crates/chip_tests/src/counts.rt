@@ -1,5 +1,6 @@
 //! What a session counts: what it reads, encodes, and runs.
-use chip_bench::{Bench, Edit, Question, Settings};
+use chip_bench::{Bench, Edit, Question, SetError, Settings};
+use chip_replay::MOST_SPACING;
 use std::alloc::Global;
 use std::test::Fail;
 
@@ -13,6 +14,12 @@ const CHANGES_ITSELF: &[u8] =
 // A session on a source, at the rate 10 and with the tape of one zero.
 fn session(alloc: Global, source: &[u8]) -> Result<Bench, Fail> {
     Ok(Bench::open(alloc, source, Settings::new(alloc, 10, &[0])?)?)
+}
+
+// The same with that many steps between two checkpoints.
+fn spaced_session(alloc: Global, source: &[u8], spacing: u32) -> Result<Bench, Fail> {
+    let settings = Settings::new(alloc, 10, &[0])?.with_spacing(spacing)?;
+    Ok(Bench::open(alloc, source, settings)?)
 }
 
 // Whether the answer to a question starts so.
@@ -136,5 +143,51 @@ fn runs_a_program_that_changes_itself(rt: HostRuntime) -> Result<(), Fail> {
     let late = b"v 6d 00 00 6d 00 ";
     assert!(rt; is_told(alloc, &mut bench, &Question::Registers { step: 600 }, late)?);
     assert!(rt; bench.ran().saturating_sub(ran) <= 600);
+    Ok(())
+}
+
+#[test]
+fn answers_a_million_steps(rt: HostRuntime) -> Result<(), Fail> {
+    let alloc = rt.alloc();
+    let mut bench = session(alloc, LOOP)?;
+    assert!(rt; holds(alloc, &mut bench, 1_000_000, "25", "0204")?);
+    assert!(rt; bench.ran() <= 1_000_000);
+    assert!(rt; holds(alloc, &mut bench, 100_001, "55", "0202")?);
+    Ok(())
+}
+
+#[test]
+fn goes_on_from_a_checkpoint_of_its_spacing(rt: HostRuntime) -> Result<(), Fail> {
+    let alloc = rt.alloc();
+    let mut bench = spaced_session(alloc, LOOP_AND_BYTE, 2_000)?;
+    assert!(rt; holds(alloc, &mut bench, 5000, "c9", "0204")?);
+    let text = b"DB 2".as_slice();
+    bench.apply(alloc, &Edit::Replace { line: 4, text })?;
+    let ran = bench.ran();
+    assert!(rt; holds(alloc, &mut bench, 5000, "c9", "0204")?);
+    assert!(rt; bench.ran().saturating_sub(ran) <= 1_000);
+    Ok(())
+}
+
+#[test]
+fn runs_anew_where_no_checkpoint_stands(rt: HostRuntime) -> Result<(), Fail> {
+    let alloc = rt.alloc();
+    let mut bench = spaced_session(alloc, LOOP_AND_BYTE, MOST_SPACING)?;
+    assert!(rt; holds(alloc, &mut bench, 5000, "c9", "0204")?);
+    let ran = bench.ran();
+    let (step, key, down) = (2500, 1, true);
+    bench.apply(alloc, &Edit::InsertKey { step, key, down })?;
+    assert!(rt; holds(alloc, &mut bench, 5000, "c9", "0204")?);
+    assert!(rt; bench.ran().saturating_sub(ran) <= 5_000);
+    Ok(())
+}
+
+#[test]
+fn refuses_a_spacing_out_of_range(rt: HostRuntime) -> Result<(), Fail> {
+    let alloc = rt.alloc();
+    for spacing in [999, 100_001] {
+        let refused = Settings::new(alloc, 10, &[0])?.with_spacing(spacing).err();
+        assert_eq!(rt; refused, Some(SetError::SpacingOutOfRange));
+    }
     Ok(())
 }

@@ -1,12 +1,13 @@
-//! The system's files, of which one call fails.
+//! The system's files, with a hindrance.
 use std::alloc::Allocator;
+use std::cell::Cell;
 use std::fs::{File, Metadata, OpenFile, OpenOptions, Permissions};
 use std::io;
 use std::io::{ErrorKind, Read, Seek, SeekFrom, Write};
 use std::path::PathBuf;
 use std::rt::Files;
 
-/// The call that fails.
+/// A call that may fail.
 #[derive(Clone, Copy, Debug, PartialEq, Eq)]
 pub(crate) enum Call {
     Open,
@@ -15,19 +16,23 @@ pub(crate) enum Call {
     Rename,
 }
 
-/// A call, and why it fails.
-#[derive(Clone, Copy)]
-pub(crate) struct Hindrance {
-    pub(crate) call: Call,
-    pub(crate) reason: ErrorKind,
+/// What hinders the files.
+#[derive(Clone, Copy, Debug)]
+pub(crate) enum Hindrance {
+    Nothing,
+    /// The call fails for that reason.
+    Fails(Call, ErrorKind),
+    /// A write takes one byte.
+    ShortWrites,
+    /// A new file has the owner of the root folder.
+    ForeignFiles,
 }
 
 impl Hindrance {
     fn at(&self, call: Call) -> io::Result<()> {
-        if self.call == call {
-            Err(io::Error::from(self.reason))
-        } else {
-            Ok(())
+        match *self {
+            Hindrance::Fails(failing, reason) if failing == call => Err(io::Error::from(reason)),
+            _ => Ok(()),
         }
     }
 }
@@ -37,26 +42,37 @@ impl Hindrance {
 pub(crate) struct HinderedFiles<'a> {
     pub(crate) system: &'a HostRuntime,
     pub(crate) hindrance: Hindrance,
+    /// How many files were synced since the last renaming.
+    pub(crate) synced: &'a Cell<u32>,
 }
 
 /// An open file with the hindrance.
 #[derive(Drop)]
-pub(crate) struct HinderedFile {
+pub(crate) struct HinderedFile<'a> {
     file: File,
+    // What it says of itself in the place of the truth.
+    told: Option<Metadata>,
     hindrance: Hindrance,
+    synced: &'a Cell<u32>,
 }
 
-impl Files for HinderedFiles<'_> {
-    type File = HinderedFile;
+impl<'a> Files for HinderedFiles<'a> {
+    type File = HinderedFile<'a>;
 
     type Dir = File;
 
-    fn open_file(&self, how: &OpenOptions, path: &str) -> io::Result<HinderedFile> {
+    fn open_file(&self, how: &OpenOptions, path: &str) -> io::Result<HinderedFile<'a>> {
         self.hindrance.at(Call::Open)?;
         let file = self.system.open_file(how, path)?;
+        let told = match self.hindrance {
+            Hindrance::ForeignFiles if how.asks_create_new() => Some(self.system.metadata("/")?),
+            _ => None,
+        };
         Ok(HinderedFile {
             file,
+            told,
             hindrance: self.hindrance,
+            synced: self.synced,
         })
     }
 
@@ -78,6 +94,7 @@ impl Files for HinderedFiles<'_> {
 
     fn rename(&self, from: &str, to: &str) -> io::Result<()> {
         self.hindrance.at(Call::Rename)?;
+        self.synced.set(0);
         self.system.rename(from, to)
     }
 
@@ -100,22 +117,29 @@ impl Files for HinderedFiles<'_> {
     fn canonicalize<B: Allocator>(&self, alloc: B, path: &str) -> io::Result<PathBuf<B>> {
         self.system.canonicalize(alloc, path)
     }
+
+    fn read_link<B: Allocator>(&self, alloc: B, path: &str) -> io::Result<PathBuf<B>> {
+        self.system.read_link(alloc, path)
+    }
 }
 
-impl Read for HinderedFile {
+impl Read for HinderedFile<'_> {
     fn read(&mut self, buf: &mut [u8]) -> io::Result<usize> {
         self.file.read(buf)
     }
 }
 
-impl Write for HinderedFile {
+impl Write for HinderedFile<'_> {
     /// Where it fails the file has the first byte none the less.
     fn write(&mut self, buf: &[u8]) -> io::Result<usize> {
         if let Err(error) = self.hindrance.at(Call::Write) {
             let _ = self.file.write(&buf[..buf.len().min(1)]);
             return Err(error);
         }
-        self.file.write(buf)
+        match self.hindrance {
+            Hindrance::ShortWrites => self.file.write(&buf[..buf.len().min(1)]),
+            _ => self.file.write(buf),
+        }
     }
 
     fn flush(&mut self) -> io::Result<()> {
@@ -123,15 +147,18 @@ impl Write for HinderedFile {
     }
 }
 
-impl Seek for HinderedFile {
+impl Seek for HinderedFile<'_> {
     fn seek(&mut self, to: SeekFrom) -> io::Result<u64> {
         self.file.seek(to)
     }
 }
 
-impl OpenFile for HinderedFile {
+impl OpenFile for HinderedFile<'_> {
     fn metadata(&self) -> io::Result<Metadata> {
-        self.file.metadata()
+        match &self.told {
+            Some(told) => Ok(told.clone()?),
+            None => self.file.metadata(),
+        }
     }
 
     fn set_len(&self, size: u64) -> io::Result<()> {
@@ -140,6 +167,7 @@ impl OpenFile for HinderedFile {
 
     fn sync_all(&self) -> io::Result<()> {
         self.hindrance.at(Call::Sync)?;
+        self.synced.set(self.synced.get().saturating_add(1));
         self.file.sync_all()
     }
 

@@ -14,10 +14,14 @@ mod hindered_files;
 #[cfg(test)]
 mod image_file;
 #[cfg(test)]
+mod profiles;
+#[cfg(test)]
 mod rows;
 #[cfg(test)]
 mod serving;
 #[cfg(test)]
 mod sessions;
+#[cfg(test)]
+mod whole_runs;
 #[cfg(test)]
 mod words;

@@ -1,16 +1,51 @@
 //! Worked rows: a source, a script, and the bytes that answer it.
 use chip_bench::{Counted, Settings, serve};
+use chip_machine::Profile;
+use chip_replay::{LEAST_SPACING, MOST_SPACING};
 use std::alloc::Global;
 use std::test::Fail;
 
-/// The answers to a script on a source.
+// The answers differ where only the spacing of the checkpoints does.
+#[derive(Debug, Drop)]
+struct DiffersBySpacing;
+
+/// The answers to a script on a source, which are the same whatever lies between two checkpoints.
 pub(crate) fn answers(
     alloc: Global,
     source: &str,
     tape: &[u8],
     script: &str,
 ) -> Result<Vec<u8>, Fail> {
-    let settings = Settings::new(alloc, 10, tape)?;
+    answers_under(alloc, Profile::Schip, source, tape, script)
+}
+
+/// The same for a machine of that profile.
+pub(crate) fn answers_under(
+    alloc: Global,
+    profile: Profile,
+    source: &str,
+    tape: &[u8],
+    script: &str,
+) -> Result<Vec<u8>, Fail> {
+    let close = answers_at(alloc, profile, LEAST_SPACING, source, tape, script)?;
+    let far = answers_at(alloc, profile, MOST_SPACING, source, tape, script)?;
+    if close.as_slice() != far.as_slice() {
+        return Err(Fail::from(DiffersBySpacing));
+    }
+    Ok(close)
+}
+
+fn answers_at(
+    alloc: Global,
+    profile: Profile,
+    spacing: u32,
+    source: &str,
+    tape: &[u8],
+    script: &str,
+) -> Result<Vec<u8>, Fail> {
+    let settings = Settings::new(alloc, 10, tape)?
+        .with_profile(profile)
+        .with_spacing(spacing)?;
     let mut writer = Counted::new(Vec::new(alloc));
     serve(
         alloc,
@@ -48,7 +83,7 @@ fn edits_what_it_runs(rt: HostRuntime) -> Result<(), Fail> {
 #[test]
 fn refuses_in_order(rt: HostRuntime) -> Result<(), Fail> {
     let source = "LD V0, 5\nLOOP: ADD V0, 1\nJP LOOP";
-    let script = "del 2\nfaults\nimage\nregs 100001\nins 2 LOOP: ADD V0, 1\nimage\nregs 100001";
+    let script = "del 2\nfaults\nimage\nregs 1000001\nins 2 LOOP: ADD V0, 1\nimage\nregs 1000001";
     let expected = "ok\n2 F9\n.\nno Q1\nno Q1\nok\n600570011202\nno Q2\n";
     assert!(rt; answers(rt.alloc(), source, &[0x00], script)?.as_slice() == expected.as_bytes());
     Ok(())
@@ -124,7 +159,7 @@ fn scrolls_down(rt: HostRuntime) -> Result<(), Fail> {
 fn waits_for_a_key(rt: HostRuntime) -> Result<(), Fail> {
     let source = "LD V0, K\nEXIT";
     let script =
-        "image\nkins 5 10 down\nregs 5\nregs 6\nregs 7\nkins 5 10 up\nkins 0 16 up\nkins 100001 1 up\nkdel 4 10";
+        "image\nkins 5 10 down\nregs 5\nregs 6\nregs 7\nkins 5 10 up\nkins 0 16 up\nkins 1000001 1 up\nkdel 4 10";
     let expected =
         "f00a00fd\nok\nv 00 00 00 00 00 00 00 00 00 00 00 00 00 00 00 00\npc 0200 i 0000 dt 00 st 00 draws 0 low run\nflags 00 00 00 00 00 00 00 00 stack\nv 0a 00 00 00 00 00 00 00 00 00 00 00 00 00 00 00\npc 0202 i 0000 dt 00 st 00 draws 0 low run\nflags 00 00 00 00 00 00 00 00 stack\nv 0a 00 00 00 00 00 00 00 00 00 00 00 00 00 00 00\npc 0202 i 0000 dt 00 st 00 draws 0 low S1\nflags 00 00 00 00 00 00 00 00 stack\nno N7\nno N6\nno N5\nno N8\n";
     assert!(rt; answers(rt.alloc(), source, &[0x00], script)?.as_slice() == expected.as_bytes());
@@ -279,7 +314,7 @@ fn disassembles(rt: HostRuntime) -> Result<(), Fail> {
 fn waits_for_a_held_key(rt: HostRuntime) -> Result<(), Fail> {
     let source = "L: SKP V0\nJP L\nEXIT";
     let script =
-        "kins 4 0 down\nregs 5\nregs 6\nkins 2 0 down\nregs 3\nkrep 2 0 up\nregs 3\nkdel 4 0\nregs 6\nkins 100001 16 up\nkrep 4 0 up";
+        "kins 4 0 down\nregs 5\nregs 6\nkins 2 0 down\nregs 3\nkrep 2 0 up\nregs 3\nkdel 4 0\nregs 6\nkins 1000001 16 up\nkrep 4 0 up";
     let expected =
         "ok\nv 00 00 00 00 00 00 00 00 00 00 00 00 00 00 00 00\npc 0204 i 0000 dt 00 st 00 draws 0 low run\nflags 00 00 00 00 00 00 00 00 stack\nv 00 00 00 00 00 00 00 00 00 00 00 00 00 00 00 00\npc 0204 i 0000 dt 00 st 00 draws 0 low S1\nflags 00 00 00 00 00 00 00 00 stack\nok\nv 00 00 00 00 00 00 00 00 00 00 00 00 00 00 00 00\npc 0204 i 0000 dt 00 st 00 draws 0 low run\nflags 00 00 00 00 00 00 00 00 stack\nok\nv 00 00 00 00 00 00 00 00 00 00 00 00 00 00 00 00\npc 0202 i 0000 dt 00 st 00 draws 0 low run\nflags 00 00 00 00 00 00 00 00 stack\nok\nv 00 00 00 00 00 00 00 00 00 00 00 00 00 00 00 00\npc 0200 i 0000 dt 00 st 00 draws 0 low run\nflags 00 00 00 00 00 00 00 00 stack\nno N5\nno N8\n";
     assert!(rt; answers(rt.alloc(), source, &[0x00], script)?.as_slice() == expected.as_bytes());

@@ -3,6 +3,7 @@ use crate::hindered_files::{Call, HinderedFiles, Hindrance};
 use crate::serving::Crosses;
 use chip_bench::{Counted, program, refuse_words, tape_of};
 use std::alloc::Global;
+use std::cell::Cell;
 use std::io::{Read, Write};
 use std::rt::Files;
 use std::test::Fail;
@@ -78,11 +79,13 @@ const ANSWERS: &[u8] = b"ok\nno N1\n";
 
 #[test]
 fn answers_a_script(rt: HostRuntime) -> Result<(), Fail> {
-    let all: [&[&str]; 4] = [
+    let all: [&[&str]; 6] = [
         &[],
         &["debug"],
         &["debug", "--"],
         &["debug", "--rate", "1000", "--seed", "18446744073709551615"],
+        &["debug", "--profile", "vip", "--every", "1000"],
+        &["debug", "--profile", "schip", "--every", "100000"],
     ];
     for words in all {
         let run = run_on(rt.alloc(), &rt, words, SCRIPT)?;
@@ -123,7 +126,7 @@ fn shows_help(rt: HostRuntime) -> Result<(), Fail> {
 
 #[test]
 fn refuses_words(rt: HostRuntime) -> Result<(), Fail> {
-    let all: [&[&str]; 13] = [
+    let all: [&[&str]; 18] = [
         &["--rate", "5"],
         &["disassemble"],
         &["debug", "a", "b"],
@@ -136,7 +139,12 @@ fn refuses_words(rt: HostRuntime) -> Result<(), Fail> {
         &["list"],
         &["list", "a", "--rate", "1"],
         &["run", "a"],
-        &["run", "a", "--steps", "100001"],
+        &["run", "a", "--steps", "1000001"],
+        &["run", "a", "--steps", "1", "--every", "1000"],
+        &["run", "a", "--steps", "1", "--profile", "chip8"],
+        &["debug", "--profile", "chip8"],
+        &["debug", "--every", "999"],
+        &["debug", "--every", "100001"],
     ];
     for words in all {
         let run = run_on(rt.alloc(), &rt, words, SCRIPT)?;
@@ -162,12 +170,13 @@ fn refuses_words_that_are_no_text(rt: HostRuntime) {
 
 #[test]
 fn refuses_tapes(rt: HostRuntime) -> Result<(), Fail> {
-    let all: [&[&str]; 5] = [
+    let all: [&[&str]; 6] = [
         &["debug", "--tape", ""],
         &["debug", "--tape", "0"],
         &["debug", "--tape", "0g"],
         &["debug", "--tape", "00", "--seed", "1"],
         &["run", "no such file", "--steps", "1", "--tape", "z"],
+        &["debug", "no such file", "--tape", "z"],
     ];
     for words in all {
         let run = run_on(rt.alloc(), &rt, words, SCRIPT)?;
@@ -212,6 +221,11 @@ fn makes_the_tape_of_a_seed(rt: HostRuntime) -> Result<(), Fail> {
     Ok(())
 }
 
+const CANNOT_READ: &str = "\
+chipbench: cannot read no such file
+reason: No such file or directory (os error 2)
+";
+
 #[test]
 fn says_what_it_cannot_read(rt: HostRuntime) -> Result<(), Fail> {
     let all: [&[&str]; 4] = [
@@ -224,20 +238,18 @@ fn says_what_it_cannot_read(rt: HostRuntime) -> Result<(), Fail> {
         let run = run_on(rt.alloc(), &rt, words, SCRIPT)?;
         assert_eq!(rt; run.status, 3);
         assert!(rt; run.output.is_empty());
-        assert!(rt; run.errors.as_slice() == "chipbench: cannot read no such file\n".as_bytes());
+        assert!(rt; run.errors.as_slice() == CANNOT_READ.as_bytes());
     }
     Ok(())
 }
 
 #[test]
 fn says_that_memory_ran_out(rt: HostRuntime) -> Result<(), Fail> {
-    let hindrance = Hindrance {
-        call: Call::Open,
-        reason: io::ErrorKind::OutOfMemory,
-    };
+    let synced = Cell::new(0);
     let files = HinderedFiles {
         system: &rt,
-        hindrance,
+        hindrance: Hindrance::Fails(Call::Open, io::ErrorKind::OutOfMemory),
+        synced: &synced,
     };
     let all: [&[&str]; 2] = [&["list", "a"], &["debug", "a"]];
     for words in all {

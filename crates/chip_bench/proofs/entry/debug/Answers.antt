@@ -1,9 +1,9 @@
-use Rattle.std.proofs.Common.{ap, ◌∙◌, Err}
 use Rattle.std.proofs.lemmas.Result.{err_from_is_err_and}
-use Rattle.chip_bench.proofs.RunningLemmas.{exchanges_none, carried_none}
+use Rattle.std.proofs.Common.{◌∙◌, ap, Err}
+use Rattle.chip_bench.proofs.RunningLemmas.{unsettled}
 use Rattle.chip_bench.proofs.entry.debug.Goals as goal
 
 pub returns-in_err-settings : goal.returns-in_err-settings
-returns-in_err-settings g c = λ _ default.
+returns-in_err-settings g c = λ _.
     let p = err_from_is_err_and c.from_residual.result c.from_residual.ensures.1 in
-    exchanges_none _ _ _ (carried_none c.from_residual.result (p.1 ∙ ap (λ e. Err e) (p.2 ∙ c.in_err-settings.ensures.err default)))
+    unsettled _ _ _ _ _ _ _ (p.1 ∙ ap (λ e. Err e) p.2) c.in_err-settings.ensures.err

@@ -1,6 +1,8 @@
-use Rattle.chip_bench.proofs.RunningLemmas.{exchanges_as, exchanges_kept, ran_hindered}
+use Rattle.chip_bench.proofs.RunningLemmas.{runs_session}
 use Rattle.chip_bench.proofs.entry.program.Goals as goal
 
-pub returns-in-Err-clause-session : goal.returns-in-Err-clause-session
-returns-in-Err-clause-session g c = λ none.
-    rw c.report-in-Err.ensures (exchanges_kept _ _ _ _ _ _ c.flush-flushed.ensures.bytes (exchanges_as _ _ _ _ _ _ (ran_hindered c.in-Err.failure) (c.in-Err.ensures.session none)))
+pub returns-clause-session : goal.returns-clause-session
+returns-clause-session g c = λ none.
+    runs_session g.I.Read.remaining g.O.Write.contents c.args.input.now c.carry_out-ended.new.input c.args.output.now
+    c.carry_out-ended.new.output c.flush-flushed.new.self c.carry_out-ended.result c.is_ok.result c.finish.result
+    c.flush-flushed.ensures.bytes c.flush-flushed.ensures.failures c.finish.ensures (c.carry_out-ended.ensures.session none)

@@ -1,7 +1,7 @@
 use Rattle.std.proofs.Common.{◌≡◌, ℕ, Bool, ◌+◌, ◌*◌, ◌<◌, ◌≤◌, ◌&&◌, ◌||◌, true, false, arith, refl, sym, ap, subst, ◌∙◌}
 use Rattle.std.proofs.lemmas.Bool.{and_right}
 use Rattle.chip_machine.specs.Stored.{lights, differ, any_below}
-use Rattle.chip_machine.specs.Sprite.{covers}
+use Rattle.chip_machine.specs.Sprite.{covers_by_length}
 use Rattle.chip_machine.proofs.PointLemmas.{any_below_longer, any_below_none, any_below_same}
 use Rattle.chip_machine.proofs.SpriteLemmas.{scale_step}
 use Rattle.chip_machine.proofs.RowLemmas.{line_turned}
@@ -31,7 +31,7 @@ loop-line-preserved c =
     let step : s * (l.line + 1) ≡ s * l.line + s = subst (λ s. s * (l.line + 1) ≡ s * l.line + s) (sym e) (scale_step c.args.high l.line) in
     let covered = λ (column row : ℕ) (within : column < 128) (low : s * l.line ≤ row) (up : row < s * l.line + s). c.covered_bits-stripe.ensures column row within (subst (λ s. s * l.line ≤ row) e low) (subst (λ s. row < s * l.line + s) e up) in
     record {
-      turned = λ row column below within. line_turned (s * l.line) s stripe c.args.rows.now l.rows c.turn-hit.new.rows (covers c.args.high c.args.x c.args.y c.args.sprite.now) c.turn-hit.ensures.turned c.turn-hit.ensures.same_before covered l.invariant.turned l.invariant.ahead row column (subst (λ n. row < n) step below) within;
+      turned = λ row column below within. line_turned (s * l.line) s stripe c.args.rows.now l.rows c.turn-hit.new.rows (covers_by_length c.args.high c.args.x c.args.y c.args.sprite.now) c.turn-hit.ensures.turned c.turn-hit.ensures.same_before covered l.invariant.turned l.invariant.ahead row column (subst (λ n. row < n) step below) within;
       ahead = λ row past. let beyond : s * l.line + s ≤ row = subst (λ n. n ≤ row) step past in c.turn-hit.ensures.same_after row beyond ∙ l.invariant.ahead row (omega (arith, beyond));
       hit = ap (λ found. found || c.turn-hit.result) l.invariant.hit
           ∙ c.turn-hit.ensures.hit _ (λ row low up. any_below_same _ _ 128 (λ column within i. lights (sym (l.invariant.ahead row low) i) column && sym (covered column row within low up) i))

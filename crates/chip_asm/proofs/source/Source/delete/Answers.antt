@@ -3,37 +3,42 @@ use Rattle.chip_lang.specs.Line.{reading_of}
 use Rattle.chip_asm.specs.Edits.{delete_refusal, before_delete}
 use Rattle.chip_asm.specs.Records.{readings_in, texts_in}
 use Rattle.chip_asm.proofs.EditTexts.{texts-remove, read-remove, count-texts}
-use Rattle.chip_asm.proofs.Views.{needs-view}
+use Rattle.chip_asm.proofs.Views.{needs-view, changes-view}
 use Rattle.chip_asm.proofs.source.Source.delete.Goals as goal
 
-pub apply-requires-clause-are_read : goal.apply-requires-clause-are_read
-apply-requires-clause-are_read c = read-remove c.self.inside.lines.items (c.args.number - 1) c.self.invariant.are_read
+pub edit-requires-clause-are_read : goal.edit-requires-clause-are_read
+edit-requires-clause-are_read c = read-remove c.self.inside.kept.lines.items (c.args.number - 1) c.self.invariant.are_read
 
 pub returns-clause-ok : goal.returns-clause-ok
 returns-clause-ok c =
-    let count : length c.args.self.now.lines ≡ c.len.result = sym (count-texts c.self.inside.lines.items c.args.self.now.lines (ap (λ t. t.lines) c.self.view_is)) ∙ sym c.self.inside.lines.ok.0 ∙ sym c.len.ensures in (
+    let count : length c.args.self.now.lines ≡ c.len.result = sym (count-texts c.self.inside.kept.lines.items c.args.self.now.lines (ap (λ t. t.lines) c.self.view_is)) ∙ sym c.self.inside.kept.lines.ok.0 ∙ sym c.len.ensures in (
       ap (λ n. delete_refusal n c.args.number) count ∙ sym c.delete_refusal.ensures ∙ c.in_default.is,
-      c.in_ok-apply.ensures.ok ∙ texts-remove c.self.inside.lines.items (c.args.number - 1) ∙ ap (λ texts. remove texts (c.args.number - 1)) (ap (λ t. t.lines) c.self.view_is),
+      c.in_ok-changed.ensures.ok ∙ texts-remove c.self.inside.kept.lines.items (c.args.number - 1) ∙ ap (λ texts. remove texts (c.args.number - 1)) (ap (λ t. t.lines) c.self.view_is),
     )
 
-pub returns-in_err-apply-clause-encoded : goal.returns-in_err-apply-clause-encoded
-returns-in_err-apply-clause-encoded c =
-    let viewed : texts_in c.self.inside.lines.items ≡ c.args.self.now.lines = ap (λ t. t.lines) c.self.view_is in
-    let before : readings_in c.self.inside.lines.items ≡ map reading_of c.args.self.now.lines = c.self.invariant.are_read ∙ ap (map reading_of) viewed in
-    let after : readings_in (remove c.self.inside.lines.items (c.args.number - 1)) ≡ map reading_of (remove c.args.self.now.lines (c.args.number - 1))
-    = read-remove c.self.inside.lines.items (c.args.number - 1) c.self.invariant.are_read
-    ∙ ap (map reading_of) (texts-remove c.self.inside.lines.items (c.args.number - 1) ∙ ap (λ texts. remove texts (c.args.number - 1)) viewed) in
-    let needed = needs-view (readings_in c.self.inside.lines.items) (readings_in (remove c.self.inside.lines.items (c.args.number - 1))) c.args.self.now.lines (remove c.args.self.now.lines (c.args.number - 1)) (before_delete (c.args.number - 1)) before after in
+pub returns-in_err-changed-clause-encoded : goal.returns-in_err-changed-clause-encoded
+returns-in_err-changed-clause-encoded c =
+    let viewed : texts_in c.self.inside.kept.lines.items ≡ c.args.self.now.lines = ap (λ t. t.lines) c.self.view_is in
+    let before : readings_in c.self.inside.kept.lines.items ≡ map reading_of c.args.self.now.lines = c.self.invariant.are_read ∙ ap (map reading_of) viewed in
+    let after : readings_in (remove c.self.inside.kept.lines.items (c.args.number - 1)) ≡ map reading_of (remove c.args.self.now.lines (c.args.number - 1))
+    = read-remove c.self.inside.kept.lines.items (c.args.number - 1) c.self.invariant.are_read
+    ∙ ap (map reading_of) (texts-remove c.self.inside.kept.lines.items (c.args.number - 1) ∙ ap (λ texts. remove texts (c.args.number - 1)) viewed) in
+    let needed = needs-view (readings_in c.self.inside.kept.lines.items) (readings_in (remove c.self.inside.kept.lines.items (c.args.number - 1))) c.args.self.now.lines (remove c.args.self.now.lines (c.args.number - 1)) (before_delete (c.args.number - 1)) before after in
     let was : c.self.inside.meter.encoded ≡ c.args.self.now.work.encoded = ap (λ t. t.work.encoded) c.self.view_is in
-    omega (arith, c.apply.ensures.encoded, needed, was)
+    omega (arith, c.edit.ensures.encoded, needed, was)
 
 pub returns-clause-encoded : goal.returns-clause-encoded
 returns-clause-encoded c =
-    let viewed : texts_in c.self.inside.lines.items ≡ c.args.self.now.lines = ap (λ t. t.lines) c.self.view_is in
-    let before : readings_in c.self.inside.lines.items ≡ map reading_of c.args.self.now.lines = c.self.invariant.are_read ∙ ap (map reading_of) viewed in
-    let after : readings_in (remove c.self.inside.lines.items (c.args.number - 1)) ≡ map reading_of (remove c.args.self.now.lines (c.args.number - 1))
-    = read-remove c.self.inside.lines.items (c.args.number - 1) c.self.invariant.are_read
-    ∙ ap (map reading_of) (texts-remove c.self.inside.lines.items (c.args.number - 1) ∙ ap (λ texts. remove texts (c.args.number - 1)) viewed) in
-    let needed = needs-view (readings_in c.self.inside.lines.items) (readings_in (remove c.self.inside.lines.items (c.args.number - 1))) c.args.self.now.lines (remove c.args.self.now.lines (c.args.number - 1)) (before_delete (c.args.number - 1)) before after in
+    let viewed : texts_in c.self.inside.kept.lines.items ≡ c.args.self.now.lines = ap (λ t. t.lines) c.self.view_is in
+    let before : readings_in c.self.inside.kept.lines.items ≡ map reading_of c.args.self.now.lines = c.self.invariant.are_read ∙ ap (map reading_of) viewed in
+    let after : readings_in (remove c.self.inside.kept.lines.items (c.args.number - 1)) ≡ map reading_of (remove c.args.self.now.lines (c.args.number - 1))
+    = read-remove c.self.inside.kept.lines.items (c.args.number - 1) c.self.invariant.are_read
+    ∙ ap (map reading_of) (texts-remove c.self.inside.kept.lines.items (c.args.number - 1) ∙ ap (λ texts. remove texts (c.args.number - 1)) viewed) in
+    let needed = needs-view (readings_in c.self.inside.kept.lines.items) (readings_in (remove c.self.inside.kept.lines.items (c.args.number - 1))) c.args.self.now.lines (remove c.args.self.now.lines (c.args.number - 1)) (before_delete (c.args.number - 1)) before after in
     let was : c.self.inside.meter.encoded ≡ c.args.self.now.work.encoded = ap (λ t. t.work.encoded) c.self.view_is in
-    omega (arith, c.apply.ensures.encoded, needed, was)
+    omega (arith, c.edit.ensures.encoded, needed, was)
+
+pub returns-clause-changed : goal.returns-clause-changed
+returns-clause-changed c =
+    changes-view c.in_ok-changed.changed.first c.in_ok-changed.changed.end c.self.inside.kept.lines.items c.edit.new.self.lines.items c.args.self.now.lines c.self.invariant.are_read (ap (λ t. t.lines) c.self.view_is)
+    c.edit.ensures.kept.are_read c.in_ok-changed.ensures.changed

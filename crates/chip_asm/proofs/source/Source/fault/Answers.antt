@@ -8,4 +8,4 @@ pub returns : goal.returns
 returns c =
     c.fault_of_number.ensures
     ∙ ap (λ lines. fault_of_line (readings_in lines) c.args.number) c.deref.ensures.value
-    ∙ fault-view c.self.inside.lines.items c.args.self.now.lines c.args.number c.self.invariant.are_read (ap (λ t. t.lines) c.self.view_is)
+    ∙ fault-view c.self.inside.kept.lines.items c.args.self.now.lines c.args.number c.self.invariant.are_read (ap (λ t. t.lines) c.self.view_is)

@@ -8,5 +8,5 @@ pub returns : goal.returns
 returns c =
     let same : faults_of_lines (readings_in c.deref.result.now) ≡ faults_of c.args.self.now.lines
     = ap (λ lines. faults_of_lines (readings_in lines)) c.deref.ensures.value
-    ∙ faults-view c.self.inside.lines.items c.args.self.now.lines c.self.invariant.are_read (ap (λ t. t.lines) c.self.view_is) in
+    ∙ faults-view c.self.inside.kept.lines.items c.args.self.now.lines c.self.invariant.are_read (ap (λ t. t.lines) c.self.view_is) in
     rw (← same) c.faults_in.ensures

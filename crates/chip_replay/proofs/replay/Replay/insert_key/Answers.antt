@@ -1,8 +1,11 @@
-use Rattle.std.proofs.Common.{ℕ, ◌<◌, ◌≤◌, min, ap, ◌∙◌, arith}
-use Rattle.chip_replay.specs.Keys.{held, Events}
+use Rattle.std.proofs.Common.{ℕ, ◌<◌, min, ap, ◌∙◌, subst, arith}
+use Rattle.chip_replay.specs.Keys.{held, is_down, Events}
 use Rattle.chip_replay.specs.Machine.{touched}
-use Rattle.chip_replay.proofs.KeyFacts.{held-insert}
-use Rattle.chip_replay.proofs.Changed.{sound_keys, lent_keys, holding_cut}
+use Rattle.chip_replay.specs.Run.{run}
+use Rattle.chip_replay.specs.History.{IsSound, IsCutBack}
+use Rattle.chip_replay.proofs.KeyFacts.{held-insert, is_down-insert}
+use Rattle.chip_replay.proofs.ByStep.{holding_cut}
+use Rattle.chip_replay.proofs.Changed.{sound_keys, lent_keys, step_kept}
 use Rattle.chip_replay.proofs.replay.Replay.insert_key.Goals as goal
 
 pub invariant_of-self-2 : goal.invariant_of-self-2
@@ -12,10 +15,14 @@ invariant_of-self-2 g c =
     let reach = min was.kept.reach c.args.step in
     let before = λ (s : ℕ) (l : s < c.args.step). ap (λ (e : Events). held e s) c.in_ok-insert.ensures.ok ∙ held-insert was.keys c.args.step c.args.key c.args.down s l in
     let same = λ (s : ℕ) (l : s < reach). before s (omega arith) in
-    let within : reach ≤ was.kept.reach = omega arith in
-    rw (c.forget.ensures.checkpoints, c.forget.ensures.table, c.forget.ensures.reach, c.forget.ensures.lent, c.forget.ensures.holding) (
+    let run_before = run m.step_of was.rate (held was.keys) was.start in
+    let sound = subst (λ n. IsSound was.kept.spacing m.is_proper (touched m.touches) run_before c.forget.new.self.checkpoints.items c.forget.new.self.first_touch.items n) c.forget.ensures.reach (c.forget.ensures.sound run_before c.self.invariant.2) in
+    let cut_back = subst (λ n. IsCutBack was.kept.reach n was.kept.lent_step c.forget.new.self.lent_step) c.forget.ensures.reach c.forget.ensures.lent_step in
+    let kept = step_kept run_before was.kept.reach reach was.kept.lent was.kept.lent_step c.forget.new.self.lent_step c.self.invariant.3 cut_back in
+    rw (c.forget.ensures.others, c.forget.ensures.reach, c.forget.ensures.holding) (
       c.self.invariant.0,
-      sound_keys m.step_of was.rate (held was.keys) (held c.insert.new.self) was.start reach same 1000 (omega arith) m.is_proper (touched m.touches) was.kept.checkpoints.items was.kept.first_touch.items was.kept.reach c.self.invariant.1 within,
-      lent_keys m.step_of was.rate (held was.keys) (held c.insert.new.self) was.start reach same was.kept.reach was.kept.lent was.kept.lent_step _ c.self.invariant.2 c.forget.ensures.lent_step,
-      holding_cut was.keys c.insert.new.self reach c.args.step was.kept.holding.keys was.kept.holding.until was.kept.lent_step _ c.self.invariant.3 before c.forget.ensures.lent_step,
+      c.self.invariant.1,
+      sound_keys m.step_of was.rate (held was.keys) (held c.insert.new.self) was.start reach same was.kept.spacing m.is_proper (touched m.touches) c.forget.new.self.checkpoints.items c.forget.new.self.first_touch.items sound,
+      lent_keys m.step_of was.rate (held was.keys) (held c.insert.new.self) was.start reach same was.kept.reach was.kept.lent was.kept.lent_step _ c.self.invariant.3 kept,
+      holding_cut was.keys c.insert.new.self reach c.args.step was.kept.holding was.kept.lent_step _ (omega arith) c.self.invariant.4 (λ s l k. ap (λ (e : Events). is_down e k s) c.in_ok-insert.ensures.ok ∙ is_down-insert was.keys c.args.step c.args.key c.args.down s l k) kept,
     )

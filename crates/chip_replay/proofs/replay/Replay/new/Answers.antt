@@ -7,9 +7,10 @@ pub invariant_of-result : goal.invariant_of-result
 invariant_of-result g c =
     let m = g.M.Traced in
     let kept = c.in_ok-kept.ensures in
-    rw (kept.counts.0, kept.lent.1, kept.holding) (
-      c.requires,
-      sound_start 1000 (omega arith) m.is_proper (touched m.touches) _ c.in_ok-kept.kept.checkpoints.items c.in_ok-kept.kept.first_touch.items c.copy_of.ensures.proper kept.checkpoints kept.table kept.never,
+    rw (kept.counts.0, kept.counts.1, kept.lent.1) (
+      c.requires.rate,
+      c.requires.spacing,
+      sound_start c.args.spacing (omega (arith, c.requires.spacing.0)) m.is_proper (touched m.touches) _ c.in_ok-kept.kept.checkpoints.items c.in_ok-kept.kept.first_touch.items c.copy_of.ensures.proper kept.checkpoints kept.table kept.never,
       (omega arith, kept.lent.0 ∙ c.in_ok-copy_of.ensures.same),
-      (λ s ls l. absurd (omega arith)),
+      kept.holding c.new-2.result,
     )

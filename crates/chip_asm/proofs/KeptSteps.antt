@@ -1,0 +1,55 @@
+-- What is kept of a source as a whole.
+use Rattle.std.proofs.Common.{◌≡◌, ℕ, zero, suc, ◌+◌, ◌<◌, ◌≤◌, List, [], ◌∷◌, map, length, get_or, refl, ◌∙◌, ap, arith, vec_len}
+use Rattle.chip_lang.specs.Line.{reading_of}
+use Rattle.chip_asm.specs.declared.kept.Kept.{Kept}
+use Rattle.chip_asm.specs.declared.kept_line.KeptLine.{KeptLine}
+use Rattle.chip_asm.specs.Layout.{placed, address}
+use Rattle.chip_asm.specs.Records.{readings_in, texts_in}
+use Rattle.chip_asm.specs.Layouts.{IsLayoutOf}
+use Rattle.chip_asm.specs.Program.{byte_at, faults_of_lines}
+use Rattle.chip_asm.specs.Kept.{AreCurrent, IsKept}
+use Rattle.chip_asm.proofs.Bounds.{end-high}
+
+no-lines : (lines : List KeptLine) → length lines ≡ 0 → address (placed (readings_in lines)) ≡ 512
+unfolding placed address
+no-lines [] e = refl
+no-lines (l ∷ lines) e = absurd (omega arith)
+
+-- the kept image reaches up to the address after the last line
+pub image-room : (kept : Kept) → IsKept kept → kept.layout.end ≤ vec_len kept.image + 512
+image-room kept k = by (length kept.lines.items) refl
+  where
+    by : (n : ℕ) → length kept.lines.items ≡ n → kept.layout.end ≤ vec_len kept.image + 512
+    by zero e = omega (arith, k.laid_out.end_address, no-lines kept.lines.items e)
+    by (suc n) e = omega (arith, k.laid_out.end_address, end-high (readings_in kept.lines.items), k.long (omega arith))
+
+-- what is kept stays right where all but the room for more stays
+pub kept-same : (old new : Kept) → IsKept old → new.lines.items ≡ old.lines.items → new.layout ≡ old.layout → new.faults ≡ old.faults
+    → ((index : ℕ) → get_or new.image.items index 0 ≡ get_or old.image.items index 0) → vec_len new.image ≤ 3584 → (vec_len old.image ≡ 3584 → vec_len new.image ≡ 3584)
+    → IsKept new
+kept-same old new k lines layout faults image short long = record {
+  few = rw lines k.few;
+  are_read = rw lines k.are_read;
+  laid_out = rw (lines, layout) k.laid_out;
+  current = rw lines k.current;
+  imaged = λ index h. image index ∙ k.imaged index h ∙ (rw lines refl);
+  short = short;
+  long = λ some. long (k.long (omega (arith, ap length lines)));
+  counted = rw lines (faults ∙ k.counted);
+}
+
+-- what was made for these lines is right for them
+pub kept-by : (kept : Kept) (lines : List KeptLine) → kept.lines.items ≡ lines → length lines ≤ 4000 → readings_in lines ≡ map reading_of (texts_in lines)
+    → IsLayoutOf kept.layout (readings_in lines) → AreCurrent lines
+    → ((index : ℕ) → index < 3584 → get_or kept.image.items index 0 ≡ byte_at (placed (readings_in lines)) (512 + index)) → vec_len kept.image ≡ 3584
+    → kept.faults ≡ length (faults_of_lines (readings_in lines)) → IsKept kept
+kept-by kept lines e few are_read laid_out current imaged long counted = record {
+  few = rw e few;
+  are_read = rw e are_read;
+  laid_out = rw e laid_out;
+  current = rw e current;
+  imaged = λ index h. imaged index h ∙ (rw e refl);
+  short = omega arith;
+  long = λ some. long;
+  counted = rw e counted;
+}

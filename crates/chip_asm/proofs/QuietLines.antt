@@ -1,0 +1,307 @@
+-- A line that opens, turns and ends nothing can be put in the place of another such line.
+use Rattle.std.proofs.Common.{◌≡◌, ℕ, suc, ◌+◌, ℤ, pos, Bool, true, false, cond, ◌&&◌, ◌||◌, nat_lt, is_none, List, [], ◌∷◌, ◌++◌, length, refl, ap, sym, subst, ◌∙◌, Option, Some, None, option_map, option_to_list, Ok, if◌then◌else◌, unsigned_abs}
+use Rattle.std.specs.List.{list_all}
+use Rattle.std.specs.Option.{option_map_or}
+use Rattle.std.proofs.lemmas.Bool.{false≢true}
+use Rattle.chip_lang.specs.declared.fault.Fault.{Fault}
+use Rattle.chip_lang.specs.declared.fault.Fault.TheVariants.{DefinedTwice, PastMemory}
+use Rattle.chip_lang.specs.Line.{Body, empty, equ, org, ds, db, dw, da, code, ifdef, ifund, else_line, endif, align, options, used, xref, Reading, bad, read}
+use Rattle.chip_asm.specs.Names.{Name}
+use Rattle.chip_asm.specs.declared.table.Symbol.{Symbol}
+use Rattle.chip_asm.specs.Effect.{is_plain, is_plain_line, is_idle, TakesSameSpace, AreAlike, HasSameEffect}
+use Rattle.chip_asm.specs.Follows.{next_aligning}
+use Rattle.chip_asm.specs.Layout.{Placed, place, body_of, is_if_body, is_else_body, is_endif_body, is_end_body, is_org_body, is_if, is_else, is_endif, is_accepted, is_origin, symbol_of, value_given, condition_of, value_at, value_or_zero, full_size, first_fault, fault_of_value, is_redefinition, is_misplaced, is_live, has_ended, enclosing, has_else, holds, first_of, symbols, address, is_aligning}
+use Rattle.chip_asm.proofs.OpenBlocks.{open_blocks, enclosing-open}
+use Rattle.chip_asm.proofs.PlaceSteps.{address-cons, aligning-cons, has_ended-cons, symbols-cons}
+
+-- statements
+
+-- an idle statement is none of the blocks', and has no value of its own
+record Calm (b : Body) : Type 0 where
+  no_if : is_if_body b ≡ false
+  no_else : is_else_body b ≡ false
+  no_endif : is_endif_body b ≡ false
+  condition : (names : List (Name × Symbol)) → condition_of names b ≡ false
+  value : (names : List (Name × Symbol)) → value_at names b ≡ Ok (pos 0)
+
+calm-idle : (b : Body) → is_idle b ≡ true → Calm b
+unfolding value_at
+calm-idle (ifdef n) h = absurd (false≢true h)
+calm-idle (ifund n) h = absurd (false≢true h)
+calm-idle else_line h = absurd (false≢true h)
+calm-idle endif h = absurd (false≢true h)
+calm-idle (equ e) h = absurd (false≢true h)
+calm-idle (org e) h = absurd (false≢true h)
+calm-idle (ds e) h = absurd (false≢true h)
+calm-idle _ h = record { no_if = refl; no_else = refl; no_endif = refl; condition = λ names. refl; value = λ names. refl }
+
+plain-idle : (b : Body) → is_plain b ≡ true → is_idle b ≡ true
+plain-idle empty h = refl
+plain-idle options h = refl
+plain-idle used h = refl
+plain-idle xref h = refl
+plain-idle (db es) h = refl
+plain-idle (dw es) h = refl
+plain-idle (da bytes) h = refl
+plain-idle (code f os) h = refl
+plain-idle _ h = absurd (false≢true h)
+
+-- a plain statement neither moves the address nor switches the padding nor ends the source, and its name is that of an address
+record Plain (b : Body) : Type 0 where
+  no_org : is_org_body b ≡ false
+  no_end : is_end_body b ≡ false
+  no_align : (accepted aligning : Bool) → next_aligning accepted aligning b ≡ aligning
+  given : (here : ℕ) (value : ℤ) → value_given here value b ≡ pos here
+  first : (before : List Placed) (label : Option Name) → first_fault before (read label b)
+      ≡ cond (is_redefinition (symbols before) label) (Some DefinedTwice) (cond (nat_lt 4096 (address before + full_size (is_aligning before) (address before) b (pos 0))) (Some PastMemory) None)
+
+plain : (b : Body) → is_plain b ≡ true → Plain b
+unfolding first_fault fault_of_value value_at
+plain empty h = record { no_org = refl; no_end = refl; no_align = λ a g. refl; given = λ n v. refl; first = λ before label. refl }
+plain options h = record { no_org = refl; no_end = refl; no_align = λ a g. refl; given = λ n v. refl; first = λ before label. refl }
+plain used h = record { no_org = refl; no_end = refl; no_align = λ a g. refl; given = λ n v. refl; first = λ before label. refl }
+plain xref h = record { no_org = refl; no_end = refl; no_align = λ a g. refl; given = λ n v. refl; first = λ before label. refl }
+plain (db es) h = record { no_org = refl; no_end = refl; no_align = λ a g. refl; given = λ n v. refl; first = λ before label. refl }
+plain (dw es) h = record { no_org = refl; no_end = refl; no_align = λ a g. refl; given = λ n v. refl; first = λ before label. refl }
+plain (da bytes) h = record { no_org = refl; no_end = refl; no_align = λ a g. refl; given = λ n v. refl; first = λ before label. refl }
+plain (code f os) h = record { no_org = refl; no_end = refl; no_align = λ a g. refl; given = λ n v. refl; first = λ before label. refl }
+plain _ h = absurd (false≢true h)
+
+-- lines
+
+-- a placed line, by its parts
+place-at : (before : List Placed) (line : Reading) (number : ℕ) (block : Option ℕ) (condition live : Bool) (here : ℕ) (value : ℤ) (fault : Option Fault) (size : ℕ)
+    → number ≡ length before + 1 → block ≡ option_map (λ o. o.number) (first_of (enclosing before)) → condition ≡ condition_of (symbols before) (body_of line)
+    → live ≡ is_live before (body_of line) → here ≡ address before → value ≡ value_or_zero (value_at (symbols before) (body_of line))
+    → fault ≡ (if live then first_fault before line else None)
+    → size ≡ (if live && is_none fault then full_size (is_aligning before) here (body_of line) value else 0)
+    → (let made : Placed = record { number = number; line = line; block = block; condition = condition; live = live; here = here; value = value; fault = fault; size = size } in made ≡ place before line)
+unfolding place
+place-at before line number block condition live here value fault size n b c l h v f s = rw (s, f, v, h, l, c, b, n) refl
+
+-- a line's parts, of the line itself
+record Parts (before : List Placed) (line : Reading) : Type 0 where
+  number : (place before line).number ≡ length before + 1
+  block : (place before line).block ≡ option_map (λ o. o.number) (first_of (enclosing before))
+  condition : (place before line).condition ≡ condition_of (symbols before) (body_of line)
+  live : (place before line).live ≡ is_live before (body_of line)
+  here : (place before line).here ≡ address before
+  value : (place before line).value ≡ value_or_zero (value_at (symbols before) (body_of line))
+  fault : (place before line).fault ≡ (if (place before line).live then first_fault before line else None)
+  size : (place before line).size ≡ (if is_accepted (place before line) then full_size (is_aligning before) (place before line).here (body_of line) (place before line).value else 0)
+  line_is : (place before line).line ≡ line
+
+parts : (before : List Placed) (line : Reading) → Parts before line
+unfolding place
+parts before line = record { number = refl; block = refl; condition = refl; live = refl; here = refl; value = refl; fault = refl; size = refl; line_is = refl }
+
+-- the same line with another text
+abbrev pub with_line : Placed → Reading → Placed
+with_line p line = record p { line = line }
+
+live-calm : (before : List Placed) (a b : Body) → Calm a → Calm b → is_live before a ≡ is_live before b
+unfolding is_live
+live-calm before a b x y = rw (x.no_else, x.no_endif, y.no_else, y.no_endif) refl
+
+full-same : (a : Bool) (here : ℕ) (b c : Body) → TakesSameSpace b c → full_size a here b (pos 0) ≡ full_size a here c (pos 0)
+full-same a here b c s = rw (s.size, s.padded) refl
+
+-- of two lines with the same effect both are idle
+idle-both : (live : Bool) (old new : Reading) → HasSameEffect live old new → (is_idle (body_of old) ≡ true) × (is_idle (body_of new) ≡ true)
+idle-both false old new e = (e.was_idle refl, e.now_idle refl)
+idle-both true old new e = (plain-line old (e.alike refl).was_plain, plain-line new (e.alike refl).now_plain)
+  where
+    plain-line : (line : Reading) → is_plain_line line ≡ true → is_idle (body_of line) ≡ true
+    plain-line (bad f) h = absurd (false≢true h)
+    plain-line (read label b) h = plain-idle b h
+
+first-same : (before : List Placed) (old new : Reading) → AreAlike old new → first_fault before old ≡ first_fault before new
+first-same before (bad f) new a = absurd (false≢true a.was_plain)
+first-same before (read l b) (bad f) a = absurd (false≢true a.now_plain)
+first-same before (read l b) (read m c) a =
+    let name : l ≡ m = a.name in
+    (plain b a.was_plain).first before l
+    ∙ (rw (name, full-same (is_aligning before) (address before) b c a.space) (sym ((plain c a.now_plain).first before m)))
+
+fault-same : (live : Bool) (before : List Placed) (old new : Reading) → HasSameEffect live old new → cond live (first_fault before old) None ≡ cond live (first_fault before new) None
+fault-same false before old new e = refl
+fault-same true before old new e = first-same before old new (e.alike refl)
+
+size-same : (live : Bool) (fault : Option Fault) (a : Bool) (here : ℕ) (old new : Reading) → HasSameEffect live old new
+    → cond (live && is_none fault) (full_size a here (body_of old) (pos 0)) 0 ≡ cond (live && is_none fault) (full_size a here (body_of new) (pos 0)) 0
+size-same false fault a here old new e = refl
+size-same true fault a here old new e = rw (full-same a here (body_of old) (body_of new) (e.alike refl).space) refl
+
+place-line : (before : List Placed) (old new : Reading) → HasSameEffect (place before old).live (place before old).line new → HasSameEffect (place before old).live old new
+place-line before old new e = subst (λ (l : Reading). HasSameEffect (place before old).live l new) (parts before old).line_is e
+
+-- it stands where the other one stood
+pub place-swapped : (before : List Placed) (old new : Reading) → HasSameEffect (place before old).live (place before old).line new → place before new ≡ with_line (place before old) new
+place-swapped before old new at =
+    let e = place-line before old new at in
+    let p = parts before old in
+    let idle = idle-both (place before old).live old new e in
+    let a = calm-idle (body_of old) idle.0 in
+    let b = calm-idle (body_of new) idle.1 in
+    let no_value : (place before old).value ≡ pos 0 = p.value ∙ ap value_or_zero (a.value (symbols before)) in
+    sym
+    (place-at before new (place before old).number (place before old).block (place before old).condition (place before old).live (place before old).here (place before old).value (place before old).fault
+    (place before old).size p.number p.block (p.condition ∙ a.condition (symbols before) ∙ sym (b.condition (symbols before))) (p.live ∙ live-calm before (body_of old) (body_of new) a b) p.here
+    (no_value ∙ sym (ap value_or_zero (b.value (symbols before))))
+    (p.fault ∙ fault-same (place before old).live before old new e)
+    (p.size
+    ∙ (rw no_value (size-same (place before old).live (place before old).fault (is_aligning before) (place before old).here old new e))))
+
+-- what lists of lines before have to share, so that the same lines may follow
+pub record Same (xs ys : List Placed) : Type 0 where
+  pub count : length xs ≡ length ys
+  pub names : symbols xs ≡ symbols ys
+  pub open_ifs : enclosing xs ≡ enclosing ys
+  pub at : address xs ≡ address ys
+  pub aligned : is_aligning xs ≡ is_aligning ys
+  pub ended : has_ended xs ≡ has_ended ys
+  pub sides : (o : Placed) → has_else xs o ≡ has_else ys o
+
+holds-same : (xs ys os : List Placed) → Same xs ys → list_all (holds xs) os ≡ list_all (holds ys) os
+holds-same xs ys [] s = refl
+holds-same xs ys (o ∷ os) s = rw (s.sides o, holds-same xs ys os s) refl
+
+live-same : (xs ys : List Placed) (b : Body) → Same xs ys → is_live xs b ≡ is_live ys b
+unfolding is_live
+live-same xs ys b s = rw (s.ended, s.open_ifs, holds-same xs ys (enclosing ys) s) refl
+
+misplaced-same : (xs ys : List Placed) (b : Body) → Same xs ys → is_misplaced xs b ≡ is_misplaced ys b
+misplaced-same xs ys else_line s = ap (λ os. option_map_or (has_else xs) (first_of os) true) s.open_ifs ∙ by (first_of (enclosing ys))
+  where
+    by : (o : Option Placed) → option_map_or (has_else xs) o true ≡ option_map_or (has_else ys) o true
+    by None = refl
+    by (Some o) = s.sides o
+misplaced-same xs ys endif s = rw s.open_ifs refl
+misplaced-same xs ys _ s = refl
+
+first-after : (xs ys : List Placed) (line : Reading) → Same xs ys → first_fault xs line ≡ first_fault ys line
+unfolding first_fault
+first-after xs ys (bad f) s = refl
+first-after xs ys (read label b) s = rw (misplaced-same xs ys b s, s.names, s.aligned, s.at) refl
+
+pub place-same : (xs ys : List Placed) (line : Reading) → Same xs ys → place xs line ≡ place ys line
+unfolding place
+place-same xs ys line s =
+    let p = parts ys line in
+    let q = parts xs line in
+    let live : (place xs line).live ≡ is_live ys (body_of line) = q.live ∙ live-same xs ys (body_of line) s in
+    place-at ys line (place xs line).number (place xs line).block (place xs line).condition (place xs line).live (place xs line).here (place xs line).value (place xs line).fault (place xs line).size
+    (q.number ∙ ap (λ n. n + 1) s.count) (q.block ∙ ap (λ os. option_map (λ (o : Placed). o.number) (first_of os)) s.open_ifs)
+    (q.condition ∙ ap (λ names. condition_of names (body_of line)) s.names) live (q.here ∙ s.at)
+    (q.value ∙ ap (λ names. value_or_zero (value_at names (body_of line))) s.names)
+    (q.fault ∙ ap (λ f. cond (place xs line).live f None) (first-after xs ys line s))
+    (q.size ∙ ap (λ a. cond (is_accepted (place xs line)) (full_size a (place xs line).here (body_of line) (place xs line).value) 0) s.aligned)
+
+open-same : (p : Placed) (xs ys : List Placed) → enclosing xs ≡ enclosing ys → enclosing (p ∷ xs) ≡ enclosing (p ∷ ys)
+open-same p xs ys e =
+    let rest : open_blocks xs ≡ open_blocks ys = sym (enclosing-open xs) ∙ e ∙ enclosing-open ys in
+    enclosing-open (p ∷ xs) ∙ (rw rest refl) ∙ sym (enclosing-open (p ∷ ys))
+
+side-same : (p o : Placed) (xs ys : List Placed) → has_else xs o ≡ has_else ys o → has_else (p ∷ xs) o ≡ has_else (p ∷ ys) o
+unfolding has_else
+side-same p o xs ys e = rw e refl
+
+pub same-refl : (xs : List Placed) → Same xs xs
+same-refl xs = record { count = refl; names = refl; open_ifs = refl; at = refl; aligned = refl; ended = refl; sides = λ o. refl }
+
+-- the same line follows
+pub same-cons : (p : Placed) (xs ys : List Placed) → Same xs ys → Same (p ∷ xs) (p ∷ ys)
+same-cons p xs ys s = record {
+  count = ap (λ n. suc n) s.count;
+  names = symbols-cons p xs ∙ ap (λ l. l ++ option_to_list (symbol_of p)) s.names ∙ sym (symbols-cons p ys);
+  open_ifs = open-same p xs ys s.open_ifs;
+  at = address-cons p xs ∙ ap (λ n. cond (is_origin p) (unsigned_abs p.value) (n + p.size)) s.at ∙ sym (address-cons p ys);
+  aligned = aligning-cons p xs ∙ ap (λ a. next_aligning (is_accepted p) a (body_of p.line)) s.aligned ∙ sym (aligning-cons p ys);
+  ended = has_ended-cons p xs ∙ ap (λ e. (p.live && is_end_body (body_of p.line)) || e) s.ended ∙ sym (has_ended-cons p ys);
+  sides = λ o. side-same p o xs ys (s.sides o);
+}
+
+-- a line that does nothing to the next ones but by its name and its size
+pub record Quiet (p : Placed) : Type 0 where
+  pub no_if : is_if p ≡ false
+  pub no_else : is_else p ≡ false
+  no_endif : is_endif p ≡ false
+  no_origin : is_origin p ≡ false
+  no_end : (p.live && is_end_body (body_of p.line)) ≡ false
+  no_align : (aligning : Bool) → next_aligning (is_accepted p) aligning (body_of p.line) ≡ aligning
+
+and_never : (a : Bool) → (a && false) ≡ false
+and_never true = refl
+and_never false = refl
+
+quiet-plain : (p : Placed) → is_plain (body_of p.line) ≡ true → Quiet p
+quiet-plain p h =
+    let c = calm-idle (body_of p.line) (plain-idle (body_of p.line) h) in
+    let q = plain (body_of p.line) h in
+    record {
+      no_if = c.no_if;
+      no_else = c.no_else;
+      no_endif = c.no_endif;
+      no_origin = ap (λ b. is_accepted p && b) q.no_org ∙ and_never (is_accepted p);
+      no_end = ap (λ b. p.live && b) q.no_end ∙ and_never p.live;
+      no_align = λ a. q.no_align (is_accepted p) a;
+    }
+
+not_accepted-aligning : (a : Bool) (b : Body) → next_aligning false a b ≡ a
+not_accepted-aligning a (align on) = refl
+not_accepted-aligning a _ = refl
+
+quiet-idle : (p : Placed) → p.live ≡ false → is_idle (body_of p.line) ≡ true → Quiet p
+quiet-idle p l h =
+    let c = calm-idle (body_of p.line) h in
+    let n : is_accepted p ≡ false = rw l refl in
+    record {
+      no_if = c.no_if;
+      no_else = c.no_else;
+      no_endif = c.no_endif;
+      no_origin = rw n refl;
+      no_end = rw l refl;
+      no_align = λ a. rw n (not_accepted-aligning a (body_of p.line));
+    }
+
+quiet-by : (p : Placed) (live : Bool) → p.live ≡ live → (live ≡ true → is_plain (body_of p.line) ≡ true) → (live ≡ false → is_idle (body_of p.line) ≡ true) → Quiet p
+quiet-by p true l a b = quiet-plain p (a refl)
+quiet-by p false l a b = quiet-idle p l (b refl)
+
+plain-body : (line : Reading) → is_plain_line line ≡ true → is_plain (body_of line) ≡ true
+plain-body (bad f) h = absurd (false≢true h)
+plain-body (read label b) h = h
+
+pub quiet-old : (p : Placed) (new : Reading) → HasSameEffect p.live p.line new → Quiet p
+quiet-old p new e = quiet-by p p.live refl (λ l. plain-body p.line (e.alike l).was_plain) e.was_idle
+
+pub quiet-new : (p : Placed) (new : Reading) → HasSameEffect p.live p.line new → Quiet (with_line p new)
+quiet-new p new e = quiet-by (with_line p new) p.live refl (λ l. plain-body new (e.alike l).now_plain) e.now_idle
+
+symbol-same : (p : Placed) (new : Reading) (live : Bool) → p.live ≡ live → (live ≡ true → AreAlike p.line new) → symbol_of p ≡ symbol_of (with_line p new)
+symbol-same p new false l a = rw l refl
+symbol-same p new true l a =
+    let k = a refl in
+    let old_value = (plain (body_of p.line) (plain-body p.line k.was_plain)).given p.here p.value in
+    let new_value = (plain (body_of new) (plain-body new k.now_plain)).given p.here p.value in
+    ap (λ s. cond (is_accepted p) s None) (rw (old_value, new_value, k.name) refl)
+
+side-quiet : (p q : Placed) (before : List Placed) (o : Placed) → is_else p ≡ false → is_else q ≡ false → has_else (p ∷ before) o ≡ has_else (q ∷ before) o
+unfolding has_else
+side-quiet p q before o a b = rw (a, b) refl
+
+quiet-same : (p q : Placed) (before : List Placed) → Quiet p → Quiet q → symbol_of p ≡ symbol_of q → p.size ≡ q.size → Same (p ∷ before) (q ∷ before)
+quiet-same p q before a b names size = record {
+  count = refl;
+  names = symbols-cons p before ∙ ap (λ s. symbols before ++ option_to_list s) names ∙ sym (symbols-cons q before);
+  open_ifs = enclosing-open (p ∷ before) ∙ (rw (a.no_if, a.no_endif, b.no_if, b.no_endif) refl) ∙ sym (enclosing-open (q ∷ before));
+  at = address-cons p before ∙ (rw (a.no_origin, b.no_origin, size) refl) ∙ sym (address-cons q before);
+  aligned = aligning-cons p before ∙ a.no_align (is_aligning before) ∙ sym (b.no_align (is_aligning before)) ∙ sym (aligning-cons q before);
+  ended = has_ended-cons p before ∙ (rw (a.no_end, b.no_end) refl) ∙ sym (has_ended-cons q before);
+  sides = λ o. side-quiet p q before o a.no_else b.no_else;
+}
+
+-- the same lines may follow two lines with the same effect
+pub same-swapped : (p : Placed) (new : Reading) (before : List Placed) → HasSameEffect p.live p.line new → Same (p ∷ before) (with_line p new ∷ before)
+same-swapped p new before e =
+    quiet-same p (with_line p new) before (quiet-old p new e) (quiet-new p new e) (symbol-same p new p.live refl e.alike) refl

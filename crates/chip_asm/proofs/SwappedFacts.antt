@@ -1,0 +1,174 @@
+-- What a line in the place of one with the same effect changes: its bytes, and whether it has a fault.
+use Rattle.std.proofs.Common.{◌≡◌, ℕ, ◌+◌, ◌-◌, ◌<◌, ◌≤◌, Bool, true, false, cond, ◌&&◌, ltb, leb, List, [], ◌∷◌, ◌++◌, map, reverse, length, set, get_or, find, filter_map, refl, ap, sym, ◌∙◌, arith, Option, Some, None, option_map}
+use Rattle.std.specs.List.{cons_option}
+use Rattle.std.specs.Option.{option_map_or}
+use Rattle.std.proofs.lemmas.Bool.Decides.{nat_tests}
+use Rattle.std.proofs.lemmas.List.{map-append}
+use Rattle.chip_lang.specs.declared.fault.Fault.{Fault}
+use Rattle.chip_lang.specs.Line.{Reading}
+use Rattle.chip_asm.specs.declared.placement.Placement.{Placement}
+use Rattle.chip_asm.specs.KeptCodes.{count_of}
+use Rattle.chip_asm.specs.Layout.{Placed, placed, address, symbols}
+use Rattle.chip_asm.specs.Layouts.{placements_of, final_placement}
+use Rattle.chip_asm.specs.Program.{names_of_lines, first_pass_fault, code_under, bytes_in_code, fault_of, numbered_fault, faults_of_lines, covers, byte_at}
+use Rattle.chip_asm.proofs.BlockSteps.{reverse-cons}
+use Rattle.chip_asm.proofs.ImageWhole.{one-fault}
+use Rattle.chip_asm.proofs.Placing.{length-placed}
+use Rattle.chip_asm.proofs.QuietLines.{Same, Quiet, with_line, quiet-old, quiet-new}
+use Rattle.chip_asm.proofs.SwappedLine.{Swapped, AreAbove}
+
+pub names-swapped : (lines : List Reading) (at : ℕ) (new : Reading) → Swapped lines at new → names_of_lines (set lines at new) ≡ names_of_lines lines
+names-swapped lines at new s = ap symbols s.now ∙ sym s.same.names ∙ ap symbols (sym s.was)
+
+pub end-swapped : (lines : List Reading) (at : ℕ) (new : Reading) → Swapped lines at new → address (placed (set lines at new)) ≡ address (placed lines)
+end-swapped lines at new s = ap address s.now ∙ sym s.same.at ∙ ap address (sym s.was)
+
+-- the first pass
+
+first-pass-same : (xs ys : List Placed) (p : Placed) → Same xs ys → first_pass_fault xs p ≡ first_pass_fault ys p
+first-pass-same xs ys p s = rw (s.ended, s.open_ifs) refl
+
+final-same : (xs ys : List Placed) (p : Placed) → Same xs ys → final_placement xs p ≡ final_placement ys p
+final-same xs ys p s = rw (s.ended, s.open_ifs) refl
+
+final-swapped : (xs ys : List Placed) (x : Placed) (new : Reading) → Quiet x → Quiet (with_line x new) → final_placement xs x ≡ final_placement ys (with_line x new)
+final-swapped xs ys x new a b = rw (a.no_if, b.no_if) refl
+
+map-swap : (f g : Placed → Placement) → ((p : Placed) → f p ≡ g p) → (later before : List Placed) (x y : Placed) → f x ≡ g y → map f (later ++ x ∷ before) ≡ map g (later ++ y ∷ before)
+map-swap f g same [] before x y e = rw e (ap (λ l. g y ∷ l) (maps before))
+  where
+    maps : (ps : List Placed) → map f ps ≡ map g ps
+    maps [] = refl
+    maps (p ∷ ps) = rw (same p, maps ps) refl
+map-swap f g same (p ∷ later) before x y e = rw (same p, map-swap f g same later before x y e) refl
+
+map-reverse : (f : Placed → Placement) (xs : List Placed) → map f (reverse xs) ≡ reverse (map f xs)
+map-reverse f [] = refl
+map-reverse f (x ∷ xs) = ap (map f) (reverse-cons x xs) ∙ map-append f (reverse xs) (x ∷ []) ∙ ap (λ l. l ++ f x ∷ []) (map-reverse f xs) ∙ sym (reverse-cons (f x) (map f xs))
+
+pub placements-swapped : (lines : List Reading) (at : ℕ) (new : Reading) → Swapped lines at new → placements_of (set lines at new) ≡ placements_of lines
+unfolding placements_of
+placements-swapped lines at new s =
+    let old : List Placed = s.later ++ s.x ∷ s.before in
+    let now : List Placed = s.later ++ with_line s.x new ∷ s.before in
+    ap (λ ps. map (final_placement ps) (reverse ps)) s.now
+    ∙ map-reverse (final_placement now) now
+    ∙ ap reverse (sym (map-swap (final_placement old) (final_placement now) (λ p. final-same old now p s.same) s.later s.before s.x (with_line s.x new)
+    (final-swapped old now s.x new (quiet-old s.x new s.effect) (quiet-new s.x new s.effect))))
+    ∙ sym (map-reverse (final_placement old) old)
+    ∙ ap (λ ps. map (final_placement ps) (reverse ps)) (sym s.was)
+
+-- faults
+
+fault-same : (xs ys : List Placed) (p : Placed) → Same xs ys → fault_of xs p ≡ fault_of ys p
+fault-same xs ys p s = rw (s.ended, s.open_ifs, s.names) refl
+
+-- how many of these have a fault
+abbrev tally : (Placed → Option Fault) → List Placed → ℕ
+tally f [] = 0
+tally f (p ∷ ps) = count_of (f p) + tally f ps
+
+length-faults : (all xs : List Placed) → length (filter_map (numbered_fault all) xs) ≡ tally (fault_of all) xs
+length-faults all [] = refl
+length-faults all (p ∷ ps) = by (fault_of all p) (length-faults all ps)
+  where
+    by : (o : Option Fault) → length (filter_map (numbered_fault all) ps) ≡ tally (fault_of all) ps
+        → length (cons_option (option_map (λ f. (p.number, f)) o) (filter_map (numbered_fault all) ps)) ≡ count_of o + tally (fault_of all) ps
+    by None e = omega (arith, e)
+    by (Some f) e = omega (arith, e)
+
+tally-push : (f : Placed → Option Fault) (xs : List Placed) (p : Placed) → tally f (xs ++ p ∷ []) ≡ count_of (f p) + tally f xs
+tally-push f [] p = refl
+tally-push f (x ∷ xs) p = omega (arith, tally-push f xs p)
+
+tally-reverse : (f : Placed → Option Fault) (xs : List Placed) → tally f (reverse xs) ≡ tally f xs
+tally-reverse f [] = refl
+tally-reverse f (x ∷ xs) = ap (tally f) (reverse-cons x xs) ∙ tally-push f (reverse xs) x ∙ ap (λ n. count_of (f x) + n) (tally-reverse f xs)
+
+tally-same : (f g : Placed → Option Fault) → ((p : Placed) → f p ≡ g p) → (ps : List Placed) → tally f ps ≡ tally g ps
+tally-same f g same [] = refl
+tally-same f g same (p ∷ ps) = rw (same p, tally-same f g same ps) refl
+
+tally-swap : (f g : Placed → Option Fault) → ((p : Placed) → f p ≡ g p) → (later before : List Placed) (x y : Placed)
+    → tally g (later ++ y ∷ before) + count_of (f x) ≡ tally f (later ++ x ∷ before) + count_of (g y)
+tally-swap f g same [] before x y = omega (arith, tally-same f g same before)
+tally-swap f g same (p ∷ later) before x y =
+    let one : count_of (f p) ≡ count_of (g p) = ap count_of (same p) in
+    omega (arith, tally-swap f g same later before x y, one)
+
+count-faults : (lines : List Reading) (all : List Placed) → placed lines ≡ all → length (faults_of_lines lines) ≡ tally (fault_of all) all
+count-faults lines all e = ap (λ ps. length (filter_map (numbered_fault ps) (reverse ps))) e ∙ length-faults all (reverse all) ∙ tally-reverse (fault_of all) all
+
+pub faults-swapped : (lines : List Reading) (at : ℕ) (new : Reading) (s : Swapped lines at new)
+    → length (faults_of_lines (set lines at new)) + count_of (fault_of (placed lines) s.x) ≡ length (faults_of_lines lines) + count_of (fault_of (placed (set lines at new)) (with_line s.x new))
+faults-swapped lines at new s =
+    let old : List Placed = s.later ++ s.x ∷ s.before in
+    let now : List Placed = s.later ++ with_line s.x new ∷ s.before in
+    let before_count = count-faults lines old s.was in
+    let after_count = count-faults (set lines at new) now s.now in
+    let was : count_of (fault_of (placed lines) s.x) ≡ count_of (fault_of old s.x) = ap (λ ps. count_of (fault_of ps s.x)) s.was in
+    let is : count_of (fault_of (placed (set lines at new)) (with_line s.x new)) ≡ count_of (fault_of now (with_line s.x new)) = ap (λ ps. count_of (fault_of ps (with_line s.x new))) s.now in
+    omega (arith, before_count, after_count, was, is, tally-swap (fault_of old) (fault_of now) (λ p. fault-same old now p s.same) s.later s.before s.x (with_line s.x new))
+
+tally-few : (f : Placed → Option Fault) (ps : List Placed) → tally f ps ≤ length ps
+tally-few f [] = omega arith
+tally-few f (p ∷ ps) = omega (arith, one-fault (f p), tally-few f ps)
+
+-- no more faults than lines
+pub faults-few : (lines : List Reading) → length (faults_of_lines lines) ≤ length lines
+faults-few lines = omega (arith, count-faults lines (placed lines) refl, tally-few (fault_of (placed lines)) (placed lines), length-placed lines)
+
+-- bytes
+
+not_reached : (low here size at : ℕ) → low ≤ here → at < low → (leb here at && ltb at (here + size)) ≡ false
+not_reached low here size at h k = grind (arith, nat_tests)
+
+find-past : (later before : List Placed) (y : Placed) (at low : ℕ) → AreAbove low later → at < low → covers at y ≡ true → find (covers at) (later ++ y ∷ before) ≡ Some y
+find-past [] before y at low a h c = rw c refl
+find-past (p ∷ later) before y at low a h c = rw (not_reached low p.here p.size at a.0 h) (find-past later before y at low a.1 h c)
+
+find-other : (f g : Placed → ℕ) → ((p : Placed) → f p ≡ g p) → (c : Placed → Bool) (later before : List Placed) (x y : Placed) → c x ≡ false → c y ≡ false
+    → option_map_or g (find c (later ++ y ∷ before)) 0 ≡ option_map_or f (find c (later ++ x ∷ before)) 0
+find-other f g same c [] before x y a b = rw (a, b) (by (find c before))
+  where
+    by : (o : Option Placed) → option_map_or g o 0 ≡ option_map_or f o 0
+    by None = refl
+    by (Some p) = sym (same p)
+find-other f g same c (p ∷ later) before x y a b = by (c p) (find-other f g same c later before x y a b)
+  where
+    by : (t : Bool) → option_map_or g (find c (later ++ y ∷ before)) 0 ≡ option_map_or f (find c (later ++ x ∷ before)) 0
+        → option_map_or g (cond t (Some p) (find c (later ++ y ∷ before))) 0 ≡ option_map_or f (cond t (Some p) (find c (later ++ x ∷ before))) 0
+    by true rest = sym (same p)
+    by false rest = rest
+
+below-end : (here size at : ℕ) → (leb here at && ltb at (here + size)) ≡ true → at < here + size
+below-end here size at e = grind (arith, nat_tests, e)
+
+-- the byte of a placed line at an address
+abbrev pub byte_in : List Placed → ℕ → Placed → ℕ
+byte_in all at p = get_or (bytes_in_code (code_under all p)) (at - p.here) 0
+
+byte-same : (xs ys : List Placed) (at : ℕ) (p : Placed) → Same xs ys → byte_in xs at p ≡ byte_in ys at p
+byte-same xs ys at p s = rw s.names refl
+
+-- its own bytes where it stands, and elsewhere the bytes that stood there
+pub byte-swapped : (lines : List Reading) (at : ℕ) (new : Reading) (s : Swapped lines at new) (address : ℕ)
+    → byte_at (placed (set lines at new)) address ≡ cond (covers address s.x) (byte_in (placed (set lines at new)) address (with_line s.x new)) (byte_at (placed lines) address)
+unfolding byte_at
+byte-swapped lines at new s address = by (covers address s.x) refl
+  where
+    old : List Placed
+    old = s.later ++ s.x ∷ s.before
+
+    now : List Placed
+    now = s.later ++ with_line s.x new ∷ s.before
+
+    by : (b : Bool) → covers address s.x ≡ b → byte_at (placed (set lines at new)) address ≡ cond b (byte_in (placed (set lines at new)) address (with_line s.x new)) (byte_at (placed lines) address)
+    by true e =
+        ap (λ o. option_map_or (byte_in (placed (set lines at new)) address) o 0)
+        (ap (find (covers address)) s.now ∙ find-past s.later s.before (with_line s.x new) address (s.x.here + s.x.size) s.above (below-end s.x.here s.x.size address e) e)
+    by false e =
+        ap (λ ps. byte_at ps address) s.now
+        ∙ find-other (byte_in (s.later ++ s.x ∷ s.before) address) (byte_in (s.later ++ with_line s.x new ∷ s.before) address)
+        (λ p. byte-same (s.later ++ s.x ∷ s.before) (s.later ++ with_line s.x new ∷ s.before) address p s.same) (covers address) s.later s.before s.x (with_line s.x new) e e
+        ∙ ap (λ ps. byte_at ps address) (sym s.was)

@@ -1,0 +1,113 @@
+-- The lines of a source, where one of them is put in the place of one with the same effect.
+use Rattle.std.proofs.Common.{◌≡◌, ℕ, zero, suc, ◌+◌, ◌<◌, ◌≤◌, List, [], ◌∷◌, ◌++◌, reverse, length, take, drop, set, get_or, slice_get, fold, refl, ap, sym, ◌∙◌, arith, Some, append_assoc, length-append}
+use Rattle.std.proofs.lemmas.List.{length-take}
+use Rattle.chip_lang.specs.Line.{Reading}
+use Rattle.chip_asm.specs.Effect.{HasSameEffect, HasSameEffectAt}
+use Rattle.chip_asm.specs.Layout.{Placed, place, placed, address}
+use Rattle.chip_asm.proofs.BlockSteps.{reverse-cons}
+use Rattle.chip_asm.proofs.Bounds.{passes, stands-here}
+use Rattle.chip_asm.proofs.Placing.{onto, fold-append, length-placed}
+use Rattle.chip_asm.proofs.QuietLines.{Same, with_line, place-swapped, place-same, same-cons, same-refl, same-swapped}
+
+-- each of these stands at an address or past it
+abbrev pub AreAbove : ℕ → List Placed → Type 0
+AreAbove low [] = Unit {0}
+AreAbove low (p ∷ ps) = (low ≤ p.here) × AreAbove low ps
+
+above-push : (low : ℕ) (ps : List Placed) (p : Placed) → AreAbove low ps → low ≤ p.here → AreAbove low (ps ++ p ∷ [])
+above-push low [] p a h = (h, tt)
+above-push low (q ∷ ps) p a h = (a.0, above-push low ps p a.1 h)
+
+-- lines that follow two lists which are the same for them
+record Later (xs ys : List Placed) (lines : List Reading) (low : ℕ) : Type 0 where
+  later : List Placed
+  of_first : fold onto xs lines ≡ later ++ xs
+  of_second : fold onto ys lines ≡ later ++ ys
+  same : Same (later ++ xs) (later ++ ys)
+  above : AreAbove low later
+
+later : (xs ys : List Placed) (lines : List Reading) (low : ℕ) → Same xs ys → low ≤ address xs → Later xs ys lines low
+later xs ys [] low s h = record { later = []; of_first = refl; of_second = refl; same = s; above = tt }
+later xs ys (line ∷ lines) low s h =
+    let p : Placed = place xs line in
+    let past = passes xs line in
+    let here = stands-here xs line in
+    let r : Later (place xs line ∷ xs) (place xs line ∷ ys) lines low = later (place xs line ∷ xs) (place xs line ∷ ys) lines low (same-cons (place xs line) xs ys s) (omega arith) in
+    record {
+      later = r.later ++ place xs line ∷ [];
+      of_first = r.of_first ∙ sym (append_assoc r.later (place xs line ∷ []) xs);
+      of_second = ap (λ q. fold onto (q ∷ ys) lines) (sym (place-same xs ys line s)) ∙ r.of_second ∙ sym (append_assoc r.later (place xs line ∷ []) ys);
+      same = rw (append_assoc r.later (place xs line ∷ []) xs, append_assoc r.later (place xs line ∷ []) ys) r.same;
+      above = above-push low r.later (place xs line) r.above (omega arith);
+    }
+
+split-at : (lines : List Reading) (at : ℕ) (old : Reading) → at < length lines → get_or lines at old ≡ old → lines ≡ take at lines ++ old ∷ drop (suc at) lines
+split-at [] at old h e = absurd (omega arith)
+split-at (l ∷ lines) zero old h e = ap (λ x. x ∷ lines) e
+split-at (l ∷ lines) (suc at) old h e = ap (λ x. l ∷ x) (split-at lines at old (omega arith) e)
+
+split-set : (lines : List Reading) (at : ℕ) (new : Reading) → at < length lines → set lines at new ≡ take at lines ++ new ∷ drop (suc at) lines
+split-set [] at new h = absurd (omega arith)
+split-set (l ∷ lines) zero new h = refl
+split-set (l ∷ lines) (suc at) new h = ap (λ x. l ∷ x) (split-set lines at new (omega arith))
+
+placed-split : (front back : List Reading) (line : Reading) → placed (front ++ line ∷ back) ≡ fold onto (place (placed front) line ∷ placed front) back
+unfolding placed
+placed-split front back line = fold-append [] front (line ∷ back)
+
+-- the lines before and after the swap
+pub record Swapped (lines : List Reading) (at : ℕ) (new : Reading) : Type 0 where
+  pub later : List Placed
+  pub before : List Placed
+  pub x : Placed
+  pub count : length before ≡ at
+  pub was : placed lines ≡ later ++ x ∷ before
+  pub now : placed (set lines at new) ≡ later ++ with_line x new ∷ before
+  pub same : Same (later ++ x ∷ before) (later ++ with_line x new ∷ before)
+  pub above : AreAbove (x.here + x.size) later
+  pub effect : HasSameEffect x.live x.line new
+
+pub reverse-at : (later before : List Placed) (x : Placed) (at : ℕ) → length before ≡ at → slice_get (reverse (later ++ x ∷ before)) at ≡ Some x
+reverse-at [] before x at e = ap (λ ps. slice_get ps at) (reverse-cons x before) ∙ past (reverse before) x at (length-reversed before ∙ e)
+  where
+    past : (ps : List Placed) (x : Placed) (at : ℕ) → length ps ≡ at → slice_get (ps ++ x ∷ []) at ≡ Some x
+    past [] x zero e = refl
+    past [] x (suc at) e = absurd (omega arith)
+    past (p ∷ ps) x zero e = absurd (omega arith)
+    past (p ∷ ps) x (suc at) e = past ps x at (omega arith)
+
+    length-reversed : (ps : List Placed) → length (reverse ps) ≡ length ps
+    length-reversed [] = refl
+    length-reversed (p ∷ ps) = ap length (reverse-cons p ps) ∙ (omega (arith, length-append (reverse ps) (p ∷ []), length-reversed ps))
+reverse-at (p ∷ later) before x at e =
+    ap (λ ps. slice_get ps at) (reverse-cons p (later ++ x ∷ before)) ∙ within (reverse (later ++ x ∷ before)) p x at (reverse-at later before x at e)
+  where
+    within : (ps : List Placed) (p x : Placed) (at : ℕ) → slice_get ps at ≡ Some x → slice_get (ps ++ p ∷ []) at ≡ Some x
+    within [] p x at e = cc
+    within (q ∷ ps) p x zero e = e
+    within (q ∷ ps) p x (suc at) e = within ps p x at e
+
+pub swapped : (lines : List Reading) (at : ℕ) (old new : Reading) → at < length lines → get_or lines at old ≡ old → HasSameEffectAt lines at new → Swapped lines at new
+swapped lines at old new inside is_old effect =
+    let before : List Placed = placed (take at lines) in
+    let x : Placed = place (placed (take at lines)) old in
+    let back : List Reading = drop (suc at) lines in
+    let was : placed lines ≡ fold onto (x ∷ before) back = ap placed (split-at lines at old inside is_old) ∙ placed-split (take at lines) back old in
+    let now : placed (set lines at new) ≡ fold onto (place before new ∷ before) back = ap placed (split-set lines at new inside) ∙ placed-split (take at lines) back new in
+    let count : length before ≡ at = omega (arith, length-placed (take at lines), length-take at lines) in
+    let past : x.here + x.size ≤ address (x ∷ before) = passes before old in
+    let alone : Later (x ∷ before) (x ∷ before) back (x.here + x.size) = later (x ∷ before) (x ∷ before) back (x.here + x.size) (same-refl (x ∷ before)) past in
+    let there : slice_get (reverse (placed lines)) at ≡ Some x = ap (λ ps. slice_get (reverse ps) at) (was ∙ alone.of_first) ∙ reverse-at alone.later before x at count in
+    let e : HasSameEffect x.live x.line new = effect.each x there in
+    let r : Later (x ∷ before) (with_line x new ∷ before) back (x.here + x.size) = later (x ∷ before) (with_line x new ∷ before) back (x.here + x.size) (same-swapped x new before e) past in
+    record {
+      later = r.later;
+      before = before;
+      x = x;
+      count = count;
+      was = was ∙ r.of_first;
+      now = now ∙ ap (λ p. fold onto (p ∷ before) back) (place-swapped before old new e) ∙ r.of_second;
+      same = r.same;
+      above = r.above;
+      effect = e;
+    }

@@ -1,0 +1,27 @@
+use Rattle.std.proofs.Common.{◌∙◌, ◌-◌, ℕ, arith, take, ap, Some, sym}
+use Rattle.std.proofs.lemmas.List.{length-take}
+use Rattle.chip_asm.specs.Records.{readings_in}
+use Rattle.chip_asm.proofs.Bounds.{end-low}
+use Rattle.chip_asm.proofs.KeptSteps.{image-room}
+use Rattle.chip_asm.proofs.ImageWhole.{image-made, faulty-image}
+use Rattle.chip_asm.proofs.kept.Kept.image.Goals as goal
+
+pub slice_bounds-result-count : goal.slice_bounds-result-count
+slice_bounds-result-count c = rw c.requires.laid_out.end_address (end-low (readings_in c.args.self.now.lines.items))
+
+pub slice_bounds-result-length : goal.slice_bounds-result-length
+slice_bounds-result-length c =
+    let room = image-room c.args.self.now c.requires in
+    omega (arith, c.deref.ensures.len, length-take (c.args.self.now.layout.end - 512) c.deref.result.now)
+
+pub returns-then-self-eq0-clause-value : goal.returns-then-self-eq0-clause-value
+returns-then-self-eq0-clause-value c =
+    let room = image-room c.args.self.now c.requires in
+    let size : ℕ = c.args.self.now.layout.end - 512 in
+    ap (λ bytes. Some (take (c.args.self.now.layout.end - 512) bytes)) c.deref.ensures.value
+    ∙ image-made c.args.self.now.lines.items c.args.self.now.image.items (c.args.self.now.layout.end - 512) (omega (arith, c.args.self.now.image.ok.0)) (ap (λ n. n - 512) c.requires.laid_out.end_address)
+    (sym c.if-self-eq0.true ∙ c.requires.counted) c.requires.imaged
+
+pub returns-else-self-eq0-clause-value : goal.returns-else-self-eq0-clause-value
+returns-else-self-eq0-clause-value c =
+    faulty-image (readings_in c.args.self.now.lines.items) c.args.self.now.faults c.requires.counted c.if-self-eq0.false

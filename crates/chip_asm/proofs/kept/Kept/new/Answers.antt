@@ -1,0 +1,26 @@
+use Rattle.std.proofs.Common.{◌≡◌, ℕ, ◌+◌, ap, arith, refl, length, get_or, []}
+use Rattle.chip_asm.specs.Layout.{placed}
+use Rattle.chip_asm.specs.Program.{faults_of_lines, byte_at}
+use Rattle.chip_asm.proofs.kept.Kept.new.Goals as goal
+
+no_bytes : (k : ℕ) → get_or [] k 0 ≡ byte_at (placed []) (512 + k)
+unfolding placed byte_at
+no_bytes k = refl
+
+no_faults : 0 ≡ length (faults_of_lines [])
+unfolding placed
+no_faults = refl
+
+pub returns-clause-kept : goal.returns-clause-kept
+returns-clause-kept c =
+    let none : length c.new.result.items ≡ 0 = ap length c.new.ensures.items in
+    record {
+      few = omega arith;
+      are_read = rw c.new.ensures.items refl;
+      laid_out = rw c.new.ensures.items c.new-2.ensures;
+      current = record { each = λ place line inside c p. absurd (omega arith) };
+      imaged = λ k h. rw (c.new.ensures.items, c.new-3.ensures.items) (no_bytes k);
+      short = omega (arith, c.new-3.ensures.len);
+      long = λ some. absurd (omega arith);
+      counted = rw c.new.ensures.items no_faults;
+    }

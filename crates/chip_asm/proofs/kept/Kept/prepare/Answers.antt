@@ -1,0 +1,19 @@
+use Rattle.std.proofs.Common.{◌≡◌, ◌∙◌, ◌+◌, ◌≤◌, arith}
+use Rattle.chip_asm.specs.Records.{readings_in, lines_after, place_before}
+use Rattle.chip_asm.specs.Recode.{count_again}
+use Rattle.chip_asm.proofs.NeedsSteps.{count-needed}
+use Rattle.chip_asm.proofs.kept.Kept.prepare.Goals as goal
+
+pub returns-in_err-codes-clause-encoded : goal.returns-in_err-codes-clause-encoded
+returns-in_err-codes-clause-encoded c = λ before laid.
+    let seen : c.deref-2.result.now ≡ c.args.self.now.lines.items = c.deref-2.ensures.value ∙ c.reserve.ensures.items in
+    let e : c.recode.new.meter.encoded ≤ c.args.meter.now.encoded + count_again before (readings_in (lines_after c.args.self.now.lines.items c.args.edit.now)) (place_before c.args.edit.now)
+    = rw (← seen) (c.recode.ensures.encoded before laid) in
+    omega (arith, e, count-needed before (readings_in (lines_after c.args.self.now.lines.items c.args.edit.now)) (place_before c.args.edit.now))
+
+pub returns-clause-encoded : goal.returns-clause-encoded
+returns-clause-encoded c = λ before laid.
+    let seen : c.deref-2.result.now ≡ c.args.self.now.lines.items = c.deref-2.ensures.value ∙ c.reserve.ensures.items in
+    let e : c.recode.new.meter.encoded ≤ c.args.meter.now.encoded + count_again before (readings_in (lines_after c.args.self.now.lines.items c.args.edit.now)) (place_before c.args.edit.now)
+    = rw (← seen) (c.recode.ensures.encoded before laid) in
+    omega (arith, e, count-needed before (readings_in (lines_after c.args.self.now.lines.items c.args.edit.now)) (place_before c.args.edit.now))

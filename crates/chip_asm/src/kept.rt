@@ -1,0 +1,264 @@
+//! What is kept of a source, and the one way in which an edit changes it.
+ghost use Rattle.std.specs.Prelude.{◌≡◌, ◌+◌, ◌<◌, ◌≤◌, ℕ, List, [], true, Some, slice_set, OnOk, OnErr, IfOk, IfSome, length, vec_len, vec_capacity, map, slice_index};
+ghost use Rattle.std.specs.Option.{option_copied};
+ghost use Rattle.chip_lang.specs.Line.{Reading, reading_of};
+ghost use Rattle.chip_asm.specs.declared.kept_line.KeptLine.{KeptLine};
+ghost use Rattle.chip_lang.specs.SeenLine.{seen_line};
+ghost use Rattle.chip_asm.specs.Changes.{ChangesWithin};
+ghost use Rattle.chip_asm.specs.Edits.{before_replace};
+ghost use Rattle.chip_asm.specs.Effect.{HasSameEffectAt};
+ghost use Rattle.chip_asm.specs.Program.{image_of_lines};
+ghost use Rattle.chip_asm.specs.Records.{IsPlaceWithin, lines_after, reading_in, readings_in, texts_in, place_before};
+ghost use Rattle.chip_asm.specs.Work.{needs_count};
+ghost use Rattle.chip_asm.specs.Recode.{new_codes};
+ghost use Rattle.chip_asm.specs.Layouts.{IsLayoutOf};
+ghost use Rattle.chip_asm.specs.Kept.{AreCurrent, HasCodeAt, IsMerged, IsKept};
+
+use crate::changed::Changed;
+use crate::edit::{Edit, make_edit, replace_line};
+use crate::effect::has_same_effect;
+use crate::image::{
+    MAX_IMAGE, clear, count_of, fill_up, kept_bytes, kept_fault, write_line, write_lines,
+};
+use crate::kept_line::{KeptLine, with_code};
+use crate::layout::Layout;
+use crate::recode::{code_if_accepted, recode, write_codes};
+use chip_lang::laws::same_code;
+use chip_lang::{Coded, Line, Meter};
+use std::alloc::{AllocError, Global};
+
+/// The lines of a source, with all that is known of them.
+#[derive(Drop)]
+pub(crate) struct Kept {
+    pub(crate) lines: Vec<KeptLine>,
+    pub(crate) layout: Layout,
+    /// The byte at each address from 512 on, also where a line has a fault. Empty until there is a line.
+    pub(crate) image: Vec<u8>,
+    /// How many lines have a fault.
+    pub(crate) faults: usize,
+}
+
+/// What an edit makes new: the layout, and a code for each line that needs one.
+#[derive(Drop)]
+struct Prepared {
+    layout: Layout,
+    codes: Vec<Option<Coded>>,
+}
+
+impl Kept {
+    /// No lines.
+    pub(crate) fn new(alloc: Global) -> Self
+        ensures kept { IsKept result }
+        ensures none { result.lines.items ≡ [] }
+    {
+        Kept {
+            lines: Vec::new(alloc),
+            layout: Layout::new(alloc),
+            image: Vec::new(alloc),
+            faults: 0,
+        }
+    }
+
+    /// Lines that were read.
+    pub(crate) fn open(
+        alloc: Global,
+        meter: &mut Meter,
+        lines: Vec<KeptLine>,
+    ) -> Result<Self, AllocError>
+        requires few { length lines.items ≤ 4000 }
+        requires are_read { readings_in lines.items ≡ map reading_of (texts_in lines.items) }
+        ensures kept { IfOk result (λ kept. IsKept kept) }
+        ensures texts { IfOk result (λ kept. texts_in kept.lines.items ≡ texts_in lines.items) }
+        ensures encoded { meter.new.encoded ≤ meter.old.encoded + needs_count [] (readings_in lines.items) Some }
+        ensures parsed { meter.new.parsed ≡ meter.old.parsed }
+    {
+        let mut kept = Kept::new(alloc);
+        kept.lines = lines;
+        let prepared = kept.prepare(alloc, meter, &Edit::Keep)?;
+        same_code();
+        kept.settle(prepared);
+        Ok(kept)
+    }
+
+    /// The bytes from address 512 on; none where a line has a fault.
+    pub(crate) fn image(&self) -> Option<&[u8]>
+        requires { IsKept self.now }
+        ensures value { option_copied result ≡ image_of_lines (readings_in self.now.lines.items) }
+        ensures fits { IfSome result (λ image. length image.now ≤ 3584) }
+    {
+        if self.faults == 0 {
+            Some(&self.image[..self.layout.end - 512])
+        } else {
+            None
+        }
+    }
+
+    /// Makes an edit, and says which places of the image it changed. Each growth comes before the first change.
+    pub(crate) fn edit(
+        &mut self,
+        alloc: Global,
+        meter: &mut Meter,
+        edit: Edit,
+    ) -> Result<Changed, AllocError>
+        requires kept { IsKept self.old }
+        requires within { IsPlaceWithin (vec_len self.old.lines) edit }
+        requires few { length (lines_after self.old.lines.items edit) ≤ 4000 }
+        requires are_read { readings_in (lines_after self.old.lines.items edit) ≡ map reading_of (texts_in (lines_after self.old.lines.items edit)) }
+        ensures ok { OnOk result (texts_in self.new.lines.items ≡ texts_in (lines_after self.old.lines.items edit)) }
+        ensures err { OnErr result (texts_in self.new.lines.items ≡ texts_in self.old.lines.items) }
+        ensures kept { IsKept self.new }
+        ensures changed { IfOk result (λ changed. ChangesWithin changed.first changed.end (image_of_lines (readings_in self.old.lines.items)) (image_of_lines (readings_in self.new.lines.items))) }
+        ensures encoded { meter.new.encoded ≤ meter.old.encoded + needs_count (readings_in self.old.lines.items) (readings_in (lines_after self.old.lines.items edit)) (place_before edit) }
+        ensures parsed { meter.new.parsed ≡ meter.old.parsed }
+    {
+        match edit {
+            Edit::Replace(at, added) => {
+                if self.has_same_effect(at, &added.line) {
+                    self.rewrite(alloc, meter, at, added)
+                } else {
+                    self.remake(alloc, meter, Edit::Replace(at, added))
+                }
+            }
+            edit => self.remake(alloc, meter, edit),
+        }
+    }
+
+    /// Whether a line in the place of the one there changes nothing else.
+    pub(crate) fn has_same_effect(&self, at: usize, line: &Line) -> bool
+        requires kept { IsKept self.now }
+        requires inside { at < vec_len self.now.lines }
+        ensures { result ≡ true → HasSameEffectAt (readings_in self.now.lines.items) at (seen_line line.now) }
+    {
+        let placement = self.layout.placements[at];
+        has_same_effect(placement.live, &self.lines[at].line, line)
+    }
+
+    /// Puts a line in the place of one with the same effect. Its code is made first.
+    fn rewrite(
+        &mut self,
+        alloc: Global,
+        meter: &mut Meter,
+        at: usize,
+        added: KeptLine,
+    ) -> Result<Changed, AllocError>
+        requires kept { IsKept self.old }
+        requires inside { at < vec_len self.old.lines }
+        requires is_read { reading_in added ≡ reading_of added.text }
+        requires same { HasSameEffectAt (readings_in self.old.lines.items) at (reading_in added) }
+        ensures ok { OnOk result (texts_in self.new.lines.items ≡ slice_set (texts_in self.old.lines.items) at added.text) }
+        ensures err { OnErr result (texts_in self.new.lines.items ≡ texts_in self.old.lines.items) }
+        ensures kept { IsKept self.new }
+        ensures changed { IfOk result (λ changed. ChangesWithin changed.first changed.end (image_of_lines (readings_in self.old.lines.items)) (image_of_lines (readings_in self.new.lines.items))) }
+        ensures encoded { meter.new.encoded ≤ meter.old.encoded + needs_count (readings_in self.old.lines.items) (slice_set (readings_in self.old.lines.items) at (reading_in added)) (before_replace at) }
+        ensures parsed { meter.new.parsed ≡ meter.old.parsed }
+    {
+        let accepted = self.layout.placements[at].is_accepted();
+        let code = code_if_accepted(accepted, alloc, meter, &added.line, &self.layout.names)?;
+        Ok(self.put(at, with_code(added, code)))
+    }
+
+    /// Puts a line with its code in the place of one with the same effect: its bytes, and whether it has a fault, are all that changes.
+    fn put(&mut self, at: usize, added: KeptLine) -> Changed
+        requires kept { IsKept self.old }
+        requires inside { at < vec_len self.old.lines }
+        requires is_read { reading_in added ≡ reading_of added.text }
+        requires same { HasSameEffectAt (readings_in self.old.lines.items) at (reading_in added) }
+        requires coded { HasCodeAt (readings_in self.old.lines.items) at added }
+        ensures text { texts_in self.new.lines.items ≡ slice_set (texts_in self.old.lines.items) at added.text }
+        ensures kept { IsKept self.new }
+        ensures changed { ChangesWithin result.first result.end (image_of_lines (readings_in self.old.lines.items)) (image_of_lines (readings_in self.new.lines.items)) }
+    {
+        let placement = self.layout.placements[at];
+        let was = count_of(kept_fault(&placement, &self.lines[at]));
+        let is = count_of(kept_fault(&placement, &added));
+        self.faults = self.faults + is - was;
+        write_line(
+            &mut self.image,
+            placement.here,
+            placement.size,
+            kept_bytes(&added),
+        );
+        replace_line(&mut self.lines, at, added);
+        let first = placement.here - 512;
+        Changed {
+            first,
+            end: first + placement.size,
+        }
+    }
+
+    /// Makes an edit by the layout, the codes and the image made anew. Each growth comes before the first change.
+    fn remake(
+        &mut self,
+        alloc: Global,
+        meter: &mut Meter,
+        edit: Edit,
+    ) -> Result<Changed, AllocError>
+        requires kept { IsKept self.old }
+        requires within { IsPlaceWithin (vec_len self.old.lines) edit }
+        requires few { length (lines_after self.old.lines.items edit) ≤ 4000 }
+        requires are_read { readings_in (lines_after self.old.lines.items edit) ≡ map reading_of (texts_in (lines_after self.old.lines.items edit)) }
+        ensures ok { OnOk result (texts_in self.new.lines.items ≡ texts_in (lines_after self.old.lines.items edit)) }
+        ensures err { OnErr result (texts_in self.new.lines.items ≡ texts_in self.old.lines.items) }
+        ensures kept { IsKept self.new }
+        ensures changed { IfOk result (λ changed. ChangesWithin changed.first changed.end (image_of_lines (readings_in self.old.lines.items)) (image_of_lines (readings_in self.new.lines.items))) }
+        ensures encoded { meter.new.encoded ≤ meter.old.encoded + needs_count (readings_in self.old.lines.items) (readings_in (lines_after self.old.lines.items edit)) (place_before edit) }
+        ensures parsed { meter.new.parsed ≡ meter.old.parsed }
+    {
+        let prepared = self.prepare(alloc, meter, &edit)?;
+        same_code();
+        make_edit(&mut self.lines, edit);
+        self.settle(prepared);
+        Ok(Changed {
+            first: 0,
+            end: MAX_IMAGE,
+        })
+    }
+
+    /// Makes the layout and the codes after an edit, where the layout is that of these lines before, and room for one line more and for
+    /// the image. What is kept stays as it is.
+    fn prepare(
+        &mut self,
+        alloc: Global,
+        meter: &mut Meter,
+        edit: &Edit,
+    ) -> Result<Prepared, AllocError>
+        requires within { IsPlaceWithin (vec_len self.old.lines) edit.now }
+        requires few { vec_len self.old.lines ≤ 4000 }
+        requires short { vec_len self.old.image ≤ 3584 }
+        ensures lines { self.new.lines.items ≡ self.old.lines.items }
+        ensures layout { self.new.layout ≡ self.old.layout }
+        ensures faults { self.new.faults ≡ self.old.faults }
+        ensures image { (index : ℕ) → slice_index self.new.image.items index ≡ slice_index self.old.image.items index }
+        ensures short { vec_len self.new.image ≤ 3584 }
+        ensures long { vec_len self.old.image ≡ 3584 → vec_len self.new.image ≡ 3584 }
+        ensures room { OnOk result ((vec_len self.new.lines < vec_capacity self.new.lines) × (vec_len self.new.image ≡ 3584)) }
+        ensures after { IfOk result (λ prepared. IsLayoutOf prepared.layout (readings_in (lines_after self.old.lines.items edit.now))) }
+        ensures codes { (before : List Reading) → IsLayoutOf self.old.layout before → IfOk result (λ prepared. prepared.codes.items ≡ new_codes before (readings_in (lines_after self.old.lines.items edit.now)) (place_before edit.now)) }
+        ensures encoded { (before : List Reading) → IsLayoutOf self.old.layout before → meter.new.encoded ≤ meter.old.encoded + needs_count before (readings_in (lines_after self.old.lines.items edit.now)) (place_before edit.now) }
+        ensures parsed { meter.new.parsed ≡ meter.old.parsed }
+    {
+        self.lines.reserve(1)?;
+        fill_up(&mut self.image)?;
+        let layout = Layout::after(alloc, &self.lines, edit)?;
+        let codes = recode(alloc, meter, &self.lines, edit, &self.layout, &layout)?;
+        Ok(Prepared { layout, codes })
+    }
+
+    /// Puts in place what was prepared for these lines.
+    fn settle(&mut self, prepared: Prepared)
+        requires few { length self.old.lines.items ≤ 4000 }
+        requires are_read { readings_in self.old.lines.items ≡ map reading_of (texts_in self.old.lines.items) }
+        requires laid_out { IsLayoutOf prepared.layout (readings_in self.old.lines.items) }
+        requires count { length prepared.codes.items ≡ length self.old.lines.items }
+        requires current { (lines : List KeptLine) → IsMerged self.old.lines.items prepared.codes.items lines → AreCurrent lines }
+        requires image { vec_len self.old.image ≡ 3584 }
+        ensures texts { texts_in self.new.lines.items ≡ texts_in self.old.lines.items }
+        ensures kept { IsKept self.new }
+    {
+        let Prepared { layout, codes } = prepared;
+        write_codes(&mut self.lines, codes);
+        self.layout = layout;
+        clear(&mut self.image);
+        self.faults = write_lines(&mut self.image, &self.lines, &self.layout);
+    }
+}

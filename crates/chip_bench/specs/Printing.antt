@@ -1,0 +1,97 @@
+-- What the commands of the program print of a source, and how they end (own).
+use Rattle.std.specs.Prelude.{◌≡◌, ℕ, List, [], ◌++◌, codes, Option, Some, None, Result, Ok, Err}
+use Rattle.std.specs.Io.KnownBytes.{Appends}
+use Rattle.chip_asm.specs.Program.{image_of, faults_of}
+use Rattle.chip_asm.specs.Listing.{listing_of}
+use Rattle.chip_asm.specs.declared.refusal.OpenError.{OpenError}
+use Rattle.chip_asm.specs.declared.refusal.OpenError.TheVariants as unopened
+use Rattle.chip_bench.specs.Answers.{answer_to, faults_text, listing_text}
+use Rattle.chip_bench.specs.Serving.{BeginsWith}
+use Rattle.chip_bench.specs.Session.{Session}
+use Rattle.chip_bench.specs.Tally.{Tally, one_more}
+use Rattle.chip_bench.specs.declared.ending.Ending.{Ending}
+use Rattle.chip_bench.specs.declared.ending.Ending.TheVariants.{Done, Faulty}
+use Rattle.chip_bench.specs.declared.ending.Failure.{Failure}
+use Rattle.chip_bench.specs.declared.ending.Failure.TheVariants as failure
+use Rattle.chip_bench.specs.declared.question.Question.TheVariants.{Registers, Screen}
+use Rattle.chip_bench.specs.declared.refusal.Refusal.{Refusal}
+
+-- what a command prints on standard output, and how it ends then
+pub record Printed : Type 0 where
+  pub text : List ℕ
+  pub ending : Ending
+
+abbrev pub printed : List ℕ → Ending → Printed
+printed text ending = record { text = text; ending = ending }
+
+-- why a source doesn't open, as the program prints it; nothing for want of memory
+abbrev pub unopened_text : OpenError → List ℕ
+unopened_text (unopened.LineTooLong number) = codes "no O1\n"
+unopened_text unopened.TooManyLines = codes "no O2\n"
+unopened_text unopened.OutOfMemory = []
+
+-- what is printed of a source: why it doesn't open, where it doesn't
+abbrev pub printed_of : Option OpenError → Printed → Printed
+printed_of (Some fault) opened = printed (unopened_text fault) Faulty
+printed_of None opened = opened
+
+abbrev pub faults_of_lines : List (List ℕ) → Printed
+faults_of_lines lines = printed (faults_text (faults_of lines)) Faulty
+
+-- `asm`: nothing but the faults where there is no image
+abbrev pub unless_image : Option (List ℕ) → Printed → Printed
+unless_image (Some image) faults = printed [] Done
+unless_image None faults = faults
+
+abbrev pub faults_unless_image : List (List ℕ) → Printed
+faults_unless_image lines = unless_image (image_of lines) (faults_of_lines lines)
+
+-- a source without an image is faulty
+abbrev pub ending_with : Option (List ℕ) → Ending
+ending_with (Some image) = Done
+ending_with None = Faulty
+
+-- `list`
+abbrev pub listing_of_lines : List (List ℕ) → Printed
+listing_of_lines lines = printed (listing_text (listing_of lines)) (ending_with (image_of lines))
+
+-- `run`: the answers to both questions, or the faults where there are none
+abbrev pub answers_or_faults : Result (List ℕ) Refusal → Result (List ℕ) Refusal → Printed → Printed
+answers_or_faults (Ok registers) (Ok screen) faults = printed (registers ++ screen) Done
+answers_or_faults (Ok registers) (Err why) faults = faults
+answers_or_faults (Err why) screen faults = faults
+
+abbrev pub run_of : Session → ℕ → Printed
+run_of session step =
+    answers_or_faults (answer_to session (Registers step)) (answer_to session (Screen step)) (faults_of_lines session.lines)
+
+module _ {W : Type 0} (contents : W → Option (List ℕ)) (old new : Tally W) where
+  -- this text was printed, and nothing else, and no write failed
+  pub record Writes (text : List ℕ) : Type 0 where
+    pub appended : Appends (contents old.inner) (contents new.inner) text
+    pub no_failure : new.failures ≡ old.failures
+
+  -- a write failed, after some front of this text
+  pub record Breaks (text : List ℕ) : Type 0 where
+    pub front : List ℕ
+    pub begins : BeginsWith text front
+    pub appended : Appends (contents old.inner) (contents new.inner) front
+    pub counted : new.failures ≡ one_more old.failures
+
+  -- What a command that prints this did: all of it, or a front where a write failed, or nothing for want of memory.
+  abbrev pub Prints : Printed → Result Ending Failure → Type 0
+  Prints wanted (Ok ending) = (ending ≡ wanted.ending) × Writes wanted.text
+  Prints wanted (Err failure.Output) = Breaks wanted.text
+  Prints wanted (Err failure.OutOfMemory) = new ≡ old
+  Prints wanted (Err (failure.Usage error)) = ⊥
+  Prints wanted (Err failure.BadTape) = ⊥
+  Prints wanted (Err (failure.CannotRead name why)) = ⊥
+  Prints wanted (Err (failure.CannotWrite name why)) = ⊥
+  Prints wanted (Err failure.Input) = ⊥
+  Prints wanted (Err failure.TooMuchInput) = ⊥
+
+  -- a source that doesn't open is refused
+  abbrev pub Refuses : OpenError → Result Ending Failure → Type 0
+  Refuses unopened.OutOfMemory result = (result ≡ Err failure.OutOfMemory) × (new ≡ old)
+  Refuses unopened.TooManyLines result = Prints (printed (unopened_text unopened.TooManyLines) Faulty) result
+  Refuses (unopened.LineTooLong number) result = Prints (printed (unopened_text (unopened.LineTooLong number)) Faulty) result

@@ -1,0 +1,99 @@
+//! How the program ends.
+ghost use Rattle.std.specs.Prelude.{◌≡◌};
+ghost use Rattle.clap.specs.Words.{kind_of};
+ghost use Rattle.chip_bench.specs.Running.{ending_status, failure_status, no_memory, settings_failure, words_failure};
+
+use crate::settings::SetError;
+use clap::error::ErrorKind;
+use std::alloc::AllocError;
+use std::io;
+use thiserror::Error;
+
+/// How the program ends where nothing hinders it.
+#[derive(Clone, Copy)]
+pub(crate) enum Ending {
+    Done,
+    /// The source's faults, or why it doesn't open, are printed.
+    Faulty,
+}
+
+/// What hinders the program. The text is for the standard error.
+#[derive(Debug, Drop, Error)]
+pub(crate) enum Failure<'a> {
+    #[error("{0}")]
+    Usage(clap::Error),
+    #[error("chipbench: bad tape\n")]
+    BadTape,
+    #[error("chipbench: cannot read {0}\nreason: {1}\n")]
+    CannotRead(&'a str, io::Error),
+    #[error("chipbench: cannot write {0}\nreason: {1}\n")]
+    CannotWrite(&'a str, io::Error),
+    #[error("chipbench: input fault\n")]
+    Input,
+    #[error("chipbench: output fault\n")]
+    Output,
+    #[error("chipbench: too much input\n")]
+    TooMuchInput,
+    #[error("chipbench: out of memory\n")]
+    OutOfMemory,
+}
+
+impl Ending {
+    pub(crate) fn status(self) -> u8
+        ensures { result ≡ ending_status self }
+    {
+        match self {
+            Ending::Done => 0,
+            Ending::Faulty => 1,
+        }
+    }
+}
+
+impl<'a> Failure<'a> {
+    pub(crate) fn status(&self) -> u8
+        ensures { result ≡ failure_status self.now }
+    {
+        match self {
+            Failure::Usage(_) | Failure::BadTape => 2,
+            Failure::CannotRead(_, _)
+            | Failure::CannotWrite(_, _)
+            | Failure::Input
+            | Failure::Output
+            | Failure::TooMuchInput => 3,
+            Failure::OutOfMemory => 4,
+        }
+    }
+}
+
+impl<'a> From<AllocError> for Failure<'a> {
+    ghost from_gives = { λ _ failure. failure ≡ no_memory };
+
+    fn from(_error: AllocError) -> Failure<'a> {
+        Failure::OutOfMemory
+    }
+}
+
+// The command line has numbers in their ranges alone, so the tape is all that settings can find bad.
+impl<'a> From<SetError> for Failure<'a> {
+    ghost from_gives = { λ error failure. failure ≡ settings_failure error };
+
+    fn from(error: SetError) -> Failure<'a> {
+        match error {
+            SetError::OutOfMemory => Failure::OutOfMemory,
+            SetError::RateOutOfRange | SetError::TapeLength | SetError::SpacingOutOfRange => {
+                Failure::BadTape
+            }
+        }
+    }
+}
+
+impl<'a> From<clap::Error> for Failure<'a> {
+    ghost from_gives = { λ error failure. failure ≡ words_failure (kind_of error) error };
+
+    fn from(error: clap::Error) -> Failure<'a> {
+        match error.kind() {
+            ErrorKind::OutOfMemory => Failure::OutOfMemory,
+            _ => Failure::Usage(error),
+        }
+    }
+}

@@ -1,0 +1,196 @@
+//! What each command reads and prints, from the bytes of a source.
+ghost use Rattle.std.specs.Prelude.{◌≡◌, ◌≤◌, Ok, Err, Some, None, length, IfOk, IfErr, IfSome, IfNone};
+ghost use Rattle.std.specs.Str.Lines.{lines};
+ghost use Rattle.chip_asm.specs.Lines.{open_fault};
+ghost use Rattle.chip_asm.specs.Program.{image_of};
+ghost use Rattle.chip_replay.specs.Limits.{last_step};
+ghost use Rattle.chip_views.specs.Dis.{source_of_image};
+ghost use Rattle.chip_bench.specs.Session.{session_of};
+ghost use Rattle.chip_bench.specs.Printing.{Prints, Refuses, printed, printed_of, faults_of_lines, faults_unless_image, listing_of_lines, run_of};
+ghost use Rattle.chip_bench.specs.Running.{AnswersScript};
+
+use crate::answer::{faults_answer, listing_answer};
+use crate::bench::Bench;
+use crate::counted::Counted;
+use crate::ending::{Ending, Failure};
+use crate::question::Question;
+use crate::refusal::Refusal;
+use crate::server::{ServeError, serve, write_whole};
+use crate::settings::Settings;
+use chip_asm::{OpenError, Source};
+use chip_machine::limits::IMAGE_BYTES;
+use chip_views::source_of_image;
+use std::alloc::Global;
+use std::io::{Read, Write};
+
+/// `debug`: a session on standard input and output.
+pub(crate) fn answer_script<'a, I: Read, O: Write>(
+    alloc: Global,
+    source: &[u8],
+    settings: Settings,
+    input: &mut Counted<I>,
+    output: &mut Counted<O>,
+) -> Result<Ending, Failure<'a>>
+    ensures { AnswersScript I.remaining O.contents settings source.now input.old input.new output.old output.new result }
+{
+    match serve(alloc, source, settings, input, output) {
+        Ok(()) => Ok(Ending::Done),
+        Err(ServeError::Source(error)) => refuse_source(error, output),
+        Err(ServeError::ReaderFailed) => Err(Failure::Input),
+        Err(ServeError::WriterFailed) => Err(Failure::Output),
+        Err(ServeError::OutOfMemory) => Err(Failure::OutOfMemory),
+        Err(ServeError::TooMuchInput) => Err(Failure::TooMuchInput),
+    }
+}
+
+/// `asm`: the image of a source. Where there is none, its faults or why it doesn't open are printed.
+pub(crate) fn image_or_faults<'a, O: Write>(
+    alloc: Global,
+    source: &[u8],
+    output: &mut Counted<O>,
+) -> Result<Option<Vec<u8>>, Failure<'a>>
+    ensures image { IfOk result (λ found. IfSome found (λ image. (open_fault source.now ≡ None)
+        × (image_of (lines source.now) ≡ Some image.items) × (output.new ≡ output.old))) }
+    ensures none { IfOk result (λ found. IfNone found (Prints O.contents output.old output.new
+        (printed_of (open_fault source.now) (faults_unless_image (lines source.now))) (Ok Ending.Faulty))) }
+    ensures err { IfErr result (λ failure. Prints O.contents output.old output.new
+        (printed_of (open_fault source.now) (faults_unless_image (lines source.now))) (Err failure)) }
+{
+    let opened = match Source::open(alloc, source) {
+        Ok(opened) => opened,
+        Err(error) => {
+            refuse_source(error, output)?;
+            return Ok(None);
+        }
+    };
+    match opened.image() {
+        Some(image) => Ok(Some(Vec::from_slice(alloc, image)?)),
+        None => {
+            print_faults(alloc, &opened, output)?;
+            Ok(None)
+        }
+    }
+}
+
+/// `list`: the listing of a source.
+pub(crate) fn list_source<'a, O: Write>(
+    alloc: Global,
+    source: &[u8],
+    output: &mut Counted<O>,
+) -> Result<Ending, Failure<'a>>
+    ensures { Prints O.contents output.old output.new
+        (printed_of (open_fault source.now) (listing_of_lines (lines source.now))) result }
+{
+    match Source::open(alloc, source) {
+        Ok(opened) => print_listing(alloc, &opened, output),
+        Err(error) => refuse_source(error, output),
+    }
+}
+
+/// `dis`: a source of an image, whose image it is.
+pub(crate) fn print_source<'a, O: Write>(
+    alloc: Global,
+    image: &[u8],
+    output: &mut Counted<O>,
+) -> Result<Ending, Failure<'a>>
+    requires { length image.now ≤ IMAGE_BYTES }
+    ensures printed { Prints O.contents output.old output.new (printed (source_of_image image.now) Ending.Done) result }
+    ensures opens { IfOk result (λ _. open_fault (source_of_image image.now) ≡ None) }
+    ensures image { IfOk result (λ _. image_of (lines (source_of_image image.now)) ≡ Some image.now) }
+{
+    let text = source_of_image(alloc, image)?;
+    print(&text, Ending::Done, output)
+}
+
+/// `run`: the answers to the questions about a step, or the faults where there is no image.
+pub(crate) fn run_source<'a, O: Write>(
+    alloc: Global,
+    source: &[u8],
+    steps: u32,
+    settings: Settings,
+    output: &mut Counted<O>,
+) -> Result<Ending, Failure<'a>>
+    ensures { steps ≤ last_step → Prints O.contents output.old output.new
+        (printed_of (open_fault source.now) (run_of (session_of settings source.now) steps)) result }
+{
+    let mut bench = match Bench::open(alloc, source, settings) {
+        Ok(bench) => bench,
+        Err(error) => return refuse_source(error, output),
+    };
+    let mut answers = Vec::new(alloc);
+    match bench.ask(alloc, &Question::Registers { step: steps }, &mut answers) {
+        Ok(()) => {}
+        Err(Refusal::NoImage) => return print_bench_faults(alloc, &mut bench, output),
+        Err(_) => return Err(Failure::OutOfMemory),
+    }
+    match bench.ask(alloc, &Question::Screen { step: steps }, &mut answers) {
+        Ok(()) => print(&answers, Ending::Done, output),
+        Err(_) => Err(Failure::OutOfMemory),
+    }
+}
+
+fn print_listing<'a, O: Write>(
+    alloc: Global,
+    source: &Source,
+    output: &mut Counted<O>,
+) -> Result<Ending, Failure<'a>>
+    ensures { Prints O.contents output.old output.new (listing_of_lines source.now.lines) result }
+{
+    let listing = listing_answer(alloc, source)?;
+    match source.image() {
+        Some(_) => print(&listing, Ending::Done, output),
+        None => print(&listing, Ending::Faulty, output),
+    }
+}
+
+fn print_faults<'a, O: Write>(
+    alloc: Global,
+    source: &Source,
+    output: &mut Counted<O>,
+) -> Result<Ending, Failure<'a>>
+    ensures { Prints O.contents output.old output.new (faults_of_lines source.now.lines) result }
+{
+    let faults = faults_answer(alloc, source)?;
+    print(&faults, Ending::Faulty, output)
+}
+
+fn print_bench_faults<'a, O: Write>(
+    alloc: Global,
+    bench: &mut Bench,
+    output: &mut Counted<O>,
+) -> Result<Ending, Failure<'a>>
+    ensures { Prints O.contents output.old output.new (faults_of_lines bench.old.session.lines) result }
+{
+    let mut faults = Vec::new(alloc);
+    match bench.ask(alloc, &Question::Faults, &mut faults) {
+        Ok(()) => print(&faults, Ending::Faulty, output),
+        Err(_) => Err(Failure::OutOfMemory),
+    }
+}
+
+// Prints why a source doesn't open.
+fn refuse_source<'a, O: Write>(
+    error: OpenError,
+    output: &mut Counted<O>,
+) -> Result<Ending, Failure<'a>>
+    ensures { Refuses O.contents output.old output.new error result }
+{
+    match error {
+        OpenError::LineTooLong(_) => print(b"no O1\n", Ending::Faulty, output),
+        OpenError::TooManyLines => print(b"no O2\n", Ending::Faulty, output),
+        OpenError::OutOfMemory => Err(Failure::OutOfMemory),
+    }
+}
+
+fn print<'a, O: Write>(
+    bytes: &[u8],
+    ending: Ending,
+    output: &mut Counted<O>,
+) -> Result<Ending, Failure<'a>>
+    ensures { Prints O.contents output.old output.new (printed bytes.now ending) result }
+{
+    match write_whole(output, bytes) {
+        Ok(()) => Ok(ending),
+        Err(_) => Err(Failure::Output),
+    }
+}

@@ -1,0 +1,28 @@
+//! The limits of a machine, each under one name.
+
+/// How many bytes the memory has.
+pub const MEMORY_BYTES: usize = 4096;
+
+/// The last address at which a word can stand.
+pub const LAST_WORD: usize = MEMORY_BYTES - 2;
+
+/// Where the image stands in the memory, and the first instruction.
+pub const IMAGE_START: usize = 512;
+
+/// How many bytes an image has at most: it ends with the memory.
+pub const IMAGE_BYTES: usize = MEMORY_BYTES - IMAGE_START;
+
+/// How many bytes a tape has at most.
+pub const TAPE_BYTES: usize = 4096;
+
+/// How many calls can be open.
+pub const FRAMES: usize = 16;
+
+/// How many flag registers there are.
+pub const FLAGS: usize = 8;
+
+/// How many bytes the largest sprite has, one of 16 by 16 points.
+pub const SPRITE_BYTES: usize = 32;
+
+/// How many addresses a step touches at most: those of its word, and those of a sprite.
+pub const TOUCHES: usize = 2 + SPRITE_BYTES;

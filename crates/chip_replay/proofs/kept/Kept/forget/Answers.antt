@@ -1,0 +1,15 @@
+use Rattle.std.proofs.Common.{arith}
+use Rattle.chip_replay.specs.Machine.{touched}
+use Rattle.chip_replay.proofs.Changed.{sound_cut_to}
+use Rattle.chip_replay.proofs.kept.Kept.forget.Goals as goal
+use Rattle.chip_replay.proofs.kept.Kept.forget.Goals.{then-from-self, else-from-self}
+
+pub returns-clause-sound : goal.returns-clause-sound
+returns-clause-sound g c = λ state sound.
+    let m = g.M.Traced in
+    let was = c.args.self.now in
+    elim c.if-from-self.branch [
+      | then-from-self w ↦ rw (w.self-is, w.cut_off.ensures.others)
+          (sound_cut_to was.spacing c.requires m.is_proper (touched m.touches) state was.checkpoints.items _ was.first_touch.items _ was.reach c.args.from sound (omega (arith, w.if-from-self.true)) w.cut_off.ensures.checkpoints w.cut_off.ensures.table)
+      | else-from-self w ↦ rw w.self-is sound
+    ]

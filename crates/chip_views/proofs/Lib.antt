@@ -1,0 +1,5 @@
+pub mod DataLines
+pub mod WordLayout
+pub mod TextLines
+pub mod ImageText
+pub mod Parts

@@ -1,0 +1,57 @@
+-- The source text of an image that has none: each word as the instruction that it is, else as data (own).
+use Rattle.std.specs.Prelude.{ℕ, ◌+◌, ◌*◌, ◌&&◌, Bool, true, false, nat_le, List, [], ◌∷◌, ◌++◌, codes, length, if◌then◌else◌, Option, Some, None, Result, Ok, Err}
+use Rattle.std.specs.List.{list_all, flat_map}
+use Rattle.std.specs.Str.{bytes_eq}
+use Rattle.chip_lang.specs.declared.fault.Fault.{Fault}
+use Rattle.chip_lang.specs.declared.code.Coded.{Coded}
+use Rattle.chip_lang.specs.declared.code.Coded.TheVariants.{Bytes, Faulty}
+use Rattle.chip_lang.specs.Code.{own_bytes, word_bytes}
+use Rattle.chip_lang.specs.Examples.{none}
+use Rattle.chip_lang.specs.Line.{Body, code, Reading, bad, read, reading_of}
+use Rattle.chip_lang.specs.Show.{show_of, hex_word, hex_byte}
+
+-- a letter, a digit, a sign or a space
+abbrev pub is_visible : ℕ → Bool
+is_visible b = nat_le 32 b && nat_le b 126
+
+-- a line of at most 200 of them
+abbrev pub is_plain : List ℕ → Bool
+is_plain text = nat_le (length text) 200 && list_all is_visible text
+
+-- whether a code is the two bytes of a word
+abbrev pub is_word : ℕ → Result (List ℕ) Fault → Bool
+is_word w (Ok bytes) = bytes_eq bytes (word_bytes w)
+is_word w (Err fault) = false
+
+-- a code as an outcome
+abbrev pub result_of : Coded → Result (List ℕ) Fault
+result_of (Bytes bytes) = Ok bytes
+result_of (Faulty fault) = Err fault
+
+-- whether a line is an instruction that gives a word, and nothing else
+abbrev pub gives_word : ℕ → Reading → Bool
+gives_word w (read None (code form operands)) = is_word w (own_bytes (code form operands) none)
+gives_word w reading = false
+
+-- the line of a word: its instruction, where that text is a line that gives the word, else data
+unfoldable pub word_text : ℕ → List ℕ
+word_text w =
+    if is_plain (show_of w) && gives_word w (reading_of (show_of w)) then show_of w else codes "DW #" ++ hex_word w
+
+-- the lines of an image: a line for each word, and an odd last byte as data that isn't padded
+abbrev pub lines_of_image : List ℕ → List (List ℕ)
+lines_of_image [] = []
+lines_of_image (b ∷ []) = codes "ALIGN OFF" ∷ (codes "DB #" ++ hex_byte b) ∷ []
+lines_of_image (high ∷ low ∷ rest) = word_text (256 * high + low) ∷ lines_of_image rest
+
+-- a line and a newline
+abbrev pub line_text : List ℕ → List ℕ
+line_text line = line ++ 10 ∷ []
+
+-- lines with a newline after each
+abbrev pub text_of_lines : List (List ℕ) → List ℕ
+text_of_lines lines = flat_map line_text lines
+
+-- the source text of an image
+abbrev pub source_of_image : List ℕ → List ℕ
+source_of_image image = text_of_lines (lines_of_image image)

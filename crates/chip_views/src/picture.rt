@@ -1,0 +1,96 @@
+//! The screen as text.
+
+ghost use Rattle.std.specs.Prelude.{◌≡◌, ◌<◌, ◌++◌, ◌+◌, ◌*◌, IfOk, OnOk};
+ghost use Rattle.chip_views.specs.Picture.{width, lines_high, is_seen, cell, cell_at, picture_line, picture_of};
+
+use chip_machine::Machine;
+use std::alloc::{AllocError, Global};
+
+/// Which characters stand for two points, one above the other.
+#[derive(Clone, Copy, Debug, PartialEq, Eq)]
+pub enum Letters {
+    /// The half blocks of Unicode, in UTF-8.
+    Blocks,
+    /// A quote for the upper point, a full stop for the lower one, a colon for both.
+    Plain,
+}
+
+/// The screen of a machine as text: a line for two rows of points, each character two points, 64 characters and 16 lines in the
+/// low size, 128 and 32 in the high one.
+///
+/// # Errors
+///
+/// Want of memory.
+#[tactic(auto, unfolding(crate::specs::Picture::picture_of))]
+pub fn screen_text(
+    alloc: Global,
+    machine: &Machine,
+    letters: Letters,
+) -> Result<Vec<u8>, AllocError>
+    ensures { IfOk result (λ text. text.items ≡ picture_of letters machine.now) }
+{
+    let count = if machine.high() { 32 } else { 16 };
+    let mut text = Vec::new(alloc);
+    for line in 0..count {
+        push_line(&mut text, machine, letters, line)?;
+    }
+    Ok(text)
+}
+
+#[tactic(auto, unfolding(crate::specs::Picture::picture_line))]
+fn push_line(
+    text: &mut Vec<u8>,
+    machine: &Machine,
+    letters: Letters,
+    line: usize,
+) -> Result<(), AllocError>
+    requires { line < 32 }
+    ensures { OnOk result (text.new.items ≡ text.old.items
+        ++ picture_line letters machine.now.core.high machine.now.core.lit line) }
+{
+    let count = if machine.high() { 128 } else { 64 };
+    for column in 0..count {
+        text.extend_from_slice(cell_at(machine, letters, line, column))?;
+    }
+    text.push(b'\n')?;
+    Ok(())
+}
+
+// The character in a column of a line.
+#[tactic(auto, unfolding(crate::specs::Picture::cell_at))]
+fn cell_at(machine: &Machine, letters: Letters, line: usize, column: usize) -> &'static [u8]
+    requires { (line < 32) × (column < 128) }
+    ensures { result.now ≡ cell_at letters machine.now.core.high machine.now.core.lit line column }
+{
+    let above = is_seen(machine, column, 2 * line);
+    let below = is_seen(machine, column, 2 * line + 1);
+    cell(letters, above, below)
+}
+
+// Whether a point of the machine's size is lit.
+fn is_seen(machine: &Machine, column: usize, row: usize) -> bool
+    requires { (column < 128) × (row < 64) }
+    ensures { result ≡ is_seen machine.now.core.high machine.now.core.lit column row }
+{
+    if machine.high() {
+        machine.lit(column, row)
+    } else {
+        machine.lit(2 * column, 2 * row)
+    }
+}
+
+// The character for a point and the one below it.
+#[tactic(auto, unfolding(crate::specs::Picture::cell))]
+fn cell(letters: Letters, above: bool, below: bool) -> &'static [u8]
+    ensures { result.now ≡ cell letters above below }
+{
+    match (letters, above, below) {
+        (Letters::Blocks | Letters::Plain, false, false) => b" ",
+        (Letters::Blocks, true, false) => b"\xe2\x96\x80",
+        (Letters::Blocks, false, true) => b"\xe2\x96\x84",
+        (Letters::Blocks, true, true) => b"\xe2\x96\x88",
+        (Letters::Plain, true, false) => b"'",
+        (Letters::Plain, false, true) => b".",
+        (Letters::Plain, true, true) => b":",
+    }
+}

@@ -1,0 +1,62 @@
+// The words around pc, each with its line of the source.
+
+import { byId, element, setText } from './dom.mjs';
+import { hex } from './answers.mjs';
+
+const HEAD = ['', 'Address', 'Word', 'Instruction', 'Line of the source'];
+const IMAGE_START = 512;
+
+export class DisassemblyView {
+  #body = element('tbody');
+  #rows = [];
+  #goToLine;
+
+  /** `goToLine(line)` shows a line of the source. */
+  constructor(goToLine) {
+    this.#goToLine = goToLine;
+    const head = element('tr', {}, ...HEAD.map((name) => element('th', { textContent: name, scope: 'col' })));
+    const table = element('table', {}, element('thead', { className: 'unseen' }, head), this.#body);
+    table.setAttribute('aria-labelledby', 'disassembly-title');
+    byId('disassembly').append(table);
+  }
+
+  show({ code, words, registers }, { map, image }, lines) {
+    if (code !== null || words === null) return;
+    while (this.#rows.length < words.length) this.#addRow();
+    this.#rows.forEach((row, place) => {
+      row.element.hidden = place >= words.length;
+      if (place < words.length) this.#showRow(row, words[place], registers.pc, map.lineAt(words[place].address), image, lines);
+    });
+  }
+
+  /** A row whose cells stay, so that only what changes is drawn anew. */
+  #addRow() {
+    const cells = HEAD.map(() => element('td'));
+    const number = element('button', { type: 'button', className: 'row-button', title: 'To this line of the source' });
+    const text = element('span');
+    const row = { element: element('tr', {}, ...cells), cells, number, text, line: null };
+    number.addEventListener('click', () => this.#goToLine(row.line));
+    cells[4].append(number, ' ', text);
+    this.#rows.push(row);
+    this.#body.append(row.element);
+  }
+
+  #showRow(row, { address, word, text }, pc, line, image, lines) {
+    const assembled = line === null ? word : (wordOf(image, address - IMAGE_START) ?? word);
+    const here = address === pc;
+    const texts = [here ? '▸' : '', hex(address, 4), word, text];
+    texts.forEach((shown, place) => setText(row.cells[place], shown));
+    row.element.classList.toggle('here', here);
+    row.element.ariaCurrent = here ? 'true' : null;
+    row.cells[2].classList.toggle('changed', assembled !== word);
+    row.cells[2].title = assembled === word ? '' : `the source has ${assembled} here`;
+    row.line = line;
+    row.number.hidden = line === null;
+    setText(row.number, line === null ? '' : String(line));
+    setText(row.text, line === null ? '' : (lines[line - 1] ?? '').trim().replace(/\s+/g, ' '));
+  }
+}
+
+function wordOf(image, offset) {
+  return image !== null && offset + 1 < image.length ? hex(image[offset] * 256 + image[offset + 1], 4) : null;
+}

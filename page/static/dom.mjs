@@ -1,0 +1,49 @@
+// Small helpers for elements.
+
+export const byId = (id) => document.getElementById(id);
+
+/** An element with properties, and children that are elements or texts. */
+export function element(name, properties = {}, ...children) {
+  const made = Object.assign(document.createElement(name), properties);
+  made.append(...children);
+  return made;
+}
+
+/** Sets a text where it isn't there yet, so that nothing is drawn anew for it. */
+export function setText(place, text) {
+  if (place.textContent !== text) place.textContent = text;
+}
+
+/** Calls `draw` once before the next picture, however often it is asked for. */
+export function oncePerFrame(draw) {
+  let waiting = false;
+  return () => {
+    if (waiting) return;
+    waiting = true;
+    requestAnimationFrame(() => {
+      waiting = false;
+      draw();
+    });
+  };
+}
+
+const colours = new Map();
+const dark = globalThis.matchMedia?.('(prefers-color-scheme: dark)');
+dark?.addEventListener('change', () => colours.clear());
+
+/** The value of a colour of style.css. */
+export function colour(name) {
+  if (!colours.has(name)) colours.set(name, getComputedStyle(document.documentElement).getPropertyValue(name).trim());
+  return colours.get(name);
+}
+
+/** Calls `draw` when the theme changes. */
+export function onTheme(draw) {
+  dark?.addEventListener('change', draw);
+}
+
+export const grouped = (number) => number.toLocaleString('en-US');
+
+/** Whether what is typed goes into a text, a number or a choice. */
+export const takesText = (target) =>
+  target instanceof HTMLTextAreaElement || target instanceof HTMLSelectElement || (target instanceof HTMLInputElement && target.type !== 'radio');

@@ -1,0 +1,111 @@
+// Plays the run at the rate's speed, forwards and backwards, a frame at a time; and records keys that are pressed while it plays.
+
+const FRAMES_A_SECOND = 60;
+const LONGEST_GAP = 0.25;
+
+export class Player extends EventTarget {
+  #model;
+  #direction = 0;
+  #position = 0;
+  #shown = 0;
+  #time = 0;
+  #recording = 0;
+  #pressed = new Map();
+
+  speed = 1;
+
+  constructor(model) {
+    super();
+    this.#model = model;
+  }
+
+  /** 1 while it plays, -1 while it plays backwards, else 0. */
+  get direction() {
+    return this.#direction;
+  }
+
+  play(direction) {
+    if (direction === this.#direction) return;
+    this.#releaseAll();
+    if (direction > 0 && this.#model.step >= this.#model.lastStep) this.#model.setStep(0);
+    this.#direction = direction;
+    this.#position = this.#model.step;
+    this.#shown = this.#model.step;
+    this.#time = performance.now();
+    this.#recording += 1;
+    if (direction !== 0) requestAnimationFrame((now) => this.#tick(now));
+    this.dispatchEvent(new Event('change'));
+  }
+
+  toggle(direction) {
+    this.play(this.#direction === direction ? 0 : direction);
+  }
+
+  #tick(now) {
+    if (this.#direction === 0) return;
+    const { rate, lastStep } = this.#model;
+    // a step that was set by hand is where it goes on
+    if (this.#model.step !== this.#shown) this.#position = this.#model.step;
+    const seconds = Math.max(0, Math.min(LONGEST_GAP, (now - this.#time) / 1000));
+    this.#time = now;
+    this.#position += this.#direction * seconds * FRAMES_A_SECOND * this.speed * rate;
+    const frame = Math.floor(this.#position / rate) * rate;
+    const step = Math.max(0, Math.min(lastStep, this.#direction > 0 ? Math.max(frame, this.#shown) : Math.min(frame, this.#shown)));
+    this.#hold(step);
+    this.#shown = step;
+    this.#model.setStep(step);
+    if ((this.#direction < 0 && step === 0) || (this.#direction > 0 && this.#position >= lastStep)) {
+      this.play(0);
+      return;
+    }
+    requestAnimationFrame((next) => this.#tick(next));
+  }
+
+  /** A key of the sixteen goes down. While it plays, that is recorded; else the key changes from this step on. */
+  press(key) {
+    if (this.#pressed.has(key)) return;
+    const { step, keys, lastStep } = this.#model;
+    if (this.#direction <= 0) {
+      this.#toggle(key);
+      return;
+    }
+    if (step >= lastStep) return;
+    this.#pressed.set(key, step);
+    this.#record(keys.with(step, key, true));
+  }
+
+  release(key) {
+    const from = this.#pressed.get(key);
+    if (from === undefined) return;
+    this.#pressed.delete(key);
+    const { rate, step, lastStep, keys } = this.#model;
+    // at least one frame long, so that a program that looks once a frame sees it
+    const until = Math.max(step, from + rate);
+    if (until <= lastStep) this.#record(keys.cleared(key, from + 1, until).with(until, key, false));
+  }
+
+  #releaseAll() {
+    for (const key of [...this.#pressed.keys()]) this.release(key);
+  }
+
+  /** What an earlier recording says of a key that is being held is overwritten. */
+  #hold(step) {
+    let { keys } = this.#model;
+    for (const [key, from] of this.#pressed) {
+      const overwritten = keys.events.some((event) => event.key === key && event.step > from && event.step <= step);
+      if (overwritten) keys = keys.cleared(key, from + 1, step);
+    }
+    if (keys !== this.#model.keys) this.#record(keys);
+  }
+
+  #record(keys) {
+    this.#model.setKeys(keys, `recording ${this.#recording}`);
+  }
+
+  #toggle(key) {
+    const { step, keys } = this.#model;
+    const wanted = !keys.held(step)[key];
+    const without = keys.without(step, key);
+    this.#model.setKeys(without.held(step)[key] === wanted ? without : keys.with(step, key, wanted));
+  }
+}

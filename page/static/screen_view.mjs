@@ -1,0 +1,91 @@
+// The screen on a canvas of 128 by 64 stored points.
+
+import { byId, colour, onTheme } from './dom.mjs';
+import { codeText } from './codes.mjs';
+
+const WIDTH = 128;
+const HEIGHT = 64;
+const FLASH_MILLISECONDS = 500;
+
+export class ScreenView {
+  #canvas = byId('screen');
+  #state = byId('machine-state');
+  #context = this.#canvas.getContext('2d');
+  #rows = [];
+  #flashing = 0;
+
+  constructor() {
+    onTheme(() => this.#draw());
+    this.#draw();
+  }
+
+  show(machine) {
+    this.#state.classList.toggle('stopped', machine.code !== null || machine.registers.state !== 'run');
+    if (machine.code !== null) {
+      this.#tell(`${machine.code}: ${codeText(machine.code)}`);
+      return;
+    }
+    const { size, state } = machine.registers;
+    const points = size === 'high' ? 'high, 128 × 64' : 'low, 64 × 32';
+    this.#tell(state === 'run' ? points : `${state}: ${stopText(state, machine.wanted.options.profile)}`);
+    this.#rows = machine.screen.rows;
+    clearTimeout(this.#flashing);
+    this.#draw();
+  }
+
+  #tell(text) {
+    this.#state.textContent = text;
+    this.#state.title = text;
+  }
+
+  /** Shows for a moment which points differ from those of another screen. */
+  flash(other) {
+    if (matchMedia('(prefers-reduced-motion: reduce)').matches) return;
+    const theirs = pointsOf(other.rows);
+    const marked = pointsOf(this.#rows).map((point, place) => point !== theirs[place]);
+    this.#draw(marked);
+    clearTimeout(this.#flashing);
+    this.#flashing = setTimeout(() => this.#draw(), FLASH_MILLISECONDS);
+  }
+
+  /** Draws the points; those that are marked in other colours. */
+  #draw(marked = null) {
+    const plain = ['--screen-dark', '--screen-lit'].map((name) => bytesOf(colour(name)));
+    const changed = ['--changed-ground', '--changed'].map((name) => bytesOf(colour(name)));
+    const picture = this.#context.createImageData(WIDTH, HEIGHT);
+    const colours = new Uint32Array(picture.data.buffer);
+    pointsOf(this.#rows).forEach((point, place) => {
+      colours[place] = (marked !== null && marked[place] ? changed : plain)[point];
+    });
+    this.#context.putImageData(picture, 0, 0);
+  }
+}
+
+/** Why the machine stopped; a word of the source may be no instruction of the profile alone. */
+function stopText(state, profile) {
+  return state === 'S2' && profile === 'vip' ? 'no instruction of vip at pc' : codeText(state);
+}
+
+/** The points of the stored rows, row after row: 1 where one is lit. */
+function pointsOf(rows) {
+  const points = Array(WIDTH * HEIGHT).fill(0);
+  for (const { row, points: digits } of rows) {
+    for (let place = 0; place < digits.length; place += 1) {
+      const digit = parseInt(digits[place], 16);
+      for (let bit = 0; bit < 4; bit += 1) points[row * WIDTH + 4 * place + bit] = (digit >> (3 - bit)) & 1;
+    }
+  }
+  return points;
+}
+
+/** A colour `#rrggbb` as a picture holds it. */
+function bytesOf(name) {
+  const [red, green, blue] = [1, 3, 5].map((place) => parseInt(name.slice(place, place + 2), 16));
+  return new Uint32Array(new Uint8Array([red, green, blue, 255]).buffer)[0];
+}
+
+/** How many points differ between two screens. */
+export function pointsApart(one, other) {
+  const theirs = pointsOf(other.rows);
+  return pointsOf(one.rows).filter((point, place) => point !== theirs[place]).length;
+}

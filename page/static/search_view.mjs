@@ -1,0 +1,142 @@
+// The search in time: what is looked for, how far it is, and a stop.
+
+import { byId, element, grouped } from './dom.mjs';
+import { hex } from './answers.mjs';
+import { findStep, SearchStopped, subject } from './finder.mjs';
+import { readNumber } from './numbers.mjs';
+
+const SUBJECTS = [
+  ['pc', 'pc'],
+  ['byte', 'the byte'],
+  ...Array.from({ length: 16 }, (_, register) => [`v${hex(register, 1)}`, `V${hex(register, 1).toUpperCase()}`]),
+  ...[['i', 'I'], ['dt', 'DT'], ['st', 'ST'], ['draws', 'random draws'], ['stopped', 'the machine stopped']],
+];
+
+export class SearchView {
+  #model;
+  #ask;
+  #symbols;
+  #lineAddress;
+  #form = byId('search');
+  #result = byId('search-result');
+  #progress = byId('search-progress');
+  #stop = byId('search-stop');
+  #goOn = false;
+  #running = false;
+
+  /**
+   * `ask(questions)` answers about what the model wants; `symbols()` are the names; `lineAddress()` is the cursor line's, or
+   * null, once it is known.
+   */
+  constructor(model, { ask, symbols, lineAddress }) {
+    this.#model = model;
+    this.#ask = ask;
+    this.#symbols = symbols;
+    this.#lineAddress = lineAddress;
+    const { elements } = this.#form;
+    elements.subject.append(...SUBJECTS.map(([value, textContent]) => element('option', { value, textContent })));
+    this.#form.addEventListener('submit', (event) => {
+      event.preventDefault();
+      this.#search(event.submitter?.value !== 'last');
+    });
+    // Enter would take the first button, which looks back
+    this.#form.addEventListener('keydown', (event) => {
+      if (event.key !== 'Enter' || !(event.target instanceof HTMLInputElement) || event.isComposing) return;
+      event.preventDefault();
+      this.#search(!event.shiftKey);
+    });
+    this.#form.addEventListener('change', () => this.#shape());
+    this.#stop.addEventListener('click', () => this.stop());
+    byId('search-line').addEventListener('click', () => this.toLine(true));
+    model.addEventListener('change', ({ detail }) => {
+      if (detail !== 'step' && detail !== 'lastStep') this.stop();
+    });
+    this.#shape();
+  }
+
+  /** Looks for the next step, or the last before, at which pc is at the line with the cursor. */
+  async toLine(forward) {
+    const address = await this.#lineAddress();
+    if (address === null) return this.#tell('the line with the cursor has no address');
+    const { subject: chosen, relation, value } = this.#form.elements;
+    [chosen.value, relation.value, value.value] = ['pc', 'is', `#${hex(address, 3)}`];
+    this.#shape();
+    return this.#search(forward);
+  }
+
+  focus() {
+    this.#form.elements.subject.focus();
+  }
+
+  showNames() {
+    byId('names').replaceChildren(...this.#symbols().slice(0, 500).map(({ name }) => element('option', { value: name })));
+  }
+
+  stop() {
+    this.#goOn = false;
+  }
+
+  #shape() {
+    const { subject: chosen, relation } = this.#form.elements;
+    const isStop = chosen.value === 'stopped';
+    byId('search-address').hidden = chosen.value !== 'byte';
+    byId('search-value').hidden = isStop || relation.value === 'changes';
+    relation.parentElement.hidden = isStop;
+  }
+
+  async #search(forward) {
+    if (this.#running) return;
+    const { subject: chosen, relation, address, value } = this.#form.elements;
+    const isStop = chosen.value === 'stopped';
+    const wanted = isStop ? 1 : readNumber(value.value, this.#symbols());
+    const at = readNumber(address.value, this.#symbols());
+    const kind = isStop ? 'is' : relation.value;
+    if (kind !== 'changes' && wanted === null) return this.#tell(`'${value.value}' is no number and no name of the source`);
+    if (chosen.value === 'byte' && !(at !== null && at < 4096)) return this.#tell(`'${address.value}' is no address`);
+    await this.#run(forward, { of: subject(chosen.value, at ?? 0), relation: kind, wanted });
+  }
+
+  async #run(forward, question) {
+    const from = this.#model.step;
+    this.#show(true);
+    this.#tell('');
+    try {
+      const found = await findStep({
+        ...question,
+        ask: (questions) => this.#askOn(questions),
+        from,
+        forward,
+        lastStep: this.#model.lastStep,
+        progress: (part) => {
+          this.#progress.value = part;
+          return this.#goOn;
+        },
+      });
+      if (!this.#goOn) throw new SearchStopped();
+      if (found !== null) this.#model.setStep(found);
+      this.#tell(found === null ? `no such step ${forward ? 'after' : 'before'} ${grouped(from)}` : `step ${grouped(found)}`);
+    } catch (fault) {
+      this.#tell(fault instanceof SearchStopped ? 'stopped' : fault.message || 'the search was given up');
+    } finally {
+      this.#show(false);
+    }
+  }
+
+  /** An edit stops the search, since its answers would be of two runs. */
+  #askOn(questions) {
+    if (!this.#goOn) throw new SearchStopped();
+    return this.#ask(questions);
+  }
+
+  #show(running) {
+    this.#running = running;
+    this.#goOn = running;
+    this.#progress.hidden = !running;
+    this.#stop.hidden = !running;
+    this.#progress.value = 0;
+  }
+
+  #tell(text) {
+    this.#result.textContent = text;
+  }
+}

@@ -1,0 +1,64 @@
+// The dialog of the settings that the program takes.
+
+import { byId } from './dom.mjs';
+
+/** A longer tape, in digits, is told by its length. */
+const TAPE_SHOWN = 12;
+
+export class SettingsView {
+  #dialog = byId('settings');
+  #form = this.#dialog.querySelector('form');
+  #model;
+  #known;
+
+  /** `known` are the names of the options that the program takes. */
+  constructor(model, known) {
+    this.#model = model;
+    this.#known = new Set(known);
+    for (const part of this.#form.querySelectorAll('[data-option]')) part.hidden = !this.#known.has(part.dataset.option);
+    const lacking = ['profile', 'every'].filter((name) => !this.#known.has(name)).map((name) => `--${name}`);
+    byId('settings-lack').textContent = lacking.length === 0 ? '' : `This program doesn't take ${lacking.join(' and ')} yet.`;
+    this.#form.addEventListener('submit', (event) => {
+      if (event.submitter?.value === 'apply') model.setOptions(this.#chosen());
+    });
+    model.addEventListener('change', ({ detail }) => {
+      if (detail === 'options') byId('settings-state').textContent = this.#summary();
+    });
+    for (const name of ['seed', 'tape']) {
+      this.#form.elements[name].addEventListener('input', () => {
+        this.#form.elements.random.value = name;
+      });
+    }
+  }
+
+  /** The settings in a few words: the profile, where the program has several, the rate and the random bytes. */
+  #summary() {
+    const { rate, seed, tape, profile } = this.#model.options;
+    const words = this.#known.has('profile') ? [profile ?? 'schip'] : [];
+    words.push(`rate ${rate ?? '10'}`);
+    if (seed !== undefined) words.push(`seed ${seed}`);
+    else if (tape !== undefined) words.push(tape.length > TAPE_SHOWN ? `tape of ${tape.length / 2} bytes` : `tape ${tape}`);
+    return words.join(', ');
+  }
+
+  open() {
+    const { elements } = this.#form;
+    const { options } = this.#model;
+    elements.rate.value = options.rate ?? '10';
+    elements.random.value = 'seed' in options ? 'seed' : 'tape' in options ? 'tape' : 'none';
+    elements.seed.value = options.seed ?? '';
+    elements.tape.value = options.tape ?? '';
+    elements.profile.value = options.profile ?? 'schip';
+    elements.every.value = options.every ?? '1000';
+    this.#dialog.showModal();
+  }
+
+  #chosen() {
+    const { elements } = this.#form;
+    const random = elements.random.value;
+    const options = { rate: elements.rate.value };
+    if (random !== 'none' && elements[random].value !== '') options[random] = elements[random].value;
+    for (const name of ['profile', 'every']) if (this.#known.has(name)) options[name] = elements[name].value;
+    return options;
+  }
+}

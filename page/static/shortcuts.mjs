@@ -1,0 +1,78 @@
+// The keys of the keyboard.
+
+import { takesText } from './dom.mjs';
+import { keyOf } from './keypad.mjs';
+
+/** Keys that move or play, by their place on the keyboard; with Shift where a second name stands. */
+const BY_PLACE = {
+  Comma: ['back', 'back-frame'],
+  Period: ['on', 'on-frame'],
+  KeyJ: ['back-thousand'],
+  KeyL: ['on-thousand'],
+  KeyK: ['play'],
+  KeyB: ['play-back'],
+};
+
+/** Keys that do so outside texts alone, by what they type. */
+const BY_NAME = {
+  ArrowLeft: ['back', 'back-frame'],
+  ArrowRight: ['on', 'on-frame'],
+  ' ': ['play'],
+  '[': ['event-before'],
+  ']': ['event-after'],
+  g: ['to-step'],
+  G: ['to-step'],
+  o: ['to-source'],
+  O: ['to-source'],
+  t: ['to-timeline'],
+  T: ['to-timeline'],
+  '/': ['to-search'],
+  '?': ['help'],
+};
+
+/** Calls `act(name)` for the keys above; the sixteen keys go to the player. */
+export function listen(player, act) {
+  const down = new Map();
+  document.addEventListener('keydown', (event) => {
+    if (event.defaultPrevented || event.isComposing || document.querySelector('dialog[open]')) return;
+    const name = actionOf(event);
+    if (name !== undefined) {
+      event.preventDefault();
+      act(name);
+      return;
+    }
+    const key = keyOf(event.code);
+    if (key === null || event.repeat || event.ctrlKey || event.altKey || event.metaKey || takesText(event.target)) return;
+    event.preventDefault();
+    down.set(event.code, key);
+    player.press(key);
+  });
+  document.addEventListener('keyup', (event) => {
+    const key = down.get(event.code);
+    if (key === undefined) return;
+    down.delete(event.code);
+    player.release(key);
+  });
+  addEventListener('blur', () => {
+    for (const key of down.values()) player.release(key);
+    down.clear();
+  });
+}
+
+function actionOf(event) {
+  const inText = takesText(event.target);
+  const control = event.ctrlKey || event.metaKey;
+  if (event.key === 'F8') return event.shiftKey ? 'fault-before' : 'next-fault';
+  if (event.key === 'F1') return 'explain';
+  if (control && !event.altKey && event.code === 'KeyS') return 'save';
+  if (control && !event.altKey && event.code === 'KeyZ') return inText ? undefined : 'undo-keys';
+  if (control || event.metaKey) return undefined;
+  if (event.key === 'Escape' && inText) return 'to-timeline';
+  const byPlace = BY_PLACE[event.code];
+  if (byPlace !== undefined && event.altKey === inText) return byPlace[event.shiftKey ? 1 : 0];
+  if (inText || event.altKey) return undefined;
+  // a button that has the focus keeps its Space
+  if (event.key === ' ' && event.target instanceof HTMLElement && event.target.matches('button, summary, input, a')) return undefined;
+  const byName = BY_NAME[event.key];
+  return byName === undefined ? undefined : (byName[event.shiftKey ? 1 : 0] ?? byName[0]);
+}

@@ -1,0 +1,82 @@
+// A source as bytes, as the text in the editor, and as the lines that the program is given.
+//
+// Bytes travel as strings in which each character stands for one byte ('byte strings').
+
+/** The most bytes of a line, and the most lines, that a source may have (docs/FORMATS.md: N2, N3). */
+export const LINE_BYTES = 200;
+export const MOST_LINES = 4000;
+
+const encoder = new TextEncoder();
+
+function isUtf8(bytes) {
+  try {
+    new TextDecoder('utf-8', { fatal: true }).decode(bytes);
+    return true;
+  } catch {
+    return false;
+  }
+}
+
+function toBytes(byteString) {
+  return Uint8Array.from(byteString, (character) => character.charCodeAt(0));
+}
+
+function toByteString(bytes) {
+  let text = '';
+  for (let start = 0; start < bytes.length; start += 0x4000) {
+    text += String.fromCharCode(...bytes.subarray(start, start + 0x4000));
+  }
+  return text;
+}
+
+/**
+ * How a file's bytes are shown: `encoding` utf-8, or latin-1 where they are no UTF-8; `lineEnd` CR LF where each line ends so;
+ * `mended` where a CR stood elsewhere, which an editor shows as the end of a line.
+ */
+export function readFile(byteString) {
+  const bytes = toBytes(byteString);
+  const encoding = isUtf8(bytes) ? 'utf-8' : 'latin-1';
+  const text = encoding === 'utf-8' ? new TextDecoder('utf-8', { ignoreBOM: true }).decode(bytes) : byteString;
+  const ends = text.split('\n').length - 1;
+  const pairs = text.split('\r\n').length - 1;
+  const lineEnd = pairs > 0 && pairs === ends ? '\r\n' : '\n';
+  const mended = text.split('\r').length - 1 !== (lineEnd === '\r\n' ? pairs : 0);
+  return { text: text.replace(/\r\n?/g, '\n'), encoding, lineEnd, mended };
+}
+
+/** The bytes of an editor's text, as a byte string. A character that latin-1 lacks becomes `?`. */
+export function encodeText(text, encoding) {
+  if (encoding === 'latin-1') return text.replace(/[^\u0000-\u00ff]/gu, '?');
+  return /^[\u0000-\u007f]*$/.test(text) ? text : toByteString(encoder.encode(text));
+}
+
+/** The text of a byte string, as `encodeText` took it. */
+export function decodeText(byteString, encoding) {
+  if (encoding === 'latin-1' || /^[\u0000-\u007f]*$/.test(byteString)) return byteString;
+  return new TextDecoder('utf-8').decode(toBytes(byteString));
+}
+
+/** The bytes of the file that an editor's text is saved as. */
+export function writeFile(text, { encoding, lineEnd }) {
+  return encodeText(lineEnd === '\n' ? text : text.replace(/\n/g, lineEnd), encoding);
+}
+
+/**
+ * The lines that the program is given for an editor's text, and what it wasn't given: a line that is too long is an empty one
+ * for it, and lines past the last that it takes are left out. Each such line has its code.
+ */
+export function programLines(text, encoding) {
+  const lines = text.split('\n');
+  if (lines[lines.length - 1] === '') lines.pop();
+  const withheld = new Map();
+  const given = lines.slice(0, MOST_LINES).map((line, place) => {
+    const bytes = encodeText(line, encoding);
+    if (bytes.length <= LINE_BYTES) return bytes;
+    withheld.set(place + 1, 'N2');
+    return '';
+  });
+  for (let place = MOST_LINES; place < lines.length; place += 1) withheld.set(place + 1, 'N3');
+  return { given, withheld };
+}
+
+export { toBytes };

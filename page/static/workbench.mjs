@@ -1,0 +1,148 @@
+// What the running program holds, and how it comes to hold what the page wants: by the fewest edits, or by being started anew.
+
+import { BridgeFault, request } from './bridge.mjs';
+import { refusal } from './answers.mjs';
+import { keyCommands, KeyScript } from './key_script.mjs';
+import { lineCommands } from './line_changes.mjs';
+
+/** A session takes 100,000 commands (docs/FORMATS.md: E4); before it has had them, the program is started anew. */
+const COMMANDS_A_SESSION = 99_000;
+const COMMANDS_A_REQUEST = 20_000;
+const LARGEST_STEP = 999_999_999;
+const NO_SUCH_KEY = 16;
+
+/** Another window has started the program anew; this one may do so in turn. */
+export class TakenOver extends Error {}
+
+/** The program ended and wouldn't do otherwise when it was asked again. */
+export class ProgramEnded extends Error {}
+
+export class Workbench {
+  #request;
+  #onEnded;
+  #session = null;
+  #sent = 0;
+  #held = null;
+  #turn = Promise.resolve();
+  #taken = false;
+
+  /** The greatest step that the program takes, found by trying. */
+  lastStep = 0;
+  /** How often the program was started; for tests and the status line. */
+  starts = 0;
+
+  /** `onEnded(status, text)` is told when the program ended by itself. `ask` is the request to the bridge. */
+  constructor({ onEnded = () => {}, ask = request } = {}) {
+    this.#onEnded = onEnded;
+    this.#request = ask;
+  }
+
+  /** Lets the next request start the program anew, after another window had taken it. */
+  takeBack() {
+    this.#taken = false;
+    this.#held = null;
+    this.#session = null;
+  }
+
+  /**
+   * Makes the program hold what is wanted (`lines`, `keys`, `options`) and answers the questions about it. Requests are
+   * carried out one after another.
+   */
+  answers(wanted, questions) {
+    const answered = this.#turn.then(() => this.#answer(wanted, questions));
+    this.#turn = answered.catch(() => {});
+    return answered;
+  }
+
+  async #answer(wanted, questions) {
+    if (this.#taken) throw new TakenOver();
+    try {
+      const edits = this.#editsFor(wanted);
+      if (edits === null || this.#sent + edits.length + questions.length > COMMANDS_A_SESSION) {
+        await this.#start(wanted);
+        return await this.#askStarted(questions);
+      }
+      return await this.#ask(wanted, edits, questions);
+    } catch (fault) {
+      if (fault instanceof BridgeFault) this.#held = null;
+      if (!(fault instanceof BridgeFault && fault.status === 409)) throw fault;
+      this.#taken = true;
+      throw new TakenOver();
+    }
+  }
+
+  /** The edits from what the program holds to what is wanted, or null where it has to be started anew. */
+  #editsFor(wanted) {
+    if (this.#held === null || this.#held.options !== wanted.options) return null;
+    const lines = this.#held.lines === wanted.lines ? [] : lineCommands(this.#held.lines, wanted.lines);
+    const edits = lines === null ? null : [...lines, ...keyCommands(this.#held.keys, wanted.keys)];
+    return edits !== null && edits.length > COMMANDS_A_REQUEST ? null : edits;
+  }
+
+  async #ask(wanted, edits, questions) {
+    const reply = await this.#send('ask', { session: this.#session, commands: [...edits, ...questions] });
+    const refused = reply.answers.slice(0, edits.length).some((answer) => answer !== 'ok\n');
+    if (!reply.ended && !refused) {
+      this.#held = wanted;
+      return reply.answers.slice(edits.length);
+    }
+    // what the program holds isn't known any more: it is started anew with what the page holds
+    if (reply.ended) this.#onEnded(reply.ended.status, firstPart(reply.ended.text));
+    await this.#start(wanted);
+    return this.#askStarted(questions);
+  }
+
+  /** Asks a program that was just started: it isn't started again where it ends now. */
+  async #askStarted(questions) {
+    const reply = await this.#send('ask', { session: this.#session, commands: questions });
+    if (reply.ended) this.#throwEnded(reply.ended);
+    return reply.answers;
+  }
+
+  async #start(wanted) {
+    this.#held = null;
+    this.#sent = 0;
+    this.starts += 1;
+    const source = wanted.lines.map((line) => `${line}\n`).join('');
+    const events = keyCommands(new KeyScript(), wanted.keys);
+    const reply = await this.#send('open', { session: this.#session, source, options: wanted.options, commands: events });
+    if (reply.ended) this.#throwEnded(reply.ended);
+    const place = reply.answers.findIndex((answer) => answer !== 'ok\n');
+    if (place >= 0) throw new ProgramEnded(`the program refuses the event '${events[place]}': ${refusal(reply.answers[place])}`);
+    this.#held = wanted;
+    if (this.lastStep === 0) this.lastStep = await this.#findLastStep();
+  }
+
+  /** No event has a key above 15: the program says N5 of a step that is too large, and else N6. */
+  async #findLastStep() {
+    let low = 0;
+    let high = LARGEST_STEP;
+    while (low < high) {
+      const middle = Math.ceil((low + high) / 2);
+      const reply = await this.#send('ask', { session: this.#session, commands: [`kdel ${middle} ${NO_SUCH_KEY}`] });
+      if (reply.ended) this.#throwEnded(reply.ended);
+      if (refusal(reply.answers[0]) === 'N5') high = middle - 1;
+      else low = middle;
+    }
+    return low;
+  }
+
+  async #send(name, body) {
+    this.#sent += body.commands.length;
+    const reply = await this.#request(name, body);
+    this.#session = reply.session;
+    return reply;
+  }
+
+  #throwEnded({ status, text }) {
+    this.#held = null;
+    const how = status < 0 ? `by the signal ${-status}` : `with status ${status}`;
+    const said = firstPart(text);
+    throw new ProgramEnded(`the program ended ${how}${said ? `: ${said}` : ''}`);
+  }
+}
+
+/** What a program said at its end, without its usage, which follows after a blank line. */
+function firstPart(text) {
+  return text.split('\n\n')[0];
+}

@@ -1,0 +1,94 @@
+"""A small program that speaks as `chipbench debug` does, for the tests of the bridge. It has no machine: what it answers about a
+step says only what it was asked, and which lines and events it holds.
+
+Beside the commands of the program it takes `die N` (ends with status N and a word on standard error), `hang`, and `slow N` (an
+answer of N bytes).
+"""
+
+from __future__ import annotations
+
+import sys
+import time
+
+HELP = "Usage: chipbench debug [OPTIONS] [SOURCE]\n\n  --rate <N>\n  --seed <N>\n  --tape <HEX>\n"
+WORDS_HELP = "Commands:\n  debug    Answers a script\n  dis      Prints a source of an image\n"
+
+
+def answer(command: str, lines: list[str], events: dict[tuple[int, int], str]) -> str:
+    word, _, rest = command.partition(" ")
+    if word in ("ins", "rep", "del"):
+        number, _, text = rest.partition(" ")
+        place = int(number) - 1
+        if not 0 <= place < len(lines) + (word == "ins"):
+            return "no N1\n"
+        if len(text) > 200:
+            return "no N2\n"
+        lines[place : place + (word != "ins")] = [] if word == "del" else [text]
+        return "ok\n"
+    if word in ("kins", "krep", "kdel"):
+        step, key, *down = rest.split()
+        at = (int(step), int(key))
+        if at[0] > 5000:
+            return "no N5\n"
+        if at[1] > 15:
+            return "no N6\n"
+        if (at in events) == (word == "kins"):
+            return "no N7\n" if word == "kins" else "no N8\n"
+        if word == "kdel":
+            del events[at]
+        else:
+            events[at] = down[0]
+        return "ok\n"
+    if word == "list":
+        return "".join(f"{place:4} 0200 {'':13}{line}\n" for place, line in enumerate(lines, 1)) + ".\n"
+    if word in ("syms", "faults", "screen", "dis"):
+        return {"screen": "low\n", "dis": "0200 00e0 CLS\n"}.get(word, "") + ".\n"
+    if word == "regs":
+        return f"v {rest} {len(lines)} {len(events)}\npc 0200 i 0000 dt 00 st 00 draws 0 low run\nflags stack\n"
+    if word == "image":
+        return "".join(lines).encode("latin-1").hex() + "\n"
+    if word == "mem":
+        return "\n" if rest.endswith(" 0") else "00\n"
+    if word == "slow":
+        return "a" * int(rest) + "\n"
+    return "no C1\n"
+
+
+def debug(words: list[str]) -> int:
+    lines = []
+    for word in words:
+        if not word.startswith("--"):
+            with open(word, encoding="latin-1", newline="") as file:
+                lines = file.read().removesuffix("\n").split("\n")
+    if any(len(line) > 200 for line in lines):
+        sys.stdout.write("no O1\n")
+        return 1
+    events: dict[tuple[int, int], str] = {}
+    for raw in sys.stdin.buffer:
+        command = raw.decode("latin-1").rstrip("\n")
+        if command.startswith("die "):
+            sys.stderr.write("chipbench: out of memory\n")
+            return int(command[4:])
+        if command == "hang":
+            time.sleep(60)
+        sys.stdout.buffer.write(answer(command, lines, events).encode("latin-1"))
+        sys.stdout.buffer.flush()
+    return 0
+
+
+def main(words: list[str]) -> int:
+    if words == ["debug", "--help"]:
+        sys.stdout.write(HELP)
+        return 0
+    if words == ["--help"]:
+        sys.stdout.write(WORDS_HELP)
+        return 0
+    if words[:1] == ["dis"]:
+        with open(words[1], "rb") as file:
+            sys.stdout.write(f"DW #{file.read().hex()}\n")
+        return 0
+    return debug(words[1:]) if words[:1] == ["debug"] else 2
+
+
+if __name__ == "__main__":
+    sys.exit(main(sys.argv[1:]))

@@ -1,0 +1,402 @@
+"""The bridge: its care about who asks, and that it passes commands and answers through."""
+
+from __future__ import annotations
+
+import http.client
+import json
+import os
+import re
+import stat
+import subprocess
+import sys
+import tempfile
+import threading
+import unittest
+from pathlib import Path
+from typing import Any
+
+FOLDER = Path(__file__).resolve().parent
+TOP = FOLDER.parent.parent
+sys.path.insert(0, str(FOLDER.parent))
+
+import bridge  # noqa: E402
+
+PROVED = TOP / "crates/chipbench/out/chipbench"
+
+
+def fake_program(folder: Path) -> str:
+    """The fake program as one that can be run."""
+    place = folder / "chipbench"
+    place.write_text(f'#!/bin/sh\nexec "{sys.executable}" -I -S "{FOLDER / "fake_program.py"}" "$@"\n')
+    place.chmod(0o755)
+    return str(place)
+
+
+class Running(unittest.TestCase):
+    """A bridge over the fake program, with a server and a file of its own."""
+
+    text = b"LD V0, 5\nCLS\n"
+
+    def setUp(self) -> None:
+        folder = tempfile.TemporaryDirectory()
+        self.addCleanup(folder.cleanup)
+        self.folder = Path(folder.name)
+        self.path = self.folder / "game.asm"
+        self.path.write_bytes(self.text)
+        self.bridge = bridge.Bridge(self.program(), bridge.SourceFile(self.path), {"rate": "7"})
+        self.addCleanup(self.bridge.close)
+        self.server = bridge.Server(0, self.bridge)
+        thread = threading.Thread(target=self.server.serve_forever, kwargs={"poll_interval": 0.01}, daemon=True)
+        thread.start()
+        self.addCleanup(thread.join)
+        self.addCleanup(self.server.server_close)
+        self.addCleanup(self.server.shutdown)
+        self.host = f"127.0.0.1:{self.server.server_port}"
+
+    def program(self) -> str:
+        return fake_program(self.folder)
+
+    def send(self, method: str, name: str, body: bytes | None = None, **headers: str) -> tuple[int, dict[str, str], bytes]:
+        connection = http.client.HTTPConnection("127.0.0.1", self.server.server_port, timeout=10)
+        try:
+            path = name if name.startswith("/") else f"/{self.server.token}/{name}"
+            connection.request(method, path, body, {key.replace("_", "-"): value for key, value in headers.items()})
+            reply = connection.getresponse()
+            return reply.status, dict(reply.getheaders()), reply.read()
+        finally:
+            connection.close()
+
+    def ask(self, name: str, **body: Any) -> tuple[int, Any]:
+        status, _, content = self.send("POST", name, json.dumps(body).encode(), Origin=f"http://{self.host}")
+        return status, json.loads(content) if status == 200 else content.decode()
+
+    def good(self, name: str, **body: Any) -> Any:
+        status, reply = self.ask(name, **body)
+        self.assertEqual(status, 200, reply)
+        return reply
+
+    def opened(self, source: str = "CLS\n", commands: list[str] | None = None) -> Any:
+        return self.good("open", source=source, options={}, commands=commands or [])
+
+
+class Care(Running):
+    """Only the page reaches the bridge."""
+
+    def test_page_and_its_policy(self) -> None:
+        status, headers, content = self.send("GET", "")
+        self.assertEqual(status, 200)
+        self.assertIn(b"<title>chipbench</title>", content)
+        policy = headers["Content-Security-Policy"]
+        self.assertIn("default-src 'none'", policy)
+        for word in ("unsafe", "http:", "https:", "*", "data:"):
+            self.assertNotIn(word, policy)
+        self.assertEqual(headers["X-Content-Type-Options"], "nosniff")
+        self.assertEqual(headers["Cache-Control"], "no-store")
+        self.assertEqual(headers["Referrer-Policy"], "no-referrer")
+        self.assertNotIn("Access-Control-Allow-Origin", headers)
+
+    def test_files_have_their_kinds(self) -> None:
+        for name, kind in (("main.mjs", "text/javascript"), ("style.css", "text/css"), ("icon.svg", "image/svg+xml")):
+            status, headers, _ = self.send("GET", name)
+            self.assertEqual(status, 200)
+            self.assertTrue(headers["Content-Type"].startswith(kind))
+
+    def test_no_other_files(self) -> None:
+        for name in ("../bridge.py", "bridge.py", "..%2fbridge.py", "static/main.mjs", "main.mjs/", "/etc/passwd"):
+            self.assertIn(self.send("GET", name)[0], (403, 404), name)
+
+    def test_wrong_token(self) -> None:
+        for path in ("/", "/main.mjs", "/x/main.mjs", f"/{self.server.token[:-1]}/", f"/{self.server.token}x/", "/%00/", "/%C3%A9/", "//"):
+            self.assertEqual(self.send("GET", path)[0], 403, path)
+        self.assertEqual(self.send("POST", "/x/about", b"{}", Origin=f"http://{self.host}")[0], 403)
+
+    def test_wrong_host(self) -> None:
+        for host in ("example.org", "127.0.0.1", f"127.0.0.1.example.org:{self.server.server_port}", f"[::1]:{self.server.server_port}"):
+            self.assertEqual(self.send("GET", "", Host=host)[0], 403, host)
+            self.assertEqual(self.send("POST", "about", b"{}", Host=host, Origin=f"http://{self.host}")[0], 403, host)
+
+    def test_wrong_or_missing_origin(self) -> None:
+        for origin in ("http://example.org", "null", f"https://{self.host}", f"http://{self.host}.example.org", "http://127.0.0.1"):
+            self.assertEqual(self.send("POST", "about", b"{}", Origin=origin)[0], 403, origin)
+        self.assertEqual(self.send("POST", "about", b"{}")[0], 403)
+
+    def test_another_site(self) -> None:
+        for site in ("cross-site", "same-site"):
+            self.assertEqual(self.send("GET", "", Sec_Fetch_Site=site)[0], 403)
+
+    def test_only_loopback(self) -> None:
+        self.assertEqual(self.server.server_address[0], "127.0.0.1")
+
+    def test_length_of_requests(self) -> None:
+        origin = f"http://{self.host}"
+        self.assertEqual(self.send("POST", "about", None, Origin=origin, Content_Length="99999999")[0], 413)
+        self.assertEqual(self.send("POST", "about", None, Origin=origin, Content_Length="-1")[0], 411)
+        self.assertEqual(self.send("POST", "about", None, Origin=origin, Content_Length="x")[0], 411)
+        self.assertEqual(self.send("POST", "about", b"2\r\n{}\r\n0\r\n\r\n", Origin=origin, Transfer_Encoding="chunked", Content_Length="2")[0], 411)
+
+    def test_bodies_that_are_no_object(self) -> None:
+        origin = f"http://{self.host}"
+        for body in (b"", b"[]", b"1", b"{", b"\xff", b"[" * 100_000):
+            self.assertEqual(self.send("POST", "about", body, Origin=origin)[0], 400, body[:10])
+
+    def test_unknown_requests(self) -> None:
+        for name in ("close", "_close", "__init__", "", "about/x"):
+            self.assertEqual(self.ask(name)[0], 404, name)
+        self.assertEqual(self.send("PUT", "about", b"{}", Origin=f"http://{self.host}")[0], 501)
+
+    def test_commands_that_would_break_the_count(self) -> None:
+        self.opened()
+        for commands in (["image\nimage"], [""], ["   "], ["\r"], [5], ["é€"], "image", None, ["image"] * (bridge.MAX_COMMANDS + 1)):
+            self.assertEqual(self.ask("ask", session=1, commands=commands)[0], 400)
+        self.assertEqual(self.good("ask", session=1, commands=["mem 0 0 1"])["answers"], ["00\n"])
+
+    def test_options(self) -> None:
+        for options in ({"rate": "1 --x"}, {"program": "x"}, {"tape": "--x"}, {"rate": 5}, {"profile": "../x"}, [], None):
+            self.assertEqual(self.ask("open", source="", options=options, commands=[])[0], 400, options)
+
+
+class PassingThrough(Running):
+    """Commands and answers, sessions, and a program that ends."""
+
+    def test_about(self) -> None:
+        about = self.good("about")
+        self.assertEqual(about["name"], "game.asm")
+        self.assertEqual(about["text"], "LD V0, 5\nCLS\n")
+        self.assertEqual(about["settings"], {"rate": "7"})
+        self.assertEqual(about["options"], ["rate", "tape", "seed"])
+        self.assertEqual(about["words"], ["dis"])
+
+    def test_each_command_has_its_answer(self) -> None:
+        commands = ["ins 1 .", "list", "regs 3", "nonsense", "mem 0 0 0", "screen 0", "dis 0 0 1", "del 9", "faults", "ins 1 ", "image"]
+        reply = self.opened("CLS\n", commands)
+        self.assertEqual(
+            reply["answers"],
+            [
+                "ok\n",
+                "   1 0200              .\n   2 0200              CLS\n.\n",
+                "v 3 2 0\npc 0200 i 0000 dt 00 st 00 draws 0 low run\nflags stack\n",
+                "no C1\n",
+                "\n",
+                "low\n.\n",
+                "0200 00e0 CLS\n.\n",
+                "no N1\n",
+                ".\n",
+                "ok\n",
+                "2e434c53\n",
+            ],
+        )
+
+    def test_bytes_stay(self) -> None:
+        text = "".join(chr(byte) for byte in range(256) if byte not in (10, 13))[:200]
+        self.opened("", [f"rep 1 {text}"])
+        self.assertEqual(self.good("ask", session=1, commands=["image"])["answers"], [text.encode("latin-1").hex() + "\n"])
+
+    def test_many_and_long_answers(self) -> None:
+        self.opened()
+        commands = [f"regs {step}" for step in range(20_000)]
+        answers = self.good("ask", session=1, commands=commands)["answers"]
+        self.assertEqual([answer.split(" ")[1] for answer in answers], [str(step) for step in range(20_000)])
+        reply = self.good("ask", session=1, commands=["slow 3000000", "mem 0 0 1"])
+        self.assertEqual([len(answer) for answer in reply["answers"]], [3_000_001, 3])
+
+    def test_sessions(self) -> None:
+        self.assertEqual(self.ask("ask", session=0, commands=["image"])[0], 409)
+        self.assertEqual(self.opened()["session"], 1)
+        self.assertEqual(self.opened()["session"], 2)
+        self.assertEqual(self.ask("ask", session=1, commands=["image"])[0], 409)
+        self.assertEqual(self.ask("ask", commands=["image"])[0], 409)
+        self.assertEqual(self.good("ask", session=2, commands=["image"])["session"], 2)
+        self.assertEqual(self.ask("open", session=1, source="", options={}, commands=[])[0], 409)
+        self.assertEqual(self.good("open", session=2, source="", options={}, commands=[])["session"], 3)
+
+    def test_a_program_that_ends(self) -> None:
+        self.opened()
+        reply = self.good("ask", session=1, commands=["mem 0 0 1", "die 4", "image"])
+        self.assertEqual(reply["answers"], ["00\n"])
+        self.assertEqual(reply["ended"], {"status": 4, "text": "chipbench: out of memory"})
+        self.assertIn("ended", self.good("ask", session=1, commands=["image"]))
+        self.assertEqual(self.opened("A\n", ["image"])["answers"], ["41\n"])
+
+    def test_a_source_that_does_not_open(self) -> None:
+        reply = self.good("open", source="x" * 201, options={}, commands=["image"])
+        self.assertEqual(reply["ended"], {"status": 1, "text": "no O1"})
+
+    def test_a_program_that_hangs(self) -> None:
+        self.addCleanup(setattr, bridge, "ANSWER_SECONDS", bridge.ANSWER_SECONDS)
+        self.opened()
+        bridge.ANSWER_SECONDS = 0.2
+        reply = self.good("ask", session=1, commands=["mem 0 0 1", "hang"])
+        self.assertEqual(reply["answers"], ["00\n"])
+        self.assertLess(reply["ended"]["status"], 0)
+
+    def test_a_program_that_cannot_run(self) -> None:
+        with self.assertRaises(OSError):
+            bridge.Bridge(str(self.folder / "none"), bridge.SourceFile(None), {})
+
+    def test_words(self) -> None:
+        self.assertEqual(self.good("word", word="dis", image="\x60\x05")["output"], "DW #6005\n")
+        self.assertEqual(self.good("word", word="explain", code="F4")["status"], 2)
+        self.assertEqual(self.ask("word", word="explain", code="-h")[0], 400)
+        self.assertEqual(self.ask("word", word="asm", image="")[0], 400)
+
+    def test_many_windows_at_once(self) -> None:
+        self.opened()
+        wrong: list[Any] = []
+
+        def ask_often(number: int) -> None:
+            for step in range(20):
+                answers = self.good("ask", session=1, commands=[f"regs {number * 100 + step}", "image"])["answers"]
+                if not answers[0].startswith(f"v {number * 100 + step} "):
+                    wrong.append(answers)
+
+        threads = [threading.Thread(target=ask_often, args=(number,)) for number in range(8)]
+        for thread in threads:
+            thread.start()
+        for thread in threads:
+            thread.join()
+        self.assertEqual(wrong, [])
+
+
+class Saving(Running):
+    """The file is written only when asked, and never over what another program wrote."""
+
+    def digest(self) -> str:
+        return self.good("about")["digest"]
+
+    def test_nothing_else_writes(self) -> None:
+        self.opened("XYZ\n", ["ins 1 A"])
+        self.assertEqual(self.path.read_bytes(), self.text)
+
+    def test_save(self) -> None:
+        self.path.chmod(0o640)
+        reply = self.good("save", text="CLS\r\n\xff", known=self.digest())
+        self.assertEqual(reply["saved"], True)
+        self.assertEqual(self.path.read_bytes(), b"CLS\r\n\xff")
+        self.assertEqual(stat.S_IMODE(self.path.stat().st_mode), 0o640)
+        self.assertEqual(reply["digest"], self.digest())
+        self.assertEqual(sorted(os.listdir(self.folder)), ["chipbench", "game.asm"])
+
+    def test_a_changed_file_stays(self) -> None:
+        known = self.digest()
+        self.path.write_bytes(b"OTHER\n")
+        reply = self.good("save", text="MINE\n", known=known)
+        self.assertEqual(reply["saved"], False)
+        self.assertEqual(self.path.read_bytes(), b"OTHER\n")
+        self.assertEqual(self.good("save", text="MINE\n", known=reply["digest"])["saved"], True)
+        self.assertEqual(self.path.read_bytes(), b"MINE\n")
+
+    def test_a_new_file(self) -> None:
+        self.path.unlink()
+        self.assertIsNone(self.good("about")["text"])
+        self.assertEqual(self.good("save", text="CLS\n", known=None)["saved"], True)
+        self.assertEqual(self.path.read_bytes(), b"CLS\n")
+
+    def test_a_link_stays(self) -> None:
+        other = self.folder / "other.asm"
+        self.path.rename(other)
+        self.path.symlink_to(other)
+        self.assertEqual(self.good("save", text="CLS\n", known=self.digest())["saved"], True)
+        self.assertTrue(self.path.is_symlink())
+        self.assertEqual(other.read_bytes(), b"CLS\n")
+
+    def test_a_file_that_cannot_be_written(self) -> None:
+        known = self.digest()
+        self.bridge._file.path = self.folder / "none" / "game.asm"
+        status, reason = self.ask("save", text="CLS\n", known=None)
+        self.assertEqual(status, 500)
+        self.assertIn("can't be written", reason)
+        self.assertIsNotNone(known)
+
+    def test_without_a_file(self) -> None:
+        self.bridge._file.path = None
+        self.assertEqual(self.ask("save", text="CLS\n", known=None)[0], 409)
+        self.assertIsNone(self.good("about")["name"])
+
+
+class TheScript(unittest.TestCase):
+    """`chipbench-page`, as it is started and ended."""
+
+    def setUp(self) -> None:
+        folder = tempfile.TemporaryDirectory()
+        self.addCleanup(folder.cleanup)
+        self.folder = Path(folder.name)
+
+    def run_script(self, *words: str) -> subprocess.CompletedProcess[str]:
+        return subprocess.run([str(TOP / "chipbench-page"), *words], capture_output=True, text=True, timeout=20)
+
+    def test_start_and_end(self) -> None:
+        path = self.folder / "game.asm"
+        path.write_text("CLS\n")
+        words = ["--program", fake_program(self.folder), "--no-open", "--port", "0", "--seed", "7", str(path)]
+        environment = {**os.environ, "TMPDIR": str(self.folder)}
+        with subprocess.Popen(
+            [str(TOP / "chipbench-page"), *words], stdout=subprocess.PIPE, stderr=subprocess.DEVNULL, text=True, env=environment
+        ) as running:
+            assert running.stdout is not None
+            address = running.stdout.readline().split()[1]
+            port, token = re.fullmatch(r"http://127\.0\.0\.1:(\d+)/([\w-]{32})/", address).groups()  # type: ignore[union-attr]
+            connection = http.client.HTTPConnection("127.0.0.1", int(port), timeout=10)
+            connection.request("POST", f"/{token}/about", b"{}", {"Origin": f"http://127.0.0.1:{port}"})
+            about = json.loads(connection.getresponse().read())
+            connection.close()
+            self.assertEqual((about["name"], about["settings"]), ("game.asm", {"seed": "7"}))
+            running.terminate()
+            self.assertEqual(running.wait(10), 0)
+        self.assertEqual(sorted(os.listdir(self.folder)), ["chipbench", "game.asm"])
+
+    def test_faulty_words(self) -> None:
+        program = fake_program(self.folder)
+        for words, status in (
+            (["--program", program, "--rate", "x"], 2),
+            (["--program", program, "--nothing"], 2),
+            (["--program", program, "a.asm", "b.asm"], 2),
+            (["--program", program, str(self.folder)], 2),
+            (["--program", str(self.folder / "none")], 3),
+            (["--help"], 0),
+        ):
+            self.assertEqual(self.run_script(*words).returncode, status, words)
+
+
+class AnswerEnds(unittest.TestCase):
+    """Where an answer ends, however it is cut."""
+
+    def test_cut_at_every_byte(self) -> None:
+        rows = [
+            (b"image", b"6005\n"),
+            (b"mem 0 0 0", b"\n"),
+            (b"regs 0", b"v 00\npc 0200\nflags stack\n"),
+            (b"regs 0", b"no Q1\n"),
+            (b"list", b".\n"),
+            (b"list", b"   1 0200              .\n.\n"),
+            (b"list", b"   1 0200              no\n   2 0200              .\n.\n"),
+            (b"screen 0", b"low\n.\n"),
+            (b"syms", b"NO 5 1\n.\n"),
+            (b"ins 1 list", b"ok\n"),
+            (b" image", b"no C1\n"),
+        ]
+        for command, answer in rows:
+            whole = b"ok\n" + answer + b"next\n"
+            for cut in range(len(whole) + 1):
+                found = bridge.answer_end(command, bytearray(whole[:cut]), 3)
+                self.assertEqual(found, 3 + len(answer) if cut >= 3 + len(answer) else -1, (command, cut))
+
+
+class TheProgram(Running):
+    """The proved program, where it is built."""
+
+    def program(self) -> str:
+        if not PROVED.exists():
+            self.skipTest("the program isn't built")
+        return str(PROVED)
+
+    def test_a_session(self) -> None:
+        source = "LD V0, 5\nLOOP: ADD V0, 1\nJP LOOP\n"
+        reply = self.opened(source, ["image", "regs 3", "syms", "list", "screen 3", "mem 3 #200 6", "dis 3 #202 1", "del 2", "image"])
+        self.assertEqual(reply["answers"][0], "600570011202\n")
+        self.assertEqual(reply["answers"][1].splitlines()[1], "pc 0202 i 0000 dt 00 st 00 draws 0 low run")
+        self.assertEqual(reply["answers"][2], "LOOP 514 2\n.\n")
+        self.assertEqual(reply["answers"][5:], ["600570011202\n", "0202 7001 ADD V0, #01\n.\n", "ok\n", "no Q1\n"])
+
+
+if __name__ == "__main__":
+    unittest.main()
