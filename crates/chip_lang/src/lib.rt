@@ -42,6 +42,3 @@ pub use crate::source_text::show;
 pub use crate::token::{Kind, Token, tokens};
 pub use crate::used_names::{agree_on, defines, uses};
 pub use crate::value::eval;
-
-#[cfg(test)]
-mod tests;

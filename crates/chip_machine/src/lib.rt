@@ -4,8 +4,6 @@
 mod digits;
 mod doubled;
 mod execute;
-#[cfg(test)]
-mod instruction_tests;
 mod keys;
 pub mod laws;
 pub mod limits;
@@ -13,14 +11,10 @@ pub mod machine;
 mod memory;
 mod processor;
 pub mod profile;
-#[cfg(test)]
-mod profile_tests;
 mod rows;
 mod screen;
 mod sprite;
 pub mod stop;
-#[cfg(test)]
-mod tests;
 pub mod touch;
 
 pub use machine::{Machine, StartError};

@@ -11,7 +11,6 @@
 --     Changes      the key events in the order of their steps, and what is known of the keys in a step
 --     History      what a replay is seen as, what it keeps, and what a question changes
 --     MachineFrame the frame law of the machine, in the form of the trait
---     Toy          the small machines of the tests
 pub mod Limits
 pub mod Frame
 pub mod Machine
@@ -23,4 +22,3 @@ pub mod Keys
 pub mod Changes
 pub mod History
 pub mod MachineFrame
-pub mod Toy

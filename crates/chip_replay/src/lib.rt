@@ -15,6 +15,3 @@ pub use law::patched_checkpoint;
 pub use limits::{KEYS, LAST_STEP, LEAST_SPACING, MOST_EVENTS, MOST_SPACING};
 pub use replay::{AtError, Replay};
 pub use traced::Traced;
-
-#[cfg(test)]
-mod tests;

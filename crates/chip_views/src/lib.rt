@@ -4,8 +4,6 @@
 mod dis;
 pub mod laws;
 mod picture;
-#[cfg(test)]
-mod tests;
 
 pub use dis::source_of_image;
 pub use picture::{Letters, screen_text};

@@ -1,6 +1,6 @@
 //! Each row of the instruction table, in a program of a few words.
 
-use crate::tests::{loaded, registers, run};
+use crate::machine::{loaded, registers, run};
 use std::alloc::Global;
 use std::process::Abort;
 use std::test::Fail;

@@ -3,17 +3,17 @@
 ghost use Rattle.chip_lang.specs.Value.{Symbols};
 ghost use Rattle.std.specs.FinMap as map;
 
-use crate::code::{Coded, encode};
-use crate::expr::Expr;
-use crate::fault::Fault;
-use crate::instr::{decode, word};
-use crate::line::{Body, Line, read_line};
-use crate::meter::Meter;
-use crate::names::Names;
-use crate::source_text::show;
-use crate::token::tokens;
-use crate::used_names::{agree_on, defines, uses};
-use crate::value::eval;
+use chip_lang::code::{Coded, encode};
+use chip_lang::expr::Expr;
+use chip_lang::fault::Fault;
+use chip_lang::instr::{decode, word};
+use chip_lang::line::{Body, Line, read_line};
+use chip_lang::meter::Meter;
+use chip_lang::names::Names;
+use chip_lang::show;
+use chip_lang::token::tokens;
+use chip_lang::used_names::{agree_on, defines, uses};
+use chip_lang::value::eval;
 use std::alloc::{AllocError, Global};
 use std::test::Fail;
 

@@ -2,11 +2,11 @@
 
 ghost use Rattle.std.specs.Prelude.{◌≡◌, IfOk};
 
-use crate::keys::{KeyFault, Keys};
-use crate::limits::{LAST_STEP, LEAST_SPACING, MEMORY, MOST_EVENTS, MOST_SPACING};
-use crate::replay::{AtError, Replay};
-use crate::traced::Traced;
-use chip_machine::touch::Touch;
+use chip_machine::Touch;
+use chip_machine::limits::MEMORY_BYTES;
+use chip_replay::{
+    AtError, KeyFault, Keys, LAST_STEP, LEAST_SPACING, MOST_EVENTS, MOST_SPACING, Replay, Traced,
+};
 use std::alloc::{AllocError, Global};
 use std::cell::Cell;
 use std::marker::Model;
@@ -25,7 +25,7 @@ struct Toy {
 impl Model for Toy {
     ghost use Rattle.std.specs.Prelude.{◌≡◌, length};
     ghost use Rattle.chip_replay.specs.Limits.{memory_size};
-    ghost use Rattle.chip_replay.specs.Toy.{ToyState, toy_code};
+    ghost use Rattle.chip_layer_tests.specs.Toy.{ToyState, toy_code};
 
     ghost Value = { ToyState };
 
@@ -40,11 +40,11 @@ impl Toy {
     ghost use Rattle.std.specs.Prelude.{replicate};
 
     fn new(alloc: Global) -> Result<Toy, AllocError>
-        ensures { IfOk result (λ toy. toy ≡ record { bytes = replicate MEMORY 0; counter = 0; sum = 0 }) }
+        ensures { IfOk result (λ toy. toy ≡ record { bytes = replicate MEMORY_BYTES 0; counter = 0; sum = 0 }) }
     {
         Ok(Toy {
             alloc,
-            bytes: vec![in alloc; 0; MEMORY]?,
+            bytes: vec![in alloc; 0; MEMORY_BYTES]?,
             counter: 0,
             sum: 0,
         })
@@ -57,7 +57,7 @@ impl Toy {
 
 impl Traced for Toy {
     ghost use Rattle.std.specs.Prelude.{refl};
-    ghost use Rattle.chip_replay.specs.Toy.{IsToy, toy_memory, toy_with_memory, toy_touches, toy_after, toy_framed};
+    ghost use Rattle.chip_layer_tests.specs.Toy.{IsToy, toy_memory, toy_with_memory, toy_touches, toy_after, toy_framed};
 
     ghost step_of = { toy_after };
 
@@ -84,7 +84,7 @@ impl Traced for Toy {
     ghost frame_law = { toy_framed };
 
     fn step(&mut self, _keys: u16, _tick: bool, touch: &mut Touch) {
-        let at = self.counter % MEMORY as u64;
+        let at = self.counter % MEMORY_BYTES as u64;
         touch.clear();
         touch.add(at as u16);
         self.sum = self.sum.wrapping_add(self.bytes[at as usize]);
@@ -113,7 +113,7 @@ struct Counting {
 }
 
 impl Model for Counting {
-    ghost use Rattle.chip_replay.specs.Toy.{ToyState, toy_code};
+    ghost use Rattle.chip_layer_tests.specs.Toy.{ToyState, toy_code};
 
     ghost Value = { ToyState };
 
@@ -124,7 +124,7 @@ impl Model for Counting {
 
 impl Traced for Counting {
     ghost use Rattle.std.specs.Prelude.{refl};
-    ghost use Rattle.chip_replay.specs.Toy.{IsToy, toy_memory, toy_with_memory, toy_touches, toy_after, toy_framed};
+    ghost use Rattle.chip_layer_tests.specs.Toy.{IsToy, toy_memory, toy_with_memory, toy_touches, toy_after, toy_framed};
 
     ghost step_of = { toy_after };
 

@@ -1,10 +1,13 @@
 //! Worked programs: each is given by its words, with the state after so many steps.
 
-use crate::{Machine, Profile, StartError, Stop, Touch};
 use chip_lang::number::Reg;
+use chip_machine::{Machine, Profile, StartError, Stop, Touch};
 use std::alloc::Global;
 use std::process::Abort;
 use std::test::Fail;
+
+mod instructions;
+mod profiles;
 
 /// A machine with a program at 512 and the tape a5 5a.
 pub(crate) fn loaded(alloc: Global, words: &[u16]) -> Result<Machine, Fail> {

@@ -1,9 +1,9 @@
 use Rattle.std.proofs.Common.{ℕ, drop, ap, ◌∙◌}
 use Rattle.std.proofs.lemmas.List.{drop-replicate}
-use Rattle.chip_replay.specs.Toy.{ToyState}
+use Rattle.chip_layer_tests.specs.Toy.{ToyState}
 use Rattle.chip_replay.specs.History.{History}
 use Rattle.chip_replay.specs.Limits.{image_start, memory_size}
-use Rattle.chip_replay.proofs.tests.keeps_everything_at_an_empty_change.Goals as goal
+use Rattle.chip_layer_tests.proofs.replay.follows_an_image_by_its_changed_range.Goals as goal
 
 pub image_changed_within-requires-clause-old_is_there : goal.image_changed_within-requires-clause-old_is_there
 image_changed_within-requires-clause-old_is_there g c =

@@ -1,7 +1,7 @@
 use Rattle.std.specs.Prelude.{◌↔◌, Contains}
 use Rattle.std.proofs.Common.{subst}
-use Rattle.chip_replay.specs.Toy.{ToyState, toy_touches}
-use Rattle.chip_replay.proofs.tests.CountingTraced.step.Goals as goal
+use Rattle.chip_layer_tests.specs.Toy.{ToyState, toy_touches}
+use Rattle.chip_layer_tests.proofs.replay.CountingTraced.step.Goals as goal
 
 pub returns-clause-touched : goal.returns-clause-touched
 returns-clause-touched c = λ at.

@@ -1,8 +1,8 @@
 //! What the two profiles make of the same program, by the table of the formats.
 
-use crate::profile::PROFILES;
-use crate::tests::{loaded_as, registers, row_bits, run};
-use crate::{Machine, Profile, Touch};
+use crate::machine::{loaded_as, registers, row_bits, run};
+use chip_machine::profile::PROFILES;
+use chip_machine::{Machine, Profile, Touch};
 use std::alloc::Global;
 use std::process::Abort;
 use std::test::Fail;
