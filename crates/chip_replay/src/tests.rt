@@ -3,7 +3,7 @@
 ghost use Rattle.std.specs.Prelude.{◌≡◌, IfOk};
 
 use crate::keys::{KeyFault, Keys};
-use crate::limits::{LAST_STEP, LEAST_SPACING, MEMORY, MOST_EVENTS, MOST_SPACING};
+use crate::limits::{LAST_STEP, LEAST_SPACING, MEMORY_BYTES, MOST_EVENTS, MOST_SPACING};
 use crate::replay::{AtError, Replay};
 use crate::traced::Traced;
 use chip_machine::touch::Touch;
@@ -40,11 +40,11 @@ impl Toy {
     ghost use Rattle.std.specs.Prelude.{replicate};
 
     fn new(alloc: Global) -> Result<Toy, AllocError>
-        ensures { IfOk result (λ toy. toy ≡ record { bytes = replicate MEMORY 0; counter = 0; sum = 0 }) }
+        ensures { IfOk result (λ toy. toy ≡ record { bytes = replicate MEMORY_BYTES 0; counter = 0; sum = 0 }) }
     {
         Ok(Toy {
             alloc,
-            bytes: vec![in alloc; 0; MEMORY]?,
+            bytes: vec![in alloc; 0; MEMORY_BYTES]?,
             counter: 0,
             sum: 0,
         })
@@ -84,7 +84,7 @@ impl Traced for Toy {
     ghost frame_law = { toy_framed };
 
     fn step(&mut self, _keys: u16, _tick: bool, touch: &mut Touch) {
-        let at = self.counter % MEMORY as u64;
+        let at = self.counter % MEMORY_BYTES as u64;
         touch.clear();
         touch.add(at as u16);
         self.sum = self.sum.wrapping_add(self.bytes[at as usize]);
