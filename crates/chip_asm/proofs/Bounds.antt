@@ -1,7 +1,8 @@
--- Each line stands in memory, from address 512 on.
+-- Each line stands in memory, from where the image begins on.
 use Rattle.std.proofs.Common.{◌≡◌, ℕ, suc, zero, ◌+◌, ◌<◌, ◌≤◌, ℤ, pos, negsuc, Bool, true, false, cond, ◌&&◌, List, [], ◌∷◌, ◌++◌, reverse, length, get_or, fold, refl, sym, ◌∙◌, arith, Option, Some, None, is_none, Result, Ok, Err, unsigned_abs}
 use Rattle.std.specs.Prelude.{int_lt}
 use Rattle.std.proofs.lemmas.Bool.{ltb-false}
+use Rattle.chip_lang.specs.declared.limits.TheConstants.{IMAGE_START, MEMORY_BYTES}
 use Rattle.chip_lang.specs.declared.fault.Fault.{Fault}
 use Rattle.chip_lang.specs.Line.{Body, org, Reading, bad, read}
 use Rattle.chip_asm.specs.Layout.{Placed, place, placed, body_of, is_live, first_fault, full_size, symbols, is_aligning, address, value_at, value_or_zero, is_accepted, is_org_body, fault_of_value, is_backwards, is_past_end, is_negative_space, is_misplaced, is_redefinition}
@@ -12,18 +13,18 @@ use Rattle.chip_asm.proofs.Placing.{onto}
 
 -- what an accepted line leaves room for
 record Fits (here : ℕ) (body : Body) (value : ℤ) (size : ℕ) : Type 0 where
-  high : here + size ≤ 4096
-  next_low : 512 ≤ cond (is_org_body body) (unsigned_abs value) (here + size)
-  next_high : cond (is_org_body body) (unsigned_abs value) (here + size) ≤ 4096
+  high : here + size ≤ MEMORY_BYTES
+  next_low : IMAGE_START ≤ cond (is_org_body body) (unsigned_abs value) (here + size)
+  next_high : cond (is_org_body body) (unsigned_abs value) (here + size) ≤ MEMORY_BYTES
 
-org-range : (here : ℕ) (v : ℤ) → int_lt v (pos here) ≡ false → int_lt (pos 4096) v ≡ false → (here ≤ unsigned_abs v) × (unsigned_abs v ≤ 4096)
-org-range here (pos n) a b = (ltb-false n here a, ltb-false 4096 n b)
+org-range : (here : ℕ) (v : ℤ) → int_lt v (pos here) ≡ false → int_lt (pos MEMORY_BYTES) v ≡ false → (here ≤ unsigned_abs v) × (unsigned_abs v ≤ MEMORY_BYTES)
+org-range here (pos n) a b = (ltb-false n here a, ltb-false MEMORY_BYTES n b)
 org-range here (negsuc n) a b = cc
 
-fits-by : (a : Bool) (here : ℕ) (body : Body) (v : ℤ) → 512 ≤ here → here ≤ 4096 → is_backwards here body v ≡ false → is_past_end a here body v ≡ false → Fits here body v (full_size a here body v)
+fits-by : (a : Bool) (here : ℕ) (body : Body) (v : ℤ) → IMAGE_START ≤ here → here ≤ MEMORY_BYTES → is_backwards here body v ≡ false → is_past_end a here body v ≡ false → Fits here body v (full_size a here body v)
 fits-by true here (org e) v low top b p = let r = org-range here v b p in record { high = omega arith; next_low = (let k = r.0 in omega arith); next_high = r.1 }
 fits-by false here (org e) v low top b p = let r = org-range here v b p in record { high = omega arith; next_low = (let k = r.0 in omega arith); next_high = r.1 }
-fits-by a here body v low top b p = let k = ltb-false 4096 (here + full_size a here body v) p in record { high = k; next_low = omega arith; next_high = k }
+fits-by a here body v low top b p = let k = ltb-false MEMORY_BYTES (here + full_size a here body v) p in record { high = k; next_low = omega arith; next_high = k }
 
 no_fault : {A : Type 0} (b : Bool) (f : A) (rest : Option A) → cond b (Some f) rest ≡ None → (b ≡ false) × (rest ≡ None)
 no_fault true f rest e = cc
@@ -67,15 +68,15 @@ stands before line = record { here = refl; size = refl; fits = λ e. live-fits b
 
 -- within memory
 abbrev pub IsWithinMemory : Placed → Type 0
-IsWithinMemory p = (512 ≤ p.here) × (p.here + p.size ≤ 4096) × (is_accepted p ≡ false → p.size ≡ 0)
+IsWithinMemory p = (IMAGE_START ≤ p.here) × (p.here + p.size ≤ MEMORY_BYTES) × (is_accepted p ≡ false → p.size ≡ 0)
 
 abbrev AreWithin : List Placed → Type 0
 AreWithin [] = Unit {0}
 AreWithin (p ∷ before) = IsWithinMemory p × AreWithin before
 
 record Room (before : List Placed) : Type 0 where
-  low : 512 ≤ address before
-  high : address before ≤ 4096
+  low : IMAGE_START ≤ address before
+  high : address before ≤ MEMORY_BYTES
   lines : AreWithin before
 
 room-by : (before : List Placed) (p : Placed) (b : Bool) → is_accepted p ≡ b → Stands before p → Room before → Room (p ∷ before)
@@ -132,10 +133,10 @@ room : (lines : List Reading) → Room (placed lines)
 unfolding placed
 room lines = room-fold [] lines no_lines
 
-pub end-low : (lines : List Reading) → 512 ≤ address (placed lines)
+pub end-low : (lines : List Reading) → IMAGE_START ≤ address (placed lines)
 end-low lines = (room lines).low
 
-pub end-high : (lines : List Reading) → address (placed lines) ≤ 4096
+pub end-high : (lines : List Reading) → address (placed lines) ≤ MEMORY_BYTES
 end-high lines = (room lines).high
 
 within-push : (xs : List Placed) (p : Placed) → AreWithin xs → IsWithinMemory p → AreWithin (xs ++ p ∷ [])

@@ -7,6 +7,7 @@ use Rattle.std.proofs.lemmas.Bool.Decides.{nat_tests}
 use Rattle.std.proofs.lemmas.List.Elements.{All-from_get_or, All-push}
 use Rattle.std.proofs.lemmas.List.Splits.{slice_split_first, slice_split_none}
 use Rattle.std.proofs.lemmas.List.Sums.{fails_before_first}
+use Rattle.chip_asm.specs.declared.limits.TheConstants.{LINE_BYTES, MOST_LINES}
 use Rattle.chip_asm.specs.declared.refusal.OpenError.TheVariants.{LineTooLong, TooManyLines}
 use Rattle.chip_asm.specs.Lines.{lines_of, is_long, fault_of_lines, open_fault, is_newline, first_text}
 
@@ -90,7 +91,7 @@ short-before (x ∷ xs) ys h =
     let first : is_long x ≡ false = h 0 x (omega arith) in
     rw first (let k = short-before xs ys (rest-short x xs h) in omega arith)
 
-pub opens : (source : List ℕ) (texts : List (List ℕ)) → texts ≡ lines_of source → AllShort texts → length texts ≤ 4000 → open_fault source ≡ None
+pub opens : (source : List ℕ) (texts : List (List ℕ)) → texts ≡ lines_of source → AllShort texts → length texts ≤ MOST_LINES → open_fault source ≡ None
 opens source texts e short few =
     let none : position_or_len is_long texts ≡ length texts = whole texts short in
     rw (← e, none) (by (length texts) few)
@@ -101,23 +102,23 @@ opens source texts e short few =
         let first : is_long x ≡ false = h 0 x (omega arith) in
         rw first (let k = whole xs (rest-short x xs h) in omega arith)
 
-    by : (n : ℕ) → n ≤ 4000 → fault_of_lines n n ≡ None
+    by : (n : ℕ) → n ≤ MOST_LINES → fault_of_lines n n ≡ None
     by n h = grind (arith, nat_tests)
 
-pub too-long : (source : List ℕ) (texts more : List (List ℕ)) (t : List ℕ) → texts ++ t ∷ more ≡ lines_of source → AllShort texts → is_long t ≡ true → length texts < 4000 → open_fault source ≡ Some (LineTooLong (length texts + 1))
+pub too-long : (source : List ℕ) (texts more : List (List ℕ)) (t : List ℕ) → texts ++ t ∷ more ≡ lines_of source → AllShort texts → is_long t ≡ true → length texts < MOST_LINES → open_fault source ≡ Some (LineTooLong (length texts + 1))
 too-long source texts more t e short long few =
     let first : position_or_len is_long (texts ++ t ∷ more) ≡ length texts = short-before texts (t ∷ more) short ∙ (rw long (let z : length texts + 0 ≡ length texts = omega arith in z)) in
     rw (← e, first, length-append texts (t ∷ more)) (by (length texts) (length more) few)
   where
-    by : (n m : ℕ) → n < 4000 → fault_of_lines n (n + suc m) ≡ Some (LineTooLong (n + 1))
+    by : (n m : ℕ) → n < MOST_LINES → fault_of_lines n (n + suc m) ≡ Some (LineTooLong (n + 1))
     by n m h = grind (arith, nat_tests)
 
-pub too-many : (source : List ℕ) (texts more : List (List ℕ)) (t : List ℕ) → texts ++ t ∷ more ≡ lines_of source → AllShort texts → length texts ≡ 4000 → open_fault source ≡ Some TooManyLines
+pub too-many : (source : List ℕ) (texts more : List (List ℕ)) (t : List ℕ) → texts ++ t ∷ more ≡ lines_of source → AllShort texts → length texts ≡ MOST_LINES → open_fault source ≡ Some TooManyLines
 too-many source texts more t e short many =
     let first = short-before texts (t ∷ more) short in
     rw (← e, first, length-append texts (t ∷ more), many) (by (position_or_len is_long (t ∷ more)) (length more))
   where
-    by : (n m : ℕ) → fault_of_lines (4000 + n) (4000 + suc m) ≡ Some TooManyLines
+    by : (n m : ℕ) → fault_of_lines (MOST_LINES + n) (MOST_LINES + suc m) ≡ Some TooManyLines
     by n m = grind (arith, nat_tests)
 
 pub some-bytes : (bytes : List ℕ) → (length bytes == 0) ≡ false → 0 < length bytes
@@ -128,10 +129,10 @@ pub no-lines : (bytes : List ℕ) → (length bytes == 0) ≡ true → lines_of 
 no-lines [] e = refl
 no-lines (x ∷ xs) e = absurd (let n : length (x ∷ xs) ≡ 0 = eqb-true (length (x ∷ xs)) 0 e in omega arith)
 
-pub long-is : (t : List ℕ) → 200 < length t → is_long t ≡ true
+pub long-is : (t : List ℕ) → LINE_BYTES < length t → is_long t ≡ true
 long-is t h = grind (arith, nat_tests)
 
-pub short-is : (t : List ℕ) → length t ≤ 200 → is_long t ≡ false
+pub short-is : (t : List ℕ) → length t ≤ LINE_BYTES → is_long t ≡ false
 short-is t h = grind (arith, nat_tests)
 
 pub short-push : (texts : List (List ℕ)) (t : List ℕ) → AllShort texts → is_long t ≡ false → AllShort (texts ++ t ∷ [])

@@ -5,6 +5,7 @@ use Rattle.std.proofs.lemmas.Bool.{and_from, eqb-true, eqb-false, false≢true}
 use Rattle.std.proofs.lemmas.Bool.Decides.{nat_tests}
 use Rattle.std.proofs.lemmas.List.{get_or-map, length-map, get_or-set_same, get_or-set_other}
 use Rattle.std.proofs.lemmas.Option.{slice_get-get_or, slice_get-map}
+use Rattle.chip_lang.specs.declared.limits.TheConstants.{IMAGE_START}
 use Rattle.chip_lang.specs.declared.fault.Fault.{Fault}
 use Rattle.chip_lang.specs.declared.code.Coded.{Coded}
 use Rattle.chip_lang.specs.Line.{Body, db, dw, da, code, ifdef, ifund, Reading}
@@ -28,31 +29,31 @@ use Rattle.chip_asm.proofs.Bounds.{IsWithinMemory, within-memory}
 -- writing a line, byte by byte
 
 abbrev pub after_bytes : (here index : ℕ) (bytes old : List ℕ) → ℕ → ℕ
-after_bytes here index bytes old k = cond (leb here (512 + k) && ltb (512 + k) (here + index)) (get_or bytes (512 + k - here) 0) (get_or old k 0)
+after_bytes here index bytes old k = cond (leb here (IMAGE_START + k) && ltb (IMAGE_START + k) (here + index)) (get_or bytes (IMAGE_START + k - here) 0) (get_or old k 0)
 
-same_test : (here index k : ℕ) → 512 ≤ here → (k ≡ here - 512 + index → ⊥) → (leb here (512 + k) && ltb (512 + k) (here + index)) ≡ (leb here (512 + k) && ltb (512 + k) (here + (index + 1)))
+same_test : (here index k : ℕ) → IMAGE_START ≤ here → (k ≡ here - IMAGE_START + index → ⊥) → (leb here (IMAGE_START + k) && ltb (IMAGE_START + k) (here + index)) ≡ (leb here (IMAGE_START + k) && ltb (IMAGE_START + k) (here + (index + 1)))
 same_test here index k low n = grind (arith, nat_tests)
 
-at_test : (here index k : ℕ) → 512 ≤ here → k ≡ here - 512 + index → (leb here (512 + k) && ltb (512 + k) (here + (index + 1))) ≡ true
+at_test : (here index k : ℕ) → IMAGE_START ≤ here → k ≡ here - IMAGE_START + index → (leb here (IMAGE_START + k) && ltb (IMAGE_START + k) (here + (index + 1))) ≡ true
 at_test here index k low e = grind (arith, nat_tests)
 
-write-by : (image bytes old : List ℕ) (here index byte k : ℕ) (here_now : Bool) → eqb k (here - 512 + index) ≡ here_now → 512 ≤ here → here - 512 + index < length image → byte ≡ get_or bytes index 0
+write-by : (image bytes old : List ℕ) (here index byte k : ℕ) (here_now : Bool) → eqb k (here - IMAGE_START + index) ≡ here_now → IMAGE_START ≤ here → here - IMAGE_START + index < length image → byte ≡ get_or bytes index 0
     → get_or image k 0 ≡ after_bytes here index bytes old k
-    → get_or (set image (here - 512 + index) byte) k 0 ≡ after_bytes here (index + 1) bytes old k
+    → get_or (set image (here - IMAGE_START + index) byte) k 0 ≡ after_bytes here (index + 1) bytes old k
 write-by image bytes old here index byte k true e low inside is h =
-    let at : k ≡ here - 512 + index = eqb-true k (here - 512 + index) e in
-    let place : 512 + k - here ≡ index = omega arith in
-    rw (at_test here index k low at, place) (ap (λ n. get_or (set image (here - 512 + index) byte) n 0) at ∙ get_or-set_same image (here - 512 + index) byte 0 inside ∙ is)
+    let at : k ≡ here - IMAGE_START + index = eqb-true k (here - IMAGE_START + index) e in
+    let place : IMAGE_START + k - here ≡ index = omega arith in
+    rw (at_test here index k low at, place) (ap (λ n. get_or (set image (here - IMAGE_START + index) byte) n 0) at ∙ get_or-set_same image (here - IMAGE_START + index) byte 0 inside ∙ is)
 write-by image bytes old here index byte k false e low inside is h =
-    let other = eqb-false k (here - 512 + index) e in
-    get_or-set_other image (here - 512 + index) k byte 0 other ∙ h ∙ ap (λ b. cond b (get_or bytes (512 + k - here) 0) (get_or old k 0)) (same_test here index k low other)
+    let other = eqb-false k (here - IMAGE_START + index) e in
+    get_or-set_other image (here - IMAGE_START + index) k byte 0 other ∙ h ∙ ap (λ b. cond b (get_or bytes (IMAGE_START + k - here) 0) (get_or old k 0)) (same_test here index k low other)
 
-pub write-more : (image bytes old : List ℕ) (here index byte : ℕ) → 512 ≤ here → here - 512 + index < length image → byte ≡ get_or bytes index 0
+pub write-more : (image bytes old : List ℕ) (here index byte : ℕ) → IMAGE_START ≤ here → here - IMAGE_START + index < length image → byte ≡ get_or bytes index 0
     → ((k : ℕ) → get_or image k 0 ≡ after_bytes here index bytes old k)
-    → (k : ℕ) → get_or (set image (here - 512 + index) byte) k 0 ≡ after_bytes here (index + 1) bytes old k
-write-more image bytes old here index byte low inside is h k = write-by image bytes old here index byte k (eqb k (here - 512 + index)) refl low inside is (h k)
+    → (k : ℕ) → get_or (set image (here - IMAGE_START + index) byte) k 0 ≡ after_bytes here (index + 1) bytes old k
+write-more image bytes old here index byte low inside is h k = write-by image bytes old here index byte k (eqb k (here - IMAGE_START + index)) refl low inside is (h k)
 
-no_bytes : (here k : ℕ) → (leb here (512 + k) && ltb (512 + k) (here + 0)) ≡ false
+no_bytes : (here k : ℕ) → (leb here (IMAGE_START + k) && ltb (IMAGE_START + k) (here + 0)) ≡ false
 no_bytes here k = grind (arith, nat_tests)
 
 pub write-none : (image bytes : List ℕ) (here : ℕ) (k : ℕ) → get_or image k 0 ≡ after_bytes here 0 bytes image k

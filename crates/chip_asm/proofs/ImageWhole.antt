@@ -8,6 +8,7 @@ use Rattle.std.proofs.lemmas.List.Elements.{filter_map-append}
 use Rattle.std.proofs.lemmas.List.FromFn.{get_or-map-range_with_len, length-range_with_len}
 use Rattle.std.proofs.lemmas.Grind.{same_number_lists}
 use Rattle.std.proofs.lemmas.Option.{get_or_from_slice_get, slice_get_past, slice_get_within}
+use Rattle.chip_lang.specs.declared.limits.TheConstants.{IMAGE_BYTES, IMAGE_START}
 use Rattle.chip_lang.specs.declared.fault.Fault.{Fault}
 use Rattle.chip_lang.specs.Line.{Reading}
 use Rattle.chip_asm.specs.declared.kept_line.KeptLine.{KeptLine}
@@ -56,15 +57,15 @@ covers-none at x e = rw e (none at x.here)
 
 -- one line more in the image
 pub image-more : (lines : List KeptLine) (q : Placement) (kept : KeptLine) (i : ℕ) (a : About lines q kept i)
-    → (old new : ℕ) (part : List Placed) (k : ℕ) → new ≡ cond (leb q.here (512 + k) && ltb (512 + k) (q.here + q.size)) (get_or (kept_bytes kept) (512 + k - q.here) 0) old
-    → old ≡ byte_among (placed (readings_in lines)) part (512 + k) → new ≡ byte_among (placed (readings_in lines)) (a.x ∷ part) (512 + k)
+    → (old new : ℕ) (part : List Placed) (k : ℕ) → new ≡ cond (leb q.here (IMAGE_START + k) && ltb (IMAGE_START + k) (q.here + q.size)) (get_or (kept_bytes kept) (IMAGE_START + k - q.here) 0) old
+    → old ≡ byte_among (placed (readings_in lines)) part (IMAGE_START + k) → new ≡ byte_among (placed (readings_in lines)) (a.x ∷ part) (IMAGE_START + k)
 image-more lines q kept i a old new part k e h = e ∙ (rw a.placement (by (bytes-kept lines q kept i a)))
   where
     by : (kept_bytes kept ≡ bytes_in_code (code_under (placed (readings_in lines)) a.x)) ⊎ (a.x.size ≡ 0)
-        → cond (covers (512 + k) a.x) (get_or (kept_bytes kept) (512 + k - a.x.here) 0) old ≡ byte_among (placed (readings_in lines)) (a.x ∷ part) (512 + k)
-    by (inl same) = rw (same, h) (sym (byte-by (placed (readings_in lines)) part a.x (512 + k) (covers (512 + k) a.x) refl))
+        → cond (covers (IMAGE_START + k) a.x) (get_or (kept_bytes kept) (IMAGE_START + k - a.x.here) 0) old ≡ byte_among (placed (readings_in lines)) (a.x ∷ part) (IMAGE_START + k)
+    by (inl same) = rw (same, h) (sym (byte-by (placed (readings_in lines)) part a.x (IMAGE_START + k) (covers (IMAGE_START + k) a.x) refl))
     by (inr none) =
-        let not_covered : covers (512 + k) a.x ≡ false = covers-none (512 + k) a.x none in
+        let not_covered : covers (IMAGE_START + k) a.x ≡ false = covers-none (IMAGE_START + k) a.x none in
         rw not_covered h
 
 pub part-more : (lines : List KeptLine) (q : Placement) (kept : KeptLine) (i : ℕ) (a : About lines q kept i)
@@ -87,7 +88,7 @@ byte-whole lines n at h =
     let whole : take n (reverse (placed (readings_in lines))) ≡ reverse (placed (readings_in lines)) = take_all n (reverse (placed (readings_in lines))) (omega (arith, length-numbered (readings_in lines), length-map lines reading_in)) in
     ap (λ part. byte_among (placed (readings_in lines)) (reverse part) at) whole ∙ ap (λ part. byte_among (placed (readings_in lines)) part at) (reverse-reverse (placed (readings_in lines)))
 
-pub byte-none : (lines : List KeptLine) (k : ℕ) → 0 ≡ byte_among (placed (readings_in lines)) (reverse (take 0 (reverse (placed (readings_in lines))))) (512 + k)
+pub byte-none : (lines : List KeptLine) (k : ℕ) → 0 ≡ byte_among (placed (readings_in lines)) (reverse (take 0 (reverse (placed (readings_in lines))))) (IMAGE_START + k)
 byte-none lines k = refl
 
 -- where the faults are counted
@@ -103,17 +104,17 @@ pub faulty-image : (lines : List Reading) (count : ℕ) → count ≡ length (fa
 faulty-image lines count e h = some-fault (faults_of_lines lines) (bytes_of_lines (placed lines)) (λ n. h (e ∙ n))
 
 -- the whole image
-pub image-made : (lines : List KeptLine) (image : List ℕ) (size : ℕ) → size ≤ length image → size ≡ address (placed (readings_in lines)) - 512
-    → 0 ≡ length (faults_of_lines (readings_in lines)) → ((k : ℕ) → k < 3584 → get_or image k 0 ≡ byte_at (placed (readings_in lines)) (512 + k))
+pub image-made : (lines : List KeptLine) (image : List ℕ) (size : ℕ) → size ≤ length image → size ≡ address (placed (readings_in lines)) - IMAGE_START
+    → 0 ≡ length (faults_of_lines (readings_in lines)) → ((k : ℕ) → k < IMAGE_BYTES → get_or image k 0 ≡ byte_at (placed (readings_in lines)) (IMAGE_START + k))
     → Some (take size image) ≡ image_of_lines (readings_in lines)
 image-made lines image size long is_size counted h =
     let none = no-faults (faults_of_lines (readings_in lines)) (sym counted) in
     let high = end-high (readings_in lines) in
     let count : length (take size image) ≡ size = omega (arith, length-take size image) in
-    rw (none, ← is_size) (ap Some (same_number_lists (take size image) (map (byte_at (placed (readings_in lines))) (range_with_len 512 size)) (count ∙ sym (length-made (byte_at (placed (readings_in lines))) 512 size))
+    rw (none, ← is_size) (ap Some (same_number_lists (take size image) (map (byte_at (placed (readings_in lines))) (range_with_len IMAGE_START size)) (count ∙ sym (length-made (byte_at (placed (readings_in lines))) IMAGE_START size))
     (λ k inside.
     let below : k < size = omega (arith, count) in
-    get_or-take size image k 0 below ∙ h k (omega arith) ∙ sym (get_or-map-range_with_len (byte_at (placed (readings_in lines))) 512 size k (512 + k) 0 below refl))))
+    get_or-take size image k 0 below ∙ h k (omega arith) ∙ sym (get_or-map-range_with_len (byte_at (placed (readings_in lines))) IMAGE_START size k (IMAGE_START + k) 0 below refl))))
   where
     length-made : (f : ℕ → ℕ) (a n : ℕ) → length (map f (range_with_len a n)) ≡ n
     length-made f a n = length-map (range_with_len a n) f ∙ length-range_with_len a n

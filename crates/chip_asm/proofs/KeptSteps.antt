@@ -1,5 +1,7 @@
 -- What is kept of a source as a whole.
 use Rattle.std.proofs.Common.{◌≡◌, ℕ, zero, suc, ◌+◌, ◌<◌, ◌≤◌, List, [], ◌∷◌, map, length, get_or, refl, ◌∙◌, ap, arith, vec_len}
+use Rattle.chip_asm.specs.declared.limits.TheConstants.{MOST_LINES}
+use Rattle.chip_lang.specs.declared.limits.TheConstants.{IMAGE_BYTES, IMAGE_START}
 use Rattle.chip_lang.specs.Line.{reading_of}
 use Rattle.chip_asm.specs.declared.kept.Kept.{Kept}
 use Rattle.chip_asm.specs.declared.kept_line.KeptLine.{KeptLine}
@@ -10,22 +12,22 @@ use Rattle.chip_asm.specs.Program.{byte_at, faults_of_lines}
 use Rattle.chip_asm.specs.Kept.{AreCurrent, IsKept}
 use Rattle.chip_asm.proofs.Bounds.{end-high}
 
-no-lines : (lines : List KeptLine) → length lines ≡ 0 → address (placed (readings_in lines)) ≡ 512
+no-lines : (lines : List KeptLine) → length lines ≡ 0 → address (placed (readings_in lines)) ≡ IMAGE_START
 unfolding placed address
 no-lines [] e = refl
 no-lines (l ∷ lines) e = absurd (omega arith)
 
 -- the kept image reaches up to the address after the last line
-pub image-room : (kept : Kept) → IsKept kept → kept.layout.end ≤ vec_len kept.image + 512
+pub image-room : (kept : Kept) → IsKept kept → kept.layout.end ≤ vec_len kept.image + IMAGE_START
 image-room kept k = by (length kept.lines.items) refl
   where
-    by : (n : ℕ) → length kept.lines.items ≡ n → kept.layout.end ≤ vec_len kept.image + 512
+    by : (n : ℕ) → length kept.lines.items ≡ n → kept.layout.end ≤ vec_len kept.image + IMAGE_START
     by zero e = omega (arith, k.laid_out.end_address, no-lines kept.lines.items e)
     by (suc n) e = omega (arith, k.laid_out.end_address, end-high (readings_in kept.lines.items), k.long (omega arith))
 
 -- what is kept stays right where all but the room for more stays
 pub kept-same : (old new : Kept) → IsKept old → new.lines.items ≡ old.lines.items → new.layout ≡ old.layout → new.faults ≡ old.faults
-    → ((index : ℕ) → get_or new.image.items index 0 ≡ get_or old.image.items index 0) → vec_len new.image ≤ 3584 → (vec_len old.image ≡ 3584 → vec_len new.image ≡ 3584)
+    → ((index : ℕ) → get_or new.image.items index 0 ≡ get_or old.image.items index 0) → vec_len new.image ≤ IMAGE_BYTES → (vec_len old.image ≡ IMAGE_BYTES → vec_len new.image ≡ IMAGE_BYTES)
     → IsKept new
 kept-same old new k lines layout faults image short long = record {
   few = rw lines k.few;
@@ -39,9 +41,9 @@ kept-same old new k lines layout faults image short long = record {
 }
 
 -- what was made for these lines is right for them
-pub kept-by : (kept : Kept) (lines : List KeptLine) → kept.lines.items ≡ lines → length lines ≤ 4000 → readings_in lines ≡ map reading_of (texts_in lines)
+pub kept-by : (kept : Kept) (lines : List KeptLine) → kept.lines.items ≡ lines → length lines ≤ MOST_LINES → readings_in lines ≡ map reading_of (texts_in lines)
     → IsLayoutOf kept.layout (readings_in lines) → AreCurrent lines
-    → ((index : ℕ) → index < 3584 → get_or kept.image.items index 0 ≡ byte_at (placed (readings_in lines)) (512 + index)) → vec_len kept.image ≡ 3584
+    → ((index : ℕ) → index < IMAGE_BYTES → get_or kept.image.items index 0 ≡ byte_at (placed (readings_in lines)) (IMAGE_START + index)) → vec_len kept.image ≡ IMAGE_BYTES
     → kept.faults ≡ length (faults_of_lines (readings_in lines)) → IsKept kept
 kept-by kept lines e few are_read laid_out current imaged long counted = record {
   few = rw e few;

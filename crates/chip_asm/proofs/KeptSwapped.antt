@@ -6,6 +6,7 @@ use Rattle.std.specs.Option.{option_map_or}
 use Rattle.std.proofs.lemmas.Option.{slice_get-get_or}
 use Rattle.std.proofs.lemmas.Bool.{eqb-true, eqb-false}
 use Rattle.std.proofs.lemmas.List.{length-map, map-set, get_or-map, get_or-set_same, get_or-set_other}
+use Rattle.chip_lang.specs.declared.limits.TheConstants.{IMAGE_START, MEMORY_BYTES}
 use Rattle.chip_lang.specs.Line.{Reading, reading_of}
 use Rattle.chip_lang.specs.declared.code.Coded.{Coded}
 use Rattle.chip_lang.specs.Code.{own_bytes, coded, code_of}
@@ -92,8 +93,8 @@ some-same x y e = cc
 -- the parts of a line and of the one in its place
 pub record Exchange (lines : List KeptLine) (at : ℕ) (q : Placement) (was added : KeptLine) : Type 0 where
   pub swap : Swapped (readings_in lines) at (reading_in added)
-  pub low : 512 ≤ q.here
-  pub high : q.here + q.size ≤ 4096
+  pub low : IMAGE_START ≤ q.here
+  pub high : q.here + q.size ≤ MEMORY_BYTES
   pub counted : length (faults_of_lines (readings_in (set lines at added))) + count_of (kept_fault q was) ≡ length (faults_of_lines (readings_in lines)) + count_of (kept_fault q added)
   pub byte : (address : ℕ) → byte_at (placed (readings_in (set lines at added))) address
       ≡ cond (leb q.here address && ltb address (q.here + q.size)) (get_or (kept_bytes added) (address - q.here) 0) (byte_at (placed (readings_in lines)) address)
@@ -151,7 +152,7 @@ exchange lines at layout q was added laid current inside is_q is_was effect code
 pub kept-swapped : (old new : Kept) (at : ℕ) (q : Placement) (was added : KeptLine) → IsKept old → at < length old.lines.items → new.lines.items ≡ set old.lines.items at added
     → new.layout ≡ old.layout → HasCodeAt (readings_in old.lines.items) at added → reading_in added ≡ reading_of added.text
     → (x : Exchange old.lines.items at q was added)
-    → ((index : ℕ) → get_or new.image.items index 0 ≡ cond (leb q.here (512 + index) && ltb (512 + index) (q.here + q.size)) (get_or (kept_bytes added) (512 + index - q.here) 0) (get_or old.image.items index 0))
+    → ((index : ℕ) → get_or new.image.items index 0 ≡ cond (leb q.here (IMAGE_START + index) && ltb (IMAGE_START + index) (q.here + q.size)) (get_or (kept_bytes added) (IMAGE_START + index - q.here) 0) (get_or old.image.items index 0))
     → vec_len new.image ≡ vec_len old.image → new.faults + count_of (kept_fault q was) ≡ old.faults + count_of (kept_fault q added) → IsKept new
 kept-swapped old new at q was added k inside lines layout code is_read x image long faults = record {
   few = rw lines (omega (arith, k.few, length-set old.lines.items at added));
@@ -160,9 +161,9 @@ kept-swapped old new at q was added k inside lines layout code is_read x image l
   current = rw lines (current-swapped old.lines.items at added x.swap inside code k.current);
   imaged = λ index h.
       image index
-      ∙ ap (cond (leb q.here (512 + index) && ltb (512 + index) (q.here + q.size)) (get_or (kept_bytes added) (512 + index - q.here) 0)) (k.imaged index h)
-      ∙ sym (x.byte (512 + index))
-      ∙ ap (λ ls. byte_at (placed (readings_in ls)) (512 + index)) (sym lines);
+      ∙ ap (cond (leb q.here (IMAGE_START + index) && ltb (IMAGE_START + index) (q.here + q.size)) (get_or (kept_bytes added) (IMAGE_START + index - q.here) 0)) (k.imaged index h)
+      ∙ sym (x.byte (IMAGE_START + index))
+      ∙ ap (λ ls. byte_at (placed (readings_in ls)) (IMAGE_START + index)) (sym lines);
   short = omega (arith, k.short);
   long = λ some. long ∙ k.long (omega arith);
   counted = (let c = x.counted in rw lines (omega (arith, k.counted, faults, c)));

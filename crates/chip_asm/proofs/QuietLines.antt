@@ -3,6 +3,7 @@ use Rattle.std.proofs.Common.{◌≡◌, ℕ, suc, ◌+◌, ℤ, pos, Bool, true
 use Rattle.std.specs.List.{list_all}
 use Rattle.std.specs.Option.{option_map_or}
 use Rattle.std.proofs.lemmas.Bool.{false≢true}
+use Rattle.chip_lang.specs.declared.limits.TheConstants.{MEMORY_BYTES}
 use Rattle.chip_lang.specs.declared.fault.Fault.{Fault}
 use Rattle.chip_lang.specs.declared.fault.Fault.TheVariants.{DefinedTwice, PastMemory}
 use Rattle.chip_lang.specs.Line.{Body, empty, equ, org, ds, db, dw, da, code, ifdef, ifund, else_line, endif, align, options, used, xref, Reading, bad, read}
@@ -53,7 +54,7 @@ record Plain (b : Body) : Type 0 where
   no_align : (accepted aligning : Bool) → next_aligning accepted aligning b ≡ aligning
   given : (here : ℕ) (value : ℤ) → value_given here value b ≡ pos here
   first : (before : List Placed) (label : Option Name) → first_fault before (read label b)
-      ≡ cond (is_redefinition (symbols before) label) (Some DefinedTwice) (cond (nat_lt 4096 (address before + full_size (is_aligning before) (address before) b (pos 0))) (Some PastMemory) None)
+      ≡ cond (is_redefinition (symbols before) label) (Some DefinedTwice) (cond (nat_lt MEMORY_BYTES (address before + full_size (is_aligning before) (address before) b (pos 0))) (Some PastMemory) None)
 
 plain : (b : Body) → is_plain b ≡ true → Plain b
 unfolding first_fault fault_of_value value_at

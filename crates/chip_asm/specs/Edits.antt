@@ -2,6 +2,7 @@
 -- places count from 0.
 use Rattle.std.specs.Prelude.{ℕ, ◌+◌, ◌-◌, ◌&&◌, ◌||◌, not, ◌==◌, Bool, List, nat_lt, nat_le, nat_eq, Option, Some, None, if◌then◌else◌}
 use Rattle.std.specs.List.{list_any}
+use Rattle.chip_asm.specs.declared.limits.TheConstants.{MOST_LINES}
 use Rattle.chip_asm.specs.declared.refusal.Refusal.{Refusal}
 use Rattle.chip_asm.specs.declared.refusal.Refusal.TheVariants.{NoSuchLine, TextTooLong, TooManyLines, LineBreak}
 use Rattle.chip_asm.specs.Lines.{is_long}
@@ -18,7 +19,7 @@ abbrev pub insert_refusal : ℕ → ℕ → List ℕ → Option Refusal
 insert_refusal count number text =
     if not (is_number_to (count + 1) number) then Some NoSuchLine
     else if is_long text then Some TextTooLong
-    else if nat_le 4000 count then Some TooManyLines
+    else if nat_le MOST_LINES count then Some TooManyLines
     else if has_line_break text then Some LineBreak
     else None
 

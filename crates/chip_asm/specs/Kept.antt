@@ -1,5 +1,7 @@
 -- What a source keeps beside the texts of its lines (own).
 use Rattle.std.specs.Prelude.{◌≡◌, ℕ, ◌+◌, ◌<◌, ◌≤◌, true, List, map, length, slice_index, slice_index_or, Option, None, unwrap_or, vec_len}
+use Rattle.chip_asm.specs.declared.limits.TheConstants.{MOST_LINES}
+use Rattle.chip_lang.specs.declared.limits.TheConstants.{IMAGE_BYTES, IMAGE_START}
 use Rattle.chip_lang.specs.declared.code.Coded.{Coded}
 use Rattle.chip_lang.specs.Line.{Reading, reading_of}
 use Rattle.chip_asm.specs.declared.kept_line.KeptLine.{KeptLine}
@@ -23,14 +25,14 @@ pub record HasCodeAt (lines : List Reading) (at : ℕ) (kept : KeptLine) : Type 
 
 -- what is kept is right for the texts
 pub record IsKept (kept : Kept) : Type 0 where
-  pub few : length kept.lines.items ≤ 4000
+  pub few : length kept.lines.items ≤ MOST_LINES
   pub are_read : readings_in kept.lines.items ≡ map reading_of (texts_in kept.lines.items)
   pub laid_out : IsLayoutOf kept.layout (readings_in kept.lines.items)
   pub current : AreCurrent kept.lines.items
   -- each byte is that at its address, also where a line has a fault; past the kept bytes they are zeros
-  pub imaged : (index : ℕ) → index < 3584 → slice_index kept.image.items index ≡ byte_at (placed (readings_in kept.lines.items)) (512 + index)
-  pub short : vec_len kept.image ≤ 3584
-  pub long : 0 < length kept.lines.items → vec_len kept.image ≡ 3584
+  pub imaged : (index : ℕ) → index < IMAGE_BYTES → slice_index kept.image.items index ≡ byte_at (placed (readings_in kept.lines.items)) (IMAGE_START + index)
+  pub short : vec_len kept.image ≤ IMAGE_BYTES
+  pub long : 0 < length kept.lines.items → vec_len kept.image ≡ IMAGE_BYTES
   pub counted : kept.faults ≡ length (faults_of_lines (readings_in kept.lines.items))
 
 -- the new codes stand in the place of the kept ones, and nothing else changed

@@ -4,6 +4,7 @@
 use Rattle.std.specs.Prelude.{ℕ, ◌+◌, ◌*◌, ◌%◌, ℤ, pos, unsigned_abs, int_lt, Bool, true, false, not, ◌&&◌, ◌||◌, List, [], ◌∷◌, reverse, map, length, Option, Some, None, is_some, is_none, Result, Ok, Err, if◌then◌else◌, nat_eq, nat_lt, nat_le, ◌==◌, fold, sum_by, count_by, filter, find, take_while, filter_map, option_map}
 use Rattle.std.specs.List.{list_any, list_all}
 use Rattle.std.specs.Option.{option_map_or}
+use Rattle.chip_lang.specs.declared.limits.TheConstants.{IMAGE_START, MEMORY_BYTES}
 use Rattle.chip_lang.specs.declared.fault.Fault.{Fault}
 use Rattle.chip_lang.specs.declared.fault.Fault.TheVariants.{DefinedTwice, OutOfRange, OrgBelowHere, PastMemory, StrayBranch}
 use Rattle.chip_lang.specs.Line.{Body, empty, equ, org, ds, db, dw, da, code, define, ifdef, ifund, else_line, endif, end_line, align, Reading, bad, read}
@@ -150,10 +151,10 @@ is_live before body =
 abbrev pub is_origin : Placed → Bool
 is_origin p = is_accepted p && is_org_body (body_of p.line)
 
--- the value of the last accepted ORG, or 512, and the sizes since
+-- the value of the last accepted ORG, or where the image stands, and the sizes since
 unfoldable pub address : List Placed → ℕ
 address before =
-    option_map_or (λ p. unsigned_abs p.value) (find is_origin before) 512
+    option_map_or (λ p. unsigned_abs p.value) (find is_origin before) IMAGE_START
     + sum_by (λ p. p.size) (take_while (λ p. not (is_origin p)) before)
 
 abbrev pub is_align_body : Body → Bool
@@ -222,8 +223,8 @@ is_backwards here (org e) value = int_lt value (pos here)
 is_backwards here _ value = false
 
 abbrev pub is_past_end : Bool → ℕ → Body → ℤ → Bool
-is_past_end aligning here (org e) value = int_lt (pos 4096) value
-is_past_end aligning here body value = nat_lt 4096 (here + full_size aligning here body value)
+is_past_end aligning here (org e) value = int_lt (pos MEMORY_BYTES) value
+is_past_end aligning here body value = nat_lt MEMORY_BYTES (here + full_size aligning here body value)
 
 unfoldable pub fault_of_value : Bool → ℕ → Body → Result ℤ Fault → Option Fault
 fault_of_value aligning here body (Err fault) = Some fault

@@ -2,6 +2,7 @@
 use Rattle.std.specs.Prelude.{ℕ, ◌+◌, ◌&&◌, ◌==◌, Bool, List, length, nat_lt, Option, Some, None, if◌then◌else◌}
 use Rattle.std.specs.List.{position_or_len, before_first}
 use Rattle.std.specs.Str.Lines.{lines, strip_carriage_return}
+use Rattle.chip_asm.specs.declared.limits.TheConstants.{LINE_BYTES, MOST_LINES}
 use Rattle.chip_asm.specs.declared.refusal.OpenError.{OpenError}
 use Rattle.chip_asm.specs.declared.refusal.OpenError.TheVariants.{LineTooLong, TooManyLines}
 
@@ -11,16 +12,16 @@ abbrev pub lines_of : List ℕ → List (List ℕ)
 lines_of bytes = lines bytes
 
 abbrev pub is_long : List ℕ → Bool
-is_long text = nat_lt 200 (length text)
+is_long text = nat_lt LINE_BYTES (length text)
 
 -- the fault of lines of which `first` is the index of the first that is too long, or their number where none is
 abbrev pub fault_of_lines : ℕ → ℕ → Option OpenError
 fault_of_lines first count =
-    if nat_lt first count && nat_lt first 4000 then Some (LineTooLong (first + 1))
-    else if nat_lt 4000 count then Some TooManyLines
+    if nat_lt first count && nat_lt first MOST_LINES then Some (LineTooLong (first + 1))
+    else if nat_lt MOST_LINES count then Some TooManyLines
     else None
 
--- a source opens to its lines, unless one of them is the 4,001st or is over 200 bytes: the first such line decides
+-- a source opens to its lines, unless one of them is one too many or too long: the first such line decides
 abbrev pub open_fault : List ℕ → Option OpenError
 open_fault source = fault_of_lines (position_or_len is_long (lines_of source)) (length (lines_of source))
 

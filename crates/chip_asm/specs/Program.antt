@@ -2,6 +2,7 @@
 use Rattle.std.specs.Prelude.{ℕ, ◌+◌, ◌-◌, Bool, not, ◌&&◌, List, [], ◌∷◌, reverse, map, Option, Some, None, is_some, Result, Ok, Err, if◌then◌else◌, nat_eq, nat_lt, nat_le, find, filter_map, option_map, option_and_then, slice_get, slice_index}
 use Rattle.std.specs.List.{list_any, range_with_len}
 use Rattle.std.specs.Option.{option_map_or}
+use Rattle.chip_lang.specs.declared.limits.TheConstants.{IMAGE_START}
 use Rattle.chip_lang.specs.declared.fault.Fault.{Fault}
 use Rattle.chip_lang.specs.declared.fault.Fault.TheVariants.{UnclosedIf}
 use Rattle.chip_lang.specs.Line.{Reading, reading_of}
@@ -60,9 +61,9 @@ covers at p = nat_le p.here at && nat_lt at (p.here + p.size)
 unfoldable pub byte_at : List Placed → ℕ → ℕ
 byte_at all at = option_map_or (λ p. slice_index (bytes_in_code (code_under all p)) (at - p.here)) (find (covers at) all) 0
 
--- the bytes from 512 up to the address after the last line
+-- the bytes from where the image stands up to the address after the last line
 abbrev pub bytes_of_lines : List Placed → List ℕ
-bytes_of_lines all = map (byte_at all) (range_with_len 512 (address all - 512))
+bytes_of_lines all = map (byte_at all) (range_with_len IMAGE_START (address all - IMAGE_START))
 
 abbrev pub unless_faulty : List (ℕ × Fault) → List ℕ → Option (List ℕ)
 unless_faulty [] bytes = Some bytes

@@ -9,7 +9,8 @@ ghost use Rattle.chip_asm.specs.Records.{readings_in, texts_in};
 ghost use Rattle.chip_asm.specs.declared.refusal.OpenError.{OpenError};
 
 use crate::kept_line::{KeptLine, read_kept};
-use crate::refusal::{MAX_LINES, MAX_TEXT, OpenError};
+use crate::limits::{LINE_BYTES, MOST_LINES};
+use crate::refusal::OpenError;
 use chip_lang::Meter;
 use std::alloc::{AllocError, Global};
 
@@ -77,7 +78,7 @@ fn push_line(
     Ok(())
 }
 
-/// Reads the lines of a source, in order, until one is over 200 bytes or the 4,001st.
+/// Reads the lines of a source, in order, until one is too long or one too many.
 pub(crate) fn read_lines(
     alloc: Global,
     meter: &mut Meter,
@@ -86,7 +87,7 @@ pub(crate) fn read_lines(
     requires { meter.old ≡ record { parsed = 0; encoded = 0 } }
     ensures ok { IfOk result (λ lines. (open_fault source.now ≡ None) × (texts_in lines.items ≡ lines_of source.now)) }
     ensures read { IfOk result (λ lines. readings_in lines.items ≡ map reading_of (texts_in lines.items)) }
-    ensures few { IfOk result (λ lines. length lines.items ≤ 4000) }
+    ensures few { IfOk result (λ lines. length lines.items ≤ MOST_LINES) }
     ensures parsed { IfOk result (λ lines. meter.new.parsed ≡ length lines.items) }
     ensures encoded { meter.new.encoded ≡ 0 }
     ensures err { IfErr result (λ e. (e ≡ OpenError.OutOfMemory) ⊎ (open_fault source.now ≡ Some e)) }
@@ -96,10 +97,10 @@ pub(crate) fn read_lines(
     while !rest.is_empty() {
         let end = line_length(rest);
         let text = first_text(rest, end);
-        if lines.len() == MAX_LINES {
+        if lines.len() == MOST_LINES {
             return Err(OpenError::TooManyLines);
         }
-        if text.len() > MAX_TEXT {
+        if text.len() > LINE_BYTES {
             return Err(OpenError::LineTooLong(lines.len() + 1));
         }
         push_line(alloc, meter, &mut lines, text)?;

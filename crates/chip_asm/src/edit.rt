@@ -4,6 +4,7 @@ ghost use Rattle.chip_asm.specs.Records.{IsPlaceWithin, lines_after, readings_in
 ghost use Rattle.chip_lang.specs.SeenLine.{seen_line};
 
 use crate::kept_line::KeptLine;
+use crate::limits::MOST_LINES;
 use chip_lang::Line;
 
 /// A change of one line; places count from 0.
@@ -55,7 +56,7 @@ pub(crate) fn line_after<'a>(lines: &'a [KeptLine], edit: &'a Edit, place: usize
 
 /// How many lines there are after the edit.
 pub(crate) fn count_after(count: usize, edit: &Edit) -> usize
-    requires { count < 4096 }
+    requires { count ≤ MOST_LINES }
     ensures { result ≡ count_after count edit.now }
 {
     match edit {
@@ -67,7 +68,7 @@ pub(crate) fn count_after(count: usize, edit: &Edit) -> usize
 
 /// Where the line at a place stood before the edit; none for the new line.
 pub(crate) fn place_before(edit: &Edit, place: usize) -> Option<usize>
-    requires { place < 4096 }
+    requires { place ≤ MOST_LINES }
     ensures { result ≡ place_before edit.now place }
 {
     match edit {

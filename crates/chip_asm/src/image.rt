@@ -11,11 +11,9 @@ use crate::kept_line::KeptLine;
 use crate::layout::Layout;
 use crate::placement::Placement;
 use crate::recode::has_code;
+use chip_lang::limits::{IMAGE_BYTES, IMAGE_START, MEMORY_BYTES};
 use chip_lang::{Coded, Fault};
 use std::alloc::{AllocError, Global};
-
-/// An image has no more bytes than this: from address 512 to the end of memory.
-pub(crate) const MAX_IMAGE: usize = 3584;
 
 /// The fault of a line, from what is kept of it.
 pub(crate) fn kept_fault(placement: &Placement, kept: &KeptLine) -> Option<Fault>
@@ -71,14 +69,14 @@ pub(crate) fn byte_or_zero(bytes: &[u8], index: usize) -> u8
 
 /// Writes the bytes of a line at its address, and zeros up to its size.
 pub(crate) fn write_line(image: &mut [u8], here: usize, size: usize, bytes: &[u8])
-    requires low { 512 ≤ here }
-    requires high { here + size ≤ length image.old + 512 }
-    requires memory { length image.old + 512 ≤ 4096 }
+    requires low { IMAGE_START ≤ here }
+    requires high { here + size ≤ length image.old + IMAGE_START }
+    requires memory { length image.old + IMAGE_START ≤ MEMORY_BYTES }
     ensures { (index : ℕ) → slice_index image.new index
-        ≡ (if nat_le here (512 + index) && nat_lt (512 + index) (here + size) then slice_index bytes.now (512 + index - here) else slice_index image.old index) }
+        ≡ (if nat_le here (IMAGE_START + index) && nat_lt (IMAGE_START + index) (here + size) then slice_index bytes.now (IMAGE_START + index - here) else slice_index image.old index) }
 {
     for index in 0..size {
-        image[here - 512 + index] = byte_or_zero(bytes, index);
+        image[here - IMAGE_START + index] = byte_or_zero(bytes, index);
     }
 }
 
@@ -93,15 +91,15 @@ pub(crate) fn clear(image: &mut [u8])
 
 /// Makes an image as long as one can be, by zeros at its end.
 pub(crate) fn fill_up(image: &mut Vec<u8>) -> Result<(), AllocError>
-    requires { vec_len image.old ≤ 3584 }
+    requires { vec_len image.old ≤ IMAGE_BYTES }
     ensures bytes { (index : ℕ) → slice_index image.new.items index ≡ slice_index image.old.items index }
-    ensures short { vec_len image.new ≤ 3584 }
-    ensures long { vec_len image.old ≡ 3584 → vec_len image.new ≡ 3584 }
-    ensures full { OnOk result (vec_len image.new ≡ 3584) }
+    ensures short { vec_len image.new ≤ IMAGE_BYTES }
+    ensures long { vec_len image.old ≡ IMAGE_BYTES → vec_len image.new ≡ IMAGE_BYTES }
+    ensures full { OnOk result (vec_len image.new ≡ IMAGE_BYTES) }
 {
     let count = image.len();
-    image.reserve(MAX_IMAGE - count)?;
-    for _index in count..MAX_IMAGE {
+    image.reserve(IMAGE_BYTES - count)?;
+    for _index in count..IMAGE_BYTES {
         image.push(0)?;
     }
     Ok(())
@@ -109,12 +107,12 @@ pub(crate) fn fill_up(image: &mut Vec<u8>) -> Result<(), AllocError>
 
 /// Writes the bytes of all lines into zeros. How many lines have a fault.
 pub(crate) fn write_lines(image: &mut [u8], lines: &[KeptLine], layout: &Layout) -> usize
-    requires long { length image.old ≡ 3584 }
+    requires long { length image.old ≡ IMAGE_BYTES }
     requires zeros { (index : ℕ) → slice_index image.old index ≡ 0 }
     requires laid_out { IsLayoutOf layout.now (readings_in lines.now) }
     requires current { AreCurrent lines.now }
     ensures counted { result ≡ length (faults_of_lines (readings_in lines.now)) }
-    ensures bytes { (index : ℕ) → index < 3584 → slice_index image.new index ≡ byte_at (placed (readings_in lines.now)) (512 + index) }
+    ensures bytes { (index : ℕ) → index < IMAGE_BYTES → slice_index image.new index ≡ byte_at (placed (readings_in lines.now)) (IMAGE_START + index) }
 {
     let mut faults = 0;
     for place in 0..lines.len() {

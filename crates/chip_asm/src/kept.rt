@@ -17,13 +17,13 @@ ghost use Rattle.chip_asm.specs.Kept.{AreCurrent, HasCodeAt, IsMerged, IsKept};
 use crate::changed::Changed;
 use crate::edit::{Edit, make_edit, replace_line};
 use crate::effect::has_same_effect;
-use crate::image::{
-    MAX_IMAGE, clear, count_of, fill_up, kept_bytes, kept_fault, write_line, write_lines,
-};
+use crate::image::{clear, count_of, fill_up, kept_bytes, kept_fault, write_line, write_lines};
 use crate::kept_line::{KeptLine, with_code};
 use crate::layout::Layout;
+use crate::limits::MOST_LINES;
 use crate::recode::{code_if_accepted, recode, write_codes};
 use chip_lang::laws::same_code;
+use chip_lang::limits::{IMAGE_BYTES, IMAGE_START};
 use chip_lang::{Coded, Line, Meter};
 use std::alloc::{AllocError, Global};
 
@@ -32,7 +32,7 @@ use std::alloc::{AllocError, Global};
 pub(crate) struct Kept {
     pub(crate) lines: Vec<KeptLine>,
     pub(crate) layout: Layout,
-    /// The byte at each address from 512 on, also where a line has a fault. Empty until there is a line.
+    /// The byte at each address from IMAGE_START on, also where a line has a fault. Empty until there is a line.
     pub(crate) image: Vec<u8>,
     /// How many lines have a fault.
     pub(crate) faults: usize,
@@ -65,11 +65,12 @@ impl Kept {
         meter: &mut Meter,
         lines: Vec<KeptLine>,
     ) -> Result<Self, AllocError>
-        requires few { length lines.items ≤ 4000 }
+        requires few { length lines.items ≤ MOST_LINES }
         requires are_read { readings_in lines.items ≡ map reading_of (texts_in lines.items) }
         ensures kept { IfOk result (λ kept. IsKept kept) }
         ensures texts { IfOk result (λ kept. texts_in kept.lines.items ≡ texts_in lines.items) }
         ensures encoded { meter.new.encoded ≤ meter.old.encoded + needs_count [] (readings_in lines.items) Some }
+        ensures not_lowered { meter.old.encoded ≤ meter.new.encoded }
         ensures parsed { meter.new.parsed ≡ meter.old.parsed }
     {
         let mut kept = Kept::new(alloc);
@@ -80,14 +81,14 @@ impl Kept {
         Ok(kept)
     }
 
-    /// The bytes from address 512 on; none where a line has a fault.
+    /// The bytes from `IMAGE_START` on; none where a line has a fault.
     pub(crate) fn image(&self) -> Option<&[u8]>
         requires { IsKept self.now }
         ensures value { option_copied result ≡ image_of_lines (readings_in self.now.lines.items) }
-        ensures fits { IfSome result (λ image. length image.now ≤ 3584) }
+        ensures fits { IfSome result (λ image. length image.now ≤ IMAGE_BYTES) }
     {
         if self.faults == 0 {
-            Some(&self.image[..self.layout.end - 512])
+            Some(&self.image[..self.layout.end - IMAGE_START])
         } else {
             None
         }
@@ -102,13 +103,14 @@ impl Kept {
     ) -> Result<Changed, AllocError>
         requires kept { IsKept self.old }
         requires within { IsPlaceWithin (vec_len self.old.lines) edit }
-        requires few { length (lines_after self.old.lines.items edit) ≤ 4000 }
+        requires few { length (lines_after self.old.lines.items edit) ≤ MOST_LINES }
         requires are_read { readings_in (lines_after self.old.lines.items edit) ≡ map reading_of (texts_in (lines_after self.old.lines.items edit)) }
         ensures ok { OnOk result (texts_in self.new.lines.items ≡ texts_in (lines_after self.old.lines.items edit)) }
         ensures err { OnErr result (texts_in self.new.lines.items ≡ texts_in self.old.lines.items) }
         ensures kept { IsKept self.new }
         ensures changed { IfOk result (λ changed. ChangesWithin changed.first changed.end (image_of_lines (readings_in self.old.lines.items)) (image_of_lines (readings_in self.new.lines.items))) }
         ensures encoded { meter.new.encoded ≤ meter.old.encoded + needs_count (readings_in self.old.lines.items) (readings_in (lines_after self.old.lines.items edit)) (place_before edit) }
+        ensures not_lowered { meter.old.encoded ≤ meter.new.encoded }
         ensures parsed { meter.new.parsed ≡ meter.old.parsed }
     {
         match edit {
@@ -150,6 +152,7 @@ impl Kept {
         ensures kept { IsKept self.new }
         ensures changed { IfOk result (λ changed. ChangesWithin changed.first changed.end (image_of_lines (readings_in self.old.lines.items)) (image_of_lines (readings_in self.new.lines.items))) }
         ensures encoded { meter.new.encoded ≤ meter.old.encoded + needs_count (readings_in self.old.lines.items) (slice_set (readings_in self.old.lines.items) at (reading_in added)) (before_replace at) }
+        ensures not_lowered { meter.old.encoded ≤ meter.new.encoded }
         ensures parsed { meter.new.parsed ≡ meter.old.parsed }
     {
         let accepted = self.layout.placements[at].is_accepted();
@@ -179,7 +182,7 @@ impl Kept {
             kept_bytes(&added),
         );
         replace_line(&mut self.lines, at, added);
-        let first = placement.here - 512;
+        let first = placement.here - IMAGE_START;
         Changed {
             first,
             end: first + placement.size,
@@ -195,13 +198,14 @@ impl Kept {
     ) -> Result<Changed, AllocError>
         requires kept { IsKept self.old }
         requires within { IsPlaceWithin (vec_len self.old.lines) edit }
-        requires few { length (lines_after self.old.lines.items edit) ≤ 4000 }
+        requires few { length (lines_after self.old.lines.items edit) ≤ MOST_LINES }
         requires are_read { readings_in (lines_after self.old.lines.items edit) ≡ map reading_of (texts_in (lines_after self.old.lines.items edit)) }
         ensures ok { OnOk result (texts_in self.new.lines.items ≡ texts_in (lines_after self.old.lines.items edit)) }
         ensures err { OnErr result (texts_in self.new.lines.items ≡ texts_in self.old.lines.items) }
         ensures kept { IsKept self.new }
         ensures changed { IfOk result (λ changed. ChangesWithin changed.first changed.end (image_of_lines (readings_in self.old.lines.items)) (image_of_lines (readings_in self.new.lines.items))) }
         ensures encoded { meter.new.encoded ≤ meter.old.encoded + needs_count (readings_in self.old.lines.items) (readings_in (lines_after self.old.lines.items edit)) (place_before edit) }
+        ensures not_lowered { meter.old.encoded ≤ meter.new.encoded }
         ensures parsed { meter.new.parsed ≡ meter.old.parsed }
     {
         let prepared = self.prepare(alloc, meter, &edit)?;
@@ -210,7 +214,7 @@ impl Kept {
         self.settle(prepared);
         Ok(Changed {
             first: 0,
-            end: MAX_IMAGE,
+            end: IMAGE_BYTES,
         })
     }
 
@@ -223,18 +227,19 @@ impl Kept {
         edit: &Edit,
     ) -> Result<Prepared, AllocError>
         requires within { IsPlaceWithin (vec_len self.old.lines) edit.now }
-        requires few { vec_len self.old.lines ≤ 4000 }
-        requires short { vec_len self.old.image ≤ 3584 }
+        requires few { vec_len self.old.lines ≤ MOST_LINES }
+        requires short { vec_len self.old.image ≤ IMAGE_BYTES }
         ensures lines { self.new.lines.items ≡ self.old.lines.items }
         ensures layout { self.new.layout ≡ self.old.layout }
         ensures faults { self.new.faults ≡ self.old.faults }
         ensures image { (index : ℕ) → slice_index self.new.image.items index ≡ slice_index self.old.image.items index }
-        ensures short { vec_len self.new.image ≤ 3584 }
-        ensures long { vec_len self.old.image ≡ 3584 → vec_len self.new.image ≡ 3584 }
-        ensures room { OnOk result ((vec_len self.new.lines < vec_capacity self.new.lines) × (vec_len self.new.image ≡ 3584)) }
+        ensures short { vec_len self.new.image ≤ IMAGE_BYTES }
+        ensures long { vec_len self.old.image ≡ IMAGE_BYTES → vec_len self.new.image ≡ IMAGE_BYTES }
+        ensures room { OnOk result ((vec_len self.new.lines < vec_capacity self.new.lines) × (vec_len self.new.image ≡ IMAGE_BYTES)) }
         ensures after { IfOk result (λ prepared. IsLayoutOf prepared.layout (readings_in (lines_after self.old.lines.items edit.now))) }
         ensures codes { (before : List Reading) → IsLayoutOf self.old.layout before → IfOk result (λ prepared. prepared.codes.items ≡ new_codes before (readings_in (lines_after self.old.lines.items edit.now)) (place_before edit.now)) }
         ensures encoded { (before : List Reading) → IsLayoutOf self.old.layout before → meter.new.encoded ≤ meter.old.encoded + needs_count before (readings_in (lines_after self.old.lines.items edit.now)) (place_before edit.now) }
+        ensures not_lowered { meter.old.encoded ≤ meter.new.encoded }
         ensures parsed { meter.new.parsed ≡ meter.old.parsed }
     {
         self.lines.reserve(1)?;
@@ -246,12 +251,12 @@ impl Kept {
 
     /// Puts in place what was prepared for these lines.
     fn settle(&mut self, prepared: Prepared)
-        requires few { length self.old.lines.items ≤ 4000 }
+        requires few { length self.old.lines.items ≤ MOST_LINES }
         requires are_read { readings_in self.old.lines.items ≡ map reading_of (texts_in self.old.lines.items) }
         requires laid_out { IsLayoutOf prepared.layout (readings_in self.old.lines.items) }
         requires count { length prepared.codes.items ≡ length self.old.lines.items }
         requires current { (lines : List KeptLine) → IsMerged self.old.lines.items prepared.codes.items lines → AreCurrent lines }
-        requires image { vec_len self.old.image ≡ 3584 }
+        requires image { vec_len self.old.image ≡ IMAGE_BYTES }
         ensures texts { texts_in self.new.lines.items ≡ texts_in self.old.lines.items }
         ensures kept { IsKept self.new }
     {

@@ -7,10 +7,12 @@ ghost use Rattle.chip_asm.specs.Records.{IsPlaceWithin, lines_after, readings_in
 use crate::block::Block;
 use crate::edit::{Edit, count_after, line_after};
 use crate::kept_line::KeptLine;
+use crate::limits::MOST_LINES;
 use crate::pass::Pass;
 use crate::placement::Placement;
 use crate::table::Table;
 use chip_lang::Fault;
+use chip_lang::limits::IMAGE_START;
 use std::alloc::{AllocError, Global};
 
 /// What the first pass finds: what holds of each line, the names, and the address after the last line.
@@ -76,14 +78,14 @@ impl Layout {
         Layout {
             placements: Vec::new(alloc),
             names: Table::new(alloc),
-            end: 512,
+            end: IMAGE_START,
         }
     }
 
     /// The layout of the lines after an edit.
     pub(crate) fn after(alloc: Global, lines: &[KeptLine], edit: &Edit) -> Result<Self, AllocError>
         requires within { IsPlaceWithin (length lines.now) edit.now }
-        requires few { length lines.now ≤ 4000 }
+        requires few { length lines.now ≤ MOST_LINES }
         ensures { IfOk result (λ layout. IsLayoutOf layout (readings_in (lines_after lines.now edit.now))) }
     {
         let mut pass = Pass::new(alloc);

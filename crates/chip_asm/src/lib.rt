@@ -10,6 +10,7 @@ mod image;
 mod kept;
 mod kept_line;
 mod layout;
+pub mod limits;
 mod listing;
 mod pass;
 mod placement;

@@ -4,10 +4,12 @@ ghost use Rattle.chip_asm.specs.Layout.{value_at, own_size, is_padded, full_size
 ghost use Rattle.chip_lang.specs.SeenLine.{seen_line, seen_body};
 ghost use Rattle.chip_lang.specs.Line.{Reading, empty as empty_body};
 ghost use Rattle.chip_lang.specs.Uses.{name_defined};
+ghost use Rattle.chip_lang.specs.declared.limits.TheConstants.{MEMORY_BYTES};
 
 use crate::block::{Block, all_hold, move_blocks};
 use crate::placement::{Placement, is_passed};
 use crate::table::{Symbol, Table};
+use chip_lang::limits::{IMAGE_START, MEMORY_BYTES};
 use chip_lang::{Body, Fault, Line, defines, eval};
 use std::alloc::{AllocError, Global};
 
@@ -19,7 +21,7 @@ pub(crate) struct Pass {
     pub(crate) ended: bool,
     pub(crate) blocks: Vec<Block>,
     pub(crate) names: Table,
-    ghost within: { here ≤ 4096 },
+    ghost within: { here ≤ MEMORY_BYTES },
 }
 
 /// The statement of a line; that of an unreadable one is the empty one, which is handed in.
@@ -81,7 +83,7 @@ impl Pass {
         ensures { Follows result [] }
     {
         Pass {
-            here: 512,
+            here: IMAGE_START,
             aligning: true,
             ended: false,
             blocks: Vec::new(alloc),
@@ -155,8 +157,8 @@ impl Pass {
         ensures { result ≡ is_past_end self.now.aligning self.now.here (seen_body body.now) value }
     {
         match body {
-            Body::Org(_) => value > 4096,
-            _ => self.full_size(body, value) > 4096 - self.here,
+            Body::Org(_) => value > MEMORY_BYTES as i32,
+            _ => self.full_size(body, value) > MEMORY_BYTES - self.here,
         }
     }
 

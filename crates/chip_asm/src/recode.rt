@@ -14,6 +14,7 @@ ghost use Rattle.chip_asm.specs.Kept.{IsMerged};
 use crate::edit::{Edit, count_after, line_after, place_before};
 use crate::kept_line::KeptLine;
 use crate::layout::Layout;
+use crate::limits::MOST_LINES;
 use crate::placement::Placement;
 use crate::table::Table;
 use chip_lang::{Body, Coded, Line, Meter, agree_on, encode};
@@ -59,7 +60,7 @@ fn is_encoded_again(
     place: usize,
     line: &Line,
 ) -> bool
-    requires place { place < 4096 }
+    requires place { place ≤ MOST_LINES }
     requires unmoved { unmoved ≡ true → values_of old.now.names ≡ values_of new.now.names }
     ensures { (before after : List Reading) → IsLayoutOf old.now before → IsLayoutOf new.now after
         → result ≡ is_encoded_again before after (place_before edit.now) (place, seen_line line.now) }
@@ -85,6 +86,7 @@ fn encode_if(
 ) -> Result<Option<Coded>, AllocError>
     ensures code { IfOk result (λ code. code ≡ (if wanted then Some (code_of (seen_line line.now) (values_of names.now)) else None)) }
     ensures encoded { meter.new.encoded ≤ meter.old.encoded + (if wanted then 1 else 0) }
+    ensures not_lowered { meter.old.encoded ≤ meter.new.encoded }
     ensures parsed { meter.new.parsed ≡ meter.old.parsed }
 {
     if wanted {
@@ -104,6 +106,7 @@ pub(crate) fn code_if_accepted(
 ) -> Result<Option<Coded>, AllocError>
     ensures code { IfOk result (λ code. code ≡ (if accepted && has_code (body_of (seen_line line.now)) then Some (code_of (seen_line line.now) (values_of names.now)) else None)) }
     ensures encoded { meter.new.encoded ≤ meter.old.encoded + (if accepted && has_code (body_of (seen_line line.now)) then 1 else 0) }
+    ensures not_lowered { meter.old.encoded ≤ meter.new.encoded }
     ensures parsed { meter.new.parsed ≡ meter.old.parsed }
 {
     let wanted = accepted && has_code(line);
@@ -120,10 +123,11 @@ pub(crate) fn recode(
     new: &Layout,
 ) -> Result<Vec<Option<Coded>>, AllocError>
     requires within { IsPlaceWithin (length lines.now) edit.now }
-    requires few { length lines.now ≤ 4000 }
+    requires few { length lines.now ≤ MOST_LINES }
     requires new { IsLayoutOf new.now (readings_in (lines_after lines.now edit.now)) }
     ensures codes { (before : List Reading) → IsLayoutOf old.now before → IfOk result (λ codes. codes.items ≡ new_codes before (readings_in (lines_after lines.now edit.now)) (place_before edit.now)) }
     ensures encoded { (before : List Reading) → IsLayoutOf old.now before → meter.new.encoded ≤ meter.old.encoded + count_again before (readings_in (lines_after lines.now edit.now)) (place_before edit.now) }
+    ensures not_lowered { meter.old.encoded ≤ meter.new.encoded }
     ensures parsed { meter.new.parsed ≡ meter.old.parsed }
 {
     let unmoved = old.names.has_same_values(&new.names);

@@ -11,10 +11,10 @@ pub enum Refusal {
     /// N1: there is no line of this number.
     #[error("no such line")]
     NoSuchLine,
-    /// N2: the text has over 200 bytes.
+    /// N2: the text has over `LINE_BYTES` bytes.
     #[error("text too long")]
     TextTooLong,
-    /// N3: there are 4,000 lines already.
+    /// N3: there are `MOST_LINES` lines already.
     #[error("too many lines")]
     TooManyLines,
     /// N4: the text holds a carriage return or a newline.
@@ -28,10 +28,10 @@ pub enum Refusal {
 /// Why a source does not open.
 #[derive(Clone, Copy, Debug, PartialEq, Eq, Error)]
 pub enum OpenError {
-    /// O1: the line of this number, counted from 1, has over 200 bytes.
+    /// O1: the line of this number, counted from 1, has over `LINE_BYTES` bytes.
     #[error("line {0} is too long")]
     LineTooLong(usize),
-    /// O2: there is a 4,001st line.
+    /// O2: there are more than `MOST_LINES` lines.
     #[error("too many lines")]
     TooManyLines,
     /// O3: memory was refused.
@@ -60,12 +60,6 @@ impl From<AllocError> for OpenError {
         OpenError::OutOfMemory
     }
 }
-
-/// A line of a source has no more bytes than this.
-pub(crate) const MAX_TEXT: usize = 200;
-
-/// A source has no more lines than this.
-pub(crate) const MAX_LINES: usize = 4000;
 
 mod checks;
 

@@ -19,6 +19,7 @@ use crate::kept_line::read_kept;
 use crate::listing::listing_in;
 use crate::refusal::{OpenError, Refusal, delete_refusal, insert_refusal, replace_refusal};
 use crate::table::Symbol;
+use chip_lang::limits::IMAGE_BYTES;
 use chip_lang::{Bytes, Fault, Meter};
 use std::alloc::{AllocError, Global};
 use std::marker::Model;
@@ -64,7 +65,7 @@ impl Source {
     }
 
     /// Opens a source, by its bytes. A line ends at a newline, a carriage return directly before which is dropped; the first line that is over
-    /// 200 bytes or the 4,001st is answered as a fault.
+    /// `LINE_BYTES` bytes or one more than `MOST_LINES` is answered as a fault.
     pub fn open(alloc: Global, source: &[u8]) -> Result<Source, OpenError>
         ensures ok { IfOk result (λ s. (open_fault source.now ≡ None) × (s.lines ≡ lines_of source.now)) }
         ensures err { IfErr result (λ e. (e ≡ OpenError.OutOfMemory) ⊎ (open_fault source.now ≡ Some e)) }
@@ -95,10 +96,10 @@ impl Source {
         self.meter
     }
 
-    /// The bytes from address 512 on; none where a line has a fault.
+    /// The bytes from `IMAGE_START` on; none where a line has a fault.
     pub fn image(&self) -> Option<&[u8]>
         ensures value { option_copied result ≡ image_of self.now.lines }
-        ensures fits { IfSome result (λ image. length image.now ≤ 3584) }
+        ensures fits { IfSome result (λ image. length image.now ≤ IMAGE_BYTES) }
     {
         self.kept.image()
     }
@@ -158,6 +159,7 @@ impl Source {
         ensures refused { IsSome (insert_refusal (length self.old.lines) number text.now) → self.new.work ≡ self.old.work }
         ensures parsed { insert_refusal (length self.old.lines) number text.now ≡ None → self.new.work.parsed ≡ one_more self.old.work.parsed }
         ensures encoded { self.new.work.encoded ≤ self.old.work.encoded + lines_to_encode self.old.lines (insert self.old.lines (number - 1) text.now) (before_insert (number - 1)) }
+        ensures not_lowered { self.old.work.encoded ≤ self.new.work.encoded }
     {
         if let Some(refusal) = insert_refusal(self.kept.lines.len(), number, text) {
             return Err(refusal);
@@ -179,6 +181,7 @@ impl Source {
         ensures refused { IsSome (replace_refusal (length self.old.lines) number text.now) → self.new.work ≡ self.old.work }
         ensures parsed { replace_refusal (length self.old.lines) number text.now ≡ None → self.new.work.parsed ≡ one_more self.old.work.parsed }
         ensures encoded { self.new.work.encoded ≤ self.old.work.encoded + lines_to_encode self.old.lines (slice_set self.old.lines (number - 1) text.now) (before_replace (number - 1)) }
+        ensures not_lowered { self.old.work.encoded ≤ self.new.work.encoded }
     {
         if let Some(refusal) = replace_refusal(self.kept.lines.len(), number, text) {
             return Err(refusal);
@@ -200,6 +203,7 @@ impl Source {
         ensures refused { IsSome (delete_refusal (length self.old.lines) number) → self.new.work ≡ self.old.work }
         ensures parsed { self.new.work.parsed ≡ self.old.work.parsed }
         ensures encoded { self.new.work.encoded ≤ self.old.work.encoded + lines_to_encode self.old.lines (remove self.old.lines (number - 1)) (before_delete (number - 1)) }
+        ensures not_lowered { self.old.work.encoded ≤ self.new.work.encoded }
     {
         if let Some(refusal) = delete_refusal(self.kept.lines.len(), number) {
             return Err(refusal);

@@ -2,6 +2,7 @@
 use Rattle.std.specs.Prelude.{ℕ, ◌+◌, ◌-◌, ◌==◌, ◌&&◌, ◌||◌, not, Bool, true, false, if◌then◌else◌, nat_lt, is_some, List, [], ◌∷◌, ◌++◌, length, map, Option, Some, None, Result, Ok, Err, option_and_then, codes, slice_range}
 use Rattle.std.specs.List.{list_any}
 use Rattle.std.specs.Str.{bytes_eq}
+use Rattle.chip_lang.specs.declared.limits.TheConstants.{NAME_BYTES, OPEN_PARENTHESES}
 use Rattle.chip_lang.specs.declared.fault.Fault.{Fault}
 use Rattle.chip_lang.specs.declared.directive.Directive.{Directive}
 use Rattle.chip_lang.specs.declared.directive.Directive.TheVariants.{Equ, Org, Align, Db, Dw, Da, Ds, Ifdef, Ifund, Else, Endif, End, Options, Used, Xref, Define, Include, Undef}
@@ -88,17 +89,17 @@ bad_token [] = None
 bad_token (Bad f ∷ ts) = Some f
 bad_token (t ∷ ts) = bad_token ts
 
--- how far the parentheses opened and not closed go beyond 16 at some token; closing ones count below 0 too
+-- more parentheses are open at some token than can be; closing ones count below 0 too
 abbrev pub too_deep : (opened closed : ℕ) → List Lexeme → Bool
 too_deep opened closed [] = false
 too_deep opened closed (t ∷ ts) =
     let opened_now = if is_sign_of 40 t then opened + 1 else opened in
     let closed_now = if is_sign_of 41 t then closed + 1 else closed in
-    nat_lt (closed_now + 16) opened_now || too_deep opened_now closed_now ts
+    nat_lt (closed_now + OPEN_PARENTHESES) opened_now || too_deep opened_now closed_now ts
 
 -- a name that can't be defined
 abbrev pub is_bad_name : List ℕ → Bool
-is_bad_name w = is_reserved w || nat_lt 64 (length w)
+is_bad_name w = is_reserved w || nat_lt NAME_BYTES (length w)
 
 -- the directive at the front
 abbrev pub front_directive : List Lexeme → Option Directive

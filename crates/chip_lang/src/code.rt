@@ -38,6 +38,7 @@ pub fn encode<N: Names>(
 ) -> Result<Coded, AllocError>
     ensures code { IfOk result (λ coded. coded ≡ code_of (seen_line line.now) (N.symbols names.now)) }
     ensures counted { meter.new ≡ record meter.old { encoded = one_more meter.old.encoded } }
+    ensures not_lowered { meter.old.encoded ≤ meter.new.encoded }
 {
     meter.encoded = meter.encoded.saturating_add(1);
     match line {

@@ -3,6 +3,7 @@
 ghost use Rattle.std.specs.Prelude.{◌≡◌};
 ghost use Rattle.chip_lang.specs.FaultNumber.{number_of_fault};
 
+use crate::limits::{MEMORY_BYTES, NAME_BYTES, OPEN_PARENTHESES};
 use thiserror::Error;
 
 /// What is wrong with a line.
@@ -23,11 +24,11 @@ pub enum Fault {
     /// F5: a number above 2147483647.
     #[error("number above 2147483647")]
     NumberTooLarge,
-    /// F6: more than 16 parentheses are open.
-    #[error("parentheses deeper than 16")]
+    /// F6: more than `OPEN_PARENTHESES` parentheses are open.
+    #[error("parentheses deeper than {most}", most = OPEN_PARENTHESES)]
     TooDeep,
-    /// F7: the line defines a reserved word, or a name over 64 bytes.
-    #[error("name reserved or over 64 bytes")]
+    /// F7: the line defines a reserved word, or a name over `NAME_BYTES` bytes.
+    #[error("name reserved or over {most} bytes", most = NAME_BYTES)]
     BadName,
     /// F8: an earlier line defines the name.
     #[error("name defined on an earlier line")]
@@ -47,8 +48,8 @@ pub enum Fault {
     /// F13: ORG below the address of its line.
     #[error("ORG below the line's address")]
     OrgBelowHere,
-    /// F14: the line would end past address 4096.
-    #[error("past address 4096")]
+    /// F14: the line would end past the memory, of `MEMORY_BYTES` bytes.
+    #[error("past address {end}", end = MEMORY_BYTES)]
     PastMemory,
     /// F15: ELSE or ENDIF without IF, or a second ELSE.
     #[error("stray ELSE or ENDIF")]

@@ -15,6 +15,7 @@ pub mod instr;
 mod keyword;
 pub mod laws;
 mod lexeme;
+pub mod limits;
 pub mod line;
 pub mod meter;
 pub mod names;

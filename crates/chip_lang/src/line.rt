@@ -12,6 +12,7 @@ use crate::expr::Expr;
 use crate::fault::Fault;
 use crate::form::{Form, Operand};
 use crate::lexeme::{Lexeme, is_sign_of, lexemes};
+use crate::limits::OPEN_PARENTHESES;
 use crate::meter::Meter;
 use crate::shape::{defines_bad_name, first_name, shape_of};
 use crate::statement::shape_body;
@@ -126,7 +127,7 @@ fn bad_token(tokens: &[Lexeme]) -> Option<Fault>
     None
 }
 
-/// Whether at some token the parentheses opened so far are over 16 more than those closed.
+/// Whether at some token the parentheses opened so far are over `OPEN_PARENTHESES` more than those closed.
 fn is_too_deep(tokens: &[Lexeme]) -> bool
     ensures { result ≡ too_deep 0 0 tokens.now }
 {
@@ -139,7 +140,7 @@ fn is_too_deep(tokens: &[Lexeme]) -> bool
         if is_sign_of(b')', token) {
             closed += 1;
         }
-        if opened > closed && opened - closed > 16 {
+        if opened > closed && opened - closed > OPEN_PARENTHESES {
             return true;
         }
     }

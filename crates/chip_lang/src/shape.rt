@@ -11,6 +11,7 @@ use crate::directive::Directive;
 use crate::front::is_reserved;
 use crate::keyword::directive_of;
 use crate::lexeme::{Lexeme, is_sign_of, is_the};
+use crate::limits::NAME_BYTES;
 
 /// What a line is, by its tokens.
 #[derive(Drop)]
@@ -67,7 +68,7 @@ fn after_label<'a>(name: &'a Bytes, rest: &'a [Lexeme]) -> Shape<'a>
 fn is_bad_name(word: &[u8]) -> bool
     ensures { result ≡ is_bad_name word.now }
 {
-    is_reserved(word) || word.len() > 64
+    is_reserved(word) || word.len() > NAME_BYTES
 }
 
 /// The word after a DEFINE that begins a statement.

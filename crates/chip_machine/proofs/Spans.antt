@@ -3,7 +3,7 @@ use Rattle.std.proofs.Common.{◌≡◌, ℕ, ◌+◌, ◌<◌, ◌≤◌, ◌++
 use Rattle.std.proofs.lemmas.List.Elements.{All-append}
 use Rattle.std.proofs.lemmas.List.FromFn.{get_or-range_with_len, length-range_with_len}
 use Rattle.std.specs.List.{range_with_len}
-use Rattle.chip_machine.specs.declared.limits.TheConstants.{MEMORY_BYTES}
+use Rattle.chip_lang.specs.declared.limits.TheConstants.{MEMORY_BYTES}
 
 -- a run that ends within the memory
 span_in_memory : (at count : ℕ) → at + count ≤ MEMORY_BYTES → All (λ a. a < MEMORY_BYTES) (range_with_len at count)

@@ -1,7 +1,7 @@
 -- The image in the memory at the start.
 use Rattle.std.proofs.Common.{◌≡◌, ℕ, ◌+◌, ◌-◌, ◌≤◌, ◌++◌, List, length, take, drop, replicate, refl, sym, ap, ◌∙◌, arith, append_assoc, length-append}
 use Rattle.std.proofs.lemmas.List.{length-take-le, drop-replicate, take_at, drop_at, drop-drop}
-use Rattle.chip_machine.specs.declared.limits.TheConstants.{IMAGE_BYTES, IMAGE_START, MEMORY_BYTES}
+use Rattle.chip_lang.specs.declared.limits.TheConstants.{IMAGE_BYTES, IMAGE_START, MEMORY_BYTES}
 use Rattle.chip_machine.specs.State.{overwrite}
 use Rattle.chip_machine.specs.Digits.{small_shapes, big_shapes, bytes_of}
 use Rattle.chip_machine.specs.Start.{with_image, zeros}

@@ -9,7 +9,8 @@ use Rattle.std.proofs.lemmas.List.{places}
 use Rattle.std.proofs.lemmas.List.FromFn.{get_or-range_with_len, length-range_with_len}
 use Rattle.std.proofs.lemmas.Grind.{same_number_lists}
 use Rattle.chip_lang.specs.Decoding.{decode_of}
-use Rattle.chip_machine.specs.declared.limits.TheConstants.{LAST_WORD, MEMORY_BYTES}
+use Rattle.chip_lang.specs.declared.limits.TheConstants.{MEMORY_BYTES}
+use Rattle.chip_machine.specs.declared.limits.TheConstants.{LAST_WORD}
 use Rattle.chip_machine.specs.declared.stop.Stop.{Stop}
 use Rattle.chip_machine.specs.declared.stop.Stop.TheVariants as cause
 use Rattle.chip_machine.specs.State.{Core, State, overwrite}

@@ -1,7 +1,7 @@
 -- What the image is in the memory at the start.
 -- Source: own; that programs stand at 512 is of the COSMAC VIP manual.
 use Rattle.std.specs.Prelude.{◌≡◌, ◌-◌, ◌≤◌, ℕ, List, ◌++◌, length, take, drop, replicate}
-use Rattle.chip_machine.specs.declared.limits.TheConstants.{IMAGE_BYTES, IMAGE_START}
+use Rattle.chip_lang.specs.declared.limits.TheConstants.{IMAGE_BYTES, IMAGE_START}
 use Rattle.chip_machine.specs.Start.{start_memory}
 
 -- from the place of the image on there are the image and zeros

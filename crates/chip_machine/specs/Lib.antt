@@ -10,6 +10,7 @@
 --   Step      the table of the instructions, one step, and the addresses that it touches
 --   Frame     the frame law
 --   ImageLaw  what the image is in the memory at the start
+--   Limits    the size of the memory and where the image stands
 --   Numbers   the numbers of stop causes and of errors at the start
 --   Codes     how a state is stored as data
 -- The rest are proofs, which a reader may skip. They stand here for a crate above whose trait asks for them as its laws:
@@ -20,6 +21,7 @@ pub mod Digits
 pub mod Frame
 pub mod FrameTheorem
 pub mod ImageLaw
+pub mod Limits
 pub mod Numbers
 pub mod Overwritten
 pub mod Points

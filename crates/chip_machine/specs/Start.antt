@@ -2,7 +2,8 @@
 -- Source: own; that programs stand at 512 is of the COSMAC VIP manual.
 use Rattle.std.specs.Prelude.{ℕ, ◌<◌, ◌≤◌, List, [], length, replicate, None, false}
 use Rattle.std.specs.FinSet as set
-use Rattle.chip_machine.specs.declared.limits.TheConstants.{FLAGS, IMAGE_START, MEMORY_BYTES, TAPE_BYTES}
+use Rattle.chip_lang.specs.declared.limits.TheConstants.{IMAGE_START, MEMORY_BYTES}
+use Rattle.chip_machine.specs.declared.limits.TheConstants.{FLAGS, TAPE_BYTES}
 use Rattle.chip_machine.specs.declared.profile.Profile.{Profile}
 use Rattle.chip_machine.specs.Digits.{small_shapes, big_shapes, bytes_of}
 use Rattle.chip_machine.specs.State.{Core, State, overwrite}

@@ -1,16 +1,9 @@
-//! The limits of a machine, each under one name.
+//! The limits of a machine, each under one name. Those that the language speaks of too stand in chip_lang.
 
-/// How many bytes the memory has.
-pub const MEMORY_BYTES: usize = 4096;
+pub use chip_lang::limits::{IMAGE_BYTES, IMAGE_START, MEMORY_BYTES};
 
 /// The last address at which a word can stand.
 pub const LAST_WORD: usize = MEMORY_BYTES - 2;
-
-/// Where the image stands in the memory, and the first instruction.
-pub const IMAGE_START: usize = 512;
-
-/// How many bytes an image has at most: it ends with the memory.
-pub const IMAGE_BYTES: usize = MEMORY_BYTES - IMAGE_START;
 
 /// How many bytes a tape has at most.
 pub const TAPE_BYTES: usize = 4096;

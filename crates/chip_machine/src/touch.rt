@@ -16,7 +16,8 @@ pub struct Touch {
 
 impl Model for Touch {
     ghost use Rattle.std.specs.Prelude.{ℕ, List, ◌<◌, ◌≤◌, take, All};
-    ghost use Rattle.chip_machine.specs.declared.limits.TheConstants.{MEMORY_BYTES, TOUCHES};
+    ghost use Rattle.chip_lang.specs.declared.limits.TheConstants.{MEMORY_BYTES};
+    ghost use Rattle.chip_machine.specs.declared.limits.TheConstants.{TOUCHES};
 
     ghost Value = { List ℕ };
 

@@ -8,7 +8,8 @@
 --     image_room     the most bytes of an image
 --     never          no step
 use Rattle.std.specs.Prelude.{ℕ, ◌≤◌}
-use Rattle.chip_replay.specs.declared.limits.TheConstants.{LAST_STEP, MOST_EVENTS, LEAST_SPACING, MOST_SPACING, MEMORY, IMAGE_START, IMAGE_ROOM, NEVER}
+use Rattle.chip_machine.specs.Limits.{IMAGE_BYTES, IMAGE_START, MEMORY_BYTES}
+use Rattle.chip_replay.specs.declared.limits.TheConstants.{LAST_STEP, MOST_EVENTS, LEAST_SPACING, MOST_SPACING, NEVER}
 
 abbrev pub last_step : ℕ
 last_step = LAST_STEP
@@ -20,13 +21,13 @@ abbrev pub IsSpacing : ℕ → Type 0
 IsSpacing p = (LEAST_SPACING ≤ p) × (p ≤ MOST_SPACING)
 
 abbrev pub memory_size : ℕ
-memory_size = MEMORY
+memory_size = MEMORY_BYTES
 
 abbrev pub image_start : ℕ
 image_start = IMAGE_START
 
 abbrev pub image_room : ℕ
-image_room = IMAGE_ROOM
+image_room = IMAGE_BYTES
 
 abbrev pub never : ℕ
 never = NEVER

@@ -11,7 +11,7 @@ ghost use Rattle.chip_replay.specs.Patch.{patched};
 ghost use Rattle.chip_replay.specs.History.{IsSound, IsLent, IsCutBack, IsHolding};
 
 use crate::keys::{Holding, Keys};
-use crate::limits::{IMAGE_ROOM, IMAGE_START, LAST_STEP, MEMORY, NEVER};
+use crate::limits::{IMAGE_BYTES, IMAGE_START, LAST_STEP, MEMORY_BYTES, NEVER};
 use crate::traced::Traced;
 use chip_machine::touch::Touch;
 use std::alloc::{AllocError, Global};
@@ -42,12 +42,12 @@ impl<M: Traced> Kept<M> {
     pub(crate) fn new(alloc: Global, start: M, spacing: u32) -> Result<Kept<M>, AllocError>
         ensures lent { IfOk result (λ kept. (kept.lent ≡ start) × (kept.lent_step ≡ Some 0)) }
         ensures checkpoints { IfOk result (λ kept. kept.checkpoints.items ≡ []) }
-        ensures table { IfOk result (λ kept. length kept.first_touch.items ≡ MEMORY) }
-        ensures never { IfOk result (λ kept. (at : ℕ) → at < MEMORY → slice_index kept.first_touch.items at ≡ NEVER) }
+        ensures table { IfOk result (λ kept. length kept.first_touch.items ≡ MEMORY_BYTES) }
+        ensures never { IfOk result (λ kept. (at : ℕ) → at < MEMORY_BYTES → slice_index kept.first_touch.items at ≡ NEVER) }
         ensures holding { IfOk result (λ kept. (events : Events) → KnowsKeys events 0 kept.holding) }
         ensures counts { IfOk result (λ kept. (kept.spacing ≡ spacing) × (kept.reach ≡ 0) × (kept.ran ≡ 0)) }
     {
-        let first_touch = vec![in alloc; NEVER; MEMORY]?;
+        let first_touch = vec![in alloc; NEVER; MEMORY_BYTES]?;
         Ok(Kept {
             spacing,
             checkpoints: Vec::new(alloc),
@@ -217,13 +217,13 @@ pub(crate) fn least_touch(
     old: &[u8],
     new: &[u8],
 ) -> u32
-    requires table { length first_touch.now ≡ MEMORY }
+    requires table { length first_touch.now ≡ MEMORY_BYTES }
     requires alike { AgreeOutside first end old.now new.now }
     ensures within { result ≤ reach }
     ensures least { (i : ℕ) → i < image_room → differs old.now new.now i ≡ true → result ≤ slice_index first_touch.now (image_start + i) }
     ensures attained { (result ≡ reach) ⊎ ((i : ℕ) × (i < image_room) × (differs old.now new.now i ≡ true) × (result ≡ slice_index first_touch.now (image_start + i))) }
 {
-    let end = end.min(IMAGE_ROOM);
+    let end = end.min(IMAGE_BYTES);
     let mut least = reach;
     for i in first.min(end)..end {
         if byte_at(old, i) != byte_at(new, i) {
@@ -238,7 +238,7 @@ pub(crate) fn patch<M: Traced>(state: &mut M, first: usize, end: usize, old: &[u
     requires { AgreeOutside first end old.now new.now }
     ensures { state.new ≡ patched M.memory M.with_memory old.now new.now state.old }
 {
-    let end = end.min(IMAGE_ROOM);
+    let end = end.min(IMAGE_BYTES);
     for i in first.min(end)..end {
         let byte = byte_at(new, i);
         if byte_at(old, i) != byte {
@@ -331,12 +331,12 @@ fn extend<M: Traced>(
     due: bool,
     step: u32,
 ) -> Result<(), AllocError>
-    requires table { length first_touch.old.items ≡ MEMORY }
+    requires table { length first_touch.old.items ≡ MEMORY_BYTES }
     requires in_range { step < LAST_STEP }
-    ensures length { length first_touch.new.items ≡ MEMORY }
+    ensures length { length first_touch.new.items ≡ MEMORY_BYTES }
     ensures kept { OnOk result (checkpoints.new.items
         ≡ (if due then checkpoints.old.items ++ state.now ∷ [] else checkpoints.old.items)) }
-    ensures noted { OnOk result ((at : ℕ) → at < MEMORY → slice_index first_touch.new.items at
+    ensures noted { OnOk result ((at : ℕ) → at < MEMORY_BYTES → slice_index first_touch.new.items at
         ≡ (if is_among touch.now at then min (slice_index first_touch.old.items at) step else slice_index first_touch.old.items at)) }
     ensures checkpoints_stay { OnErr result (checkpoints.new.items ≡ checkpoints.old.items) }
     ensures table_stays { OnErr result (first_touch.new.items ≡ first_touch.old.items) }
@@ -351,9 +351,9 @@ fn extend<M: Traced>(
 /// Notes a step at the addresses that it is the first to touch.
 #[inline(always)]
 fn note(first_touch: &mut [u32], touch: &Touch, step: u32)
-    requires table { length first_touch.old ≡ MEMORY }
-    ensures length { length first_touch.new ≡ MEMORY }
-    ensures noted { (at : ℕ) → at < MEMORY → slice_index first_touch.new at
+    requires table { length first_touch.old ≡ MEMORY_BYTES }
+    ensures length { length first_touch.new ≡ MEMORY_BYTES }
+    ensures noted { (at : ℕ) → at < MEMORY_BYTES → slice_index first_touch.new at
         ≡ (if is_among touch.now at then min (slice_index first_touch.old at) step else slice_index first_touch.old at) }
 {
     for i in 0..touch.len() {

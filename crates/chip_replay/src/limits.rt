@@ -1,4 +1,6 @@
-//! The limits of a replay, each with its one name.
+//! The limits of a replay, each with its one name. Those of the memory are the machine's.
+
+pub(crate) use chip_machine::limits::{IMAGE_BYTES, IMAGE_START, MEMORY_BYTES};
 
 /// The last step that is answered, and that an event may have.
 pub const LAST_STEP: u32 = 1_000_000;
@@ -19,15 +21,6 @@ pub const KEYS: u32 = 16;
 pub(crate) const KEY_COUNT: usize = 16;
 
 const _: () = prove!(KEY_COUNT == KEYS as usize);
-
-/// How many bytes the memory has.
-pub(crate) const MEMORY: usize = 4096;
-
-/// The first address of an image.
-pub(crate) const IMAGE_START: usize = 512;
-
-/// The most bytes of an image.
-pub(crate) const IMAGE_ROOM: usize = 3584;
 
 /// No step, for an address that the kept run does not touch.
 pub(crate) const NEVER: u32 = u32::MAX;

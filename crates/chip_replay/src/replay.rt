@@ -4,7 +4,7 @@ ghost use Rattle.std.specs.Prelude.{◌≡◌, ◌+◌, ◌/◌, ◌<◌, ◌≤
 
 use crate::kept::{Kept, least_touch, patch};
 use crate::keys::{KeyFault, Keys};
-use crate::limits::{IMAGE_ROOM, LAST_STEP, LEAST_SPACING, MOST_SPACING};
+use crate::limits::{IMAGE_BYTES, LAST_STEP, LEAST_SPACING, MOST_SPACING};
 use crate::traced::Traced;
 use std::alloc::{AllocError, Global};
 use std::marker::Model;
@@ -197,7 +197,7 @@ impl<M: Traced> Replay<M> {
         ensures ran { self.new.ran ≡ self.old.ran }
         ensures reach { affected M.touches M.step_of self.old.rate (held self.old.keys) old.now new.now self.old.start self.old.reach ≤ self.new.reach }
     {
-        self.image_changed_within(0..IMAGE_ROOM, old, new);
+        self.image_changed_within(0..IMAGE_BYTES, old, new);
     }
 
     /// As `image_changed`, where it is known outside which places of the images they agree: only

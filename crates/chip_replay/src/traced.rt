@@ -7,7 +7,7 @@ ghost use Rattle.chip_replay.specs.Limits.{memory_size};
 use chip_machine::touch::Touch;
 use std::alloc::AllocError;
 
-/// A machine with 4096 bytes of memory whose steps say which addresses they touch.
+/// A machine with `MEMORY_BYTES` bytes of memory whose steps say which addresses they touch.
 pub trait Traced: Drop + Sized {
     /// The state after a step, by the mask of the keys that are down and whether the timers tick.
     ghost step_of: { Self → ℕ → Bool → Self };
@@ -49,7 +49,7 @@ pub trait Traced: Drop + Sized {
 
     ghost changed_twice: { (s : Self) (m n : List ℕ) → with_memory (with_memory s m) n ≡ with_memory s n };
 
-    /// The memory of a proper state has 4096 bytes, and no more is asked of it.
+    /// The memory of a proper state has `MEMORY_BYTES` bytes, and no more is asked of it.
     ghost proper_size: { (s : Self) → is_proper s → length (memory s) ≡ memory_size };
 
     ghost proper_changed: { (s : Self) (m : List ℕ) → is_proper s → length m ≡ memory_size → is_proper (with_memory s m) };

@@ -6,6 +6,8 @@ use Rattle.std.specs.Str.Lines.{lines}
 use Rattle.std.proofs.lemmas.Bool.{and_parts, leb-true, le-leb, lt-leb}
 use Rattle.std.proofs.lemmas.List.{append-nil, length-append}
 use Rattle.std.proofs.lemmas.Slice.Eq.{bytes_eq-Decides}
+use Rattle.chip_asm.specs.declared.limits.TheConstants.{LINE_BYTES, MOST_LINES}
+use Rattle.chip_lang.specs.declared.limits.TheConstants.{IMAGE_BYTES}
 use Rattle.chip_lang.specs.declared.fault.Fault.{Fault}
 use Rattle.chip_lang.specs.Form.{Row}
 use Rattle.chip_lang.specs.Operand.{Operand}
@@ -36,7 +38,7 @@ record WordLine (line : List ℕ) (high low : ℕ) : Type 0 where
   steady : Steady true body (high ∷ low ∷ [])
   no_align : is_align_body body ≡ false
   seen : list_all is_visible line ≡ true
-  short : length line ≤ 200
+  short : length line ≤ LINE_BYTES
 
 two_bytes : (high low : ℕ) → low < 256 → word_bytes (256 * high + low) ≡ high ∷ low ∷ []
 two_bytes high low l =
@@ -93,7 +95,7 @@ line_shown : (high low : ℕ) → low < 256 → Shown (256 * high + low) → Wor
 line_shown high low l shown =
     let w : ℕ = 256 * high + low in
     let g : Given w (reading_of (show_of w)) = given w (reading_of (show_of w)) shown.gives in
-    let parts = and_parts (nat_le (length (show_of w)) 200) (list_all is_visible (show_of w)) shown.plain in
+    let parts = and_parts (nat_le (length (show_of w)) LINE_BYTES) (list_all is_visible (show_of w)) shown.plain in
     let own : own_bytes (code g.form g.operands) (values_of []) ≡ Ok (high ∷ low ∷ []) =
     ap (own_bytes (code g.form g.operands)) no_values ∙ g.own ∙ ap (λ bs. Ok bs) (two_bytes high low l) in
     record {
@@ -102,7 +104,7 @@ line_shown high low l shown =
       steady = steady_code true g.form g.operands (high ∷ low ∷ []) own refl;
       no_align = refl;
       seen = parts.1;
-      short = leb-true (length (show_of w)) 200 parts.0;
+      short = leb-true (length (show_of w)) LINE_BYTES parts.0;
     }
 
 line_of_data : (high low : ℕ) → high < 256 → low < 256 → WordLine (codes "DW #" ++ hex_word (256 * high + low)) high low
@@ -143,7 +145,7 @@ record Laid (all : List Placed) (done image : List ℕ) : Type 0 where
   aligning : Bool
   built : Built aligning (fold (λ before line. place before line ∷ before) all (map reading_of (lines_of_image image))) (done ++ image)
 
-laid : (image : List ℕ) (all : List Placed) (done : List ℕ) → EachByte image → Built true all done → length done + length image ≤ 3584 → Laid all done image
+laid : (image : List ℕ) (all : List Placed) (done : List ℕ) → EachByte image → Built true all done → length done + length image ≤ IMAGE_BYTES → Laid all done image
 laid [] all done bytes built fits =
     record { aligning = true; built = subst (λ (bs : List ℕ). Built true all bs) (sym (append-nil done)) built }
 laid (b ∷ []) all done bytes built fits =
@@ -161,14 +163,14 @@ laid (high ∷ low ∷ rest) all done bytes built fits =
     let more : List ℕ = high ∷ low ∷ [] in
     let next : Built true (place all (reading_of text) ∷ all) (done ++ more) =
     built_line true all done more line.body (reading_of text) line.reads built line.steady line.no_align (omega arith) in
-    let fits_rest : length (done ++ more) + length rest ≤ 3584 = rw (length-append done more) (omega arith) in
+    let fits_rest : length (done ++ more) + length rest ≤ IMAGE_BYTES = rw (length-append done more) (omega arith) in
     let all_rest = laid rest (place all (reading_of text) ∷ all) (done ++ more) (λ k. bytes (suc (suc k))) next fits_rest in
     record {
       aligning = all_rest.aligning;
       built = subst (λ (bs : List ℕ). Built all_rest.aligning (fold (λ before line. place before line ∷ before) (place all (reading_of text) ∷ all) (map reading_of (lines_of_image rest))) bs) (append_assoc done more rest) all_rest.built;
     }
 
-pub image_is : (image : List ℕ) → EachByte image → length image ≤ 3584 → image_of (lines_of_image image) ≡ Some image
+pub image_is : (image : List ℕ) → EachByte image → length image ≤ IMAGE_BYTES → image_of (lines_of_image image) ≡ Some image
 unfolding image_of placed
 image_is image bytes fits =
     let whole = laid image [] [] bytes nothing_built (omega (arith, fits)) in
@@ -196,16 +198,16 @@ no_long_line : (image : List ℕ) → EachByte image → position_or_len is_long
 no_long_line [] bytes = refl
 no_long_line (b ∷ []) bytes = refl
 no_long_line (high ∷ low ∷ rest) bytes =
-    let short : is_long (word_text (256 * high + low)) ≡ false = lt-leb (suc 200) (length (word_text (256 * high + low))) (let s = (word_line_of high low (bytes 0) (bytes 1)).short in omega (arith, s)) in
+    let short : is_long (word_text (256 * high + low)) ≡ false = lt-leb (suc LINE_BYTES) (length (word_text (256 * high + low))) (let s = (word_line_of high low (bytes 0) (bytes 1)).short in omega (arith, s)) in
     rw (short, no_long_line rest (λ k. bytes (suc (suc k)))) (omega arith)
 
-pub image_of_text : (image : List ℕ) → EachByte image → length image ≤ 3584 → image_of (lines (source_of_image image)) ≡ Some image
+pub image_of_text : (image : List ℕ) → EachByte image → length image ≤ IMAGE_BYTES → image_of (lines (source_of_image image)) ≡ Some image
 image_of_text image bytes fits = ap image_of (lines_are image bytes) ∙ image_is image bytes fits
 
-pub opens : (image : List ℕ) → EachByte image → length image ≤ 3584 → open_fault (source_of_image image) ≡ None
+pub opens : (image : List ℕ) → EachByte image → length image ≤ IMAGE_BYTES → open_fault (source_of_image image) ≡ None
 opens image bytes fits =
     let count = few_lines image in
-    let few : nat_lt 4000 (length (lines_of_image image)) ≡ false = lt-leb (suc 4000) (length (lines_of_image image)) (omega (arith, count, fits)) in
+    let few : nat_lt MOST_LINES (length (lines_of_image image)) ≡ false = lt-leb (suc MOST_LINES) (length (lines_of_image image)) (omega (arith, count, fits)) in
     let none : nat_lt (length (lines_of_image image)) (length (lines_of_image image)) ≡ false = lt-leb (suc (length (lines_of_image image))) (length (lines_of_image image)) (omega arith) in
     ap (λ ls. fault_of_lines (position_or_len is_long ls) (length ls)) (lines_are image bytes)
     ∙ ap (λ first. fault_of_lines first (length (lines_of_image image))) (no_long_line image bytes)

@@ -11,6 +11,7 @@ use Rattle.chip_views.proofs.DataLines.{run_of_all}
 use Rattle.std.specs.Prelude.{pos, unsigned_abs, slice_index, filter, find, filter_map, sum_by, take_while, if◌then◌else◌, nat_lt, nat_le}
 use Rattle.std.specs.List.{list_any, list_all, range_with_len}
 use Rattle.std.specs.Option.{option_map_or}
+use Rattle.chip_lang.specs.declared.limits.TheConstants.{IMAGE_BYTES, IMAGE_START, MEMORY_BYTES}
 use Rattle.chip_lang.specs.declared.fault.Fault.{Fault}
 use Rattle.chip_lang.specs.Form.{Row}
 use Rattle.chip_lang.specs.Operand.{Operand}
@@ -86,12 +87,12 @@ all_taken : (all : List Placed) → EachGood all → take_while (λ (p : Placed)
 all_taken all each =
     ap (λ n. take n all) (run_of_all (λ (p : Placed). not (is_origin p)) all (other_origins all each)) ∙ take_all (length all) all (omega arith)
 
-address_is : (all : List Placed) (n : ℕ) → EachGood all → sum_by (λ (p : Placed). p.size) all ≡ n → address all ≡ 512 + n
+address_is : (all : List Placed) (n : ℕ) → EachGood all → sum_by (λ (p : Placed). p.size) all ≡ n → address all ≡ IMAGE_START + n
 unfolding address
 address_is all n each sum =
-    ap (λ (o : Option Placed). option_map_or (λ (p : Placed). unsigned_abs p.value) o 512 + sum_by (λ (p : Placed). p.size) (take_while (λ (p : Placed). not (is_origin p)) all)) (no_origins all each)
-    ∙ ap (λ xs. 512 + sum_by (λ (p : Placed). p.size) xs) (all_taken all each)
-    ∙ ap (λ m. 512 + m) sum
+    ap (λ (o : Option Placed). option_map_or (λ (p : Placed). unsigned_abs p.value) o IMAGE_START + sum_by (λ (p : Placed). p.size) (take_while (λ (p : Placed). not (is_origin p)) all)) (no_origins all each)
+    ∙ ap (λ xs. IMAGE_START + sum_by (λ (p : Placed). p.size) xs) (all_taken all each)
+    ∙ ap (λ m. IMAGE_START + m) sum
 
 -- ---- one line more
 
@@ -103,7 +104,7 @@ pub record Steady (aligning : Bool) (body : Body) (bytes : List ℕ) : Type 0 wh
   pub no_origin : is_org_body body ≡ false
   pub placed_well : (before : List Placed) → is_misplaced before body ≡ false
   pub value : value_at [] body ≡ Ok (pos 0)
-  pub fits : (here : ℕ) → here + length bytes ≤ 4096 → fault_of_value aligning here body (Ok (pos 0)) ≡ None
+  pub fits : (here : ℕ) → here + length bytes ≤ MEMORY_BYTES → fault_of_value aligning here body (Ok (pos 0)) ≡ None
   pub size : (here : ℕ) → full_size aligning here body (pos 0) ≡ length bytes
   pub code : own_bytes body (values_of []) ≡ Ok bytes
 
@@ -116,7 +117,7 @@ pub record Built (aligning : Bool) (all : List Placed) (bytes : List ℕ) : Type
   pub good : EachGood all
   pub aligns : is_aligning all ≡ aligning
   pub sum : sum_by (λ (p : Placed). p.size) all ≡ length bytes
-  pub byte : (i : ℕ) → i < length bytes → byte_in all (512 + i) ≡ slice_index bytes i
+  pub byte : (i : ℕ) → i < length bytes → byte_in all (IMAGE_START + i) ≡ slice_index bytes i
 
 pub nothing_built : Built true [] []
 unfolding is_aligning
@@ -131,16 +132,16 @@ record Next (all : List Placed) (p : Placed) (body : Body) (here size : ℕ) : T
   size_is : p.size ≡ size
 
 next_line : (aligning : Bool) (all : List Placed) (bytes more : List ℕ) (body : Body) → Built aligning all bytes → Steady aligning body more →
-    length bytes + length more ≤ 3584 → Next all (place all (read None body)) body (512 + length bytes) (length more)
+    length bytes + length more ≤ IMAGE_BYTES → Next all (place all (read None body)) body (IMAGE_START + length bytes) (length more)
 unfolding place is_live first_fault
 next_line aligning all bytes more body built steady fits =
-    let here : address all ≡ 512 + length bytes = address_is all (length bytes) built.good built.sum in
+    let here : address all ≡ IMAGE_START + length bytes = address_is all (length bytes) built.good built.sum in
     let names : symbols all ≡ [] = no_names all built.good in
     let ended : has_ended all ≡ false = not_ended all built.good in
     let open_blocks : enclosing all ≡ [] = nothing_encloses all built.good in
-    let room : 512 + length bytes + length more ≤ 4096 = omega arith in
+    let room : IMAGE_START + length bytes + length more ≤ MEMORY_BYTES = omega arith in
     let live : is_live all body ≡ true = rw (ended, steady.no_side, open_blocks) refl in
-    let fault : fault_of_value aligning (512 + length bytes) body (Ok (pos 0)) ≡ None = steady.fits (512 + length bytes) room in
+    let fault : fault_of_value aligning (IMAGE_START + length bytes) body (Ok (pos 0)) ≡ None = steady.fits (IMAGE_START + length bytes) room in
     let found : first_fault all (read None body) ≡ None =
     rw (steady.placed_well all, names, here, built.aligns, steady.value) fault in
     record {
@@ -148,7 +149,7 @@ next_line aligning all bytes more body built steady fits =
       live = live;
       here_is = here;
       no_fault = rw live found;
-      size_is = rw (live, steady.placed_well all, names, here, built.aligns, steady.value, fault) (steady.size (512 + length bytes));
+      size_is = rw (live, steady.placed_well all, names, here, built.aligns, steady.value, fault) (steady.size (IMAGE_START + length bytes));
     }
 
 good_line : (aligning : Bool) (all : List Placed) (p : Placed) (body : Body) (here size : ℕ) (bytes : List ℕ) → Next all p body here size → Steady aligning body bytes → Good p
@@ -175,27 +176,27 @@ counts : (size more sum bytes all : ℕ) → size ≡ more → sum ≡ bytes →
 counts size more sum bytes all a b c = omega arith
 
 -- a byte of the last line
-last_byte : (all : List Placed) (p : Placed) (body : Body) (bytes more : List ℕ) (i : ℕ) → Next all p body (512 + length bytes) (length more) → own_bytes body (values_of []) ≡ Ok more →
-    length bytes ≤ i → i < length bytes + length more → byte_in (p ∷ all) (512 + i) ≡ slice_index (bytes ++ more) i
+last_byte : (all : List Placed) (p : Placed) (body : Body) (bytes more : List ℕ) (i : ℕ) → Next all p body (IMAGE_START + length bytes) (length more) → own_bytes body (values_of []) ≡ Ok more →
+    length bytes ≤ i → i < length bytes + length more → byte_in (p ∷ all) (IMAGE_START + i) ≡ slice_index (bytes ++ more) i
 last_byte all p body bytes more i next own above below =
-    let from : p.here ≤ 512 + i = rw next.here_is (omega arith) in
-    let until : 512 + i < p.here + p.size = rw (next.here_is, next.size_is) (omega arith) in
-    let place_in : 512 + i - p.here ≡ i - length bytes = rw next.here_is (omega arith) in
-    byte_inside all p body more (512 + i) next.line own from until
+    let from : p.here ≤ IMAGE_START + i = rw next.here_is (omega arith) in
+    let until : IMAGE_START + i < p.here + p.size = rw (next.here_is, next.size_is) (omega arith) in
+    let place_in : IMAGE_START + i - p.here ≡ i - length bytes = rw next.here_is (omega arith) in
+    byte_inside all p body more (IMAGE_START + i) next.line own from until
     ∙ ap (slice_index more) place_in
     ∙ sym (get_or-append_right bytes more (length bytes) i 0 refl above)
 
 built_next : (aligning after : Bool) (all : List Placed) (bytes more : List ℕ) (body : Body) → Built aligning all bytes → Steady aligning body more →
-    length bytes + length more ≤ 3584 → is_aligning (place all (read None body) ∷ all) ≡ after → Built after (place all (read None body) ∷ all) (bytes ++ more)
+    length bytes + length more ≤ IMAGE_BYTES → is_aligning (place all (read None body) ∷ all) ≡ after → Built after (place all (read None body) ∷ all) (bytes ++ more)
 built_next aligning after all bytes more body built steady fits aligns =
     let p : Placed = place all (read None body) in
-    let next : Next all p body (512 + length bytes) (length more) = next_line aligning all bytes more body built steady fits in
+    let next : Next all p body (IMAGE_START + length bytes) (length more) = next_line aligning all bytes more body built steady fits in
     record {
-      good = (good_line aligning all p body (512 + length bytes) (length more) more next steady, built.good);
+      good = (good_line aligning all p body (IMAGE_START + length bytes) (length more) more next steady, built.good);
       aligns = aligns;
       sum = sum_by-append (λ (q : Placed). q.size) (p ∷ []) all ∙ counts p.size (length more) _ (length bytes) (length (bytes ++ more)) next.size_is built.sum (length-append bytes more);
       byte = λ i lt. elim (cases_lt i (length bytes)) [
-        | inl below ↦ byte_before all p (512 + i) (rw next.here_is (omega arith)) ∙ built.byte i below ∙ sym (get_or_append_left bytes more 0 i below)
+        | inl below ↦ byte_before all p (IMAGE_START + i) (rw next.here_is (omega arith)) ∙ built.byte i below ∙ sym (get_or_append_left bytes more 0 i below)
         | inr above ↦ last_byte all p body bytes more i next steady.code above (rw (length-append bytes more) at lt)
       ];
     }
@@ -225,14 +226,14 @@ pub image_of_built : (aligning : Bool) (readings : List Reading) (bytes : List �
 image_of_built aligning readings bytes built =
     let all : List Placed = placed readings in
     let names : symbols all ≡ [] = no_names all built.good in
-    let here : address all ≡ 512 + length bytes = address_is all (length bytes) built.good built.sum in
-    let count : address all - 512 ≡ length bytes = omega (arith, here) in
-    let whole : map (byte_at all) (range_with_len 512 (length bytes)) ≡ bytes =
-    same_number_lists (map (byte_at all) (range_with_len 512 (length bytes))) bytes (length-map-range_with_len (byte_at all) 512 (length bytes))
-    (λ i lt. let below : i < length bytes = rw (length-map-range_with_len (byte_at all) 512 (length bytes)) at lt in
-    get_or-map-range_with_len (byte_at all) 512 (length bytes) i (512 + i) 0 below refl ∙ byte_is all (512 + i) names ∙ built.byte i below) in
+    let here : address all ≡ IMAGE_START + length bytes = address_is all (length bytes) built.good built.sum in
+    let count : address all - IMAGE_START ≡ length bytes = omega (arith, here) in
+    let whole : map (byte_at all) (range_with_len IMAGE_START (length bytes)) ≡ bytes =
+    same_number_lists (map (byte_at all) (range_with_len IMAGE_START (length bytes))) bytes (length-map-range_with_len (byte_at all) IMAGE_START (length bytes))
+    (λ i lt. let below : i < length bytes = rw (length-map-range_with_len (byte_at all) IMAGE_START (length bytes)) at lt in
+    get_or-map-range_with_len (byte_at all) IMAGE_START (length bytes) i (IMAGE_START + i) 0 below refl ∙ byte_is all (IMAGE_START + i) names ∙ built.byte i below) in
     ap (λ faults. unless_faulty faults (bytes_of_lines all)) (no_faults all all names built.good)
-    ∙ ap (λ n. Some (map (byte_at all) (range_with_len 512 n))) count ∙ ap (λ bs. Some bs) whole
+    ∙ ap (λ n. Some (map (byte_at all) (range_with_len IMAGE_START n))) count ∙ ap (λ bs. Some bs) whole
 
 -- ---- the statements
 
@@ -247,7 +248,7 @@ steady_code true form operands bytes own two =
       no_origin = refl;
       placed_well = λ before. refl;
       value = refl;
-      fits = λ here fits. let room : here + 2 ≤ 4096 = omega (arith, two, fits) in rw (lt-leb (suc 4096) (here + 2) (omega arith)) refl;
+      fits = λ here fits. let room : here + 2 ≤ MEMORY_BYTES = omega (arith, two, fits) in rw (lt-leb (suc MEMORY_BYTES) (here + 2) (omega arith)) refl;
       size = λ here. sym two;
       code = own;
     }
@@ -259,7 +260,7 @@ steady_code false form operands bytes own two =
       no_origin = refl;
       placed_well = λ before. refl;
       value = refl;
-      fits = λ here fits. let room : here + 2 ≤ 4096 = omega (arith, two, fits) in rw (lt-leb (suc 4096) (here + 2) (omega arith)) refl;
+      fits = λ here fits. let room : here + 2 ≤ MEMORY_BYTES = omega (arith, two, fits) in rw (lt-leb (suc MEMORY_BYTES) (here + 2) (omega arith)) refl;
       size = λ here. sym two;
       code = own;
     }
@@ -274,7 +275,7 @@ steady_word true e bytes own two =
       no_origin = refl;
       placed_well = λ before. refl;
       value = refl;
-      fits = λ here fits. let room : here + 2 ≤ 4096 = omega (arith, two, fits) in rw (lt-leb (suc 4096) (here + 2) (omega arith)) refl;
+      fits = λ here fits. let room : here + 2 ≤ MEMORY_BYTES = omega (arith, two, fits) in rw (lt-leb (suc MEMORY_BYTES) (here + 2) (omega arith)) refl;
       size = λ here. sym two;
       code = own;
     }
@@ -286,7 +287,7 @@ steady_word false e bytes own two =
       no_origin = refl;
       placed_well = λ before. refl;
       value = refl;
-      fits = λ here fits. let room : here + 2 ≤ 4096 = omega (arith, two, fits) in rw (lt-leb (suc 4096) (here + 2) (omega arith)) refl;
+      fits = λ here fits. let room : here + 2 ≤ MEMORY_BYTES = omega (arith, two, fits) in rw (lt-leb (suc MEMORY_BYTES) (here + 2) (omega arith)) refl;
       size = λ here. sym two;
       code = own;
     }
@@ -302,7 +303,7 @@ steady_byte e bytes own one =
       no_origin = refl;
       placed_well = λ before. refl;
       value = refl;
-      fits = λ here fits. let room : here + 1 ≤ 4096 = omega (arith, one, fits) in rw (lt-leb (suc 4096) (here + 1) (omega arith)) refl;
+      fits = λ here fits. let room : here + 1 ≤ MEMORY_BYTES = omega (arith, one, fits) in rw (lt-leb (suc MEMORY_BYTES) (here + 1) (omega arith)) refl;
       size = λ here. sym one;
       code = own;
     }
@@ -317,7 +318,7 @@ steady_align true on =
       no_origin = refl;
       placed_well = λ before. refl;
       value = refl;
-      fits = λ here fits. rw (lt-leb (suc 4096) (here + 0) (omega arith)) refl;
+      fits = λ here fits. rw (lt-leb (suc MEMORY_BYTES) (here + 0) (omega arith)) refl;
       size = λ here. refl;
       code = refl;
     }
@@ -329,7 +330,7 @@ steady_align false on =
       no_origin = refl;
       placed_well = λ before. refl;
       value = refl;
-      fits = λ here fits. rw (lt-leb (suc 4096) (here + 0) (omega arith)) refl;
+      fits = λ here fits. rw (lt-leb (suc MEMORY_BYTES) (here + 0) (omega arith)) refl;
       size = λ here. refl;
       code = refl;
     }
@@ -346,19 +347,19 @@ aligning_off all p here size next = rw (next.live, next.no_fault, next.line) ref
 
 -- a line that aligns nothing, and ALIGN OFF
 pub built_line : (a : Bool) (all : List Placed) (bytes more : List ℕ) (body : Body) (line : Reading) → line ≡ read None body → Built a all bytes → Steady a body more → is_align_body body ≡ false →
-    length bytes + length more ≤ 3584 → Built a (place all line ∷ all) (bytes ++ more)
+    length bytes + length more ≤ IMAGE_BYTES → Built a (place all line ∷ all) (bytes ++ more)
 built_line a all bytes more body line reads built steady other fits =
     let next = next_line a all bytes more body built steady fits in
     let P : Reading → Type 0 = λ (r : Reading). Built a (place all r ∷ all) (bytes ++ more) in
     subst P (sym reads)
     (built_next a a all bytes more body built steady fits
-    (aligning_after all (place all (read None body)) body (512 + length bytes) (length more) a next other built.aligns))
+    (aligning_after all (place all (read None body)) body (IMAGE_START + length bytes) (length more) a next other built.aligns))
 
-pub built_off : (a : Bool) (all : List Placed) (bytes : List ℕ) (line : Reading) → line ≡ read None (align false) → Built a all bytes → length bytes ≤ 3584 →
+pub built_off : (a : Bool) (all : List Placed) (bytes : List ℕ) (line : Reading) → line ≡ read None (align false) → Built a all bytes → length bytes ≤ IMAGE_BYTES →
     Built false (place all line ∷ all) (bytes ++ [])
 built_off a all bytes line reads built fits =
     let next = next_line a all bytes [] (align false) built (steady_align a false) (omega arith) in
     let P : Reading → Type 0 = λ (r : Reading). Built false (place all r ∷ all) (bytes ++ []) in
     subst P (sym reads)
     (built_next a false all bytes [] (align false) built (steady_align a false) (omega arith)
-    (aligning_off all (place all (read None (align false))) (512 + length bytes) 0 next))
+    (aligning_off all (place all (read None (align false))) (IMAGE_START + length bytes) 0 next))

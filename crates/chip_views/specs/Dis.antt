@@ -2,6 +2,7 @@
 use Rattle.std.specs.Prelude.{ℕ, ◌+◌, ◌*◌, ◌&&◌, Bool, true, false, nat_le, List, [], ◌∷◌, ◌++◌, codes, length, if◌then◌else◌, Option, Some, None, Result, Ok, Err}
 use Rattle.std.specs.List.{list_all, flat_map}
 use Rattle.std.specs.Str.{bytes_eq}
+use Rattle.chip_asm.specs.declared.limits.TheConstants.{LINE_BYTES}
 use Rattle.chip_lang.specs.declared.fault.Fault.{Fault}
 use Rattle.chip_lang.specs.declared.code.Coded.{Coded}
 use Rattle.chip_lang.specs.declared.code.Coded.TheVariants.{Bytes, Faulty}
@@ -14,9 +15,9 @@ use Rattle.chip_lang.specs.Show.{show_of, hex_word, hex_byte}
 abbrev pub is_visible : ℕ → Bool
 is_visible b = nat_le 32 b && nat_le b 126
 
--- a line of at most 200 of them
+-- a line that is not too long, of them alone
 abbrev pub is_plain : List ℕ → Bool
-is_plain text = nat_le (length text) 200 && list_all is_visible text
+is_plain text = nat_le (length text) LINE_BYTES && list_all is_visible text
 
 -- whether a code is the two bytes of a word
 abbrev pub is_word : ℕ → Result (List ℕ) Fault → Bool

@@ -2,7 +2,8 @@
 ghost use Rattle.std.specs.Prelude.{◌≡◌};
 ghost use Rattle.chip_asm.specs.Edits.{has_line_break, insert_refusal, replace_refusal, delete_refusal};
 
-use crate::refusal::{MAX_LINES, MAX_TEXT, Refusal};
+use crate::limits::{LINE_BYTES, MOST_LINES};
+use crate::refusal::Refusal;
 
 fn has_line_break(text: &[u8]) -> bool
     ensures { result ≡ has_line_break text.now }
@@ -17,10 +18,10 @@ pub(crate) fn insert_refusal(count: usize, number: usize, text: &[u8]) -> Option
     if number == 0 || number - 1 > count {
         return Some(Refusal::NoSuchLine);
     }
-    if text.len() > MAX_TEXT {
+    if text.len() > LINE_BYTES {
         return Some(Refusal::TextTooLong);
     }
-    if count >= MAX_LINES {
+    if count >= MOST_LINES {
         return Some(Refusal::TooManyLines);
     }
     if has_line_break(text) {
@@ -36,7 +37,7 @@ pub(crate) fn replace_refusal(count: usize, number: usize, text: &[u8]) -> Optio
     if number == 0 || number > count {
         return Some(Refusal::NoSuchLine);
     }
-    if text.len() > MAX_TEXT {
+    if text.len() > LINE_BYTES {
         return Some(Refusal::TextTooLong);
     }
     if has_line_break(text) {

@@ -1,6 +1,7 @@
 use Rattle.std.proofs.Common.{◌≡◌, ◌∙◌, ◌+◌, ◌<◌, ◌++◌, ◌∷◌, [], ℕ, ap, sym, arith, length, List, map, inr, Some, true, false, append_assoc, subst}
 use Rattle.std.specs.List.{after_first}
 use Rattle.std.proofs.lemmas.List.{length-map, map-append, append-nil}
+use Rattle.chip_asm.specs.declared.limits.TheConstants.{MOST_LINES}
 use Rattle.chip_lang.specs.Line.{reading_of}
 use Rattle.chip_lang.specs.Meter.{one_more}
 use Rattle.chip_asm.specs.declared.kept_line.KeptLine.{KeptLine}
@@ -10,24 +11,24 @@ use Rattle.chip_asm.specs.Records.{texts_in}
 use Rattle.chip_asm.proofs.CutSteps.{AllShort, lines-next, too-long, too-many, opens, some-bytes, no-lines, long-is, short-is, short-push}
 use Rattle.chip_asm.proofs.cut.read_lines.Goals as goal
 
-pub returns-then-len-eq-MAX_LINES-clause-err : goal.returns-then-len-eq-MAX_LINES-clause-err
-returns-then-len-eq-MAX_LINES-clause-err c =
+pub returns-then-len-eq-MOST_LINES-clause-err : goal.returns-then-len-eq-MOST_LINES-clause-err
+returns-then-len-eq-MOST_LINES-clause-err c =
     let texts : List (List ℕ) = texts_in c.loop-rest.lines.items in
     let some : 0 < length c.loop-rest.rest.now = some-bytes c.loop-rest.rest.now (sym c.is_empty.ensures ∙ c.loop-rest-test.true) in
     let cut : texts ++ first_text c.loop-rest.rest.now ∷ lines_of (after_first is_newline c.loop-rest.rest.now) ≡ lines_of c.args.source.now
     = ap (λ l. texts ++ l) (sym (lines-next c.loop-rest.rest.now some)) ∙ c.loop-rest.invariant.0 in
-    let many : length texts ≡ 4000 = length-map c.loop-rest.lines.items (λ (k : KeptLine). k.text) ∙ sym c.loop-rest.lines.ok.0 ∙ sym c.len.ensures ∙ c.if-len-eq-MAX_LINES.true in
+    let many : length texts ≡ MOST_LINES = length-map c.loop-rest.lines.items (λ (k : KeptLine). k.text) ∙ sym c.loop-rest.lines.ok.0 ∙ sym c.len.ensures ∙ c.if-len-eq-MOST_LINES.true in
     inr (too-many c.args.source.now texts (lines_of (after_first is_newline c.loop-rest.rest.now)) (first_text c.loop-rest.rest.now) cut c.loop-rest.invariant.2 many)
 
-pub returns-then-text-gt-MAX_TEXT-clause-err : goal.returns-then-text-gt-MAX_TEXT-clause-err
-returns-then-text-gt-MAX_TEXT-clause-err c =
+pub returns-then-text-gt-LINE_BYTES-clause-err : goal.returns-then-text-gt-LINE_BYTES-clause-err
+returns-then-text-gt-LINE_BYTES-clause-err c =
     let texts : List (List ℕ) = texts_in c.loop-rest.lines.items in
     let some : 0 < length c.loop-rest.rest.now = some-bytes c.loop-rest.rest.now (sym c.is_empty.ensures ∙ c.loop-rest-test.true) in
     let cut : texts ++ first_text c.loop-rest.rest.now ∷ lines_of (after_first is_newline c.loop-rest.rest.now) ≡ lines_of c.args.source.now
     = ap (λ l. texts ++ l) (sym (lines-next c.loop-rest.rest.now some)) ∙ c.loop-rest.invariant.0 in
-    let count : length texts ≡ c.len-then-text-gt-MAX_TEXT.result = length-map c.loop-rest.lines.items (λ (k : KeptLine). k.text) ∙ sym c.loop-rest.lines.ok.0 ∙ sym c.len-then-text-gt-MAX_TEXT.ensures in
-    let few : length texts < 4000 = omega (arith, count, c.len-then-text-gt-MAX_TEXT.ensures, c.len.ensures, c.if-len-eq-MAX_LINES.false, c.loop-rest.invariant.3, c.loop-rest.lines.ok.0) in
-    let long : is_long (first_text c.loop-rest.rest.now) ≡ true = ap is_long (sym c.first_text-text.ensures) ∙ long-is c.first_text-text.result.now c.if-text-gt-MAX_TEXT.true in
+    let count : length texts ≡ c.len-then-text-gt-LINE_BYTES.result = length-map c.loop-rest.lines.items (λ (k : KeptLine). k.text) ∙ sym c.loop-rest.lines.ok.0 ∙ sym c.len-then-text-gt-LINE_BYTES.ensures in
+    let few : length texts < MOST_LINES = omega (arith, count, c.len-then-text-gt-LINE_BYTES.ensures, c.len.ensures, c.if-len-eq-MOST_LINES.false, c.loop-rest.invariant.3, c.loop-rest.lines.ok.0) in
+    let long : is_long (first_text c.loop-rest.rest.now) ≡ true = ap is_long (sym c.first_text-text.ensures) ∙ long-is c.first_text-text.result.now c.if-text-gt-LINE_BYTES.true in
     inr (too-long c.args.source.now texts (lines_of (after_first is_newline c.loop-rest.rest.now)) (first_text c.loop-rest.rest.now) cut c.loop-rest.invariant.2 long few ∙ ap (λ n. Some (LineTooLong (n + 1))) count)
 
 pub loop-rest-preserved : goal.loop-rest-preserved
@@ -37,9 +38,9 @@ loop-rest-preserved c =
     let some : 0 < length c.loop-rest.rest.now = some-bytes c.loop-rest.rest.now (sym c.is_empty.ensures ∙ c.loop-rest-test.true) in
     let cut : texts ++ first_text c.loop-rest.rest.now ∷ lines_of (after_first is_newline c.loop-rest.rest.now) ≡ lines_of c.args.source.now
     = ap (λ l. texts ++ l) (sym (lines-next c.loop-rest.rest.now some)) ∙ c.loop-rest.invariant.0 in
-    let short : is_long t ≡ false = short-is t c.if-text-gt-MAX_TEXT.false in
+    let short : is_long t ≡ false = short-is t c.if-text-gt-LINE_BYTES.false in
     let more : length c.push_line.new.lines.items ≡ length c.loop-rest.lines.items + 1 = c.in_ok-push_line.ensures.count in
-    let room : length c.loop-rest.lines.items < 4000 = omega (arith, c.len.ensures, c.if-len-eq-MAX_LINES.false, c.loop-rest.invariant.3, c.loop-rest.lines.ok.0) in
+    let room : length c.loop-rest.lines.items < MOST_LINES = omega (arith, c.len.ensures, c.if-len-eq-MOST_LINES.false, c.loop-rest.invariant.3, c.loop-rest.lines.ok.0) in
     let read : c.push_line.new.meter.parsed ≡ one_more c.loop-rest.meter.parsed = ap (λ m. m.parsed) c.push_line.ensures.counted in (
       ap (λ xs. xs ++ lines_of c.after_line-rest.result.now) c.in_ok-push_line.ensures.texts
           ∙ append_assoc texts (t ∷ []) (lines_of c.after_line-rest.result.now)

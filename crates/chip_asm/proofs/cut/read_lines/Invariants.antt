@@ -1,4 +1,5 @@
 use Rattle.std.proofs.Common.{◌≡◌, ◌≤◌, ◌++◌, length, map}
+use Rattle.chip_asm.specs.declared.limits.TheConstants.{MOST_LINES}
 use Rattle.chip_lang.specs.Line.{reading_of}
 use Rattle.chip_asm.specs.Lines.{lines_of}
 use Rattle.chip_asm.specs.Records.{readings_in, texts_in}
@@ -10,7 +11,7 @@ invariant-loop-rest l =
     (texts_in l.lines.items ++ lines_of l.rest ≡ lines_of l.fn.source)
     × (readings_in l.lines.items ≡ map reading_of (texts_in l.lines.items))
     × AllShort (texts_in l.lines.items)
-    × (length l.lines.items ≤ 4000)
+    × (length l.lines.items ≤ MOST_LINES)
     × (l.meter.parsed ≡ length l.lines.items)
     × (l.meter.encoded ≡ 0)
 

@@ -1,4 +1,5 @@
 use Rattle.std.proofs.Common.{◌∙◌, ◌+◌, ◌≤◌, arith, length, sym, ap, refl, get_or, reverse, take}
+use Rattle.chip_lang.specs.declared.limits.TheConstants.{IMAGE_START, MEMORY_BYTES}
 use Rattle.chip_asm.specs.Records.{readings_in}
 use Rattle.chip_asm.specs.Layout.{placed}
 use Rattle.chip_asm.proofs.ImageSteps.{About, about}
@@ -33,11 +34,11 @@ pub write_line-requires-clause-high : goal.write_line-requires-clause-high
 write_line-requires-clause-high c =
     let a : About c.args.lines.now c.index.result.now c.index-lines-place.result c.loop-place.place
     = about c.args.lines.now c.args.layout.now c.requires.laid_out c.requires.current c.loop-place.place c.index.result.now c.index-lines-place.result c.loop-place-test.true c.index.ensures c.index-lines-place.is in
-    let high : c.index.result.now.here + c.index.result.now.size ≤ 4096 = rw a.placement a.within.1 in
+    let high : c.index.result.now.here + c.index.result.now.size ≤ MEMORY_BYTES = rw a.placement a.within.1 in
     omega (arith, high, c.loop-place.auto.image, c.requires.long)
 
 pub returns-clause-counted : goal.returns-clause-counted
 returns-clause-counted c = c.loop-place.invariant.1 ∙ ap length (faults-all c.args.lines.now c.loop-place.place (omega arith))
 
 pub returns-clause-bytes : goal.returns-clause-bytes
-returns-clause-bytes c = λ k h. c.loop-place.invariant.2 k h ∙ byte-whole c.args.lines.now c.loop-place.place (512 + k) (omega arith)
+returns-clause-bytes c = λ k h. c.loop-place.invariant.2 k h ∙ byte-whole c.args.lines.now c.loop-place.place (IMAGE_START + k) (omega arith)

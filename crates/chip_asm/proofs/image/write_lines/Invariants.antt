@@ -1,4 +1,5 @@
 use Rattle.std.proofs.Common.{◌≡◌, ℕ, ◌+◌, ◌<◌, ◌≤◌, get_or, length, take, reverse, filter_map}
+use Rattle.chip_lang.specs.declared.limits.TheConstants.{IMAGE_BYTES, IMAGE_START}
 use Rattle.chip_asm.specs.Layout.{placed}
 use Rattle.chip_asm.specs.Program.{numbered_fault}
 use Rattle.chip_asm.specs.Records.{readings_in}
@@ -9,4 +10,4 @@ abbrev pub invariant-loop-place : goal.invariant-loop-place
 invariant-loop-place l =
     (l.faults ≤ l.place)
     × (l.faults ≡ length (filter_map (numbered_fault (placed (readings_in l.lines))) (take l.place (reverse (placed (readings_in l.lines))))))
-    × ((k : ℕ) → k < 3584 → get_or l.image k 0 ≡ byte_among (placed (readings_in l.lines)) (reverse (take l.place (reverse (placed (readings_in l.lines))))) (512 + k))
+    × ((k : ℕ) → k < IMAGE_BYTES → get_or l.image k 0 ≡ byte_among (placed (readings_in l.lines)) (reverse (take l.place (reverse (placed (readings_in l.lines))))) (IMAGE_START + k))

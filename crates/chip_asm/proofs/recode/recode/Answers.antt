@@ -61,6 +61,7 @@ loop-place-preserved c =
           = rw (← again) c.encode_if.ensures.encoded in
           omega (arith, c.loop-place.invariant.1 before old, grown, count-numbered (is_encoded_again before all (place_before c.args.edit.now)) all c.loop-place.place (seen_line c.line_after-line.result.now) inside c.line_after-line.ensures)),
       c.encode_if.ensures.parsed ∙ c.loop-place.invariant.2,
+      omega (arith, c.loop-place.invariant.3, c.encode_if.ensures.not_lowered),
     )
 
 pub returns-clause-codes : goal.returns-clause-codes

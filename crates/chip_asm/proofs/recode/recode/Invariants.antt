@@ -11,3 +11,4 @@ invariant-loop-place l =
     ((before : List Reading) → IsLayoutOf l.old before → l.codes.items ≡ map (new_code before (readings_in (lines_after l.lines l.edit)) (place_before l.edit)) (take l.place (enumerate_from 0 (readings_in (lines_after l.lines l.edit)))))
     × ((before : List Reading) → IsLayoutOf l.old before → l.meter.encoded ≤ l.initial.meter.encoded + count_by (is_encoded_again before (readings_in (lines_after l.lines l.edit)) (place_before l.edit)) (take l.place (enumerate_from 0 (readings_in (lines_after l.lines l.edit)))))
     × (l.meter.parsed ≡ l.initial.meter.parsed)
+    × (l.initial.meter.encoded ≤ l.meter.encoded)

@@ -1,5 +1,6 @@
 use Rattle.std.proofs.Common.{◌∙◌, ◌-◌, ℕ, arith, take, ap, Some, sym}
 use Rattle.std.proofs.lemmas.List.{length-take}
+use Rattle.chip_lang.specs.declared.limits.TheConstants.{IMAGE_START}
 use Rattle.chip_asm.specs.Records.{readings_in}
 use Rattle.chip_asm.proofs.Bounds.{end-low}
 use Rattle.chip_asm.proofs.KeptSteps.{image-room}
@@ -12,14 +13,14 @@ slice_bounds-result-count c = rw c.requires.laid_out.end_address (end-low (readi
 pub slice_bounds-result-length : goal.slice_bounds-result-length
 slice_bounds-result-length c =
     let room = image-room c.args.self.now c.requires in
-    omega (arith, c.deref.ensures.len, length-take (c.args.self.now.layout.end - 512) c.deref.result.now)
+    omega (arith, c.deref.ensures.len, length-take (c.args.self.now.layout.end - IMAGE_START) c.deref.result.now)
 
 pub returns-then-self-eq0-clause-value : goal.returns-then-self-eq0-clause-value
 returns-then-self-eq0-clause-value c =
     let room = image-room c.args.self.now c.requires in
-    let size : ℕ = c.args.self.now.layout.end - 512 in
-    ap (λ bytes. Some (take (c.args.self.now.layout.end - 512) bytes)) c.deref.ensures.value
-    ∙ image-made c.args.self.now.lines.items c.args.self.now.image.items (c.args.self.now.layout.end - 512) (omega (arith, c.args.self.now.image.ok.0)) (ap (λ n. n - 512) c.requires.laid_out.end_address)
+    let size : ℕ = c.args.self.now.layout.end - IMAGE_START in
+    ap (λ bytes. Some (take (c.args.self.now.layout.end - IMAGE_START) bytes)) c.deref.ensures.value
+    ∙ image-made c.args.self.now.lines.items c.args.self.now.image.items (c.args.self.now.layout.end - IMAGE_START) (omega (arith, c.args.self.now.image.ok.0)) (ap (λ n. n - IMAGE_START) c.requires.laid_out.end_address)
     (sym c.if-self-eq0.true ∙ c.requires.counted) c.requires.imaged
 
 pub returns-else-self-eq0-clause-value : goal.returns-else-self-eq0-clause-value

@@ -1,9 +1,10 @@
 use Rattle.std.proofs.Common.{◌≡◌, ℕ, ◌+◌, ap, arith, refl, length, get_or, []}
+use Rattle.chip_lang.specs.declared.limits.TheConstants.{IMAGE_START}
 use Rattle.chip_asm.specs.Layout.{placed}
 use Rattle.chip_asm.specs.Program.{faults_of_lines, byte_at}
 use Rattle.chip_asm.proofs.kept.Kept.new.Goals as goal
 
-no_bytes : (k : ℕ) → get_or [] k 0 ≡ byte_at (placed []) (512 + k)
+no_bytes : (k : ℕ) → get_or [] k 0 ≡ byte_at (placed []) (IMAGE_START + k)
 unfolding placed byte_at
 no_bytes k = refl
 

@@ -1,4 +1,5 @@
 use Rattle.std.proofs.Common.{◌≡◌, ◌∙◌, ◌+◌, arith, ap, sym, length, map, get_or}
+use Rattle.chip_lang.specs.declared.limits.TheConstants.{IMAGE_START}
 use Rattle.chip_lang.specs.Line.{reading_of}
 use Rattle.chip_asm.specs.Kept.{IsMerged}
 use Rattle.chip_asm.specs.Layout.{placed}
@@ -18,5 +19,5 @@ returns-clause-kept c =
     kept-by _ c.write_codes.new.lines rest (omega (arith, merged.long, c.requires.few)) (merged.readings ∙ c.requires.are_read ∙ ap (map reading_of) (sym merged.texts)) (rw merged.readings c.requires.laid_out)
     (c.requires.current c.write_codes.new.lines merged)
     (λ k h.
-    ap (λ xs. get_or xs k 0) written ∙ c.write_lines-self.ensures.bytes k h ∙ ap (λ lines. byte_at (placed (readings_in lines)) (512 + k)) full)
+    ap (λ xs. get_or xs k 0) written ∙ c.write_lines-self.ensures.bytes k h ∙ ap (λ lines. byte_at (placed (readings_in lines)) (IMAGE_START + k)) full)
     c.requires.image (c.write_lines-self.ensures.counted ∙ ap (λ lines. length (faults_of_lines (readings_in lines))) full)
