@@ -1,213 +1,322 @@
 //! The examples in the reference of commands: a session for each command.
-use crate::rows::answers;
+use crate::cases::{carry_out, expect};
 use std::alloc::Global;
 use std::test::Fail;
 
-// Whether a session goes as it is written: what stands after `> ` is a command, and all other lines are answers.
-fn goes_so(alloc: Global, source: &str, session: &str) -> Result<bool, Fail> {
+const EDITS: &str = "\
+== inserts a line
+| LD V0, 5
+| LOOP: ADD V0, 1
+| JP LOOP
+> ins 2 CLS
+ok
+> image
+600500e070011204
+> ins 5 ; the end
+ok
+> ins 9 CLS
+no N1
+== replaces a line
+| LD V0, 5
+| LOOP: ADD V0, 1
+| JP LOOP
+> rep 1 LD V0, 9
+ok
+> image
+600970011202
+> rep 4 CLS
+no N1
+== deletes a line
+| LD V0, 5
+| LOOP: ADD V0, 1
+| JP LOOP
+> del 1
+ok
+> image
+70011200
+> del 3
+no N1
+== inserts key events
+| WAIT: LD V1, K
+| JP WAIT
+> kins 2 5 down
+ok
+> kins 4 #c up
+ok
+> kins 2 5 up
+no N7
+> kins 1000001 5 down
+no N5
+> kins 0 16 down
+no N6
+> regs 4
+v 00 05 00 00 00 00 00 00 00 00 00 00 00 00 00 00
+pc 0200 i 0000 dt 00 st 00 draws 0 low run
+flags 00 00 00 00 00 00 00 00 stack
+== changes a key event
+| WAIT: LD V1, K
+| JP WAIT
+> kins 2 5 down
+ok
+> krep 2 5 up
+ok
+> krep 3 5 up
+no N8
+> regs 4
+v 00 00 00 00 00 00 00 00 00 00 00 00 00 00 00 00
+pc 0200 i 0000 dt 00 st 00 draws 0 low run
+flags 00 00 00 00 00 00 00 00 stack
+== deletes a key event
+| WAIT: LD V1, K
+| JP WAIT
+> kins 2 5 down
+ok
+> kdel 2 5
+ok
+> kdel 2 5
+no N8
+";
+
+#[test]
+fn edits_are_answered(rt: HostRuntime) -> Result<(), Fail> {
+    assert_eq!(rt; carry_out(&rt, EDITS)?, 6);
+    Ok(())
+}
+
+const QUESTIONS: &str = "\
+== tells the image
+| LD V0, 5
+| LOOP: ADD V0, 1
+| JP LOOP
+> image
+600570011202
+> rep 3 JP AWAY
+ok
+> image
+no Q1
+> rep 3
+ok
+> image
+60057001
+== tells the symbols
+| SIZE EQU 3
+| IFDEF DEBUG
+| CLS
+| ENDIF
+| START: LD V0, SIZE
+| LD V1, NONE
+| DA 'seven b'
+| DS 2
+> syms
+SIZE 3 1
+START 512 5
+.
+== tells the listing
+| SIZE EQU 3
+| IFDEF DEBUG
+| CLS
+| ENDIF
+| START: LD V0, SIZE
+| LD V1, NONE
+| DA 'seven b'
+| DS 2
+> list
+   1 0200 =3            SIZE EQU 3
+   2 0200               IFDEF DEBUG
+   3 ----               CLS
+   4 0200               ENDIF
+   5 0200 6003          START: LD V0, SIZE
+   6 0202 F9            LD V1, NONE
+   7 0204 736576656e20+ DA 'seven b'
+   8 020c 0000          DS 2
+.
+== tells the faults
+| SIZE EQU 3
+| IFDEF DEBUG
+| CLS
+| ENDIF
+| START: LD V0, SIZE
+| LD V1, NONE
+| DA 'seven b'
+| DS 2
+> faults
+6 F9
+.
+> rep 6 LD V1, 1
+ok
+> faults
+.
+== tells the registers
+| HIGH
+| LD V0, 7
+| LD R, V0
+| LD DT, V0
+| CALL DOWN
+| DOWN: RND V1, 255
+| LD I, DOWN
+| EXIT
+> regs 0
+v 00 00 00 00 00 00 00 00 00 00 00 00 00 00 00 00
+pc 0200 i 0000 dt 00 st 00 draws 0 low run
+flags 00 00 00 00 00 00 00 00 stack
+> regs 8
+v 07 00 00 00 00 00 00 00 00 00 00 00 00 00 00 00
+pc 020e i 020a dt 07 st 00 draws 1 high S1
+flags 07 00 00 00 00 00 00 00 stack 020a
+> regs 1000001
+no Q2
+== tells the memory
+| LD I, 1 + 4095 / 2
+| LD V0, 129
+| LD B, V0
+> mem 0 512 6
+a8006081f033
+> mem 3 #7ff 5
+0001020900
+> mem 3 0 10
+f0909090f02060202070
+> mem 3 4096 0
+
+> mem 3 4095 2
+no Q3
+== tells the screen
+| LD V0, 60
+| LD F, V2
+| DRW V0, V2, 5
+> screen 0
+low
+.
+> screen 3
+low
+00 000000000000000000000000000000ff
+01 000000000000000000000000000000ff
+02 000000000000000000000000000000c3
+03 000000000000000000000000000000c3
+04 000000000000000000000000000000c3
+05 000000000000000000000000000000c3
+06 000000000000000000000000000000c3
+07 000000000000000000000000000000c3
+08 000000000000000000000000000000ff
+09 000000000000000000000000000000ff
+.
+== disassembles words
+| CALL #ABC
+| DRW VA, VB, 10
+| DW #5671
+| SE V9, 200
+> dis 0 #200 4
+0200 2abc CALL #abc
+0202 daba DRW VA, VB, 10
+0204 5671 DW #5671
+0206 39c8 SE V9, #c8
+.
+> dis 0 512 0
+.
+> dis 0 4095 1
+no Q3
+== answers other lines
+| LD V0, 5
+| LOOP: ADD V0, 1
+| JP LOOP
+>\x20
+>   \x20
+> Image
+no C1
+>  image
+no C1
+> image now
+no C1
+> regs 1000000000
+no C1
+> image\x20
+600570011202
+";
+
+#[test]
+fn questions_are_answered(rt: HostRuntime) -> Result<(), Fail> {
+    assert_eq!(rt; carry_out(&rt, QUESTIONS)?, 9);
+    Ok(())
+}
+
+const REFUSALS: &str = "\
+== refusals that depend on the text of a command
+| CLS
+| CLS
+| CLS
+> Image
+no C1
+> image now
+no C1
+> del 4
+no N1
+> rep 1 A\rB
+no N4
+== refusals of key events
+> kins 1000001 5 down
+no N5
+> kins 0 16 down
+no N6
+> kins 2 5 up
+ok
+> kins 2 5 up
+no N7
+== an event that is not there
+> kdel 2 5
+no N8
+== no image
+| DB NONE
+> regs 0
+no Q1
+== past the last step and the last byte
+> screen 1000001
+no Q2
+> mem 0 4095 2
+no Q3
+";
+
+#[test]
+fn each_refusal_has_its_example(rt: HostRuntime) -> Result<(), Fail> {
+    assert_eq!(rt; carry_out(&rt, REFUSALS)?, 5);
+    Ok(())
+}
+
+/// A text of 201 bytes, and a line of 401.
+#[test]
+fn long_lines_are_refused(rt: HostRuntime) -> Result<(), Fail> {
+    let spaces = format!(in rt.alloc(); "syms{:397}", "")?;
+    expect(&rt, b"CLS", spaces.as_bytes(), b"no C2\n")?;
+    let long = format!(in rt.alloc(); "rep 1 ;{:200}", "")?;
+    expect(&rt, b"CLS", long.as_bytes(), b"no N2\n")
+}
+
+/// One line more than there may be.
+#[test]
+fn a_line_too_many_is_refused(rt: HostRuntime) -> Result<(), Fail> {
+    let lines = format!(in rt.alloc(); "{:\n<4000}", "")?;
+    expect(
+        &rt,
+        lines.as_bytes(),
+        b"ins 1\ndel 4000\nins 4000",
+        b"no N3\nok\nok\n",
+    )
+}
+
+/// The commands of so many key events, and their answers.
+fn key_events(alloc: Global, count: u32) -> Result<(String, String), Fail> {
     let mut script = String::new(alloc);
     let mut expected = String::new(alloc);
-    for line in session.lines() {
-        match line.strip_prefix("> ") {
-            Some(command) => {
-                script.push_str(command)?;
-                script.push_str("\n")?;
-            }
-            None => {
-                expected.push_str(line)?;
-                expected.push_str("\n")?;
-            }
-        }
-    }
-    Ok(answers(alloc, source, &[0], &script)?.as_slice() == expected.as_bytes())
-}
-
-#[test]
-fn inserts_a_line(rt: HostRuntime) -> Result<(), Fail> {
-    let source = "LD V0, 5\nLOOP: ADD V0, 1\nJP LOOP\n";
-    let session =
-        "> ins 2 CLS\nok\n> image\n600500e070011204\n> ins 5 ; the end\nok\n> ins 9 CLS\nno N1\n";
-    assert!(rt; goes_so(rt.alloc(), source, session)?);
-    Ok(())
-}
-
-#[test]
-fn replaces_a_line(rt: HostRuntime) -> Result<(), Fail> {
-    let source = "LD V0, 5\nLOOP: ADD V0, 1\nJP LOOP\n";
-    let session = "> rep 1 LD V0, 9\nok\n> image\n600970011202\n> rep 4 CLS\nno N1\n";
-    assert!(rt; goes_so(rt.alloc(), source, session)?);
-    Ok(())
-}
-
-#[test]
-fn deletes_a_line(rt: HostRuntime) -> Result<(), Fail> {
-    let source = "LD V0, 5\nLOOP: ADD V0, 1\nJP LOOP\n";
-    let session = "> del 1\nok\n> image\n70011200\n> del 3\nno N1\n";
-    assert!(rt; goes_so(rt.alloc(), source, session)?);
-    Ok(())
-}
-
-#[test]
-fn inserts_key_events(rt: HostRuntime) -> Result<(), Fail> {
-    let source = "WAIT: LD V1, K\nJP WAIT\n";
-    let session =
-        "> kins 2 5 down\nok\n> kins 4 #c up\nok\n> kins 2 5 up\nno N7\n> kins 1000001 5 down\nno N5\n> kins 0 16 down\nno N6\n> regs 4\nv 00 05 00 00 00 00 00 00 00 00 00 00 00 00 00 00\npc 0200 i 0000 dt 00 st 00 draws 0 low run\nflags 00 00 00 00 00 00 00 00 stack\n";
-    assert!(rt; goes_so(rt.alloc(), source, session)?);
-    Ok(())
-}
-
-#[test]
-fn changes_a_key_event(rt: HostRuntime) -> Result<(), Fail> {
-    let source = "WAIT: LD V1, K\nJP WAIT\n";
-    let session =
-        "> kins 2 5 down\nok\n> krep 2 5 up\nok\n> krep 3 5 up\nno N8\n> regs 4\nv 00 00 00 00 00 00 00 00 00 00 00 00 00 00 00 00\npc 0200 i 0000 dt 00 st 00 draws 0 low run\nflags 00 00 00 00 00 00 00 00 stack\n";
-    assert!(rt; goes_so(rt.alloc(), source, session)?);
-    Ok(())
-}
-
-#[test]
-fn deletes_a_key_event(rt: HostRuntime) -> Result<(), Fail> {
-    let source = "WAIT: LD V1, K\nJP WAIT\n";
-    let session = "> kins 2 5 down\nok\n> kdel 2 5\nok\n> kdel 2 5\nno N8\n";
-    assert!(rt; goes_so(rt.alloc(), source, session)?);
-    Ok(())
-}
-
-#[test]
-fn tells_the_image(rt: HostRuntime) -> Result<(), Fail> {
-    let source = "LD V0, 5\nLOOP: ADD V0, 1\nJP LOOP\n";
-    let session =
-        "> image\n600570011202\n> rep 3 JP AWAY\nok\n> image\nno Q1\n> rep 3\nok\n> image\n60057001\n";
-    assert!(rt; goes_so(rt.alloc(), source, session)?);
-    Ok(())
-}
-
-#[test]
-fn tells_the_symbols(rt: HostRuntime) -> Result<(), Fail> {
-    let source =
-        "SIZE EQU 3\nIFDEF DEBUG\nCLS\nENDIF\nSTART: LD V0, SIZE\nLD V1, NONE\nDA 'seven b'\nDS 2\n";
-    let session = "> syms\nSIZE 3 1\nSTART 512 5\n.\n";
-    assert!(rt; goes_so(rt.alloc(), source, session)?);
-    Ok(())
-}
-
-#[test]
-fn tells_the_listing(rt: HostRuntime) -> Result<(), Fail> {
-    let source =
-        "SIZE EQU 3\nIFDEF DEBUG\nCLS\nENDIF\nSTART: LD V0, SIZE\nLD V1, NONE\nDA 'seven b'\nDS 2\n";
-    let session =
-        "> list\n   1 0200 =3            SIZE EQU 3\n   2 0200               IFDEF DEBUG\n   3 ----               CLS\n   4 0200               ENDIF\n   5 0200 6003          START: LD V0, SIZE\n   6 0202 F9            LD V1, NONE\n   7 0204 736576656e20+ DA 'seven b'\n   8 020c 0000          DS 2\n.\n";
-    assert!(rt; goes_so(rt.alloc(), source, session)?);
-    Ok(())
-}
-
-#[test]
-fn tells_the_faults(rt: HostRuntime) -> Result<(), Fail> {
-    let source =
-        "SIZE EQU 3\nIFDEF DEBUG\nCLS\nENDIF\nSTART: LD V0, SIZE\nLD V1, NONE\nDA 'seven b'\nDS 2\n";
-    let session = "> faults\n6 F9\n.\n> rep 6 LD V1, 1\nok\n> faults\n.\n";
-    assert!(rt; goes_so(rt.alloc(), source, session)?);
-    Ok(())
-}
-
-#[test]
-fn tells_the_registers(rt: HostRuntime) -> Result<(), Fail> {
-    let source =
-        "HIGH\nLD V0, 7\nLD R, V0\nLD DT, V0\nCALL DOWN\nDOWN: RND V1, 255\nLD I, DOWN\nEXIT\n";
-    let session =
-        "> regs 0\nv 00 00 00 00 00 00 00 00 00 00 00 00 00 00 00 00\npc 0200 i 0000 dt 00 st 00 draws 0 low run\nflags 00 00 00 00 00 00 00 00 stack\n> regs 8\nv 07 00 00 00 00 00 00 00 00 00 00 00 00 00 00 00\npc 020e i 020a dt 07 st 00 draws 1 high S1\nflags 07 00 00 00 00 00 00 00 stack 020a\n> regs 1000001\nno Q2\n";
-    assert!(rt; goes_so(rt.alloc(), source, session)?);
-    Ok(())
-}
-
-#[test]
-fn tells_the_memory(rt: HostRuntime) -> Result<(), Fail> {
-    let source = "LD I, 1 + 4095 / 2\nLD V0, 129\nLD B, V0\n";
-    let session =
-        "> mem 0 512 6\na8006081f033\n> mem 3 #7ff 5\n0001020900\n> mem 3 0 10\nf0909090f02060202070\n> mem 3 4096 0\n\n> mem 3 4095 2\nno Q3\n";
-    assert!(rt; goes_so(rt.alloc(), source, session)?);
-    Ok(())
-}
-
-#[test]
-fn tells_the_screen(rt: HostRuntime) -> Result<(), Fail> {
-    let source = "LD V0, 60\nLD F, V2\nDRW V0, V2, 5\n";
-    let session =
-        "> screen 0\nlow\n.\n> screen 3\nlow\n00 000000000000000000000000000000ff\n01 000000000000000000000000000000ff\n02 000000000000000000000000000000c3\n03 000000000000000000000000000000c3\n04 000000000000000000000000000000c3\n05 000000000000000000000000000000c3\n06 000000000000000000000000000000c3\n07 000000000000000000000000000000c3\n08 000000000000000000000000000000ff\n09 000000000000000000000000000000ff\n.\n";
-    assert!(rt; goes_so(rt.alloc(), source, session)?);
-    Ok(())
-}
-
-#[test]
-fn disassembles_words(rt: HostRuntime) -> Result<(), Fail> {
-    let source = "CALL #ABC\nDRW VA, VB, 10\nDW #5671\nSE V9, 200\n";
-    let session =
-        "> dis 0 #200 4\n0200 2abc CALL #abc\n0202 daba DRW VA, VB, 10\n0204 5671 DW #5671\n0206 39c8 SE V9, #c8\n.\n> dis 0 512 0\n.\n> dis 0 4095 1\nno Q3\n";
-    assert!(rt; goes_so(rt.alloc(), source, session)?);
-    Ok(())
-}
-
-#[test]
-fn answers_other_lines(rt: HostRuntime) -> Result<(), Fail> {
-    let source = "LD V0, 5\nLOOP: ADD V0, 1\nJP LOOP\n";
-    let session =
-        "> \n>    \n> Image\nno C1\n>  image\nno C1\n> image now\nno C1\n> regs 1000000000\nno C1\n> image \n600570011202\n";
-    assert!(rt; goes_so(rt.alloc(), source, session)?);
-    Ok(())
-}
-
-/// The refusals that depend on the text of a command.
-#[test]
-fn each_refusal_of_a_line_has_its_example(rt: HostRuntime) -> Result<(), Fail> {
-    let alloc = rt.alloc();
-    let three = "CLS\nCLS\nCLS";
-    assert!(rt;
-        answers(alloc, three, &[0], "Image\nimage now")?.as_slice() == b"no C1\nno C1\n".as_slice()
-    );
-    let spaces = format!(in alloc; "syms{:397}", "")?;
-    assert!(rt; answers(alloc, three, &[0], &spaces)?.as_slice() == b"no C2\n".as_slice());
-    assert!(rt; answers(alloc, three, &[0], "del 4")?.as_slice() == b"no N1\n".as_slice());
-    let long = format!(in alloc; "rep 1 ;{:200}", "")?;
-    assert!(rt; answers(alloc, three, &[0], &long)?.as_slice() == b"no N2\n".as_slice());
-    assert!(rt; answers(alloc, three, &[0], "rep 1 A\rB\n")?.as_slice() == b"no N4\n".as_slice());
-    Ok(())
-}
-
-/// The refusals of key events and of questions.
-#[test]
-fn each_refusal_of_an_event_or_a_question_has_its_example(rt: HostRuntime) -> Result<(), Fail> {
-    let alloc = rt.alloc();
-    let events =
-        "> kins 1000001 5 down\nno N5\n> kins 0 16 down\nno N6\n> kins 2 5 up\nok\n> kins 2 5 up\nno N7\n";
-    assert!(rt; goes_so(alloc, "", events)?);
-    assert!(rt; goes_so(alloc, "", "> kdel 2 5\nno N8\n")?);
-    assert!(rt; goes_so(alloc, "DB NONE", "> regs 0\nno Q1\n")?);
-    assert!(rt;
-        goes_so(
-            alloc,
-            "",
-            "> screen 1000001\nno Q2\n> mem 0 4095 2\nno Q3\n"
-        )?
-    );
-    Ok(())
-}
-
-/// One line, and one key event, more than there may be.
-#[test]
-fn refuses_what_is_too_much(rt: HostRuntime) -> Result<(), Fail> {
-    let alloc = rt.alloc();
-    let lines = format!(in alloc; "{:\n<4000}", "")?;
-    assert!(rt;
-        answers(alloc, &lines, &[0], "ins 1\ndel 4000\nins 4000")?.as_slice()
-            == b"no N3\nok\nok\n".as_slice()
-    );
-    let mut script = String::new(alloc);
-    for step in 0..10_001 {
+    for step in 0..count {
         script.push_str(&format!(in alloc; "kins {step} 5 down\n")?)?;
+        expected.push_str("ok\n")?;
     }
-    let written = answers(alloc, "", &[0], &script)?;
-    assert!(rt;
-        written.as_slice().starts_with(b"ok\nok\n") && written.as_slice().ends_with(b"ok\nno N9\n")
-    );
-    Ok(())
+    Ok((script, expected))
+}
+
+/// One key event more than there may be.
+#[test]
+fn an_event_too_many_is_refused(rt: HostRuntime) -> Result<(), Fail> {
+    let (mut script, mut expected) = key_events(rt.alloc(), 10_000)?;
+    script.push_str("kins 10000 5 down\n")?;
+    expected.push_str("no N9\n")?;
+    expect(&rt, b"", script.as_bytes(), expected.as_bytes())
 }

@@ -1,193 +1,343 @@
 //! What a session counts: what it reads, encodes, and runs.
-use chip_bench::{Bench, Edit, Question, SetError, Settings};
-use chip_replay::MOST_SPACING;
+//!
+//! A case begins with a line `== NAME`. Lines after `| ` are the source's, and `open N` opens it with N steps between two
+//! checkpoints. Lines after `> ` are commands, and all others are answers, but for these, of what is counted after the last
+//! command: `parsed N` lines were read in all, at most `encoded N` were encoded in all, the last command made at most
+//! `ran N` steps, and the kept run is sound up to `reach N` or further.
+use crate::cases::append;
+use crate::session::Session;
 use std::alloc::Global;
+use std::process::Abort;
 use std::test::Fail;
 
-const LOOP: &[u8] = b"LD V0, 5\nLOOP: ADD V0, 1\nJP LOOP";
+const WORK: &str = "\
+== counts what is read and encoded
+| LD V0, 5
+| LOOP: ADD V0, 1
+| JP LOOP
+open 1000
+parsed 3
+encoded 3
+> ins 2 CLS
+ok
+parsed 4
+encoded 5
+> syms
+LOOP 516 3
+.
+> del 9
+no N1
+parsed 4
+encoded 5
+== encodes anew only what needs it
+| N EQU 1
+| DB N
+| DB 5
+| LD V0, N
+open 1000
+parsed 4
+encoded 4
+> image
+010005006001
+> rep 1 N EQU 2
+ok
+parsed 5
+encoded 7
+> image
+020005006002
+> rep 1 N EQU 2
+ok
+parsed 6
+encoded 8
+> ins 1 IFDEF ZZ
+ok
+parsed 7
+encoded 8
+> faults
+1 F16
+.
+> ins 6 ENDIF
+ok
+parsed 8
+encoded 10
+> image
 
-const LOOP_AND_BYTE: &[u8] = b"LD V0, 5\nLOOP: ADD V0, 1\nJP LOOP\nDB 1";
+> ins 1 DEFINE ZZ
+ok
+parsed 9
+encoded 15
+> image
+020005006002
+";
 
-const CHANGES_ITSELF: &[u8] =
-    b"L: LD I, T + 1\nLD V0, [I]\nADD V0, 1\nLD [I], V0\nT: LD V3, 0\nJP L";
+const RUNS: &str = "\
+== keeps the run at a change that nothing touched
+| LD V0, 5
+| LOOP: ADD V0, 1
+| JP LOOP
+| DB 1
+open 1000
+> regs 5000
+v c9 00 00 00 00 00 00 00 00 00 00 00 00 00 00 00
+pc 0204 i 0000 dt 00 st 00 draws 0 low run
+flags 00 00 00 00 00 00 00 00 stack
+ran 5000
+> rep 4 DB 2
+ok
+ran 0
+> regs 5000
+v c9 00 00 00 00 00 00 00 00 00 00 00 00 00 00 00
+pc 0204 i 0000 dt 00 st 00 draws 0 low run
+flags 00 00 00 00 00 00 00 00 stack
+ran 0
+> mem 5000 #206 2
+0200
+> kins 2500 1 down
+ok
+reach 2500
+ran 0
+> regs 5000
+v c9 00 00 00 00 00 00 00 00 00 00 00 00 00 00 00
+pc 0204 i 0000 dt 00 st 00 draws 0 low run
+flags 00 00 00 00 00 00 00 00 stack
+ran 3000
+== goes on from a checkpoint
+| LD V0, 5
+| LOOP: ADD V0, 1
+| JP LOOP
+| DB 1
+open 1000
+> regs 5000
+v c9 00 00 00 00 00 00 00 00 00 00 00 00 00 00 00
+pc 0204 i 0000 dt 00 st 00 draws 0 low run
+flags 00 00 00 00 00 00 00 00 stack
+> regs 4321
+v 75 00 00 00 00 00 00 00 00 00 00 00 00 00 00 00
+pc 0202 i 0000 dt 00 st 00 draws 0 low run
+flags 00 00 00 00 00 00 00 00 stack
+ran 321
+== runs anew from a change at the start
+| LD V0, 5
+| LOOP: ADD V0, 1
+| JP LOOP
+| DB 1
+open 1000
+> regs 5000
+v c9 00 00 00 00 00 00 00 00 00 00 00 00 00 00 00
+pc 0204 i 0000 dt 00 st 00 draws 0 low run
+flags 00 00 00 00 00 00 00 00 stack
+> rep 1 LD V0, 9
+ok
+ran 0
+> regs 5000
+v cd 00 00 00 00 00 00 00 00 00 00 00 00 00 00 00
+pc 0204 i 0000 dt 00 st 00 draws 0 low run
+flags 00 00 00 00 00 00 00 00 stack
+ran 5000
+== takes keys while there is no image
+| LD V0, 5
+| LOOP: ADD V0, 1
+| JP LOOP
+| DB 1
+open 1000
+> regs 5000
+v c9 00 00 00 00 00 00 00 00 00 00 00 00 00 00 00
+pc 0204 i 0000 dt 00 st 00 draws 0 low run
+flags 00 00 00 00 00 00 00 00 stack
+> del 2
+ok
+> kins 100 1 down
+ok
+> ins 2 LOOP: ADD V0, 1
+ok
+ran 0
+> regs 5000
+v c9 00 00 00 00 00 00 00 00 00 00 00 00 00 00 00
+pc 0204 i 0000 dt 00 st 00 draws 0 low run
+flags 00 00 00 00 00 00 00 00 stack
+ran 5000
+== runs a program that changes itself
+| L: LD I, T + 1
+| LD V0, [I]
+| ADD V0, 1
+| LD [I], V0
+| T: LD V3, 0
+| JP L
+open 1000
+> image
+a209f0657001f05563001200
+> regs 6
+v 01 00 00 01 00 00 00 00 00 00 00 00 00 00 00 00
+pc 0200 i 0209 dt 00 st 00 draws 0 low run
+flags 00 00 00 00 00 00 00 00 stack
+> regs 600
+v 64 00 00 64 00 00 00 00 00 00 00 00 00 00 00 00
+pc 0200 i 0209 dt 00 st 00 draws 0 low run
+flags 00 00 00 00 00 00 00 00 stack
+ran 594
+> rep 5 T: LD V3, 9
+ok
+> regs 600
+v 6d 00 00 6d 00 00 00 00 00 00 00 00 00 00 00 00
+pc 0200 i 0209 dt 00 st 00 draws 0 low run
+flags 00 00 00 00 00 00 00 00 stack
+ran 600
+";
 
-// A session on a source, at the rate 10 and with the tape of one zero.
-fn session(alloc: Global, source: &[u8]) -> Result<Bench, Fail> {
-    Ok(Bench::open(alloc, source, Settings::new(alloc, 10, &[0])?)?)
+const SPACINGS: &str = "\
+== answers a million steps
+| LD V0, 5
+| LOOP: ADD V0, 1
+| JP LOOP
+open 1000
+> regs 1000000
+v 25 00 00 00 00 00 00 00 00 00 00 00 00 00 00 00
+pc 0204 i 0000 dt 00 st 00 draws 0 low run
+flags 00 00 00 00 00 00 00 00 stack
+ran 1000000
+> regs 100001
+v 55 00 00 00 00 00 00 00 00 00 00 00 00 00 00 00
+pc 0202 i 0000 dt 00 st 00 draws 0 low run
+flags 00 00 00 00 00 00 00 00 stack
+ran 100001
+== goes on from a checkpoint of its spacing
+| LD V0, 5
+| LOOP: ADD V0, 1
+| JP LOOP
+| DB 1
+open 2000
+> regs 5000
+v c9 00 00 00 00 00 00 00 00 00 00 00 00 00 00 00
+pc 0204 i 0000 dt 00 st 00 draws 0 low run
+flags 00 00 00 00 00 00 00 00 stack
+> rep 4 DB 2
+ok
+> regs 5000
+v c9 00 00 00 00 00 00 00 00 00 00 00 00 00 00 00
+pc 0204 i 0000 dt 00 st 00 draws 0 low run
+flags 00 00 00 00 00 00 00 00 stack
+ran 1000
+== runs anew where no checkpoint stands
+| LD V0, 5
+| LOOP: ADD V0, 1
+| JP LOOP
+| DB 1
+open 100000
+> regs 5000
+v c9 00 00 00 00 00 00 00 00 00 00 00 00 00 00 00
+pc 0204 i 0000 dt 00 st 00 draws 0 low run
+flags 00 00 00 00 00 00 00 00 stack
+> kins 2500 1 down
+ok
+> regs 5000
+v c9 00 00 00 00 00 00 00 00 00 00 00 00 00 00 00
+pc 0204 i 0000 dt 00 st 00 draws 0 low run
+flags 00 00 00 00 00 00 00 00 stack
+ran 5000
+";
+
+/// What was read of a case.
+#[derive(Drop)]
+struct Case {
+    name: String,
+    source: String,
+    session: Session,
+    expected: String,
+    opened: u32,
 }
 
-// The same with that many steps between two checkpoints.
-fn spaced_session(alloc: Global, source: &[u8], spacing: u32) -> Result<Bench, Fail> {
-    let settings = Settings::new(alloc, 10, &[0])?.with_spacing(spacing)?;
-    Ok(Bench::open(alloc, source, settings)?)
-}
-
-// Whether the answer to a question starts so.
-fn is_told(
-    alloc: Global,
-    bench: &mut Bench,
-    question: &Question,
-    start: &[u8],
-) -> Result<bool, Fail> {
-    let mut out = Vec::new(alloc);
-    bench.ask(alloc, question, &mut out)?;
-    Ok(out.as_slice().starts_with(start))
-}
-
-// Whether the loop's machine holds V0 and pc after so many steps.
-fn holds(alloc: Global, bench: &mut Bench, step: u32, v0: &str, pc: &str) -> Result<bool, Fail> {
-    let start = format!(in alloc;
-        "v {v0} 00 00 00 00 00 00 00 00 00 00 00 00 00 00 00\npc {pc} i 0000 dt 00 st 00 draws 0 low run\n"
-    )?;
-    is_told(
-        alloc,
-        bench,
-        &Question::Registers { step },
-        start.as_bytes(),
-    )
-}
-
-#[test]
-fn counts_what_is_read_and_encoded(rt: HostRuntime) -> Result<(), Fail> {
-    let alloc = rt.alloc();
-    let mut bench = session(alloc, LOOP)?;
-    assert_eq!(rt; bench.work().parsed, 3);
-    assert!(rt; bench.work().encoded <= 3);
-    let text = b"CLS".as_slice();
-    bench.apply(alloc, &Edit::Insert { line: 2, text })?;
-    assert_eq!(rt; bench.work().parsed, 4);
-    assert!(rt; bench.work().encoded <= 5);
-    assert!(rt; is_told(alloc, &mut bench, &Question::Symbols, b"LOOP 516 3\n.\n")?);
-    let work = bench.work();
-    assert!(rt; bench.apply(alloc, &Edit::Delete { line: 9 }).is_err());
-    assert_eq!(rt; bench.work(), work);
-    Ok(())
-}
-
-#[test]
-fn keeps_the_run_at_a_change_that_nothing_touched(rt: HostRuntime) -> Result<(), Fail> {
-    let alloc = rt.alloc();
-    let mut bench = session(alloc, LOOP_AND_BYTE)?;
-    assert!(rt; holds(alloc, &mut bench, 5000, "c9", "0204")?);
-    let ran = bench.ran();
-    let text = b"DB 2".as_slice();
-    bench.apply(alloc, &Edit::Replace { line: 4, text })?;
-    assert!(rt; holds(alloc, &mut bench, 5000, "c9", "0204")?);
-    assert_eq!(rt; bench.ran(), ran);
-    let memory = Question::Memory {
-        step: 5000,
-        at: 0x206,
-        count: 2,
-    };
-    assert!(rt; is_told(alloc, &mut bench, &memory, b"0200\n")?);
-    let ran = bench.ran();
-    let (step, key, down) = (2500, 1, true);
-    bench.apply(alloc, &Edit::InsertKey { step, key, down })?;
-    assert!(rt; bench.reach() >= 2500);
-    assert!(rt; holds(alloc, &mut bench, 5000, "c9", "0204")?);
-    assert!(rt; bench.ran().saturating_sub(ran) <= 3000);
-    Ok(())
-}
-
-#[test]
-fn goes_on_from_a_checkpoint(rt: HostRuntime) -> Result<(), Fail> {
-    let alloc = rt.alloc();
-    let mut bench = session(alloc, LOOP_AND_BYTE)?;
-    assert!(rt; holds(alloc, &mut bench, 5000, "c9", "0204")?);
-    let ran = bench.ran();
-    assert!(rt; holds(alloc, &mut bench, 4321, "75", "0202")?);
-    assert!(rt; bench.ran().saturating_sub(ran) <= 321);
-    Ok(())
-}
-
-#[test]
-fn runs_anew_from_a_change_at_the_start(rt: HostRuntime) -> Result<(), Fail> {
-    let alloc = rt.alloc();
-    let mut bench = session(alloc, LOOP_AND_BYTE)?;
-    assert!(rt; holds(alloc, &mut bench, 5000, "c9", "0204")?);
-    let ran = bench.ran();
-    let text = b"LD V0, 9".as_slice();
-    bench.apply(alloc, &Edit::Replace { line: 1, text })?;
-    assert!(rt; holds(alloc, &mut bench, 5000, "cd", "0204")?);
-    assert!(rt; bench.ran().saturating_sub(ran) <= 5000);
-    Ok(())
-}
-
-#[test]
-fn takes_keys_while_there_is_no_image(rt: HostRuntime) -> Result<(), Fail> {
-    let alloc = rt.alloc();
-    let mut bench = session(alloc, LOOP_AND_BYTE)?;
-    assert!(rt; holds(alloc, &mut bench, 5000, "c9", "0204")?);
-    let ran = bench.ran();
-    bench.apply(alloc, &Edit::Delete { line: 2 })?;
-    let (step, key, down) = (100, 1, true);
-    bench.apply(alloc, &Edit::InsertKey { step, key, down })?;
-    let text = b"LOOP: ADD V0, 1".as_slice();
-    bench.apply(alloc, &Edit::Insert { line: 2, text })?;
-    assert!(rt; holds(alloc, &mut bench, 5000, "c9", "0204")?);
-    assert!(rt; bench.ran().saturating_sub(ran) <= 5000);
-    Ok(())
-}
-
-#[test]
-fn runs_a_program_that_changes_itself(rt: HostRuntime) -> Result<(), Fail> {
-    let alloc = rt.alloc();
-    let mut bench = session(alloc, CHANGES_ITSELF)?;
-    let early = b"v 01 00 00 01 00 00 00 00 00 00 00 00 00 00 00 00\npc 0200 i 0209 ";
-    assert!(rt; is_told(alloc, &mut bench, &Question::Registers { step: 6 }, early)?);
-    let late = b"v 64 00 00 64 00 ";
-    assert!(rt; is_told(alloc, &mut bench, &Question::Registers { step: 600 }, late)?);
-    let ran = bench.ran();
-    let text = b"T: LD V3, 9".as_slice();
-    bench.apply(alloc, &Edit::Replace { line: 5, text })?;
-    let late = b"v 6d 00 00 6d 00 ";
-    assert!(rt; is_told(alloc, &mut bench, &Question::Registers { step: 600 }, late)?);
-    assert!(rt; bench.ran().saturating_sub(ran) <= 600);
-    Ok(())
-}
-
-#[test]
-fn answers_a_million_steps(rt: HostRuntime) -> Result<(), Fail> {
-    let alloc = rt.alloc();
-    let mut bench = session(alloc, LOOP)?;
-    assert!(rt; holds(alloc, &mut bench, 1_000_000, "25", "0204")?);
-    assert!(rt; bench.ran() <= 1_000_000);
-    assert!(rt; holds(alloc, &mut bench, 100_001, "55", "0202")?);
-    Ok(())
-}
-
-#[test]
-fn goes_on_from_a_checkpoint_of_its_spacing(rt: HostRuntime) -> Result<(), Fail> {
-    let alloc = rt.alloc();
-    let mut bench = spaced_session(alloc, LOOP_AND_BYTE, 2_000)?;
-    assert!(rt; holds(alloc, &mut bench, 5000, "c9", "0204")?);
-    let text = b"DB 2".as_slice();
-    bench.apply(alloc, &Edit::Replace { line: 4, text })?;
-    let ran = bench.ran();
-    assert!(rt; holds(alloc, &mut bench, 5000, "c9", "0204")?);
-    assert!(rt; bench.ran().saturating_sub(ran) <= 1_000);
-    Ok(())
-}
-
-#[test]
-fn runs_anew_where_no_checkpoint_stands(rt: HostRuntime) -> Result<(), Fail> {
-    let alloc = rt.alloc();
-    let mut bench = spaced_session(alloc, LOOP_AND_BYTE, MOST_SPACING)?;
-    assert!(rt; holds(alloc, &mut bench, 5000, "c9", "0204")?);
-    let ran = bench.ran();
-    let (step, key, down) = (2500, 1, true);
-    bench.apply(alloc, &Edit::InsertKey { step, key, down })?;
-    assert!(rt; holds(alloc, &mut bench, 5000, "c9", "0204")?);
-    assert!(rt; bench.ran().saturating_sub(ran) <= 5_000);
-    Ok(())
-}
-
-#[test]
-fn refuses_a_spacing_out_of_range(rt: HostRuntime) -> Result<(), Fail> {
-    let alloc = rt.alloc();
-    for spacing in [999, 100_001] {
-        let refused = Settings::new(alloc, 10, &[0])?.with_spacing(spacing).err();
-        assert_eq!(rt; refused, Some(SetError::SpacingOutOfRange));
+impl Case {
+    fn new(alloc: Global) -> Result<Case, Fail> {
+        Ok(Case {
+            name: String::new(alloc),
+            source: String::new(alloc),
+            session: Session::open(alloc, b"", 1000)?,
+            expected: String::new(alloc),
+            opened: 0,
+        })
     }
+
+    /// Whether the answers are those that were read.
+    fn is_answered(&self) -> bool {
+        self.session.written() == self.expected.as_bytes()
+    }
+
+    /// Begins the case of that name.
+    fn begin(&mut self, alloc: Global, name: &str) -> Result<(), Fail> {
+        self.name = String::from_str(alloc, name)?;
+        self.source.clear();
+        Ok(())
+    }
+
+    /// Opens the source that was read.
+    fn open(&mut self, alloc: Global, spacing: u32) -> Result<(), Fail> {
+        self.session = Session::open(alloc, self.source.as_bytes(), spacing)?;
+        self.expected.clear();
+        self.opened = self.opened.saturating_add(1);
+        Ok(())
+    }
+
+    /// Reads a count, if the line is one, and says whether it is what the session counted.
+    fn counts_so(&self, line: &str) -> Result<Option<bool>, Fail> {
+        let Some((word, number)) = line.split_once(" ") else {
+            return Ok(None);
+        };
+        Ok(match word {
+            "parsed" => Some(self.session.parsed() == number.parse::<u64>()?),
+            "encoded" => Some(self.session.encoded() <= number.parse::<u64>()?),
+            "ran" => Some(self.session.ran() <= number.parse::<u64>()?),
+            "reach" => Some(self.session.reach() >= number.parse::<u64>()?),
+            _ => None,
+        })
+    }
+
+    /// Reads a line of the source, a command or an answer.
+    fn take(&mut self, alloc: Global, line: &str) -> Result<(), Fail> {
+        if let Some(text) = line.strip_prefix("| ") {
+            return append(&mut self.source, text);
+        }
+        if let Some(spacing) = line.strip_prefix("open ") {
+            return self.open(alloc, spacing.parse::<u32>()?);
+        }
+        match line.strip_prefix("> ") {
+            Some(command) => self.session.carry_out(alloc, command.as_bytes()),
+            None => append(&mut self.expected, line),
+        }
+    }
+}
+
+/// Carries out all cases of a text, and says how many sources were opened.
+fn carry_out(rt: &(impl Abort + AllocGlobal), text: &str) -> Result<u32, Fail> {
+    let alloc = rt.alloc();
+    let mut case = Case::new(alloc)?;
+    for line in text.lines() {
+        if let Some(name) = line.strip_prefix("== ") {
+            assert!(rt; case.is_answered(), "at {}", case.name);
+            case.begin(alloc, name)?;
+        } else if let Some(is_so) = case.counts_so(line)? {
+            assert!(rt; is_so, "at {}: {line}", case.name);
+        } else {
+            case.take(alloc, line)?;
+        }
+    }
+    assert!(rt; case.is_answered(), "at {}", case.name);
+    Ok(case.opened)
+}
+
+#[test]
+fn lines_are_read_and_encoded_once(rt: HostRuntime) -> Result<(), Fail> {
+    assert_eq!(rt; carry_out(&rt, WORK)?, 2);
+    Ok(())
+}
+
+#[test]
+fn steps_are_made_once(rt: HostRuntime) -> Result<(), Fail> {
+    assert_eq!(rt; carry_out(&rt, RUNS)?, 5);
+    Ok(())
+}
+
+#[test]
+fn steps_are_made_again_from_a_checkpoint(rt: HostRuntime) -> Result<(), Fail> {
+    assert_eq!(rt; carry_out(&rt, SPACINGS)?, 3);
     Ok(())
 }

@@ -1,48 +1,151 @@
 //! The examples of the documents: a source for each fault, and a session with each command.
-use crate::rows::answers;
-use std::alloc::Global;
+use crate::cases::carry_out;
 use std::test::Fail;
 
-// The faults of a source.
-fn faults_are(alloc: Global, source: &str, expected: &str) -> Result<bool, Fail> {
-    Ok(answers(alloc, source, &[0], "faults")?.as_slice() == expected.as_bytes())
-}
+const FAULTS: &str = "\
+== F1
+| DB ?
+> faults
+1 F1
+.
+== F2
+| DB 'ab
+> faults
+1 F2
+.
+== F3
+| FOO V0
+> faults
+1 F3
+.
+== F4
+| LD V0
+> faults
+1 F4
+.
+== F5
+| DB 99999999999
+> faults
+1 F5
+.
+== F6
+| DB (((((((((((((((((1)))))))))))))))))
+> faults
+1 F6
+.
+== F7
+| LD: CLS
+> faults
+1 F7
+.
+== F8
+| X EQU 1
+| x EQU 2
+> faults
+2 F8
+.
+== F9
+| DB NONE
+> faults
+1 F9
+.
+== F10
+| DB 256
+> faults
+1 F10
+.
+== F11
+| DB 1/0
+> faults
+1 F11
+.
+== F12
+| DW 1 < 31
+> faults
+1 F12
+.
+== F13
+| ORG 100
+> faults
+1 F13
+.
+== F14
+| DS 3585
+> faults
+1 F14
+.
+== F15
+| ENDIF
+> faults
+1 F15
+.
+== F16
+| IFDEF X
+> faults
+1 F16
+.
+== F17
+| INCLUDE 'x'
+> faults
+1 F17
+.
+";
 
 #[test]
-fn each_of_the_first_faults_has_its_example(rt: HostRuntime) -> Result<(), Fail> {
-    let alloc = rt.alloc();
-    assert!(rt; faults_are(alloc, "DB ?", "1 F1\n.\n")?);
-    assert!(rt; faults_are(alloc, "DB 'ab", "1 F2\n.\n")?);
-    assert!(rt; faults_are(alloc, "FOO V0", "1 F3\n.\n")?);
-    assert!(rt; faults_are(alloc, "LD V0", "1 F4\n.\n")?);
-    assert!(rt; faults_are(alloc, "DB 99999999999", "1 F5\n.\n")?);
-    assert!(rt; faults_are(alloc, "DB (((((((((((((((((1)))))))))))))))))", "1 F6\n.\n")?);
-    assert!(rt; faults_are(alloc, "LD: CLS", "1 F7\n.\n")?);
-    assert!(rt; faults_are(alloc, "X EQU 1\nx EQU 2", "2 F8\n.\n")?);
-    assert!(rt; faults_are(alloc, "DB NONE", "1 F9\n.\n")?);
+fn each_fault_has_its_example(rt: HostRuntime) -> Result<(), Fail> {
+    assert_eq!(rt; carry_out(&rt, FAULTS)?, 17);
     Ok(())
 }
 
-#[test]
-fn each_of_the_later_faults_has_its_example(rt: HostRuntime) -> Result<(), Fail> {
-    let alloc = rt.alloc();
-    assert!(rt; faults_are(alloc, "DB 256", "1 F10\n.\n")?);
-    assert!(rt; faults_are(alloc, "DB 1/0", "1 F11\n.\n")?);
-    assert!(rt; faults_are(alloc, "DW 1 < 31", "1 F12\n.\n")?);
-    assert!(rt; faults_are(alloc, "ORG 100", "1 F13\n.\n")?);
-    assert!(rt; faults_are(alloc, "DS 3585", "1 F14\n.\n")?);
-    assert!(rt; faults_are(alloc, "ENDIF", "1 F15\n.\n")?);
-    assert!(rt; faults_are(alloc, "IFDEF X", "1 F16\n.\n")?);
-    assert!(rt; faults_are(alloc, "INCLUDE 'x'", "1 F17\n.\n")?);
-    Ok(())
-}
+const FIRST_SESSION: &str = "\
+== a first session
+> ins 1 LD V0, 5
+ok
+> ins 2 LOOP: ADD V0, 1
+ok
+> ins 3 JP LOOP
+ok
+> image
+600570011202
+> syms
+LOOP 514 2
+.
+> list
+   1 0200 6005          LD V0, 5
+   2 0202 7001          LOOP: ADD V0, 1
+   3 0204 1202          JP LOOP
+.
+> regs 3
+v 06 00 00 00 00 00 00 00 00 00 00 00 00 00 00 00
+pc 0202 i 0000 dt 00 st 00 draws 0 low run
+flags 00 00 00 00 00 00 00 00 stack
+> rep 1 LD V0, 9
+ok
+> mem 3 #200 6
+600970011202
+> dis 3 #202 1
+0202 7001 ADD V0, #01
+.
+> kins 2 5 down
+ok
+> krep 2 5 up
+ok
+> kdel 2 5
+ok
+> screen 3
+low
+.
+> del 2
+ok
+> faults
+2 F9
+.
+> image
+no Q1
+";
 
 #[test]
 fn a_first_session_has_each_command(rt: HostRuntime) -> Result<(), Fail> {
-    let script =
-        "ins 1 LD V0, 5\nins 2 LOOP: ADD V0, 1\nins 3 JP LOOP\nimage\nsyms\nlist\nregs 3\nrep 1 LD V0, 9\nmem 3 #200 6\ndis 3 #202 1\nkins 2 5 down\nkrep 2 5 up\nkdel 2 5\nscreen 3\ndel 2\nfaults\nimage\n";
-    let expected =
-        "ok\nok\nok\n600570011202\nLOOP 514 2\n.\n   1 0200 6005          LD V0, 5\n   2 0202 7001          LOOP: ADD V0, 1\n   3 0204 1202          JP LOOP\n.\nv 06 00 00 00 00 00 00 00 00 00 00 00 00 00 00 00\npc 0202 i 0000 dt 00 st 00 draws 0 low run\nflags 00 00 00 00 00 00 00 00 stack\nok\n600970011202\n0202 7001 ADD V0, #01\n.\nok\nok\nok\nlow\n.\nok\n2 F9\n.\nno Q1\n";
-    assert!(rt; answers(rt.alloc(), "", &[0], script)?.as_slice() == expected.as_bytes());
+    assert_eq!(rt; carry_out(&rt, FIRST_SESSION)?, 1);
     Ok(())
 }

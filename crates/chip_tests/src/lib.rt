@@ -2,6 +2,8 @@
 #![tactic(auto)]
 
 #[cfg(test)]
+mod cases;
+#[cfg(test)]
 mod commands;
 #[cfg(test)]
 mod counts;
@@ -12,7 +14,11 @@ mod examples;
 #[cfg(test)]
 mod hindered_files;
 #[cfg(test)]
+mod hindered_streams;
+#[cfg(test)]
 mod image_file;
+#[cfg(test)]
+mod much_input;
 #[cfg(test)]
 mod profiles;
 #[cfg(test)]
@@ -20,7 +26,11 @@ mod rows;
 #[cfg(test)]
 mod serving;
 #[cfg(test)]
+mod session;
+#[cfg(test)]
 mod sessions;
+#[cfg(test)]
+mod streams;
 #[cfg(test)]
 mod whole_runs;
 #[cfg(test)]

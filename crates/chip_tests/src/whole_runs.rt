@@ -1,5 +1,6 @@
 //! What `run` prints, whole, by the settings that the words give. The answers come from a program of its own in Python.
 use crate::words::{Ran, new_folder, run_on};
+use std::alloc::{AllocError, Global};
 use std::fs;
 use std::test::Fail;
 
@@ -143,16 +144,20 @@ fn runs_up_to_the_last_step(rt: HostRuntime) -> Result<(), Fail> {
     Ok(())
 }
 
-// 4,000 lines of 200 bytes, each with its line break of two bytes, and then one byte more.
+// As many lines as there may be, each of 200 bytes and its line break of two.
+fn longest_source(alloc: Global) -> Result<Vec<u8>, AllocError> {
+    let line = format!(in alloc; ";{:199}\r\n", "")?;
+    let mut text = Vec::new(alloc);
+    for _ in 0..4000u32 {
+        text.extend_from_slice(line.as_bytes())?;
+    }
+    Ok(text)
+}
+
+// The longest source, and then one byte more.
 #[test]
 fn reads_as_much_of_a_source_as_tells(rt: HostRuntime) -> Result<(), Fail> {
-    let alloc = rt.alloc();
-    let mut text = vec![in alloc; b' '; 808_000]?;
-    for line in 0..4000usize {
-        text[202 * line] = b';';
-        text[202 * line + 200] = b'\r';
-        text[202 * line + 201] = b'\n';
-    }
+    let mut text = longest_source(rt.alloc())?;
     let run = run_of(&rt, &text, &["--steps", "0"])?;
     assert_eq!(rt; run.status, 0);
     text.push(b';')?;

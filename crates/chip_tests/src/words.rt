@@ -1,6 +1,6 @@
 //! The program by its words: statuses, and what it prints.
 use crate::hindered_files::{Call, HinderedFiles, Hindrance};
-use crate::serving::Crosses;
+use crate::much_input::Plenty;
 use chip_bench::{Counted, program, refuse_words, tape_of};
 use std::alloc::Global;
 use std::cell::Cell;
@@ -273,7 +273,12 @@ fn says_that_a_stream_failed(rt: HostRuntime) {
     let (status, said) = hindered(&rt, &["--help"], SCRIPT, Broken);
     assert_eq!(rt; status, 3);
     assert!(rt; said.as_slice() == "chipbench: output fault\n".as_bytes());
-    let (status, said) = hindered(&rt, &[], Crosses(50_000_001), Vec::new(alloc));
+    let too_much = Plenty {
+        byte: b'x',
+        count: 50_000_001,
+        last: None,
+    };
+    let (status, said) = hindered(&rt, &[], too_much, Vec::new(alloc));
     assert_eq!(rt; status, 3);
     assert!(rt; said.as_slice() == "chipbench: too much input\n".as_bytes());
 }
