@@ -22,6 +22,3 @@ mod table;
 pub use refusal::{OpenError, Refusal};
 pub use source::Source;
 pub use table::Symbol;
-
-#[cfg(test)]
-mod tests;

@@ -214,20 +214,4 @@ impl Source {
         self.changed = changed;
         Ok(())
     }
-
-    /// Whether a text in the place of the line at a place, counted from 0, would change that line alone.
-    #[cfg(test)]
-    pub(crate) fn is_rewritten(
-        &self,
-        alloc: Global,
-        place: usize,
-        text: &[u8],
-    ) -> Result<bool, AllocError> {
-        if place >= self.kept.lines.len() {
-            return Ok(false);
-        }
-        let mut meter = Meter::new();
-        let added = read_kept(alloc, &mut meter, text)?;
-        Ok(self.kept.has_same_effect(place, &added.line))
-    }
 }

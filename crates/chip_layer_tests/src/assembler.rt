@@ -1,6 +1,6 @@
 mod sessions;
 
-use crate::{OpenError, Refusal, Source};
+use chip_asm::{OpenError, Refusal, Source};
 use chip_lang::Fault;
 use std::alloc::Global;
 use std::test::Fail;

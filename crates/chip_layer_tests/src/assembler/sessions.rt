@@ -1,5 +1,6 @@
 //! Sessions of edits: after each edit all answers are those of the lines opened anew.
-use crate::Source;
+use chip_asm::Source;
+use chip_machine::limits::IMAGE_BYTES;
 use std::alloc::Global;
 use std::process::Abort;
 use std::test::Fail;
@@ -121,12 +122,13 @@ fn edit_once(
         texts.remove(place);
         ways.deleted = ways.deleted.saturating_add(1);
     } else {
-        if source.is_rewritten(alloc, place, text)? {
+        source.replace(alloc, place + 1, text)?;
+        // An edit that lays all lines out anew tells all places.
+        if source.changed().len() < IMAGE_BYTES {
             ways.rewritten = ways.rewritten.saturating_add(1);
         } else {
             ways.remade = ways.remade.saturating_add(1);
         }
-        source.replace(alloc, place + 1, text)?;
         texts[place] = text;
     }
     Ok(())
