@@ -106,18 +106,26 @@ fn answer(alloc: Global, line: &[u8]) -> Result<String, AllocError> {
             text.push(' ')?;
             text.push_str(kind_of(body))?;
             text.push(' ')?;
-            match body {
-                Body::Equ(expr) | Body::Org(expr) | Body::Ds(expr) => {
-                    push_value(alloc, &mut text, expr)?
-                }
-                Body::Ifdef(name) | Body::Ifund(name) => push_bytes(&mut text, name.get())?,
-                Body::Align(true) => text.push_str("ON")?,
-                Body::Align(false) => text.push_str("OFF")?,
-                _ => push_code(alloc, &mut text, &line)?,
-            }
+            push_operand(alloc, &mut text, &line, body)?;
         }
     }
     Ok(text)
+}
+
+/// What a statement's operand says.
+fn push_operand(
+    alloc: Global,
+    text: &mut String,
+    line: &Line,
+    body: &Body,
+) -> Result<(), AllocError> {
+    match body {
+        Body::Equ(expr) | Body::Org(expr) | Body::Ds(expr) => push_value(alloc, text, expr),
+        Body::Ifdef(name) | Body::Ifund(name) => push_bytes(text, name.get()),
+        Body::Align(true) => text.push_str("ON"),
+        Body::Align(false) => text.push_str("OFF"),
+        _ => push_code(alloc, text, line),
+    }
 }
 
 #[test]

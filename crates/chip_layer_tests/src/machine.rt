@@ -51,6 +51,22 @@ pub(crate) fn registers(machine: &Machine) -> [u8; 5] {
     ]
 }
 
+/// V0 to V3 and VF, pc, I, and the number of the stop cause, or 0.
+pub(crate) fn seen(machine: &Machine) -> ([u8; 5], u16, u16, u8) {
+    let stop = match machine.stopped() {
+        Some(why) => why.number(),
+        None => 0,
+    };
+    (registers(machine), machine.pc(), machine.index(), stop)
+}
+
+/// How many addresses the next step touches, with no key down and no tick.
+pub(crate) fn touched(machine: &mut Machine) -> usize {
+    let mut touch = Touch::new();
+    machine.step(0, false, &mut touch);
+    touch.len()
+}
+
 /// The columns of a row of the screen, the leftmost the highest bit.
 pub(crate) fn row_bits(machine: &Machine, row: usize) -> u128 {
     let mut bits = 0u128;
@@ -132,6 +148,11 @@ fn large_sprite_touches_34_addresses(rt: HostRuntime) -> Result<(), Fail> {
     Ok(())
 }
 
+/// The two bytes that the program writes.
+fn written(machine: &Machine) -> (Option<u8>, Option<u8>) {
+    (machine.byte_at(0x208), machine.byte_at(0x209))
+}
+
 #[test]
 fn program_that_writes_itself(rt: HostRuntime) -> Result<(), Fail> {
     let mut machine = loaded(
@@ -141,19 +162,12 @@ fn program_that_writes_itself(rt: HostRuntime) -> Result<(), Fail> {
     let mut poked = machine.copy_of()?;
     poked.poke(0x209, 9);
     run(&mut machine, 6, 0);
-    assert_eq!(rt; registers(&machine), [0x63, 7, 0, 7, 0]);
-    assert_eq!(rt; (machine.pc(), machine.index()), (0x20a, 0x208));
-    assert_eq!(rt; machine.stopped(), Some(Stop::Exit));
+    let exit = Stop::Exit.number();
+    assert_eq!(rt; seen(&machine), ([0x63, 7, 0, 7, 0], 0x20a, 0x208, exit));
     run(&mut poked, 3, 0);
-    assert_eq!(rt;
-        (poked.byte_at(0x208), poked.byte_at(0x209)),
-        (Some(0x62), Some(9))
-    );
+    assert_eq!(rt; written(&poked), (Some(0x62), Some(9)));
     run(&mut poked, 1, 0);
-    assert_eq!(rt;
-        (poked.byte_at(0x208), poked.byte_at(0x209)),
-        (Some(0x63), Some(7))
-    );
+    assert_eq!(rt; written(&poked), (Some(0x63), Some(7)));
     assert_eq!(rt; poked.byte_at(4096), None);
     run(&mut poked, 2, 0);
     assert_eq!(rt; registers(&poked), [0x63, 7, 0, 7, 0]);
@@ -258,11 +272,16 @@ fn lent_parts(rt: HostRuntime) -> Result<(), Fail> {
     assert_eq!(rt; machine.flags(), [9, 0, 0, 0, 0, 0, 0, 0].as_slice());
     assert_eq!(rt; &machine.memory()[0x200..0x202], [0x60, 0x09].as_slice());
     assert_eq!(rt; (machine.row(17), machine.row(18)), (0, 0xff << 102));
+    check_rows(&rt, &machine);
+    Ok(())
+}
+
+/// Each row that is lent has the points of the screen, and past the last one there are none.
+fn check_rows(rt: &impl Abort, machine: &Machine) {
     for row in 0..64 {
-        assert_eq!(rt; machine.row(row), row_bits(&machine, row), "row {row}");
+        assert_eq!(rt; machine.row(row), row_bits(machine, row), "row {row}");
     }
     assert_eq!(rt; machine.row(64), 0);
-    Ok(())
 }
 
 /// The number of the error of a start, or 0.

@@ -1,6 +1,6 @@
 //! Replay of two small machines, and the refusals of key edits.
 
-ghost use Rattle.std.specs.Prelude.{◌≡◌, IfOk};
+ghost use Rattle.std.specs.Prelude.{◌≡◌, ◌≤◌, IfOk};
 
 use chip_machine::Touch;
 use chip_machine::limits::MEMORY_BYTES;
@@ -167,6 +167,31 @@ impl Traced for Counting {
     }
 }
 
+/// A toy's replay at the rate 10, without the clause of a new one, of which most tests have no use.
+fn replay_of(alloc: Global, spacing: u32) -> Result<Replay<Toy>, Fail>
+    requires { (LEAST_SPACING ≤ spacing) × (spacing ≤ MOST_SPACING) }
+{
+    Ok(Replay::new(alloc, Toy::new(alloc)?, 10, spacing)?)
+}
+
+/// The sum at a step.
+fn sum_at(replay: &mut Replay<Toy>, step: u32) -> Result<u8, AtError> {
+    Ok(replay.at(step)?.sum())
+}
+
+/// The steps made, the last step that is known, and how many checkpoints are kept.
+fn counts(replay: &Replay<Toy>) -> (u64, u32, usize) {
+    (replay.ran(), replay.reach(), replay.kept())
+}
+
+fn insert(keys: &mut Keys, step: u32, key: u32, down: bool) -> Result<(), KeyFault> {
+    keys.insert(step, key, down)
+}
+
+fn delete(keys: &mut Keys, step: u32, key: u32) -> Result<(), KeyFault> {
+    keys.delete(step, key)
+}
+
 #[test]
 fn replays_from_checkpoints(rt: HostRuntime) -> Result<(), Fail> {
     let toy = Toy::new(rt.alloc())?;
@@ -193,14 +218,13 @@ fn replays_from_checkpoints(rt: HostRuntime) -> Result<(), Fail> {
 
 #[test]
 fn goes_on_from_the_nearest_state(rt: HostRuntime) -> Result<(), Fail> {
-    let toy = Toy::new(rt.alloc())?;
-    let mut replay = Replay::new(rt.alloc(), toy, 10, LEAST_SPACING)?;
-    assert!(rt; replay.at(5000).is_ok());
+    let mut replay = replay_of(rt.alloc(), LEAST_SPACING)?;
+    assert!(rt; sum_at(&mut replay, 5000).is_ok());
 
     // An earlier step goes on from the checkpoint before it, and a later one from the state that was lent.
-    assert!(rt; replay.at(4321).is_ok());
+    assert!(rt; sum_at(&mut replay, 4321).is_ok());
     assert_eq!(rt; replay.ran(), 5321);
-    assert!(rt; replay.at(4400).is_ok());
+    assert!(rt; sum_at(&mut replay, 4400).is_ok());
     assert_eq!(rt; replay.ran(), 5400);
     Ok(())
 }
@@ -208,14 +232,13 @@ fn goes_on_from_the_nearest_state(rt: HostRuntime) -> Result<(), Fail> {
 /// An edit after the lent state keeps it, and an earlier one does not.
 #[test]
 fn keeps_the_lent_state_before_an_edit(rt: HostRuntime) -> Result<(), Fail> {
-    let toy = Toy::new(rt.alloc())?;
-    let mut replay = Replay::new(rt.alloc(), toy, 10, LEAST_SPACING)?;
-    assert!(rt; replay.at(2300).is_ok());
+    let mut replay = replay_of(rt.alloc(), LEAST_SPACING)?;
+    assert!(rt; sum_at(&mut replay, 2300).is_ok());
     replay.insert_key(2301, 4, true)?;
-    assert!(rt; replay.at(2310).is_ok());
+    assert!(rt; sum_at(&mut replay, 2310).is_ok());
     assert_eq!(rt; replay.ran(), 2310);
     replay.replace_key(2301, 4, false)?;
-    assert!(rt; replay.at(2310).is_ok());
+    assert!(rt; sum_at(&mut replay, 2310).is_ok());
     assert_eq!(rt; replay.ran(), 2620);
     assert_eq!(rt; replay.keys().held(2301), 0);
     Ok(())
@@ -230,13 +253,12 @@ fn replays_from_checkpoints_at_each_spacing(rt: HostRuntime) -> Result<(), Fail>
         (MOST_SPACING, 1, 1, 5000),
     ];
     for (spacing, kept, left, more) in spacings {
-        let toy = Toy::new(rt.alloc())?;
-        let mut replay = Replay::new(rt.alloc(), toy, 10, spacing)?;
-        assert_eq!(rt; replay.at(5000)?.sum(), 0);
+        let mut replay = replay_of(rt.alloc(), spacing)?;
+        assert_eq!(rt; sum_at(&mut replay, 5000)?, 0);
         assert_eq!(rt; (replay.ran(), replay.kept()), (5000, kept));
         replay.insert_key(2500, 1, true)?;
         assert_eq!(rt; (replay.reach(), replay.kept()), (2500, left));
-        assert_eq!(rt; replay.at(5000)?.sum(), 0);
+        assert_eq!(rt; sum_at(&mut replay, 5000)?, 0);
         assert_eq!(rt; (replay.ran(), replay.kept()), (5000 + more, kept));
     }
     Ok(())
@@ -270,11 +292,10 @@ fn keeps_everything_at_an_empty_change(rt: HostRuntime) -> Result<(), Fail> {
 #[test]
 fn keeps_few_checkpoints_up_to_the_last_step(rt: HostRuntime) -> Result<(), Fail> {
     for (spacing, kept) in [(LEAST_SPACING, 1001), (MOST_SPACING, 11)] {
-        let toy = Toy::new(rt.alloc())?;
-        let mut replay = Replay::new(rt.alloc(), toy, 10, spacing)?;
-        assert!(rt; replay.at(LAST_STEP).is_ok());
+        let mut replay = replay_of(rt.alloc(), spacing)?;
+        assert!(rt; sum_at(&mut replay, LAST_STEP).is_ok());
         assert_eq!(rt; (replay.reach(), replay.kept()), (LAST_STEP, kept));
-        assert!(rt; replay.at(LAST_STEP - 1).is_ok());
+        assert!(rt; sum_at(&mut replay, LAST_STEP - 1).is_ok());
         assert_eq!(rt; replay.ran(), u64::from(LAST_STEP) + u64::from(spacing) - 1);
     }
     Ok(())
@@ -282,17 +303,16 @@ fn keeps_few_checkpoints_up_to_the_last_step(rt: HostRuntime) -> Result<(), Fail
 
 #[test]
 fn refuses_and_keeps_what_it_has(rt: HostRuntime) -> Result<(), Fail> {
-    let toy = Toy::new(rt.alloc())?;
-    let mut replay = Replay::new(rt.alloc(), toy, 1, LEAST_SPACING)?;
-    assert!(rt; replay.at(1500).is_ok());
-    assert_eq!(rt; replay.at(LAST_STEP + 1).err(), Some(AtError::StepTooLarge));
+    let mut replay = replay_of(rt.alloc(), LEAST_SPACING)?;
+    assert!(rt; sum_at(&mut replay, 1500).is_ok());
+    assert_eq!(rt;
+        sum_at(&mut replay, LAST_STEP + 1).err(),
+        Some(AtError::StepTooLarge)
+    );
     assert_eq!(rt; replay.insert_key(5, 16, true), Err(KeyFault::NoSuchKey));
     assert_eq!(rt; replay.delete_key(5, 3), Err(KeyFault::NoEvent));
     assert_eq!(rt; replay.replace_key(5, 3, true), Err(KeyFault::NoEvent));
-    assert_eq!(rt;
-        (replay.ran(), replay.reach(), replay.kept()),
-        (1500, 1500, 2)
-    );
+    assert_eq!(rt; counts(&replay), (1500, 1500, 2));
     Ok(())
 }
 
@@ -321,14 +341,14 @@ fn counts_each_step(rt: HostRuntime) -> Result<(), Fail> {
 #[test]
 fn holds_keys_from_their_last_event(rt: HostRuntime) -> Result<(), Fail> {
     let mut keys = Keys::new(rt.alloc());
-    keys.insert(5, 10, true)?;
-    keys.insert(0, 0, true)?;
-    keys.insert(7, 10, false)?;
+    insert(&mut keys, 5, 10, true)?;
+    insert(&mut keys, 0, 0, true)?;
+    insert(&mut keys, 7, 10, false)?;
     assert_eq!(rt;
         (keys.held(4), keys.held(5), keys.held(6), keys.held(7)),
         (1, 1025, 1025, 1)
     );
-    keys.delete(5, 10)?;
+    delete(&mut keys, 5, 10)?;
     assert_eq!(rt; keys.held(6), 1);
     keys.replace(7, 10, true)?;
     assert_eq!(rt; keys.held(LAST_STEP), 1025);
@@ -338,29 +358,32 @@ fn holds_keys_from_their_last_event(rt: HostRuntime) -> Result<(), Fail> {
 #[test]
 fn refuses_key_edits_in_order(rt: HostRuntime) -> Result<(), Fail> {
     let mut keys = Keys::new(rt.alloc());
-    keys.insert(LAST_STEP, 15, true)?;
+    insert(&mut keys, LAST_STEP, 15, true)?;
     assert_eq!(rt;
-        keys.insert(LAST_STEP + 1, 16, true),
+        insert(&mut keys, LAST_STEP + 1, 16, true),
         Err(KeyFault::StepTooLarge)
     );
     assert_eq!(rt;
         keys.replace(LAST_STEP + 1, 16, true),
         Err(KeyFault::StepTooLarge)
     );
-    assert_eq!(rt; keys.delete(LAST_STEP + 1, 16), Err(KeyFault::StepTooLarge));
-    assert_eq!(rt; keys.insert(0, 16, true), Err(KeyFault::NoSuchKey));
     assert_eq!(rt;
-        keys.insert(LAST_STEP, 15, false),
+        delete(&mut keys, LAST_STEP + 1, 16),
+        Err(KeyFault::StepTooLarge)
+    );
+    assert_eq!(rt; insert(&mut keys, 0, 16, true), Err(KeyFault::NoSuchKey));
+    assert_eq!(rt;
+        insert(&mut keys, LAST_STEP, 15, false),
         Err(KeyFault::EventThere)
     );
     assert_eq!(rt; keys.replace(0, 15, true), Err(KeyFault::NoEvent));
-    assert_eq!(rt; keys.delete(0, 15), Err(KeyFault::NoEvent));
+    assert_eq!(rt; delete(&mut keys, 0, 15), Err(KeyFault::NoEvent));
     for place in 1..MOST_EVENTS as u32 {
-        keys.insert(place, 0, true)?;
+        insert(&mut keys, place, 0, true)?;
     }
-    assert_eq!(rt; keys.insert(0, 0, true), Err(KeyFault::TooManyEvents));
-    assert_eq!(rt; keys.insert(1, 0, true), Err(KeyFault::EventThere));
-    keys.delete(1, 0)?;
-    keys.insert(0, 0, true)?;
+    assert_eq!(rt; insert(&mut keys, 0, 0, true), Err(KeyFault::TooManyEvents));
+    assert_eq!(rt; insert(&mut keys, 1, 0, true), Err(KeyFault::EventThere));
+    delete(&mut keys, 1, 0)?;
+    insert(&mut keys, 0, 0, true)?;
     Ok(())
 }

@@ -1,6 +1,6 @@
 //! Each row of the instruction table, in a program of a few words.
 
-use crate::machine::{loaded, registers, run};
+use crate::machine::{loaded, run, seen};
 use std::alloc::Global;
 use std::process::Abort;
 use std::test::Fail;
@@ -24,19 +24,8 @@ struct Case {
 fn check(rt: &impl Abort, alloc: Global, case: &Case) -> Result<(), Fail> {
     let mut machine = loaded(alloc, case.words)?;
     run(&mut machine, case.steps, case.keys);
-    assert_eq!(rt;
-        registers(&machine),
-        case.registers,
-        "registers after {}",
-        case.name
-    );
-    assert_eq!(rt; machine.pc(), case.pc, "pc after {}", case.name);
-    assert_eq!(rt; machine.index(), case.index, "I after {}", case.name);
-    let stop = match machine.stopped() {
-        Some(why) => why.number(),
-        None => 0,
-    };
-    assert_eq!(rt; stop, case.stop, "stop after {}", case.name);
+    let wanted = (case.registers, case.pc, case.index, case.stop);
+    assert_eq!(rt; seen(&machine), wanted, "after {}", case.name);
     Ok(())
 }
 

@@ -1,6 +1,6 @@
 //! What the two profiles make of the same program, by the table of the formats.
 
-use crate::machine::{loaded_as, registers, row_bits, run};
+use crate::machine::{loaded_as, registers, row_bits, run, seen, touched};
 use chip_machine::profile::PROFILES;
 use chip_machine::{Machine, Profile, Touch};
 use std::alloc::Global;
@@ -38,23 +38,8 @@ fn check(
 ) -> Result<(), Fail> {
     let mut machine = loaded_as(alloc, case.words, profile)?;
     run(&mut machine, case.steps, 0);
-    let name = case.name;
-    assert_eq!(rt;
-        registers(&machine),
-        wanted.registers,
-        "registers after {name}, {profile:?}"
-    );
-    assert_eq!(rt; machine.pc(), wanted.pc, "pc after {name}, {profile:?}");
-    assert_eq!(rt;
-        machine.index(),
-        wanted.index,
-        "I after {name}, {profile:?}"
-    );
-    let stop = match machine.stopped() {
-        Some(why) => why.number(),
-        None => 0,
-    };
-    assert_eq!(rt; stop, wanted.stop, "stop after {name}, {profile:?}");
+    let wanted = (wanted.registers, wanted.pc, wanted.index, wanted.stop);
+    assert_eq!(rt; seen(&machine), wanted, "after {}, {profile:?}", case.name);
     Ok(())
 }
 
@@ -239,24 +224,24 @@ fn sixteen_rows(rt: HostRuntime) -> Result<(), Fail> {
         },
         vip: runs([0, 0, 0, 0, 0], 0x204, 0xfff),
     }];
-    check_all(&rt, rt.alloc(), &past)?;
-    let words = [0xf029, 0xd005, 0x6f05, 0xd000];
-    let mut touch = Touch::new();
-    let mut schip = loaded_as(rt.alloc(), &words, Profile::Schip)?;
-    run(&mut schip, 3, 0);
-    schip.step(0, false, &mut touch);
-    assert_eq!(rt; touch.len(), 18);
-    assert_eq!(rt; registers(&schip), [0, 0, 0, 0, 1]);
-    assert_eq!(rt;
-        (row_bits(&schip, 0), row_bits(&schip, 10)),
-        (0, 0x0c << 120)
-    );
-    let mut vip = loaded_as(rt.alloc(), &words, Profile::Vip)?;
-    run(&mut vip, 3, 0);
-    vip.step(0, false, &mut touch);
-    assert_eq!(rt; touch.len(), 2);
-    assert_eq!(rt; registers(&vip), [0, 0, 0, 0, 0]);
-    assert_eq!(rt; (row_bits(&vip, 0), row_bits(&vip, 10)), (0xff << 120, 0));
+    check_all(&rt, rt.alloc(), &past)
+}
+
+/// What the last of four steps touches, and the flag and two rows of the screen after it.
+fn after_a_sprite(alloc: Global, profile: Profile) -> Result<(usize, u8, u128, u128), Fail> {
+    let mut machine = loaded_as(alloc, &[0xf029, 0xd005, 0x6f05, 0xd000], profile)?;
+    run(&mut machine, 3, 0);
+    let touches = touched(&mut machine);
+    let flag = registers(&machine)[4];
+    Ok((touches, flag, row_bits(&machine, 0), row_bits(&machine, 10)))
+}
+
+#[test]
+fn sixteen_rows_are_drawn(rt: HostRuntime) -> Result<(), Fail> {
+    let schip = after_a_sprite(rt.alloc(), Profile::Schip)?;
+    assert_eq!(rt; schip, (18, 1, 0, 0x0c << 120));
+    let vip = after_a_sprite(rt.alloc(), Profile::Vip)?;
+    assert_eq!(rt; vip, (2, 0, 0xff << 120, 0));
     Ok(())
 }
 
