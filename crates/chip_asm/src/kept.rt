@@ -32,7 +32,7 @@ use std::alloc::{AllocError, Global};
 pub(crate) struct Kept {
     pub(crate) lines: Vec<KeptLine>,
     pub(crate) layout: Layout,
-    /// The byte at each address from IMAGE_START on, also where a line has a fault. Empty until there is a line.
+    /// The byte at each address from `IMAGE_START` on, also where a line has a fault. Empty until there is a line.
     pub(crate) image: Vec<u8>,
     /// How many lines have a fault.
     pub(crate) faults: usize,

@@ -6,6 +6,7 @@ use Rattle.std.proofs.lemmas.Grind.{same_number_lists, get_or-set_at}
 use Rattle.std.proofs.lemmas.List.{get_or_past, get_or-set_other, length-set}
 use Rattle.chip_replay.specs.Image.{AgreeOutside}
 use Rattle.std.proofs.lemmas.List.{take-append-drop}
+use Rattle.chip_lang.specs.declared.limits.TheConstants.{IMAGE_BYTES, IMAGE_START}
 use Rattle.chip_machine.specs.declared.profile.Profile.{Profile}
 use Rattle.chip_machine.specs.State.{State, with_memory}
 use Rattle.chip_machine.specs.Start.{start_of, start_core, start_memory}
@@ -17,21 +18,21 @@ use Rattle.chip_bench.specs.Settings.{SessionSettings}
 use Rattle.chip_bench.specs.Kept.{Replays}
 
 -- the memory at the start with another image
-other_image : (old new : List ℕ) → ImageAndZeros → SameBelowTheImage → length new ≤ 3584 →
-    take 512 (start_memory old) ++ padded new ≡ start_memory new
+other_image : (old new : List ℕ) → ImageAndZeros → SameBelowTheImage → length new ≤ IMAGE_BYTES →
+    take IMAGE_START (start_memory old) ++ padded new ≡ start_memory new
 other_image old new there below fits =
     ap (λ front. front ++ padded new) (below old new)
-    ∙ ap (λ rest. take 512 (start_memory new) ++ rest) (sym (there new fits))
-    ∙ take-append-drop 512 (start_memory new)
+    ∙ ap (λ rest. take IMAGE_START (start_memory new) ++ rest) (sym (there new fits))
+    ∙ take-append-drop IMAGE_START (start_memory new)
 
 -- a machine at the start with another image is one that starts with it
-pub restarted : (old new tape : List ℕ) (profile : Profile) → ImageAndZeros → SameBelowTheImage → length new ≤ 3584 →
+pub restarted : (old new tape : List ℕ) (profile : Profile) → ImageAndZeros → SameBelowTheImage → length new ≤ IMAGE_BYTES →
     with_image memory_of with_memory new (start_of old tape profile) ≡ start_of new tape profile
 restarted old new tape profile there below fits =
     ap (λ (memory : List ℕ). let state : State = record { core = start_core tape profile; memory = memory } in state) (other_image old new there below fits)
 
 pub replays_next : (settings : SessionSettings) (old new : List ℕ) (before after : History State) → Replays settings old before →
-    ImageAndZeros → SameBelowTheImage → length new ≤ 3584 →
+    ImageAndZeros → SameBelowTheImage → length new ≤ IMAGE_BYTES →
     after.start ≡ with_image memory_of with_memory new before.start → after.rate ≡ before.rate → after.spacing ≡ before.spacing → Replays settings new after
 replays_next settings old new before after kept there below fits start rate spacing =
     record {

@@ -5,6 +5,8 @@ use Rattle.std.specs.Str.Lines.{strip_carriage_return}
 use Rattle.std.proofs.Common.{get_or}
 use Rattle.std.proofs.lemmas.List.{take_more, take-append-drop, append-nil, length-append, length-take, take_all, take-append-le}
 use Rattle.std.proofs.lemmas.Bool.{cases_lt}
+use Rattle.chip_bench.specs.declared.limits.TheConstants.{SCRIPT_BYTES, SCRIPT_LINES}
+use Rattle.chip_bench.specs.declared.server.TheConstants.{KEPT_LEN}
 use Rattle.chip_bench.specs.Lines.{lines, is_newline, complete_lines, unfinished_line}
 use Rattle.chip_bench.specs.Session.{Session}
 use Rattle.chip_bench.specs.Transcript.{reply, after, transcript_of, session_after}
@@ -29,39 +31,39 @@ lines_newline xs =
     ap length (lines_is (xs ++ 10 ∷ []) ∙ ap (λ u. complete_lines (xs ++ 10 ∷ []) ++ last_line u) (unfinished_newline xs) ∙ append-nil (complete_lines (xs ++ 10 ∷ [])) ∙ complete_newline xs)
     ∙ length-append (complete_lines xs) (strip_carriage_return (unfinished_line xs) ∷ [])
 
-within_newline : (xs : List ℕ) (b : ℕ) → b ≡ 10 → WithinBounds xs → length xs < 50000000 → length (complete_lines xs) < 100000 → WithinBounds (xs ++ b ∷ [])
+within_newline : (xs : List ℕ) (b : ℕ) → b ≡ 10 → WithinBounds xs → length xs < SCRIPT_BYTES → length (complete_lines xs) < SCRIPT_LINES → WithinBounds (xs ++ b ∷ [])
 within_newline xs b e w few h = record {
   bytes = omega (arith, length-append xs (b ∷ []));
   line_count = rw e (omega (arith, lines_newline xs));
 }
 
-within_byte : (xs : List ℕ) (b : ℕ) → is_newline b ≡ false → length xs < 50000000 → length (complete_lines xs) < 100000 → WithinBounds (xs ++ b ∷ [])
+within_byte : (xs : List ℕ) (b : ℕ) → is_newline b ≡ false → length xs < SCRIPT_BYTES → length (complete_lines xs) < SCRIPT_LINES → WithinBounds (xs ++ b ∷ [])
 within_byte xs b e few h = record {
   bytes = omega (arith, length-append xs (b ∷ []));
   line_count = omega (arith, lines_length (xs ++ b ∷ []), ap length (complete_byte xs b e));
 }
 
-take_byte_more : (u : List ℕ) (b : ℕ) → take 402 (take 402 u ++ b ∷ []) ≡ take 402 (u ++ b ∷ [])
+take_byte_more : (u : List ℕ) (b : ℕ) → take KEPT_LEN (take KEPT_LEN u ++ b ∷ []) ≡ take KEPT_LEN (u ++ b ∷ [])
 take_byte_more u b = ⊎_elim
-    (λ (long : 402 < length u). take-append-le 402 (take 402 u) (b ∷ []) (omega (arith, length-take 402 u)) ∙ take_all 402 (take 402 u) (omega (arith, length-take 402 u)) ∙ sym (take-append-le 402 u (b ∷ []) (omega arith)))
-    (λ (short : length u ≤ 402). ap (λ l. take 402 (l ++ b ∷ [])) (take_all 402 u short)) (cases_lt 402 (length u))
+    (λ (long : KEPT_LEN < length u). take-append-le KEPT_LEN (take KEPT_LEN u) (b ∷ []) (omega (arith, length-take KEPT_LEN u)) ∙ take_all KEPT_LEN (take KEPT_LEN u) (omega (arith, length-take KEPT_LEN u)) ∙ sym (take-append-le KEPT_LEN u (b ∷ []) (omega arith)))
+    (λ (short : length u ≤ KEPT_LEN). ap (λ l. take KEPT_LEN (l ++ b ∷ [])) (take_all KEPT_LEN u short)) (cases_lt KEPT_LEN (length u))
 
 -- a byte that is kept
 pub reached_byte : {start : Session} {before given : List ℕ} {old new : Conversation} {held : Option (List ℕ)} (b : ℕ) → Reached start before given old held →
-    is_newline b ≡ false → old.taken < 50000000 → old.complete < 100000 →
-    new.bench.session ≡ old.bench.session → new.line.items ≡ take 402 (old.line.items ++ b ∷ []) → new.complete ≡ old.complete → new.taken ≡ old.taken + 1 →
+    is_newline b ≡ false → old.taken < SCRIPT_BYTES → old.complete < SCRIPT_LINES →
+    new.bench.session ≡ old.bench.session → new.line.items ≡ take KEPT_LEN (old.line.items ++ b ∷ []) → new.complete ≡ old.complete → new.taken ≡ old.taken + 1 →
     Reached start before (given ++ b ∷ []) new held
 reached_byte {start} {before} {given} {old} {new} {held} b r e few h bench line complete taken = record {
   session = bench ∙ r.session ∙ ap (session_after start) (sym (complete_byte given b e));
-  line = line ∙ ap (λ l. take 402 (l ++ b ∷ [])) r.line ∙ take_byte_more (unfinished_line given) b ∙ ap (take 402) (sym (unfinished_byte given b e));
+  line = line ∙ ap (λ l. take KEPT_LEN (l ++ b ∷ [])) r.line ∙ take_byte_more (unfinished_line given) b ∙ ap (take KEPT_LEN) (sym (unfinished_byte given b e));
   complete = complete ∙ r.complete ∙ ap length (sym (complete_byte given b e));
   taken = taken ∙ ap (λ n. n + 1) r.taken ∙ sym (length-append given (b ∷ []));
-  within = within_byte given b e (subst (λ n. n < 50000000) r.taken few) (subst (λ n. n < 100000) r.complete h);
+  within = within_byte given b e (subst (λ n. n < SCRIPT_BYTES) r.taken few) (subst (λ n. n < SCRIPT_LINES) r.complete h);
   told = r.told ∙ ap (λ l. Some (before ++ transcript_of start l)) (sym (complete_byte given b e));
 }
 
 -- the transcript of one more complete line
-transcript_newline : (start : Session) (before given : List ℕ) (bench : Session) → bench ≡ session_after start (complete_lines given) → (kept : List ℕ) → kept ≡ take 402 (unfinished_line given) →
+transcript_newline : (start : Session) (before given : List ℕ) (bench : Session) → bench ≡ session_after start (complete_lines given) → (kept : List ℕ) → kept ≡ take KEPT_LEN (unfinished_line given) →
     transcript_of start (complete_lines given) ++ reply bench (strip_carriage_return kept) ≡ transcript_of start (complete_lines (given ++ 10 ∷ []))
 transcript_newline start before given bench e kept k =
     ap (λ s. transcript_of start (complete_lines given) ++ reply s (strip_carriage_return kept)) e
@@ -72,7 +74,7 @@ transcript_newline start before given bench e kept k =
 
 -- a newline, after which the answer was written
 pub reached_newline : {start : Session} {before given : List ℕ} {old new : Conversation} {held holds : Option (List ℕ)} → Reached start before given old held →
-    old.taken < 50000000 → old.complete < 100000 →
+    old.taken < SCRIPT_BYTES → old.complete < SCRIPT_LINES →
     Appends held holds (reply old.bench.session (strip_carriage_return old.line.items)) →
     new.bench.session ≡ after old.bench.session (strip_carriage_return old.line.items) → new.line.items ≡ [] → new.complete ≡ old.complete + 1 → new.taken ≡ old.taken + 1 →
     Reached start before (given ++ 10 ∷ []) new holds
@@ -82,10 +84,10 @@ reached_newline {start} {before} {given} {old} {new} {held} {holds} r few h said
       ∙ after_stripped (session_after start (complete_lines given)) (unfinished_line given)
       ∙ sym (session_after_push start (complete_lines given) (strip_carriage_return (unfinished_line given)))
       ∙ ap (session_after start) (sym (complete_newline given));
-  line = line ∙ ap (take 402) (sym (unfinished_newline given));
+  line = line ∙ ap (take KEPT_LEN) (sym (unfinished_newline given));
   complete = complete ∙ ap (λ n. n + 1) r.complete ∙ sym (ap length (complete_newline given) ∙ length-append (complete_lines given) (strip_carriage_return (unfinished_line given) ∷ []));
   taken = taken ∙ ap (λ n. n + 1) r.taken ∙ sym (length-append given (10 ∷ []));
-  within = within_newline given 10 refl r.within (subst (λ n. n < 50000000) r.taken few) (subst (λ n. n < 100000) r.complete h);
+  within = within_newline given 10 refl r.within (subst (λ n. n < SCRIPT_BYTES) r.taken few) (subst (λ n. n < SCRIPT_LINES) r.complete h);
   told = appends_known held holds _ _ r.told said ∙ ap Some (append_assoc before (transcript_of start (complete_lines given)) _ ∙ ap (λ t. before ++ t) (transcript_newline start before given old.bench.session r.session old.line.items r.line));
 }
 
@@ -100,7 +102,7 @@ front_newline {start} {before} {given} {old} {held} {holds} r (front, (back, e),
 )
 
 pub went_newline : {start : Session} {before given : List ℕ} {old : Conversation} {held : Option (List ℕ)} (new : Conversation) (holds : Option (List ℕ)) (result : Result Unit Stop) → Reached start before given old held →
-    old.taken < 50000000 → old.complete < 100000 →
+    old.taken < SCRIPT_BYTES → old.complete < SCRIPT_LINES →
     Says result held holds (reply old.bench.session (strip_carriage_return old.line.items)) →
     OnOk result (new.bench.session ≡ after old.bench.session (strip_carriage_return old.line.items)) → OnOk result (new.line.items ≡ []) → OnOk result (new.complete ≡ old.complete + 1) → new.taken ≡ old.taken + 1 →
     Went result start before (given ++ 10 ∷ []) new holds
@@ -115,13 +117,13 @@ pub complete_within : (xs : List ℕ) → length (complete_lines xs) ≤ length 
 complete_within xs = omega (arith, ap length (lines_is xs), length-append (complete_lines xs) (last_line (unfinished_line xs)))
 
 at_bound : {start : Session} {before given : List ℕ} {old : Conversation} {held : Option (List ℕ)} → Reached start before given old held →
-    ((50000000 ≤ old.taken) ⊎ (100000 ≤ old.complete)) → (length given ≡ 50000000) ⊎ (length (complete_lines given) ≡ 100000)
+    ((SCRIPT_BYTES ≤ old.taken) ⊎ (SCRIPT_LINES ≤ old.complete)) → (length given ≡ SCRIPT_BYTES) ⊎ (length (complete_lines given) ≡ SCRIPT_LINES)
 at_bound r (inl p) = inl (omega (arith, r.within.bytes, r.taken))
 at_bound {given = given} r (inr p) = inr (omega (arith, r.within.line_count, r.complete, complete_within given))
 
 -- a byte past a bound
 pub stopped_bound : {start : Session} {before given : List ℕ} {old : Conversation} {held : Option (List ℕ)} (b : ℕ) → Reached start before given old held →
-    ((50000000 ≤ old.taken) ⊎ (100000 ≤ old.complete)) → Stopped stop.TooMuchInput start before (given ++ b ∷ []) held
+    ((SCRIPT_BYTES ≤ old.taken) ⊎ (SCRIPT_LINES ≤ old.complete)) → Stopped stop.TooMuchInput start before (given ++ b ∷ []) held
 stopped_bound {given = given} b r past = record {
   done = given;
   more = b ∷ [];
@@ -129,8 +131,8 @@ stopped_bound {given = given} b r past = record {
   stopped = (r.within, at_bound r past, omega arith, r.told);
 }
 
-pub kept_length : {start : Session} {before given : List ℕ} {old : Conversation} {held : Option (List ℕ)} → Reached start before given old held → length old.line.items ≤ 402
-kept_length {given = given} r = omega (arith, ap length r.line, length-take 402 (unfinished_line given))
+pub kept_length : {start : Session} {before given : List ℕ} {old : Conversation} {held : Option (List ℕ)} → Reached start before given old held → length old.line.items ≤ KEPT_LEN
+kept_length {given = given} r = omega (arith, ap length r.line, length-take KEPT_LEN (unfinished_line given))
 
 pub other_byte : (b : ℕ) → b ≢ 10 → is_newline b ≡ false
 other_byte b h = grind arith
@@ -162,12 +164,12 @@ carries_stop new holds xs ys e one start before given r =
     stopped_longer stop.OutOfMemory start before done more ys holds h = h
     stopped_longer stop.TooMuchInput start before done more ys holds h = (h.0, h.1, omega (arith, h.2, length-append more ys), h.3)
 
-last_kept : (u : List ℕ) → 0 < length (take 402 u) → last_line u ≡ u ∷ []
-last_kept u h = last_filled u (omega (arith, h, length-take 402 u))
+last_kept : (u : List ℕ) → 0 < length (take KEPT_LEN u) → last_line u ≡ u ∷ []
+last_kept u h = last_filled u (omega (arith, h, length-take KEPT_LEN u))
 
-none_kept : (u : List ℕ) → length (take 402 u) ≡ 0 → last_line u ≡ []
+none_kept : (u : List ℕ) → length (take KEPT_LEN u) ≡ 0 → last_line u ≡ []
 none_kept [] h = refl
-none_kept (x ∷ xs) h = absurd (omega (arith, h, length-take 402 (x ∷ xs)))
+none_kept (x ∷ xs) h = absurd (omega (arith, h, length-take KEPT_LEN (x ∷ xs)))
 
 -- the end, with no line unfinished
 pub ended_empty : {start : Session} {before given : List ℕ} {old : Conversation} {held : Option (List ℕ)} → Reached start before given old held → length old.line.items ≡ 0 →
@@ -181,7 +183,7 @@ transcript_end {start} {before} {given} {old} {held} r h =
     ap (transcript_of start) (lines_is given ∙ ap (λ l. complete_lines given ++ l) (last_kept (unfinished_line given) (subst (λ l. 0 < length l) r.line h)))
     ∙ transcript_push start (complete_lines given) (unfinished_line given)
     ∙ ap (λ t. transcript_of start (complete_lines given) ++ t)
-    (sym (reply_kept (session_after start (complete_lines given)) (unfinished_line given)) ∙ sym (ap (λ s. reply s (take 402 (unfinished_line given))) r.session) ∙ sym (ap (reply old.bench.session) r.line))
+    (sym (reply_kept (session_after start (complete_lines given)) (unfinished_line given)) ∙ sym (ap (λ s. reply s (take KEPT_LEN (unfinished_line given))) r.session) ∙ sym (ap (reply old.bench.session) r.line))
 
 -- the end, with the answer to the last line
 pub ended_said : {start : Session} {before given : List ℕ} {old : Conversation} {held : Option (List ℕ)} (holds : Option (List ℕ)) (result : Result Unit Stop) → Reached start before given old held →
@@ -200,7 +202,7 @@ ended_said holds (Err stop.TooMuchInput) r h said = absurd said
 pub reached_none : (start : Session) (before : List ℕ) (c : Conversation) (held : Option (List ℕ)) → c.bench.session ≡ start → c.line.items ≡ [] → c.complete ≡ 0 → c.taken ≡ 0 → held ≡ Some before → Reached start before [] c held
 reached_none start before c held bench line complete taken h = record {
   session = bench ∙ sym (ap (session_after start) complete_none);
-  line = line ∙ sym (ap (take 402) unfinished_none);
+  line = line ∙ sym (ap (take KEPT_LEN) unfinished_none);
   complete = complete ∙ sym (ap length complete_none);
   taken = taken;
   within = record { bytes = omega arith; line_count = omega arith };

@@ -7,6 +7,8 @@ use Rattle.chip_bench.specs.Session.{Session}
 use Rattle.chip_bench.specs.declared.command.CommandFault.{CommandFault}
 use Rattle.chip_bench.specs.declared.refusal.Refusal.{Refusal}
 use Rattle.std.specs.List.{list_all, before_first, after_first}
+use Rattle.chip_bench.specs.declared.limits.TheConstants.{COMMAND_BYTES}
+use Rattle.chip_bench.specs.declared.server.TheConstants.{KEPT_LEN}
 use Rattle.chip_bench.specs.Commands.{blank, is_space, skip_spaces, worded, Command, command_of}
 use Rattle.chip_bench.specs.Transcript.{ask_reply, reply, after, transcript_of, session_after, command_reply, command_after}
 use Rattle.chip_bench.specs.declared.command.CommandFault.TheVariants.{TooLong}
@@ -19,15 +21,15 @@ pub session_after-append : (s : Session) (xs ys : List (List ℕ)) → session_a
 session_after-append s [] ys = refl
 session_after-append s (x ∷ xs) ys = session_after-append (after s x) xs ys
 
-pub too_long : (line : List ℕ) → 400 < length line → command_of line ≡ Err TooLong
+pub too_long : (line : List ℕ) → COMMAND_BYTES < length line → command_of line ≡ Err TooLong
 unfolding command_of
-too_long line h = sym (cond_below 400 (length line) (Err TooLong) _ h)
+too_long line h = sym (cond_below COMMAND_BYTES (length line) (Err TooLong) _ h)
 
-reply_long : (s : Session) (a b : List ℕ) → 400 < length a → 400 < length b → reply s a ≡ reply s b
+reply_long : (s : Session) (a b : List ℕ) → COMMAND_BYTES < length a → COMMAND_BYTES < length b → reply s a ≡ reply s b
 unfolding reply
 reply_long s a b h k = ap (command_reply s) (too_long a h ∙ sym (too_long b k))
 
-after_long : (s : Session) (a b : List ℕ) → 400 < length a → 400 < length b → after s a ≡ after s b
+after_long : (s : Session) (a b : List ℕ) → COMMAND_BYTES < length a → COMMAND_BYTES < length b → after s a ≡ after s b
 unfolding after
 after_long s a b h k = ap (command_after s) (too_long a h ∙ sym (too_long b k))
 
@@ -39,24 +41,24 @@ strip_length : (l : List ℕ) → length l ≤ length (strip_carriage_return l) 
 strip_length l = strip_length_by _ l
 
 -- what is kept of a line answers for the line
-pub reply_kept : (s : Session) (line : List ℕ) → reply s (take 402 line) ≡ reply s line
-reply_kept s line = ⊎_elim (λ (long : 402 < length line). reply_long s _ _ (rw length-take (omega arith)) (omega arith)) (λ (short : length line ≤ 402). ap (reply s) (take_all 402 line short)) (cases_lt 402 (length line))
+pub reply_kept : (s : Session) (line : List ℕ) → reply s (take KEPT_LEN line) ≡ reply s line
+reply_kept s line = ⊎_elim (λ (long : KEPT_LEN < length line). reply_long s _ _ (rw length-take (omega arith)) (omega arith)) (λ (short : length line ≤ KEPT_LEN). ap (reply s) (take_all KEPT_LEN line short)) (cases_lt KEPT_LEN (length line))
 
-pub after_kept : (s : Session) (line : List ℕ) → after s (take 402 line) ≡ after s line
-after_kept s line = ⊎_elim (λ (long : 402 < length line). after_long s _ _ (rw length-take (omega arith)) (omega arith)) (λ (short : length line ≤ 402). ap (after s) (take_all 402 line short)) (cases_lt 402 (length line))
+pub after_kept : (s : Session) (line : List ℕ) → after s (take KEPT_LEN line) ≡ after s line
+after_kept s line = ⊎_elim (λ (long : KEPT_LEN < length line). after_long s _ _ (rw length-take (omega arith)) (omega arith)) (λ (short : length line ≤ KEPT_LEN). ap (after s) (take_all KEPT_LEN line short)) (cases_lt KEPT_LEN (length line))
 
-long_kept : (line : List ℕ) → 402 < length line → 400 < length (strip_carriage_return (take 402 line))
-long_kept line long = omega (arith, strip_length (take 402 line), length-take 402 line)
+long_kept : (line : List ℕ) → KEPT_LEN < length line → COMMAND_BYTES < length (strip_carriage_return (take KEPT_LEN line))
+long_kept line long = omega (arith, strip_length (take KEPT_LEN line), length-take KEPT_LEN line)
 
-pub reply_stripped : (s : Session) (line : List ℕ) → reply s (strip_carriage_return (take 402 line)) ≡ reply s (strip_carriage_return line)
+pub reply_stripped : (s : Session) (line : List ℕ) → reply s (strip_carriage_return (take KEPT_LEN line)) ≡ reply s (strip_carriage_return line)
 reply_stripped s line = ⊎_elim
-    (λ (long : 402 < length line). reply_long s _ _ (long_kept line long) (omega (arith, strip_length line)))
-    (λ (short : length line ≤ 402). ap (λ l. reply s (strip_carriage_return l)) (take_all 402 line short)) (cases_lt 402 (length line))
+    (λ (long : KEPT_LEN < length line). reply_long s _ _ (long_kept line long) (omega (arith, strip_length line)))
+    (λ (short : length line ≤ KEPT_LEN). ap (λ l. reply s (strip_carriage_return l)) (take_all KEPT_LEN line short)) (cases_lt KEPT_LEN (length line))
 
-pub after_stripped : (s : Session) (line : List ℕ) → after s (strip_carriage_return (take 402 line)) ≡ after s (strip_carriage_return line)
+pub after_stripped : (s : Session) (line : List ℕ) → after s (strip_carriage_return (take KEPT_LEN line)) ≡ after s (strip_carriage_return line)
 after_stripped s line = ⊎_elim
-    (λ (long : 402 < length line). after_long s _ _ (long_kept line long) (omega (arith, strip_length line)))
-    (λ (short : length line ≤ 402). ap (λ l. after s (strip_carriage_return l)) (take_all 402 line short)) (cases_lt 402 (length line))
+    (λ (long : KEPT_LEN < length line). after_long s _ _ (long_kept line long) (omega (arith, strip_length line)))
+    (λ (short : length line ≤ KEPT_LEN). ap (λ l. after s (strip_carriage_return l)) (take_all KEPT_LEN line short)) (cases_lt KEPT_LEN (length line))
 
 pub transcript_push : (s : Session) (xs : List (List ℕ)) (x : List ℕ) → transcript_of s (xs ++ x ∷ []) ≡ transcript_of s xs ++ reply (session_after s xs) x
 transcript_push s xs x = transcript-append s xs (x ∷ []) ∙ ap (λ t. transcript_of s xs ++ t) (append-nil (reply (session_after s xs) x))
@@ -92,10 +94,10 @@ pub ask_told : (r : Result (List ℕ) Refusal) (old new : List ℕ) → old ≡ 
 ask_told (Ok bytes) old new e h = h ∙ ap (λ l. l ++ bytes) e
 ask_told (Err why) old new e h = absurd h
 
-pub read_blank : (line : List ℕ) → length line ≤ 400 → list_all is_space line ≡ true → command_of line ≡ Ok blank
+pub read_blank : (line : List ℕ) → length line ≤ COMMAND_BYTES → list_all is_space line ≡ true → command_of line ≡ Ok blank
 unfolding command_of
-read_blank line short e = sym (cond_above 400 (length line) (Err TooLong) _ (Ok blank) short (sym (ap (λ t. cond t (Ok blank) (worded (before_first is_space line) (skip_spaces (after_first is_space line)))) e)))
+read_blank line short e = sym (cond_above COMMAND_BYTES (length line) (Err TooLong) _ (Ok blank) short (sym (ap (λ t. cond t (Ok blank) (worded (before_first is_space line) (skip_spaces (after_first is_space line)))) e)))
 
-pub read_named : (line : List ℕ) → length line ≤ 400 → list_all is_space line ≡ false → command_of line ≡ worded (before_first is_space line) (skip_spaces (after_first is_space line))
+pub read_named : (line : List ℕ) → length line ≤ COMMAND_BYTES → list_all is_space line ≡ false → command_of line ≡ worded (before_first is_space line) (skip_spaces (after_first is_space line))
 unfolding command_of
-read_named line short e = sym (cond_above 400 (length line) (Err TooLong) _ _ short (sym (ap (λ t. cond t (Ok blank) (worded (before_first is_space line) (skip_spaces (after_first is_space line)))) e)))
+read_named line short e = sym (cond_above COMMAND_BYTES (length line) (Err TooLong) _ _ short (sym (ap (λ t. cond t (Ok blank) (worded (before_first is_space line) (skip_spaces (after_first is_space line)))) e)))

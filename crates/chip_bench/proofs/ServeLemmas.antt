@@ -3,6 +3,7 @@ use Rattle.std.proofs.Common.{◌≡◌, ◌⊎◌, inl, inr, ℕ, ◌+◌, ◌-
 use Rattle.std.specs.Io.KnownBytes.{Keeps, Consumes, IsAtEnd}
 use Rattle.std.proofs.lemmas.List.{append-nil, length-append, take_all, take_at}
 use Rattle.std.proofs.Math.Seq.{take-append-add}
+use Rattle.chip_bench.specs.declared.limits.TheConstants.{SCRIPT_BYTES, SCRIPT_LINES}
 use Rattle.chip_bench.specs.Lines.{lines, complete_lines}
 use Rattle.chip_bench.specs.Session.{Session}
 use Rattle.chip_bench.specs.Transcript.{transcript_of, session_after}
@@ -88,19 +89,19 @@ served_end stop.OutOfMemory all given left start before holds e l h =
 served_end stop.TooMuchInput all given left start before holds e l h = absurd h
 
 -- the lines within the bounds, at either bound
-in_bounds : (done more : List ℕ) → WithinBounds done → length (complete_lines done) ≤ 100000 → (length done ≡ 50000000) ⊎ (length (complete_lines done) ≡ 100000) →
+in_bounds : (done more : List ℕ) → WithinBounds done → length (complete_lines done) ≤ SCRIPT_LINES → (length done ≡ SCRIPT_BYTES) ⊎ (length (complete_lines done) ≡ SCRIPT_LINES) →
     lines_in_bounds (done ++ more) ≡ complete_lines done
 in_bounds done more w few (inl e) =
-    ap (λ l. take 100000 (complete_lines l)) (take_at done more 50000000 e) ∙ take_all 100000 (complete_lines done) few
+    ap (λ l. take SCRIPT_LINES (complete_lines l)) (take_at done more SCRIPT_BYTES e) ∙ take_all SCRIPT_LINES (complete_lines done) few
 in_bounds done more w few (inr e) =
-    let goes = complete_goes_on (take (50000000 - length done) more) done in
-    ap (λ l. take 100000 (complete_lines l)) (take_into done more 50000000 w.bytes)
-    ∙ ap (take 100000) goes.is ∙ take_at (complete_lines done) goes.back 100000 e
+    let goes = complete_goes_on (take (SCRIPT_BYTES - length done) more) done in
+    ap (λ l. take SCRIPT_LINES (complete_lines l)) (take_into done more SCRIPT_BYTES w.bytes)
+    ∙ ap (take SCRIPT_LINES) goes.is ∙ take_at (complete_lines done) goes.back SCRIPT_LINES e
   where
     take_into : (xs ys : List ℕ) (n : ℕ) → length xs ≤ n → take n (xs ++ ys) ≡ xs ++ take (n - length xs) ys
     take_into xs ys n h = let e : n ≡ length xs + (n - length xs) = omega arith in ap (λ k. take k (xs ++ ys)) e ∙ take-append-add xs ys (n - length xs)
 
-passes : (done more : List ℕ) → (length done ≡ 50000000) ⊎ (length (complete_lines done) ≡ 100000) → 0 < length more → PassesBound (done ++ more)
+passes : (done more : List ℕ) → (length done ≡ SCRIPT_BYTES) ⊎ (length (complete_lines done) ≡ SCRIPT_LINES) → 0 < length more → PassesBound (done ++ more)
 passes done [] at h = absurd (omega arith)
 passes done (x ∷ more) (inl e) h = inl (omega (arith, length-append done (x ∷ more)))
 passes done (x ∷ more) (inr e) h = inr (omega (arith, longer more done x))

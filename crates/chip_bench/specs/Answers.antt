@@ -2,6 +2,7 @@
 use Rattle.std.specs.Prelude.{ℕ, ◌+◌, ◌*◌, Bool, false, List, [], ◌∷◌, ◌++◌, nat_lt, if◌then◌else◌, codes, Option, Some, None, Result, Ok, Err}
 use Rattle.std.specs.List.{flat_map}
 use Rattle.std.specs.Fmt.{decimal, signed_decimal}
+use Rattle.chip_lang.specs.declared.limits.TheConstants.{MEMORY_BYTES}
 use Rattle.hex.specs.Hex.{encode_lower}
 use Rattle.chip_lang.specs.declared.fault.Fault.{Fault}
 use Rattle.chip_lang.specs.FaultNumber.{number_of_fault}
@@ -65,8 +66,8 @@ step_asked Faults = None
 
 -- the bytes asked for pass the end of the memory
 abbrev pub is_past_end : StateQuestion → Bool
-is_past_end (state.Memory at count) = nat_lt 4096 (at + count)
-is_past_end (state.Disassembly at count) = nat_lt 4096 (at + 2 * count)
+is_past_end (state.Memory at count) = nat_lt MEMORY_BYTES (at + count)
+is_past_end (state.Disassembly at count) = nat_lt MEMORY_BYTES (at + 2 * count)
 is_past_end state.Registers = false
 is_past_end state.Screen = false
 

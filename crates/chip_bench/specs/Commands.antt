@@ -4,6 +4,7 @@ use Rattle.std.specs.Char.{is_digit}
 use Rattle.std.specs.Str.{bytes_eq}
 use Rattle.std.specs.Str.Parse.{digits_value}
 use Rattle.std.specs.List.{list_all, before_first, after_first}
+use Rattle.chip_bench.specs.declared.limits.TheConstants.{COMMAND_BYTES}
 use Rattle.chip_bench.specs.Session.{Text, Change, insert_line, replace_line, delete_line, insert_event, replace_event, delete_event}
 use Rattle.chip_bench.specs.declared.question.Question.{Question}
 use Rattle.chip_bench.specs.declared.question.Question.TheVariants.{Image, Symbols, Listing, Faults, Registers, Memory, Screen, Disassembly}
@@ -120,6 +121,6 @@ worded word operands =
 
 unfoldable pub command_of : Text → Result Command CommandFault
 command_of line =
-    if nat_lt 400 (length line) then Err TooLong
+    if nat_lt COMMAND_BYTES (length line) then Err TooLong
     else if list_all is_space line then Ok blank
     else worded (before_first is_space line) (skip_spaces (after_first is_space line))

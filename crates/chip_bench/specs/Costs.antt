@@ -8,11 +8,12 @@ use Rattle.chip_asm.specs.Work.{lines_to_encode}
 use Rattle.chip_bench.specs.Session.{Change, insert_line, replace_line, delete_line, insert_event, replace_event, delete_event}
 
 -- A refused edit of the lines costs nothing. One that isn't refused reads so many lines, and encodes no more than those that have to
--- be encoded; so it is too where memory runs out. `origin` says where a line stood before.
+-- be encoded; so it is too where memory runs out. What was encoded so far is never lowered. `origin` says where a line stood before.
 pub record LineCosts (refusal : Option SourceRefusal) (reads : ℕ → ℕ) (old new : List (List ℕ)) (origin : ℕ → Option ℕ) (before after : Meter) : Type 0 where
   pub refused : IsSome refusal → after ≡ before
   pub parsed : refusal ≡ None → after.parsed ≡ reads before.parsed
   pub encoded : after.encoded ≤ before.encoded + lines_to_encode old new origin
+  pub not_lowered : before.encoded ≤ after.encoded
 
 -- what an edit costs in a session with these lines; an edit of the key events costs nothing
 abbrev pub Costs : Change → List (List ℕ) → Meter → Meter → Type 0

@@ -1,5 +1,6 @@
 -- What a bench keeps beside its lines: a replay of the last image that the lines had (own).
 use Rattle.std.specs.Prelude.{◌≡◌, ℕ, ◌≤◌, List, length, Option, Some}
+use Rattle.chip_lang.specs.declared.limits.TheConstants.{IMAGE_BYTES}
 use Rattle.chip_machine.specs.State.{State}
 use Rattle.chip_machine.specs.Start.{start_of}
 use Rattle.chip_replay.specs.History.{History}
@@ -10,7 +11,7 @@ pub record Replays (settings : SessionSettings) (last : List ℕ) (replay : Hist
   pub start : replay.start ≡ start_of last settings.tape settings.profile
   pub rate : replay.rate ≡ settings.rate
   pub spacing : replay.spacing ≡ settings.spacing
-  pub fits : length last ≤ 3584
+  pub fits : length last ≤ IMAGE_BYTES
 
 -- the last image is that of the lines, where they have one
 abbrev pub IsLastImage : Option (List ℕ) → List ℕ → Type 0

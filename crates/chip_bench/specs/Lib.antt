@@ -10,7 +10,6 @@
 --     Costs        what an edit reads and encodes of the source
 --     Workbench, Kept                    what contracts see of a bench, and what an edit or a question keeps of the run
 --     Commands     the command that a line of a script spells
---     Costs     the command that a line of a script spells
 --     CommandView  the commands of the code, seen by the bytes that they hold
 --     Transcript   the reply to each line of a script, and the transcript of all
 --     Serving      what a call of `serve` reads and writes, for each way in which it ends

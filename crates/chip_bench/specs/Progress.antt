@@ -1,6 +1,8 @@
 -- How far a script has been carried out, for the private contracts behind `serve` (own).
 use Rattle.std.specs.Prelude.{◌≡◌, ◌⊎◌, ℕ, ◌<◌, List, ◌++◌, length, take, Option, Some, Result, Ok, Err}
 use Rattle.std.specs.Io.KnownBytes.{Keeps, Appends}
+use Rattle.chip_bench.specs.declared.limits.TheConstants.{SCRIPT_BYTES, SCRIPT_LINES}
+use Rattle.chip_bench.specs.declared.server.TheConstants.{KEPT_LEN}
 use Rattle.chip_bench.specs.Lines.{lines, complete_lines, unfinished_line}
 use Rattle.chip_bench.specs.Session.{Session}
 use Rattle.chip_bench.specs.Transcript.{transcript_of, session_after}
@@ -35,7 +37,7 @@ Says (Err TooMuchInput) held holds text = ⊥
 -- After the bytes `given` of a script that began at `start`, where the writer held `before`.
 pub record Reached (start : Session) (before given : List ℕ) (c : Conversation) (holds : Option (List ℕ)) : Type 0 where
   pub session : c.bench.session ≡ session_after start (complete_lines given)
-  pub line : c.line.items ≡ take 402 (unfinished_line given)
+  pub line : c.line.items ≡ take KEPT_LEN (unfinished_line given)
   pub complete : c.complete ≡ length (complete_lines given)
   pub taken : c.taken ≡ length given
   pub within : WithinBounds given
@@ -45,7 +47,7 @@ pub record Reached (start : Session) (before given : List ℕ) (c : Conversation
 abbrev pub StoppedAt : Stop → Session → List ℕ → List ℕ → List ℕ → Option (List ℕ) → Type 0
 StoppedAt WriterFailed start before done more holds = (front : List ℕ) × BeginsWith (transcript_of start (complete_lines done)) front × (holds ≡ Some (before ++ front))
 StoppedAt OutOfMemory start before done more holds = holds ≡ Some (before ++ transcript_of start (complete_lines done))
-StoppedAt TooMuchInput start before done more holds = WithinBounds done × ((length done ≡ 50000000) ⊎ (length (complete_lines done) ≡ 100000)) × (0 < length more)
+StoppedAt TooMuchInput start before done more holds = WithinBounds done × ((length done ≡ SCRIPT_BYTES) ⊎ (length (complete_lines done) ≡ SCRIPT_LINES)) × (0 < length more)
     × (holds ≡ Some (before ++ transcript_of start (complete_lines done)))
 
 pub record Stopped (e : Stop) (start : Session) (before given : List ℕ) (holds : Option (List ℕ)) : Type 0 where

@@ -1,6 +1,7 @@
 -- What a run of the program reads, writes and answers (own).
-use Rattle.std.specs.Prelude.{◌≡◌, ◌≢◌, ◌⊎◌, ℕ, Bool, List, [], Option, Some, None, Result, Ok, Err, if◌then◌else◌}
+use Rattle.std.specs.Prelude.{◌≡◌, ◌≢◌, ◌⊎◌, ℕ, ◌+◌, Bool, List, [], Option, Some, None, Result, Ok, Err, if◌then◌else◌}
 use Rattle.chip_asm.specs.Lines.{open_fault}
+use Rattle.chip_asm.specs.declared.limits.TheConstants.{SOURCE_BYTES}
 use Rattle.chip_asm.specs.declared.refusal.OpenError.{OpenError}
 use Rattle.chip_asm.specs.declared.refusal.OpenError.TheVariants.{OutOfMemory as unopened_memory}
 use Rattle.clap.specs.Kinds.{Kinds, IsAmong}
@@ -142,4 +143,4 @@ IsUnread name hindrance = (hindrance ≡ failure.OutOfMemory) ⊎ ((why : IoErro
 
 -- for private contracts: how many bytes of a source are read; one of that length or more doesn't open
 abbrev pub source_bytes_read : ℕ
-source_bytes_read = 808001
+source_bytes_read = SOURCE_BYTES + 1

@@ -1,5 +1,6 @@
 -- What a call of `serve` reads and writes, for each way in which it ends (own).
 use Rattle.std.specs.Prelude.{◌≡◌, ◌⊎◌, ℕ, ◌<◌, ◌≤◌, List, [], ◌++◌, length, take, Option, Some, None, IfSome, Result, Ok, Err}
+use Rattle.chip_bench.specs.declared.limits.TheConstants.{SCRIPT_BYTES, SCRIPT_LINES}
 use Rattle.chip_bench.specs.Lines.{lines, complete_lines}
 use Rattle.chip_bench.specs.Session.{Session}
 use Rattle.chip_bench.specs.Transcript.{transcript_of}
@@ -9,18 +10,18 @@ use Rattle.chip_asm.specs.declared.refusal.OpenError.TheVariants.{OutOfMemory as
 use Rattle.chip_bench.specs.declared.server.ServeError.{ServeError}
 use Rattle.chip_bench.specs.declared.server.ServeError.TheVariants as fault
 
--- a script within the bounds: 50,000,000 bytes and 100,000 lines
+-- a script within the bounds of its bytes and its lines
 pub record WithinBounds (script : List ℕ) : Type 0 where
-  pub bytes : length script ≤ 50000000
-  pub line_count : length (lines script) ≤ 100000
+  pub bytes : length script ≤ SCRIPT_BYTES
+  pub line_count : length (lines script) ≤ SCRIPT_LINES
 
 -- a script past a bound
 abbrev pub PassesBound : List ℕ → Type 0
-PassesBound script = (50000000 < length script) ⊎ (100000 < length (lines script))
+PassesBound script = (SCRIPT_BYTES < length script) ⊎ (SCRIPT_LINES < length (lines script))
 
--- the complete lines among the first 50,000,000 bytes, at most 100,000
+-- the complete lines among the first bytes, as many of both as a script has at most
 abbrev pub lines_in_bounds : List ℕ → List (List ℕ)
-lines_in_bounds script = take 100000 (complete_lines (take 50000000 script))
+lines_in_bounds script = take SCRIPT_LINES (complete_lines (take SCRIPT_BYTES script))
 
 -- text begins with front
 abbrev pub BeginsWith : List ℕ → List ℕ → Type 0

@@ -2,6 +2,7 @@
 use Rattle.std.specs.Prelude.{◌≡◌, ℕ, ◌≤◌, ◌-◌, ◌+◌, ◌*◌, ◌/◌, List, min, Option, Some, None, OnSome, IfNone, unwrap_or, Result, OnOk}
 use Rattle.std.specs.Coded.{Coded, code_by, coded×, coded_ℕ, coded_list}
 use Rattle.std.proofs.Common.{refl}
+use Rattle.chip_lang.specs.declared.limits.TheConstants.{IMAGE_BYTES}
 use Rattle.chip_lang.specs.declared.meter.Meter.{Meter}
 use Rattle.chip_asm.specs.Sources.{Text as SourceText}
 use Rattle.chip_asm.specs.Program.{image_of}
@@ -55,7 +56,7 @@ workbench source settings replay last =
 -- the parts of a bench fit together: there is room for an image, and the replay runs the last one
 pub record IsInStep (lines : List (List ℕ)) (settings : SessionSettings) (replay : History State) (last : List ℕ) (room : ℕ) : Type 0 where
   pub replays : Replays settings last replay
-  pub roomy : 3584 ≤ room
+  pub roomy : IMAGE_BYTES ≤ room
   pub is_last : IsLastImage (image_of lines) last
 
 -- the first step below the reach that a new image in the place of the last one affects

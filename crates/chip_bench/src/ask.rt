@@ -15,6 +15,7 @@ use crate::refusal::Refusal;
 use crate::settings::Settings;
 use chip_asm::Source;
 use chip_machine::Machine;
+use chip_machine::limits::MEMORY_BYTES;
 use chip_replay::{LAST_STEP, Replay};
 use std::alloc::{AllocError, Global};
 
@@ -42,8 +43,10 @@ fn is_past_end(asked: StateQuestion) -> bool
     ensures { result ≡ is_past_end asked }
 {
     match asked {
-        StateQuestion::Memory { at, count } => u64::from(at) + u64::from(count) > 4096,
-        StateQuestion::Disassembly { at, count } => u64::from(at) + 2 * u64::from(count) > 4096,
+        StateQuestion::Memory { at, count } => u64::from(at) + u64::from(count)
+            > MEMORY_BYTES as u64,
+        StateQuestion::Disassembly { at, count } => u64::from(at) + 2 * u64::from(count)
+            > MEMORY_BYTES as u64,
         StateQuestion::Registers | StateQuestion::Screen => false,
     }
 }

@@ -48,7 +48,7 @@ impl Model for Bench {
 }
 
 impl Bench {
-    /// A session on a source. It opens unless one of its lines is the 4,001st or is over 200 bytes.
+    /// A session on a source. It opens unless one of its lines is one too many or too long.
     ///
     /// # Errors
     ///

@@ -8,6 +8,7 @@ ghost use Rattle.chip_bench.specs.CommandView.{Reads};
 ghost use Rattle.chip_bench.specs.Transcript.{fault_code};
 
 use crate::edit::Edit;
+use crate::limits::COMMAND_BYTES;
 use crate::question::Question;
 
 /// A command of a script.
@@ -24,7 +25,7 @@ pub enum Command<'a> {
 pub enum CommandFault {
     /// C1: there is no such command, or its words don't fit.
     Unknown,
-    /// C2: the line has over 400 bytes.
+    /// C2: the line has over `COMMAND_BYTES` bytes.
     TooLong,
 }
 
@@ -44,11 +45,11 @@ impl CommandFault {
 ///
 /// # Errors
 ///
-/// The line has over 400 bytes, or it is no command.
+/// The line has over `COMMAND_BYTES` bytes, or it is no command.
 pub fn read_command(line: &[u8]) -> Result<Command<'_>, CommandFault>
     ensures { Reads result (command_of line.now) }
 {
-    if line.len() > 400 {
+    if line.len() > COMMAND_BYTES {
         return Err(CommandFault::TooLong);
     }
     if is_blank(line) {

@@ -15,6 +15,7 @@ use crate::image_file::write_file;
 use crate::output::{answer_script, image_or_faults, list_source, print_source, run_source};
 use crate::settings::Settings;
 use crate::tape::tape_of;
+use chip_asm::limits::SOURCE_BYTES;
 use chip_machine::limits::IMAGE_BYTES;
 use hex::FromHexError;
 use std::alloc::Global;
@@ -24,7 +25,7 @@ use std::rt::Files;
 use std::{fs, io};
 
 // A source of this length or more doesn't open.
-const MOST_SOURCE: u64 = 808_001;
+const MOST_SOURCE: u64 = SOURCE_BYTES as u64 + 1;
 
 /// The program, with the words after its name. The answer is its status: 0 where it did what it was asked, 1 where the
 /// source has faults or doesn't open, 2 for words that it doesn't take, 3 where a file, input or output failed or there was

@@ -12,6 +12,7 @@ mod ending;
 mod entry;
 mod image_file;
 mod image_kept;
+pub mod limits;
 mod machine_answer;
 mod output;
 mod question;

@@ -6,6 +6,7 @@ ghost use Rattle.chip_bench.specs.MachineAnswers.{from_on, size_name, state_name
 
 use crate::text::{push_decimal, push_hex, push_hex_word, push_spaced_bytes, push_spaced_words};
 use chip_lang::show;
+use chip_machine::limits::{LAST_WORD, MEMORY_BYTES};
 use chip_machine::{Machine, Stop};
 use std::alloc::{AllocError, Global};
 
@@ -109,7 +110,7 @@ pub fn memory_line(
     at: u16,
     count: u16,
 ) -> Result<Vec<u8>, AllocError>
-    requires { at + count ≤ 4096 }
+    requires { at + count ≤ MEMORY_BYTES }
     ensures { IfOk result (λ answer. answer.items ≡ memory_of machine.now at count) }
 {
     let start = usize::from(at);
@@ -128,7 +129,7 @@ pub fn disassembly(
     at: u16,
     count: u16,
 ) -> Result<Vec<u8>, AllocError>
-    requires { at + 2 * count ≤ 4096 }
+    requires { at + 2 * count ≤ MEMORY_BYTES }
     ensures { IfOk result (λ answer. answer.items ≡ disassembly_of machine.now at count) }
 {
     let mut answer = Vec::new(alloc);
@@ -145,7 +146,7 @@ fn push_word_line(
     machine: &Machine,
     at: u16,
 ) -> Result<(), AllocError>
-    requires { at < 4095 }
+    requires { at ≤ LAST_WORD }
     ensures { OnOk result (answer.new.items ≡ answer.old.items ++ word_line machine.now at) }
 {
     let word = word_at(machine, at);
@@ -160,7 +161,7 @@ fn push_word_line(
 }
 
 fn word_at(machine: &Machine, at: u16) -> u16
-    requires { at < 4095 }
+    requires { at ≤ LAST_WORD }
     ensures { result ≡ word_at machine.now.memory at }
 {
     let memory = machine.memory();

@@ -11,7 +11,7 @@ pub enum Refusal {
     /// N1: there is no line of that number.
     #[error("no such line")]
     NoSuchLine,
-    /// N2: the text has over 200 bytes.
+    /// N2: the text has over `LINE_BYTES` bytes.
     #[error("text too long")]
     TextTooLong,
     /// N3: there are 4,000 lines already.
@@ -20,7 +20,7 @@ pub enum Refusal {
     /// N4: the text holds a carriage return or a newline.
     #[error("line break in the text")]
     LineBreak,
-    /// N5: the event's step is above 100,000.
+    /// N5: the event's step is above `LAST_STEP`.
     #[error("event past the last step")]
     EventPastLast,
     /// N6: the key is above 15.
@@ -41,7 +41,7 @@ pub enum Refusal {
     /// Q1: there is no image, since some line has a fault.
     #[error("no image")]
     NoImage,
-    /// Q2: the step is above 100,000.
+    /// Q2: the step is above `LAST_STEP`.
     #[error("past the last step")]
     StepPastLast,
     /// Q3: the bytes pass the end of the memory.

@@ -11,6 +11,7 @@ ghost use Rattle.chip_bench.specs.declared.server.Stop.TheVariants.{OutOfMemory}
 use crate::bench::Bench;
 use crate::command::{Command, read_command};
 use crate::counted::Counted;
+use crate::limits::{COMMAND_BYTES, SCRIPT_BYTES, SCRIPT_LINES};
 use crate::refusal::Refusal;
 use crate::settings::Settings;
 use chip_asm::OpenError;
@@ -20,12 +21,8 @@ use thiserror::Error;
 
 const PIECE_LEN: usize = 4096;
 
-const MOST_BYTES: u32 = 50_000_000;
-
-const MOST_LINES: u32 = 100_000;
-
-// A line of 400 bytes may have a carriage return after it, and one byte more shows that it is too long.
-const KEPT_LEN: usize = 402;
+// A line that is no longer than it may be can have a carriage return after it, and one byte more shows that it is too long.
+const KEPT_LEN: usize = COMMAND_BYTES + 2;
 
 /// Why a script wasn't carried out to its end.
 #[derive(Clone, Copy, Debug, PartialEq, Eq, Error)]
@@ -42,7 +39,7 @@ pub enum ServeError {
     /// E3: there was no memory.
     #[error("out of memory")]
     OutOfMemory,
-    /// E4: there is more input than 50,000,000 bytes or 100,000 lines.
+    /// E4: there is more input than `SCRIPT_BYTES` bytes or `SCRIPT_LINES` lines.
     #[error("too much input")]
     TooMuchInput,
 }
@@ -81,7 +78,7 @@ impl From<Stop> for ServeError {
 /// # Errors
 ///
 /// The source doesn't open, and nothing was read or written; the reader or the writer failed, which is never tried again;
-/// there was no memory; or the script has over 50,000,000 bytes or 100,000 lines.
+/// there was no memory; or the script has over `SCRIPT_BYTES` bytes or `SCRIPT_LINES` lines.
 pub fn serve<R: Read, W: Write>(
     alloc: Global,
     source: &[u8],
@@ -153,7 +150,7 @@ impl Conversation {
         ensures carries { Carries self.old (W.contents writer.old.inner) piece.now result
             self.new (W.contents writer.new.inner) }
         ensures taken { OnOk result (self.new.taken ≡ self.old.taken + length piece.now) }
-        ensures bound { OnOk result (self.old.taken ≤ 50000000 → self.new.taken ≤ 50000000) }
+        ensures bound { OnOk result (self.old.taken ≤ SCRIPT_BYTES → self.new.taken ≤ SCRIPT_BYTES) }
         ensures failures { writer.new.failures ≡ failures_after result writer.old.failures }
     {
         for byte in piece {
@@ -171,10 +168,10 @@ impl Conversation {
         ensures carries { Carries self.old (W.contents writer.old.inner) (byte ∷ []) result
             self.new (W.contents writer.new.inner) }
         ensures taken { OnOk result (self.new.taken ≡ self.old.taken + 1) }
-        ensures bound { OnOk result (self.new.taken ≤ 50000000) }
+        ensures bound { OnOk result (self.new.taken ≤ SCRIPT_BYTES) }
         ensures failures { writer.new.failures ≡ failures_after result writer.old.failures }
     {
-        if self.taken >= MOST_BYTES || self.complete >= MOST_LINES {
+        if self.taken >= SCRIPT_BYTES || self.complete >= SCRIPT_LINES {
             return Err(Stop::TooMuchInput);
         }
         self.taken += 1;
@@ -192,7 +189,7 @@ impl Conversation {
         alloc: Global,
         writer: &mut Counted<W>,
     ) -> Result<(), Stop>
-        requires { self.old.complete < 100000 }
+        requires { self.old.complete < SCRIPT_LINES }
         ensures said { Says result (W.contents writer.old.inner) (W.contents writer.new.inner)
             (reply self.old.bench.session (strip_carriage_return self.old.line.items)) }
         ensures bench { OnOk result (self.new.bench.session ≡ after self.old.bench.session (strip_carriage_return self.old.line.items)) }
@@ -300,7 +297,7 @@ fn refuse(answer: &mut Vec<u8>, code: &[u8]) -> Result<(), AllocError>
 
 // Keeps the next byte of a line, unless the line is too long already.
 fn keep(line: &mut Vec<u8>, byte: u8) -> Result<(), AllocError>
-    ensures { length line.old.items ≤ 402 → OnOk result (line.new.items ≡ take 402 (line.old.items ++ byte ∷ [])) }
+    ensures { length line.old.items ≤ KEPT_LEN → OnOk result (line.new.items ≡ take KEPT_LEN (line.old.items ++ byte ∷ [])) }
 {
     if line.len() < KEPT_LEN {
         line.push(byte)?;

@@ -17,17 +17,17 @@ pub const MOST_RATE: u32 = 1000;
 /// Why there are no such settings.
 #[derive(Clone, Copy, Debug, PartialEq, Eq, Error)]
 pub enum SetError {
-    /// G1: the rate is not 1 to 1000.
-    #[error("rate not 1 to 1000")]
+    /// G1: the rate is not 1 to `MOST_RATE`.
+    #[error("rate not 1 to {most}", most = MOST_RATE)]
     RateOutOfRange,
-    /// G2: the tape has not 1 to 4096 bytes.
-    #[error("tape not 1 to 4096 bytes")]
+    /// G2: the tape has not 1 to `TAPE_BYTES` bytes.
+    #[error("tape not 1 to {most} bytes", most = TAPE_BYTES)]
     TapeLength,
     /// G3: there was no memory for the tape.
     #[error("out of memory")]
     OutOfMemory,
-    /// G4: the spacing of the checkpoints is not 1,000 to 100,000.
-    #[error("spacing not 1000 to 100000")]
+    /// G4: the spacing of the checkpoints is not `LEAST_SPACING` to `MOST_SPACING`.
+    #[error("spacing not {least} to {most}", least = LEAST_SPACING, most = MOST_SPACING)]
     SpacingOutOfRange,
 }
 
@@ -64,8 +64,8 @@ impl Model for Settings {
 }
 
 impl Settings {
-    /// Settings with `rate` steps to a tick, 1 to 1000, and a tape of 1 to 4096 bytes, for a SUPER-CHIP 1.1 with the
-    /// least spacing.
+    /// Settings with `rate` steps to a tick, 1 to `MOST_RATE`, and a tape of 1 to `TAPE_BYTES` bytes, for a SUPER-CHIP
+    /// 1.1 with the least spacing.
     ///
     /// # Errors
     ///
@@ -95,8 +95,8 @@ impl Settings {
         Settings { profile, ..self }
     }
 
-    /// The same with that many steps between one checkpoint and the next, 1,000 to 100,000: fewer make an edit cheaper
-    /// to follow, more take less memory.
+    /// The same with that many steps between one checkpoint and the next, `LEAST_SPACING` to `MOST_SPACING`: fewer make
+    /// an edit cheaper to follow, more take less memory.
     ///
     /// # Errors
     ///

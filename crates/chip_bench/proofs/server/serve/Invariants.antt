@@ -1,4 +1,6 @@
 use Rattle.std.proofs.Common.{◌≡◌, ◌-◌, ◌≤◌, List, ℕ, Some, None, length}
+use Rattle.chip_bench.specs.declared.limits.TheConstants.{SCRIPT_BYTES}
+use Rattle.chip_bench.specs.declared.server.TheConstants.{PIECE_LEN}
 use Rattle.chip_asm.specs.Lines.{open_fault}
 use Rattle.chip_bench.specs.Session.{session_of}
 use Rattle.chip_bench.proofs.ServeLemmas.{Underway}
@@ -10,12 +12,12 @@ invariant-loop-conversation g l = record {
   told : (all before : List ℕ) → g.R.Read.remaining l.fn.reader.inner ≡ Some all → g.W.Write.contents l.fn.writer.inner ≡ Some before →
       Underway all (g.R.Read.remaining l.reader.inner) (session_of l.fn.settings l.fn.source) before l.conversation (g.W.Write.contents l.writer.inner);
   opens : open_fault l.fn.source ≡ None;
-  bound : l.conversation.taken ≤ 50000000;
+  bound : l.conversation.taken ≤ SCRIPT_BYTES;
   reader_same : l.reader.failures ≡ l.fn.reader.failures;
   writer_same : l.writer.failures ≡ l.fn.writer.failures;
-  room : length l.piece ≡ 4096;
+  room : length l.piece ≡ PIECE_LEN;
 }
 
 -- how many bytes may still be taken
 abbrev pub decreases-loop-conversation : goal.decreases-loop-conversation
-decreases-loop-conversation g l = 50000000 - l.conversation.taken
+decreases-loop-conversation g l = SCRIPT_BYTES - l.conversation.taken
