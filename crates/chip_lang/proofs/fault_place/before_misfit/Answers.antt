@@ -1,4 +1,4 @@
-use Rattle.std.proofs.Common.{arith, refl}
+use Rattle.std.proofs.Common.{arith}
 use Rattle.chip_lang.proofs.Misfit.{joined_pieces}
 use Rattle.chip_lang.proofs.fault_place.before_misfit.Goals as goal
 
