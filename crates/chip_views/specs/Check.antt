@@ -32,12 +32,12 @@ sentence_of UnclosedIf = codes "IF without ENDIF"
 sentence_of NotInProfile = codes "not in this profile"
 
 -- the sentence of operands that don't fit names the instruction, where there is one
-abbrev pub sentence_with : Fault → Option (List ℕ) → List ℕ
+unfoldable pub sentence_with : Fault → Option (List ℕ) → List ℕ
 sentence_with WrongOperands (Some mnemonic) = codes "the operands fit no form of " ++ mnemonic
 sentence_with fault mnemonic = sentence_of fault
 
 -- file, line and column, each counted from 1, the column in bytes; the fault's code, and its sentence
-abbrev pub head : (name : List ℕ) (number : ℕ) → Span → Fault → (sentence : List ℕ) → List ℕ
+unfoldable pub head : (name : List ℕ) (number : ℕ) → Span → Fault → (sentence : List ℕ) → List ℕ
 head name number span fault sentence =
     name ++ codes ":" ++ decimal number ++ codes ":" ++ decimal (span.start + 1) ++ codes ": F"
     ++ decimal (number_of_fault fault) ++ codes ": " ++ sentence ++ codes "\n"
@@ -47,10 +47,10 @@ abbrev pub blank_of : ℕ → List ℕ
 blank_of b = if b == 9 then 9 ∷ [] else (if is_between 128 191 b then [] else 32 ∷ [])
 
 -- a caret below the first byte of the place, and a tilde below each further one
-abbrev pub marks : (line : List ℕ) → Span → List ℕ
+unfoldable pub marks : (line : List ℕ) → Span → List ℕ
 marks line span = flat_map blank_of (take span.start line) ++ codes "^" ++ replicate (span.end - span.start - 1) 126 ++ codes "\n"
 
-abbrev pub help : Option Hint → List ℕ
+unfoldable pub help : Option Hint → List ℕ
 help None = []
 help (Some hint) = codes "help: " ++ sentence_of_hint hint ++ codes "\n"
 

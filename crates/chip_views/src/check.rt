@@ -82,10 +82,12 @@ fn push_report_at(
     text.extend_from_slice(line)?;
     text.extend_from_slice(b"\n")?;
     push_marks(text, line, span)?;
-    push_help(text, hint_of(alloc, fault, line, span.start)?)
+    push_help(text, hint_of(alloc, fault, line, span.start)?)?;
+    Ok(())
 }
 
 /// The sentence of a fault.
+#[tactic(auto, unfolding(crate::specs::Check::sentence_with))]
 fn sentence_with(
     alloc: Global,
     fault: Fault,
@@ -104,6 +106,7 @@ fn sentence_with(
 }
 
 /// Adds the file, the place, the code and the sentence of a fault.
+#[tactic(auto, unfolding(crate::specs::Check::head))]
 fn push_head(
     alloc: Global,
     text: &mut Vec<u8>,
@@ -130,6 +133,7 @@ fn push_head(
 }
 
 /// Adds the marks below a line.
+#[tactic(auto, unfolding(crate::specs::Check::marks))]
 fn push_marks(text: &mut Vec<u8>, line: &[u8], span: Span) -> Result<(), AllocError>
     requires rises { span.start ≤ span.end }
     requires inside { span.end ≤ length line.now }
@@ -174,6 +178,7 @@ fn push_tildes(text: &mut Vec<u8>, count: usize) -> Result<(), AllocError>
     Ok(())
 }
 
+#[tactic(auto, unfolding(crate::specs::Check::help))]
 fn push_help(text: &mut Vec<u8>, hint: Option<Hint>) -> Result<(), AllocError>
     ensures { OnOk result (text.new.items ≡ text.old.items ++ help hint) }
 {

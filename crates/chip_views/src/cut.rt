@@ -20,10 +20,12 @@ fn line_length(bytes: &[u8]) -> usize
     ensures length { result ≡ position_or_len is_newline bytes.now }
     ensures bound { result ≤ length bytes.now }
 {
-    bytes
-        .iter()
-        .position(|byte| *byte == b'\n')
-        .unwrap_or(bytes.len())
+    for index in 0..bytes.len() {
+        if bytes[index] == b'\n' {
+            return index;
+        }
+    }
+    bytes.len()
 }
 
 /// A text without the carriage return at its end, if it has one.
