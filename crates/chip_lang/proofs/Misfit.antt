@@ -20,10 +20,10 @@ joined_within zero ts h = absurd (omega arith)
 joined_within (suc fuel) ts h =
     let n : ℕ = before_comma ts in
     elim (below n (length ts)) [
-      inl some ↦
-        (let rest = joined_within fuel (drop (n + 1) ts) (omega (arith, length-drop (n + 1) ts)) in
-        ap joined (cut_at_comma ts n refl some) ∙ omega (arith, rest, some, length-drop (n + 1) ts, length-take-le n ts (omega arith)))
-    | inr none ↦ (ap joined (no_comma ts n refl none) ∙ omega arith)
+      | inl some ↦
+          (let rest = joined_within fuel (drop (n + 1) ts) (omega (arith, length-drop (n + 1) ts)) in
+          ap joined (cut_at_comma ts n refl some) ∙ omega (arith, rest, some, length-drop (n + 1) ts, length-take-le n ts (omega arith)))
+      | inr none ↦ (ap joined (no_comma ts n refl none) ∙ omega arith)
     ]
 
 pub joined_pieces : (ts : List Lexeme) → joined (pieces ts) ≡ length ts + 1

@@ -11,9 +11,9 @@ use Rattle.chip_lang.specs.declared.lexeme.Lexeme.{Lexeme}
 use Rattle.chip_lang.specs.declared.lexeme.Lexeme.TheVariants.{Word, Bad}
 use Rattle.chip_lang.specs.declared.token.Token.{Token}
 use Rattle.chip_lang.specs.Keyword.{directive_of}
-use Rattle.chip_lang.specs.Line.{Shape, definition, statement, shape_of, is_sign_of, is_bad_name, takes_label, pieces, operand_of_tokens, lexemes_of}
+use Rattle.chip_lang.specs.Line.{Shape, definition, statement, shape_of, is_sign_of, is_bad_name, takes_label, pieces, operand_of_tokens, lexeme_of, lexemes_of}
 use Rattle.chip_lang.specs.Parse.{expression_of}
-use Rattle.chip_lang.specs.Reserved.{is_mnemonic}
+use Rattle.chip_lang.specs.Reserved.{is_mnemonic, is_reserved}
 use Rattle.chip_lang.specs.Token.{tokens_of}
 
 -- ---- tokens are counted from 0
@@ -166,3 +166,13 @@ mnemonic_in (statement label ts) = mnemonic_at ts
 -- the mnemonic with which the statement of a line begins, in upper case
 unfoldable pub mnemonic_of : List ℕ → Option (List ℕ)
 mnemonic_of line = mnemonic_in (shape_of (lexemes_of line))
+
+-- ---- the names of a line
+
+abbrev pub name_in : Lexeme → Option (List ℕ)
+name_in (Word w) = if is_reserved w then None else Some w
+name_in t = None
+
+-- the name that a token of a line is, in upper case: a word that isn't reserved
+abbrev pub name_of_token : (line : List ℕ) → Token → Option (List ℕ)
+name_of_token line t = name_in (lexeme_of line t)

@@ -3,7 +3,7 @@
 ghost use Rattle.std.specs.Prelude.{◌≡◌, ◌+◌, ◌≤◌, ◌<◌, ◌^◌, true, false, not, IfOk, length, slice_get, is_some};
 ghost use Rattle.std.specs.List.{prefix_len};
 ghost use Rattle.std.specs.Option.{option_copied};
-ghost use Rattle.chip_lang.specs.FaultPlace.{is_bad, leftmost_bad, deepest, statement_at, operands_at, name_at, bad_name_at, is_fit, before_misfit, misfit_from, misfit, takes_values, is_misplaced, wrong_in_word, wrong_in_statement, wrong, place_of_fault, end_of, span_of_place, span_of_fault, mnemonic_at, mnemonic_of};
+ghost use Rattle.chip_lang.specs.FaultPlace.{is_bad, leftmost_bad, deepest, statement_at, operands_at, name_at, bad_name_at, is_fit, before_misfit, misfit_from, misfit, takes_values, is_misplaced, wrong_in_word, wrong_in_statement, wrong, place_of_fault, end_of, span_of_place, span_of_fault, mnemonic_at, mnemonic_of, name_in, name_of_token};
 ghost use Rattle.chip_lang.specs.Line.{pieces};
 ghost use Rattle.chip_lang.specs.Scan.{AreTokens};
 ghost use Rattle.chip_lang.specs.SeenShape.{seen_shape};
@@ -12,8 +12,9 @@ use crate::bytes::Bytes;
 use crate::directive::Directive;
 use crate::fault::Fault;
 use crate::form::is_mnemonic;
+use crate::front::is_reserved;
 use crate::keyword::directive_of;
-use crate::lexeme::{Lexeme, is_sign_of, lexemes};
+use crate::lexeme::{Lexeme, is_sign_of, lexeme_of, lexemes};
 use crate::operands::{first_piece, operand_of};
 use crate::parse::parse_expression;
 use crate::shape::{Shape, is_bad_name, shape_of};
@@ -368,5 +369,31 @@ fn is_fit(alloc: Global, values: bool, piece: &[Lexeme]) -> Result<bool, AllocEr
         Ok(parse_expression(alloc, piece)?.is_some())
     } else {
         Ok(operand_of(alloc, piece)?.is_some())
+    }
+}
+
+/// The name that a token of a line is, in upper case. None where it is another token, or a reserved word.
+///
+/// # Errors
+///
+/// Want of memory.
+pub fn name_of_token(alloc: Global, line: &[u8], token: Token) -> Result<Option<Bytes>, AllocError>
+    requires rises { token.start ≤ token.end }
+    requires inside { token.end ≤ length line.now }
+    ensures { IfOk result (λ name. name ≡ name_of_token line.now token) }
+{
+    let lexeme = lexeme_of(alloc, line, token)?;
+    let name = name_in(alloc, &lexeme)?;
+    Ok(name)
+}
+
+fn name_in(alloc: Global, lexeme: &Lexeme) -> Result<Option<Bytes>, AllocError>
+    ensures { IfOk result (λ name. name ≡ name_in lexeme.now) }
+{
+    match lexeme {
+        Lexeme::Word(word) if !is_reserved(word.get()) => {
+            Ok(Some(Bytes::new(word.get().to_vec(alloc)?)))
+        }
+        _ => Ok(None),
     }
 }

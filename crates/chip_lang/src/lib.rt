@@ -33,7 +33,7 @@ pub use crate::bytes::Bytes;
 pub use crate::code::{Coded, encode};
 pub use crate::expr::{Expr, Operator, Prefix};
 pub use crate::fault::Fault;
-pub use crate::fault_place::{Span, fault_span, mnemonic_of};
+pub use crate::fault_place::{Span, fault_span, mnemonic_of, name_of_token};
 pub use crate::form::{Form, Operand, Pattern, Special};
 pub use crate::instr::{Instr, decode, word};
 pub use crate::line::{Body, Line, read_line};

@@ -6,10 +6,11 @@ use Rattle.chip_lang.specs.declared.fault.Fault.{Fault}
 use Rattle.chip_lang.specs.declared.fault.Fault.TheVariants.{BadCharacter, UnfinishedString, UnknownWord, WrongOperands, NumberTooLarge, TooDeep, BadName, DefinedTwice, UndefinedName, OutOfRange, DivisionByZero, Overflow, OrgBelowHere, PastMemory, StrayBranch, UnclosedIf, NotInProfile}
 use Rattle.chip_lang.specs.declared.fault_place.Span.{Span}
 use Rattle.chip_lang.specs.FaultNumber.{number_of_fault}
-use Rattle.chip_lang.specs.FaultPlace.{span_of_fault, mnemonic_of}
+use Rattle.chip_lang.specs.FaultPlace.{mnemonic_of}
 use Rattle.chip_lang.specs.Token.{is_between}
 use Rattle.chip_asm.specs.Program.{fault_at}
 use Rattle.chip_views.specs.declared.hint.Hint.{Hint}
+use Rattle.chip_views.specs.Place.{place_in}
 use Rattle.chip_views.specs.Hint.{hint_of, sentence_of_hint}
 
 unfoldable pub sentence_of : Fault → List ℕ
@@ -60,14 +61,14 @@ report_at name number line fault span =
     head name number span fault (sentence_with fault (mnemonic_of line)) ++ line ++ codes "\n" ++ marks line span
     ++ help (hint_of fault line span.start)
 
-abbrev pub report_of : (name : List ℕ) (number : ℕ) (line : List ℕ) → Option Fault → List ℕ
-report_of name number line None = []
-report_of name number line (Some fault) = report_at name number line fault (span_of_fault fault line)
+abbrev pub report_of : (name : List ℕ) (all : List (List ℕ)) (number : ℕ) (line : List ℕ) → Option Fault → List ℕ
+report_of name all number line None = []
+report_of name all number line (Some fault) = report_at name number line fault (place_in fault all number line)
 
 -- the reports of the lines from a number on
 abbrev pub reports_from : (name : List ℕ) (all : List (List ℕ)) (number : ℕ) (lines : List (List ℕ)) → List ℕ
 reports_from name all number [] = []
-reports_from name all number (line ∷ lines) = report_of name number line (fault_at all number) ++ reports_from name all (number + 1) lines
+reports_from name all number (line ∷ lines) = report_of name all number line (fault_at all number) ++ reports_from name all (number + 1) lines
 
 -- all reports of a source's lines, in their order
 abbrev pub check_of : (name : List ℕ) (lines : List (List ℕ)) → List ℕ

@@ -5,6 +5,7 @@
 --     Dis       the source text of an image
 --     Hint      what may help with a fault
 --     Picture   the screen as text
+--     Place     the place of a fault in a source
 --     Png       the screen as a PNG picture
 pub mod Bitmap
 pub mod Check
@@ -12,4 +13,5 @@ pub mod Checksum
 pub mod Dis
 pub mod Hint
 pub mod Picture
+pub mod Place
 pub mod Png

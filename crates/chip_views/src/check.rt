@@ -10,8 +10,9 @@ ghost use Rattle.chip_views.specs.Check.{sentence_of, sentence_with, head, blank
 
 use crate::cut::first_line;
 use crate::hint::{Hint, hint_of, sentence_of_hint};
+use crate::place::place_in;
 use chip_asm::Source;
-use chip_lang::{Bytes, Fault, Span, fault_span, mnemonic_of};
+use chip_lang::{Bytes, Fault, Span, mnemonic_of};
 use std::alloc::{AllocError, Global};
 
 /// What `check` prints of a source that was opened from these bytes, read from a file of this name: of each fault, in the order of the
@@ -36,7 +37,7 @@ pub fn check_text(
     let mut rest = bytes;
     while !rest.is_empty() {
         let (line, more) = first_line(rest);
-        push_report(alloc, &mut text, name, number, line, source.fault(number))?;
+        push_report(alloc, &mut text, name, source, number, line)?;
         number += 1;
         rest = more;
     }
@@ -48,16 +49,17 @@ fn push_report(
     alloc: Global,
     text: &mut Vec<u8>,
     name: &[u8],
+    source: &Source,
     number: usize,
     line: &[u8],
-    fault: Option<Fault>,
 ) -> Result<(), AllocError>
-    ensures { OnOk result (text.new.items ≡ text.old.items ++ report_of name.now number line.now fault) }
+    ensures { OnOk result (text.new.items ≡ text.old.items
+        ++ report_of name.now source.now.lines number line.now (fault_at source.now.lines number)) }
 {
-    let Some(fault) = fault else {
+    let Some(fault) = source.fault(number) else {
         return Ok(());
     };
-    let span = fault_span(alloc, line, fault)?;
+    let span = place_in(alloc, source, number, line, fault)?;
     push_report_at(alloc, text, name, number, line, fault, span)
 }
 

@@ -220,11 +220,7 @@ fn hint_of_unknown(alloc: Global, rest: &[u8]) -> Result<Option<Hint>, AllocErro
     hint_of_word(alloc, rest, &tokens)
 }
 
-fn hint_of_word(
-    alloc: Global,
-    rest: &[u8],
-    tokens: &[Token],
-) -> Result<Option<Hint>, AllocError>
+fn hint_of_word(alloc: Global, rest: &[u8], tokens: &[Token]) -> Result<Option<Hint>, AllocError>
     requires { AreTokens rest.now 0 tokens.now }
     ensures { IfOk result (λ hint. hint ≡ hint_of_word rest.now tokens.now) }
 {

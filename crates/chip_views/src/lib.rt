@@ -9,6 +9,7 @@ mod dis;
 mod hint;
 pub mod laws;
 mod picture;
+mod place;
 mod png;
 #[cfg(test)]
 mod tests;

@@ -9,7 +9,11 @@ use std::test::Fail;
 const PLACES: [(&str, Fault, &str); 19] = [
     ("DB 1, ?", Fault::BadCharacter, "      ^"),
     ("DB 'ab", Fault::UnfinishedString, "   ^^^"),
-    ("DB 1, 99999999999", Fault::NumberTooLarge, "      ^^^^^^^^^^^"),
+    (
+        "DB 1, 99999999999",
+        Fault::NumberTooLarge,
+        "      ^^^^^^^^^^^",
+    ),
     ("a: FOO V0", Fault::UnknownWord, "   ^^^"),
     ("LD V0 5", Fault::WrongOperands, "   ^^"),
     ("LD V0, 5 6", Fault::WrongOperands, "       ^"),

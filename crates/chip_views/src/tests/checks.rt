@@ -16,7 +16,7 @@ fn is_checked(alloc: Global, source: &str, expected: &str) -> Result<bool, Fail>
 }
 
 /// Sources, and what is printed of each.
-const CHECKED: [(&str, &str); 5] = [
+const CHECKED: [(&str, &str); 7] = [
     ("CLS\nloop: JP loop\n", ""),
     (
         "        CLS\n    LD  V0, V1, V2\n",
@@ -25,6 +25,14 @@ const CHECKED: [(&str, &str); 5] = [
     (
         "\tDB 1, ?\r\nORG 100\r\n",
         "game.asm:1:8: F1: bad character\n\tDB 1, ?\n\t      ^\ngame.asm:2:5: F13: ORG below the line's address\nORG 100\n    ^~~\n",
+    ),
+    (
+        "a: LD V0, 2 + none + A\n",
+        "game.asm:1:15: F9: undefined name\na: LD V0, 2 + none + A\n              ^~~~\n",
+    ),
+    (
+        "x EQU y + 1\ny EQU 5\n",
+        "game.asm:1:7: F9: undefined name\nx EQU y + 1\n      ^\n",
     ),
     (
         "ENDIF\n",
