@@ -31,8 +31,8 @@ pub struct Span {
     pub end: usize,
 }
 
-/// The tokens at which a fault lies: the one of the index `first`, or that one and all after it. An index past the last token is the
-/// place after that one.
+/// The tokens at which a fault lies: the one of the index `first`, or that one and all after it. An
+/// index past the last token is the place after that one.
 #[derive(Clone, Copy, Debug)]
 pub(crate) struct Place {
     first: usize,
@@ -53,8 +53,9 @@ impl Place {
     }
 }
 
-/// Where in a line a fault of it lies: the tokens of the table `place_of_fault`, by their bytes. Where none is at fault, as where an
-/// operand is missing, it is the empty part after the last token.
+/// Where in a line a fault of it lies: the tokens of the table `place_of_fault`, by their bytes.
+/// Where none is at fault, as where an operand is missing, it is the empty part after the last
+/// token.
 ///
 /// # Errors
 ///
@@ -182,7 +183,8 @@ fn leftmost_bad(tokens: &[Lexeme]) -> usize
     tokens.len()
 }
 
-/// How many tokens stand before the parenthesis with which those opened and not closed go beyond 16.
+/// How many tokens stand before the parenthesis with which those opened and not closed go beyond
+/// 16.
 fn deepest(tokens: &[Lexeme]) -> usize
     ensures { result ≡ deepest 0 0 tokens.now }
 {
@@ -343,7 +345,8 @@ fn misfit_from(first: usize, count: usize, before: usize) -> Place
     }
 }
 
-/// How many tokens stand before the first operand that doesn't fit, with a comma after each operand.
+/// How many tokens stand before the first operand that doesn't fit, with a comma after each
+/// operand.
 fn before_misfit(alloc: Global, values: bool, operands: &[Lexeme]) -> Result<usize, AllocError>
     ensures value { IfOk result (λ before. before ≡ before_misfit values (pieces operands.now)) }
     ensures bound { IfOk result (λ before. before ≤ length operands.now + 1) }
@@ -372,7 +375,8 @@ fn is_fit(alloc: Global, values: bool, piece: &[Lexeme]) -> Result<bool, AllocEr
     }
 }
 
-/// The name that a token of a line is, in upper case. None where it is another token, or a reserved word.
+/// The name that a token of a line is, in upper case. None where it is another token, or a reserved
+/// word.
 ///
 /// # Errors
 ///

@@ -15,10 +15,11 @@ use chip_asm::Source;
 use chip_lang::{Bytes, Fault, Span, mnemonic_of};
 use std::alloc::{AllocError, Global};
 
-/// What `check` prints of a source that was opened from these bytes, read from a file of this name: of each fault, in the order of the
-/// lines, the file, the line and the column, the fault's code and sentence, the line, a caret below the first byte of the fault's place
-/// and a tilde below each further one, and a sentence of help where the line has something that one is known for. Nothing where no line
-/// has a fault.
+/// What `check` prints of a source that was opened from these bytes, read from a file of this name:
+/// of each fault, in the order of the lines, the file, the line and the column, the fault's code
+/// and sentence, the line, a caret below the first byte of the fault's place and a tilde below each
+/// further one, and a sentence of help where the line has something that one is known for. Nothing
+/// where no line has a fault.
 ///
 /// # Errors
 ///
@@ -76,7 +77,8 @@ fn push_report_at(
 ) -> Result<(), AllocError>
     requires rises { span.start ≤ span.end }
     requires inside { span.end ≤ length line.now }
-    ensures { OnOk result (text.new.items ≡ text.old.items ++ report_at name.now number line.now fault span) }
+    ensures { OnOk result (text.new.items ≡ text.old.items
+        ++ report_at name.now number line.now fault span) }
 {
     let mnemonic = mnemonic_of(alloc, line)?;
     let sentence = sentence_with(alloc, fault, mnemonic)?;
@@ -119,7 +121,8 @@ fn push_head(
     sentence: &[u8],
 ) -> Result<(), AllocError>
     requires { span.start + 1 ≤ usize.MAX }
-    ensures { OnOk result (text.new.items ≡ text.old.items ++ head name.now number span fault sentence.now) }
+    ensures { OnOk result (text.new.items ≡ text.old.items
+        ++ head name.now number span fault sentence.now) }
 {
     text.extend_from_slice(name)?;
     text.extend_from_slice(b":")?;
@@ -195,7 +198,7 @@ fn push_help(text: &mut Vec<u8>, hint: Option<Hint>) -> Result<(), AllocError>
 
 /// The sentence of a fault, without the instruction.
 #[tactic(auto, unfolding(crate::specs::Check::sentence_of))]
-fn sentence_of(fault: Fault) -> &'static [u8]
+pub(crate) fn sentence_of(fault: Fault) -> &'static [u8]
     ensures { result.now ≡ sentence_of fault }
 {
     match fault {

@@ -13,7 +13,8 @@ use chip_lang::{
 };
 use std::alloc::{AllocError, Global};
 
-/// Where a fault of the line of a number lies: for F9 the first name without a value, else what `fault_span` says.
+/// Where a fault of the line of a number lies: for F9 the first name without a value, else what
+/// `fault_span` says.
 pub(crate) fn place_in(
     alloc: Global,
     source: &Source,
@@ -42,7 +43,8 @@ fn undefined_place(
 ) -> Result<Span, AllocError>
     requires rises { span.start ≤ span.end }
     requires inside { span.end ≤ length line.now }
-    ensures span { IfOk result (λ found. found ≡ undefined_place source.now.lines number line.now span) }
+    ensures span { IfOk result (λ found.
+        found ≡ undefined_place source.now.lines number line.now span) }
     ensures rises { IfOk result (λ found. found.start ≤ found.end) }
     ensures inside { IfOk result (λ found. found.end ≤ length line.now) }
 {
@@ -89,7 +91,8 @@ fn first_unknown(
     tokens: &[Token],
 ) -> Result<Option<Span>, AllocError>
     requires { AreTokens line.now 0 tokens.now }
-    ensures value { IfOk result (λ found. found ≡ first_unknown (symbols_of source.now.lines) last line.now place tokens.now) }
+    ensures value { IfOk result (λ found.
+        found ≡ first_unknown (symbols_of source.now.lines) last line.now place tokens.now) }
     ensures rises { IfOk result (λ found. IfSome found (λ span. span.start ≤ span.end)) }
     ensures inside { IfOk result (λ found. IfSome found (λ span. span.end ≤ length line.now)) }
 {
@@ -114,14 +117,16 @@ fn is_unknown(
 ) -> Result<bool, AllocError>
     requires rises { token.start ≤ token.end }
     requires inside { token.end ≤ length line.now }
-    ensures { IfOk result (λ answer. answer ≡ is_unknown (symbols_of source.now.lines) last line.now place token) }
+    ensures { IfOk result (λ answer.
+        answer ≡ is_unknown (symbols_of source.now.lines) last line.now place token) }
 {
     let name = name_of_token(alloc, line, token)?;
     Ok(place <= token.start && is_unknown_name(source, last, name.as_ref()))
 }
 
 fn is_unknown_name(source: &Source, last: usize, name: Option<&Bytes>) -> bool
-    ensures { result ≡ is_unknown_name (symbols_of source.now.lines) last (option_copied name.entry) }
+    ensures { result
+        ≡ is_unknown_name (symbols_of source.now.lines) last (option_copied name.entry) }
 {
     let Some(name) = name else {
         return false;

@@ -3,8 +3,10 @@
 ghost use Rattle.std.specs.Prelude.{◌≡◌};
 ghost use Rattle.chip_asm.specs.Lines.{lines_of};
 
+use crate::check::sentence_of;
 use crate::check_text;
 use chip_asm::Source;
+use chip_lang::Fault;
 use std::alloc::Global;
 use std::test::Fail;
 
@@ -86,6 +88,42 @@ fn helps_with_what_other_assemblers_write(rt: HostRuntime) -> Result<(), Fail> {
     let alloc = rt.alloc();
     for (line, help) in HELPED {
         assert!(rt; is_helped(alloc, line, help)?, "{line}");
+    }
+    Ok(())
+}
+
+/// All faults.
+const FAULTS: [Fault; 17] = [
+    Fault::BadCharacter,
+    Fault::UnfinishedString,
+    Fault::UnknownWord,
+    Fault::WrongOperands,
+    Fault::NumberTooLarge,
+    Fault::TooDeep,
+    Fault::BadName,
+    Fault::DefinedTwice,
+    Fault::UndefinedName,
+    Fault::OutOfRange,
+    Fault::DivisionByZero,
+    Fault::Overflow,
+    Fault::OrgBelowHere,
+    Fault::PastMemory,
+    Fault::StrayBranch,
+    Fault::UnclosedIf,
+    Fault::NotInProfile,
+];
+
+/// Whether a fault is displayed by the sentence that is printed of it.
+fn is_displayed(alloc: Global, fault: Fault) -> Result<bool, Fail> {
+    let shown = fault.to_string(alloc)?;
+    Ok(shown.as_bytes() == sentence_of(fault))
+}
+
+#[test]
+fn says_of_each_fault_what_its_display_says(rt: HostRuntime) -> Result<(), Fail> {
+    let alloc = rt.alloc();
+    for fault in FAULTS {
+        assert!(rt; is_displayed(alloc, fault)?, "{fault}");
     }
     Ok(())
 }
