@@ -10,5 +10,3 @@ mod language;
 mod machine;
 #[cfg(test)]
 mod replay;
-#[cfg(test)]
-mod views;

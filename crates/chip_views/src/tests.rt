@@ -1,11 +1,14 @@
 //! The source text of an image, by worked examples.
 ghost use Rattle.std.specs.Prelude.{◌≤◌, length};
 
+use crate::source_of_image;
 use chip_asm::Source;
 use chip_machine::limits::IMAGE_BYTES;
-use chip_views::source_of_image;
 use std::alloc::Global;
 use std::test::Fail;
+
+mod checks;
+mod pictures;
 
 // Whether the text of an image is this, and assembles to the image.
 fn is_shown(alloc: Global, image: &[u8], text: &str) -> Result<bool, Fail>
