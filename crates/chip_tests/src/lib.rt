@@ -10,7 +10,11 @@ mod counts;
 #[cfg(test)]
 mod documents;
 #[cfg(test)]
+mod each_step;
+#[cfg(test)]
 mod examples;
+#[cfg(test)]
+mod generated;
 #[cfg(test)]
 mod hindered_files;
 #[cfg(test)]
@@ -18,9 +22,13 @@ mod hindered_streams;
 #[cfg(test)]
 mod image_file;
 #[cfg(test)]
+mod limits;
+#[cfg(test)]
 mod much_input;
 #[cfg(test)]
 mod profiles;
+#[cfg(test)]
+mod room;
 #[cfg(test)]
 mod rows;
 #[cfg(test)]
@@ -29,6 +37,8 @@ mod serving;
 mod session;
 #[cfg(test)]
 mod sessions;
+#[cfg(test)]
+mod single_bytes;
 #[cfg(test)]
 mod streams;
 #[cfg(test)]

@@ -13,9 +13,9 @@ pub(crate) struct Session {
 }
 
 impl Session {
-    /// A session on a source, at the rate 10 and with the tape of one zero.
+    /// A session on a source, at the rate 10 and with a tape of three bytes.
     pub(crate) fn open(alloc: Global, source: &[u8], spacing: u32) -> Result<Session, Fail> {
-        let settings = Settings::new(alloc, 10, &[0])?.with_spacing(spacing)?;
+        let settings = Settings::new(alloc, 10, &[0xa5, 0x5a, 0x3c])?.with_spacing(spacing)?;
         Ok(Session {
             bench: Bench::open(alloc, source, settings)?,
             ran_before: 0,
@@ -64,7 +64,7 @@ impl Session {
 
     /// Carries out a command, and gives the code of its refusal.
     fn code_of(&mut self, alloc: Global, command: &[u8]) -> Result<Option<&'static [u8]>, Fail> {
-        let refusal = match read_command(command) {
+        let carried_out = match read_command(command) {
             Err(fault) => return Ok(Some(fault.code())),
             Ok(Command::Blank) => return Ok(None),
             Ok(Command::Ask(question)) => self.bench.ask(alloc, &question, &mut self.written),
@@ -73,7 +73,10 @@ impl Session {
                 Err(refusal) => Err(refusal),
             },
         };
-        Ok(refusal.err().map(|refusal| refusal.code()))
+        match carried_out {
+            Ok(()) => Ok(None),
+            Err(refusal) => Ok(Some(refusal.code())),
+        }
     }
 
     fn refuse(&mut self, code: &[u8]) -> Result<(), Fail> {

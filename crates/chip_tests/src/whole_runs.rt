@@ -1,7 +1,7 @@
-//! What `run` prints, whole, by the settings that the words give. The answers come from a program of its own in Python.
-use crate::words::{Ran, new_folder, run_on};
+//! What `run` and `dis` print, whole, by the settings that the words give. The answers come from a program of its own in Python.
+use crate::room::Room;
+use crate::words::ensure;
 use std::alloc::{AllocError, Global};
-use std::fs;
 use std::test::Fail;
 
 const LOOP: &str = "LD V0, 5\nLOOP: ADD V0, 1\nJP LOOP\n";
@@ -12,198 +12,125 @@ const RANDOM: &str = "RND V0, 255\nRND V1, 255\n";
 
 const SHIFT: &str = "LD V1, 6\nSHR V0, V1\n";
 
-// A run on a source of that text, by these words after its name.
-fn run_of(rt: &HostRuntime, text: &[u8], more: &[&str]) -> Result<Ran, Fail> {
-    let alloc = rt.alloc();
-    let folder = new_folder(rt, "whole")?;
-    let source = format!(in alloc; "{folder}/source")?;
-    fs::write(rt, &source, text)?;
-    let mut words: Vec<&str> = Vec::new(alloc);
-    words.push("run")?;
-    words.push(&source)?;
-    for word in more {
-        words.push(*word)?;
-    }
-    let run = run_on(alloc, rt, &words, b"")?;
-    fs::remove_dir_all(rt, &folder)?;
-    Ok(run)
-}
-
-// Whether the run prints the registers that begin so, and the empty screen.
-fn prints(rt: &HostRuntime, text: &str, more: &[&str], front: &str) -> Result<bool, Fail> {
-    let run = run_of(rt, text.as_bytes(), more)?;
-    let wanted = format!(in rt.alloc();
-        "{front} low run\nflags 00 00 00 00 00 00 00 00 stack\nlow\n.\n"
+/// An error unless a run on a source of that text, by these words, prints the registers that begin so, and the empty screen.
+fn expect_run(rt: &HostRuntime, text: &str, words: &str, front: &str) -> Result<(), Fail> {
+    let room = Room::new(rt, "whole")?;
+    room.put("source", text.as_bytes())?;
+    let line = format!(in rt.alloc(); "run @source {words}")?;
+    let printed = format!(in rt.alloc();
+        "v {front} low run\nflags 00 00 00 00 00 00 00 00 stack\nlow\n.\n"
     )?;
-    Ok(run.status == 0 && run.errors.is_empty() && run.output.as_slice() == wanted.as_bytes())
+    room.expect(&line, 0, printed.as_bytes())?;
+    room.end()
 }
 
 #[test]
 fn counts_steps(rt: HostRuntime) -> Result<(), Fail> {
-    assert!(rt;
-        prints(
-            &rt,
-            LOOP,
-            &["--steps", "2"],
-            "v 06 00 00 00 00 00 00 00 00 00 00 00 00 00 00 00\npc 0204 i 0000 dt 00 st 00 draws 0"
-        )?
-    );
-    assert!(rt;
-        prints(
-            &rt,
-            LOOP,
-            &["--steps", "3"],
-            "v 06 00 00 00 00 00 00 00 00 00 00 00 00 00 00 00\npc 0202 i 0000 dt 00 st 00 draws 0"
-        )?
-    );
-    Ok(())
+    let two = "06 00 00 00 00 00 00 00 00 00 00 00 00 00 00 00\npc 0204 i 0000 dt 00 st 00 draws 0";
+    expect_run(&rt, LOOP, "--steps 2", two)?;
+    let three =
+        "06 00 00 00 00 00 00 00 00 00 00 00 00 00 00 00\npc 0202 i 0000 dt 00 st 00 draws 0";
+    expect_run(&rt, LOOP, "--steps 3", three)
 }
 
 #[test]
 fn ticks_by_the_rate(rt: HostRuntime) -> Result<(), Fail> {
-    assert!(rt;
-        prints(
-            &rt,
-            TIMER,
-            &["--steps", "4"],
-            "v 09 00 00 00 00 00 00 00 00 00 00 00 00 00 00 00\npc 0204 i 0000 dt 09 st 00 draws 0"
-        )?
-    );
-    assert!(rt;
-        prints(
-            &rt,
-            TIMER,
-            &["--steps", "4", "--rate", "1"],
-            "v 09 00 00 00 00 00 00 00 00 00 00 00 00 00 00 00\npc 0204 i 0000 dt 06 st 00 draws 0"
-        )?
-    );
-    Ok(())
+    let ten = "09 00 00 00 00 00 00 00 00 00 00 00 00 00 00 00\npc 0204 i 0000 dt 09 st 00 draws 0";
+    expect_run(&rt, TIMER, "--steps 4", ten)?;
+    let one = "09 00 00 00 00 00 00 00 00 00 00 00 00 00 00 00\npc 0204 i 0000 dt 06 st 00 draws 0";
+    expect_run(&rt, TIMER, "--steps 4 --rate 1", one)
 }
 
 #[test]
 fn draws_from_the_tape(rt: HostRuntime) -> Result<(), Fail> {
-    assert!(rt;
-        prints(
-            &rt,
-            RANDOM,
-            &["--steps", "2", "--tape", "0fa3"],
-            "v 0f a3 00 00 00 00 00 00 00 00 00 00 00 00 00 00\npc 0204 i 0000 dt 00 st 00 draws 2"
-        )?
-    );
-    assert!(rt;
-        prints(
-            &rt,
-            RANDOM,
-            &["--steps", "2", "--seed", "1"],
-            "v e6 ee 00 00 00 00 00 00 00 00 00 00 00 00 00 00\npc 0204 i 0000 dt 00 st 00 draws 2"
-        )?
-    );
-    assert!(rt;
-        prints(
-            &rt,
-            RANDOM,
-            &["--steps", "2", "--seed", "4294967297"],
-            "v 61 7e 00 00 00 00 00 00 00 00 00 00 00 00 00 00\npc 0204 i 0000 dt 00 st 00 draws 2"
-        )?
-    );
-    Ok(())
+    let tape =
+        "0f a3 00 00 00 00 00 00 00 00 00 00 00 00 00 00\npc 0204 i 0000 dt 00 st 00 draws 2";
+    expect_run(&rt, RANDOM, "--steps 2 --tape 0fa3", tape)?;
+    let one = "e6 ee 00 00 00 00 00 00 00 00 00 00 00 00 00 00\npc 0204 i 0000 dt 00 st 00 draws 2";
+    expect_run(&rt, RANDOM, "--steps 2 --seed 1", one)?;
+    let large =
+        "61 7e 00 00 00 00 00 00 00 00 00 00 00 00 00 00\npc 0204 i 0000 dt 00 st 00 draws 2";
+    expect_run(&rt, RANDOM, "--steps 2 --seed 4294967297", large)
 }
 
 #[test]
 fn shifts_by_the_profile(rt: HostRuntime) -> Result<(), Fail> {
     let schip =
-        "v 00 06 00 00 00 00 00 00 00 00 00 00 00 00 00 00\npc 0204 i 0000 dt 00 st 00 draws 0";
-    let vip =
-        "v 03 06 00 00 00 00 00 00 00 00 00 00 00 00 00 00\npc 0204 i 0000 dt 00 st 00 draws 0";
-    assert!(rt; prints(&rt, SHIFT, &["--steps", "2"], schip)?);
-    assert!(rt; prints(&rt, SHIFT, &["--steps", "2", "--profile", "schip"], schip)?);
-    assert!(rt; prints(&rt, SHIFT, &["--steps", "2", "--profile", "vip"], vip)?);
-    Ok(())
+        "00 06 00 00 00 00 00 00 00 00 00 00 00 00 00 00\npc 0204 i 0000 dt 00 st 00 draws 0";
+    expect_run(&rt, SHIFT, "--steps 2", schip)?;
+    expect_run(&rt, SHIFT, "--steps 2 --profile schip", schip)?;
+    let vip = "03 06 00 00 00 00 00 00 00 00 00 00 00 00 00 00\npc 0204 i 0000 dt 00 st 00 draws 0";
+    expect_run(&rt, SHIFT, "--steps 2 --profile vip", vip)
+}
+
+/// An error unless a profile of that name is refused.
+fn expect_no_profile(rt: &HostRuntime, room: &Room<'_>, name: &str) -> Result<(), Fail> {
+    let line = format!(in rt.alloc(); "run @source --steps 2 --profile {name}")?;
+    let run = room.run(rt, &line)?;
+    ensure(run.status == 2 && run.output.is_empty(), name)?;
+    let front = format!(in rt.alloc();
+        "error: invalid value '{name}' for '--profile <NAME>'\n  [possible values: schip, vip]\n"
+    )?;
+    ensure(run.errors.as_slice().starts_with(front.as_bytes()), name)
 }
 
 #[test]
 fn refuses_another_profile(rt: HostRuntime) -> Result<(), Fail> {
+    let room = Room::new(&rt, "profile")?;
     for name in ["xochip", "VIP", ""] {
-        let run = run_of(&rt, SHIFT.as_bytes(), &["--steps", "2", "--profile", name])?;
-        assert_eq!(rt; run.status, 2);
-        assert!(rt; run.output.is_empty());
-        let front = format!(in rt.alloc();
-            "error: invalid value '{name}' for '--profile <NAME>'\n  [possible values: schip, vip]\n"
-        )?;
-        assert!(rt; run.errors.as_slice().starts_with(front.as_bytes()));
+        expect_no_profile(&rt, &room, name)?;
     }
-    Ok(())
+    room.end()
 }
 
 #[test]
 fn runs_up_to_the_last_step(rt: HostRuntime) -> Result<(), Fail> {
-    let run = run_of(&rt, LOOP.as_bytes(), &["--steps", "1000000"])?;
-    assert_eq!(rt; run.status, 0);
-    let run = run_of(&rt, LOOP.as_bytes(), &["--steps", "1000001"])?;
-    assert_eq!(rt; run.status, 2);
-    Ok(())
+    let room = Room::new(&rt, "last")?;
+    room.put("source", LOOP.as_bytes())?;
+    assert_eq!(rt; room.run(&rt, "run @source --steps 1000000")?.status, 0);
+    assert_eq!(rt; room.run(&rt, "run @source --steps 1000001")?.status, 2);
+    room.end()
 }
 
-// As many lines as there may be, each of 200 bytes and its line break of two.
-fn longest_source(alloc: Global) -> Result<Vec<u8>, AllocError> {
+/// As many lines as there may be, each of 200 bytes and its line break of two.
+fn longest_source(alloc: Global) -> Result<String, AllocError> {
     let line = format!(in alloc; ";{:199}\r\n", "")?;
-    let mut text = Vec::new(alloc);
-    for _ in 0..4000u32 {
-        text.extend_from_slice(line.as_bytes())?;
-    }
-    Ok(text)
+    line.repeat(alloc, 4000)
 }
 
-// The longest source, and then one byte more.
+/// The longest source, and then one byte more.
 #[test]
 fn reads_as_much_of_a_source_as_tells(rt: HostRuntime) -> Result<(), Fail> {
+    let room = Room::new(&rt, "longest")?;
     let mut text = longest_source(rt.alloc())?;
-    let run = run_of(&rt, &text, &["--steps", "0"])?;
-    assert_eq!(rt; run.status, 0);
-    text.push(b';')?;
-    let run = run_of(&rt, &text, &["--steps", "0"])?;
-    assert_eq!(rt; run.status, 1);
-    assert!(rt; run.output.as_slice() == "no O2\n".as_bytes());
-    Ok(())
-}
-
-// What `dis` does with a file of these bytes.
-fn shown(rt: &HostRuntime, image: &[u8]) -> Result<Ran, Fail> {
-    let alloc = rt.alloc();
-    let folder = new_folder(rt, "shown")?;
-    let file = format!(in alloc; "{folder}/image")?;
-    fs::write(rt, &file, image)?;
-    let run = run_on(alloc, rt, &["dis", &file], b"")?;
-    fs::remove_dir_all(rt, &folder)?;
-    Ok(run)
+    room.put("source", text.as_bytes())?;
+    assert_eq!(rt; room.run(&rt, "run @source --steps 0")?.status, 0);
+    text.push_str(";")?;
+    room.put("source", text.as_bytes())?;
+    room.expect("run @source --steps 0", 1, b"no O2\n")?;
+    room.end()
 }
 
 #[test]
 fn prints_a_source_of_an_image(rt: HostRuntime) -> Result<(), Fail> {
-    let run = shown(&rt, &[0x60, 0x05, 0x50, 0x01, 0xff, 0xff, 0x07])?;
-    assert_eq!(rt; run.status, 0);
-    assert!(rt; run.errors.is_empty());
-    let source = "LD V0, #05\nDW #5001\nDW #ffff\nALIGN OFF\nDB #07\n";
-    assert!(rt; run.output.as_slice() == source.as_bytes());
-    Ok(())
+    let room = Room::new(&rt, "shown")?;
+    room.put("image", &[0x60, 0x05, 0x50, 0x01, 0xff, 0xff, 0x07])?;
+    let source = b"LD V0, #05\nDW #5001\nDW #ffff\nALIGN OFF\nDB #07\n";
+    room.expect("dis @image", 0, source)?;
+    room.end()
 }
 
 #[test]
 fn prints_no_source_of_an_image_that_is_too_long(rt: HostRuntime) -> Result<(), Fail> {
-    let image = vec![in rt.alloc(); 0u8; 3585]?;
-    assert_eq!(rt; shown(&rt, &image[..3584])?.status, 0);
-    let run = shown(&rt, &image)?;
-    assert_eq!(rt; run.status, 3);
-    assert!(rt; run.output.is_empty());
-    assert!(rt;
-        run.errors
-            .as_slice()
-            .starts_with(b"chipbench: cannot read ")
-    );
-    assert!(rt;
-        run.errors
-            .as_slice()
-            .ends_with(b"\nreason: it has over 3584 bytes\n")
-    );
-    Ok(())
+    let room = Room::new(&rt, "long")?;
+    room.put("image", "\0".repeat(rt.alloc(), 3584)?.as_bytes())?;
+    assert_eq!(rt; room.run(&rt, "dis @image")?.status, 0);
+    room.put("image", "\0".repeat(rt.alloc(), 3585)?.as_bytes())?;
+    let run = room.run(&rt, "dis @image")?;
+    let path = room.path("image")?;
+    let said = format!(in rt.alloc();
+        "chipbench: cannot read {path}\nreason: it has over 3584 bytes\n"
+    )?;
+    run.expect(3, b"", said.as_bytes())?;
+    room.end()
 }

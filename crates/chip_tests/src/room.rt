@@ -1,0 +1,139 @@
+//! A folder of files, for tests of what the program does with them. Its calls have no clauses, so that tests of many calls are
+//! proved fast.
+use crate::words::{Ran, ensure, run_on};
+use std::os::unix::fs::{MetadataExt, PermissionsExt, symlink};
+use std::rt::Files;
+use std::test::Fail;
+use std::{env, fs};
+
+/// A new folder, whose files no other run has, and which goes with `end`.
+#[derive(Drop)]
+pub(crate) struct Room<'a> {
+    rt: &'a HostRuntime,
+    folder: String,
+}
+
+impl<'a> Room<'a> {
+    pub(crate) fn new(rt: &'a HostRuntime, name: &str) -> Result<Room<'a>, Fail> {
+        let place = env::temp_dir(rt)?;
+        let place = place.as_path();
+        let number = std::process::id(rt.process());
+        let folder = format!(in rt.alloc(); "{}/chipbench-{name}-{number}", place.as_str())?;
+        fs::create_dir(rt, &folder)?;
+        Ok(Room { rt, folder })
+    }
+
+    /// The path of the folder.
+    pub(crate) fn folder(&self) -> &str {
+        &self.folder
+    }
+
+    /// Takes the folder away.
+    pub(crate) fn end(self) -> Result<(), Fail> {
+        fs::remove_dir_all(self.rt, &self.folder)?;
+        Ok(())
+    }
+
+    /// The path of a name in the folder. A name that begins with a slash is a path already.
+    pub(crate) fn path(&self, name: &str) -> Result<String, Fail> {
+        if name.starts_with("/") {
+            return Ok(String::from_str(self.rt.alloc(), name)?);
+        }
+        Ok(format!(in self.rt.alloc(); "{}/{name}", self.folder)?)
+    }
+
+    /// Writes a file.
+    pub(crate) fn put(&self, name: &str, bytes: &[u8]) -> Result<(), Fail> {
+        let path = self.path(name)?;
+        fs::write(self.rt, &path, bytes)?;
+        Ok(())
+    }
+
+    /// Makes a folder.
+    pub(crate) fn put_folder(&self, name: &str) -> Result<(), Fail> {
+        let path = self.path(name)?;
+        fs::create_dir(self.rt, &path)?;
+        Ok(())
+    }
+
+    /// Makes a link that leads there.
+    pub(crate) fn link(&self, to: &str, name: &str) -> Result<(), Fail> {
+        let path = self.path(name)?;
+        symlink(self.rt, to, &path)?;
+        Ok(())
+    }
+
+    /// Gives a file a second name.
+    pub(crate) fn name_again(&self, name: &str, other: &str) -> Result<(), Fail> {
+        let path = self.path(name)?;
+        let other = self.path(other)?;
+        fs::hard_link(self.rt, &path, &other)?;
+        Ok(())
+    }
+
+    /// An error unless a file has these bytes.
+    pub(crate) fn expect_bytes(&self, name: &str, bytes: &[u8]) -> Result<(), Fail> {
+        let path = self.path(name)?;
+        let found = fs::read(self.rt, &path)?;
+        ensure(found.as_slice() == bytes, name)
+    }
+
+    /// An error unless a name is a link.
+    pub(crate) fn expect_link(&self, name: &str) -> Result<(), Fail> {
+        let path = self.path(name)?;
+        ensure(fs::symlink_metadata(self.rt, &path)?.is_symlink(), name)
+    }
+
+    /// An error unless there are so many names.
+    pub(crate) fn expect_names(&self, wanted: usize) -> Result<(), Fail> {
+        self.expect_names_in(&self.folder, wanted)
+    }
+
+    /// An error unless there are so many names in a folder.
+    pub(crate) fn expect_names_in(&self, folder: &str, wanted: usize) -> Result<(), Fail> {
+        let mut count = 0usize;
+        for entry in fs::read_dir(self.rt, folder)? {
+            entry?;
+            count = count.saturating_add(1);
+        }
+        ensure(count == wanted, "how many names there are")
+    }
+
+    /// Sets what may be done with a file.
+    pub(crate) fn set_mode(&self, name: &str, mode: u32) -> Result<(), Fail> {
+        let path = self.path(name)?;
+        fs::set_permissions(self.rt, &path, fs::Permissions::from_mode(mode))?;
+        Ok(())
+    }
+
+    /// What may be done with a file.
+    pub(crate) fn mode(&self, name: &str) -> Result<u32, Fail> {
+        let path = self.path(name)?;
+        Ok(fs::metadata(self.rt, &path)?.permissions().mode() % 0o1000)
+    }
+
+    /// The owner of a file, its number and how many names it has.
+    pub(crate) fn file(&self, name: &str) -> Result<(u32, u64, u64), Fail> {
+        let path = self.path(name)?;
+        let told = fs::metadata(self.rt, &path)?;
+        Ok((told.uid(), told.ino(), told.nlink()))
+    }
+
+    /// A run of the program by the words of a line, on these files. A word after `@` is a name in the folder.
+    pub(crate) fn run<F: Files>(&self, files: &F, line: &str) -> Result<Ran, Fail> {
+        let alloc = self.rt.alloc();
+        let mut words = Vec::new(alloc);
+        for word in line.split(" ") {
+            words.push(match word.strip_prefix("@") {
+                Some(name) => self.path(name)?,
+                None => String::from_str(alloc, word)?,
+            })?;
+        }
+        run_on(alloc, files, &words, b"")
+    }
+
+    /// An error unless the run ends with the status, and prints these bytes and no fault.
+    pub(crate) fn expect(&self, line: &str, status: u8, output: &[u8]) -> Result<(), Fail> {
+        self.run(self.rt, line)?.expect(status, output, b"")
+    }
+}
