@@ -10,6 +10,8 @@ use Rattle.chip_machine.specs.Profile.{profile_name, profile_names}
 use Rattle.chip_machine.specs.declared.profile.Profile.{Profile}
 use Rattle.chip_machine.specs.declared.profile.Profile.TheVariants.{Schip}
 use Rattle.chip_replay.specs.declared.limits.TheConstants.{LEAST_SPACING}
+use Rattle.chip_views.specs.declared.picture.Letters.{Letters}
+use Rattle.chip_views.specs.declared.picture.Letters.TheVariants.{Blocks, Plain}
 use Rattle.chip_bench.specs.CommandLine.{chipbench}
 use Rattle.chip_bench.specs.SettingWords.{default_words}
 use Rattle.chip_bench.specs.declared.command_line.CommandLine.{CommandLine}
@@ -63,17 +65,30 @@ pub record AsksSettings (rows : List Row) (words : SettingWords) : Type 0 where
 abbrev pub needed : List ℕ → List Row → List ℕ
 needed id rows = unwrap_or (first_of id rows) []
 
+-- plain letters where the value of the flag is `true`, else half blocks
+pub record AsksLetters (flag : Option (List ℕ)) (letters : Letters) : Type 0 where
+  pub plain : flag ≡ Some (codes "true") → letters ≡ Plain
+  pub blocks : flag ≡ Some (codes "false") → letters ≡ Blocks
+  pub none : flag ≡ None → letters ≡ Blocks
+
 -- What the values of a command of that name ask for.
 abbrev pub Asks : List ℕ → List Row → CommandLine → Type 0
 Asks name rows (line.Asm source image) =
     (name ≡ codes "asm") × (source.now ≡ needed (codes "source") rows) × (image.now ≡ needed (codes "image") rows)
 Asks name rows (line.List source) = (name ≡ codes "list") × (source.now ≡ needed (codes "source") rows)
 Asks name rows (line.Dis image) = (name ≡ codes "dis") × (image.now ≡ needed (codes "image") rows)
-Asks name rows (line.Run source steps settings) =
+Asks name rows (line.Run source steps keys settings) =
     (name ≡ codes "run") × (source.now ≡ needed (codes "source") rows)
-    × ReadsOr 32 (one_of (codes "steps") rows) 0 steps × AsksSettings rows settings
+    × ReadsOr 32 (one_of (codes "steps") rows) 0 steps × (option_copied keys ≡ first_of (codes "keys") rows)
+    × AsksSettings rows settings
+Asks name rows (line.Picture source steps letters keys settings) =
+    (name ≡ codes "picture") × (source.now ≡ needed (codes "source") rows)
+    × ReadsOr 32 (one_of (codes "steps") rows) 0 steps × AsksLetters (one_of (codes "ascii") rows) letters
+    × (option_copied keys ≡ first_of (codes "keys") rows) × AsksSettings rows settings
+Asks name rows (line.Explain code) = (name ≡ codes "explain") × (option_copied code ≡ first_of (codes "code") rows)
 Asks name rows (line.Debug source settings) =
     (name ≢ codes "asm") × (name ≢ codes "list") × (name ≢ codes "dis") × (name ≢ codes "run")
+    × (name ≢ codes "picture") × (name ≢ codes "explain")
     × (option_copied source ≡ first_of (codes "source") rows) × AsksSettings rows settings
 
 -- what the words ask for, by the command that they name; without one, a session on the empty source

@@ -16,6 +16,7 @@ use crate::settings::Settings;
 use chip_asm::Source;
 use chip_machine::Machine;
 use chip_replay::{LAST_STEP, Replay};
+use chip_views::screen_text;
 use std::alloc::{AllocError, Global};
 
 /// What is asked of a machine's state.
@@ -34,6 +35,7 @@ fn state_answer(
         StateQuestion::Disassembly { at, count } => {
             disassembly(alloc, machine, at as u16, count as u16)
         }
+        StateQuestion::Picture { letters } => screen_text(alloc, machine, letters),
     }
 }
 
@@ -44,7 +46,7 @@ fn is_past_end(asked: StateQuestion) -> bool
     match asked {
         StateQuestion::Memory { at, count } => u64::from(at) + u64::from(count) > 4096,
         StateQuestion::Disassembly { at, count } => u64::from(at) + 2 * u64::from(count) > 4096,
-        StateQuestion::Registers | StateQuestion::Screen => false,
+        StateQuestion::Registers | StateQuestion::Screen | StateQuestion::Picture { .. } => false,
     }
 }
 
@@ -147,6 +149,10 @@ pub(crate) fn answer(
         }
         Question::Disassembly { step, at, count } => {
             let asked = StateQuestion::Disassembly { at, count };
+            answer_at(alloc, image, settings, last, replay, asked, step)
+        }
+        Question::Picture { step, letters } => {
+            let asked = StateQuestion::Picture { letters };
             answer_at(alloc, image, settings, last, replay, asked, step)
         }
     }

@@ -12,7 +12,7 @@ use crate::command_line::{CommandLine, SettingWords, not_text, parse_words};
 use crate::counted::Counted;
 use crate::ending::{Ending, Failure};
 use crate::image_file::write_file;
-use crate::output::{answer_script, image_or_faults, list_source, print_source, run_source};
+use crate::output::{KeyFile, answer_script, explain, image_or_faults, list_source, picture_source, print_source, run_source};
 use crate::settings::Settings;
 use crate::tape::tape_of;
 use chip_machine::limits::IMAGE_BYTES;
@@ -22,6 +22,9 @@ use std::convert::AsStr;
 use std::io::{Read, Write};
 use std::rt::Files;
 use std::{fs, io};
+
+// The name of a source that is read from the standard input.
+const INPUT: &str = "-";
 
 // A source of this length or more doesn't open.
 const MOST_SOURCE: u64 = 808_001;
@@ -106,17 +109,33 @@ fn carry_out<'a, F: Files, S: AsStr, I: Read, O: Write>(
         CommandLine::Debug { source, settings } => {
             debug(alloc, files, source, &settings, input, output)
         }
-        CommandLine::Asm { source, image } => asm(alloc, files, source, image, output),
+        CommandLine::Asm { source, image } => asm(alloc, files, source, image, input, output),
         CommandLine::List { source } => {
-            let bytes = read_source(alloc, files, source)?;
+            let bytes = read_source(alloc, files, source, input)?;
             list_source(alloc, &bytes, output)
         }
-        CommandLine::Dis { image } => dis(alloc, files, image, output),
+        CommandLine::Dis { image } => dis(alloc, files, image, input, output),
         CommandLine::Run {
             source,
             steps,
+            keys,
             settings,
-        } => run(alloc, files, source, steps, &settings, output),
+        } => {
+            let asked = read_asked(alloc, files, source, keys, &settings, input)?;
+            run_source(alloc, &asked.source, &asked.keys, steps, asked.settings, output)
+        }
+        CommandLine::Picture {
+            source,
+            steps,
+            letters,
+            keys,
+            settings,
+        } => {
+            let asked = read_asked(alloc, files, source, keys, &settings, input)?;
+            let settings = asked.settings;
+            picture_source(alloc, &asked.source, &asked.keys, steps, letters, settings, output)
+        }
+        CommandLine::Explain { code } => explain(alloc, code, output),
     }
 }
 
@@ -184,24 +203,26 @@ fn debug<'a, F: Files, I: Read, O: Write>(
     let settings = settings_of(alloc, words)?;
     match source {
         Some(name) => {
-            let bytes = read_source(alloc, files, name)?;
+            let bytes = read_file(alloc, files, name)?;
             answer_script(alloc, &bytes, settings, input, output)
         }
         None => answer_script(alloc, b"", settings, input, output),
     }
 }
 
-fn asm<'a, F: Files, O: Write>(
+fn asm<'a, F: Files, I: Read, O: Write>(
     alloc: Global,
     files: &F,
     source: &'a str,
     image: &'a str,
+    input: &mut Counted<I>,
     output: &mut Counted<O>,
 ) -> Result<Ending, Failure<'a>> {
-    let bytes = read_source(alloc, files, source)?;
+    let bytes = read_source(alloc, files, source, input)?;
     let Some(assembled) = image_or_faults(alloc, &bytes, output)? else {
         return Ok(Ending::Faulty);
     };
+    let source = (source != INPUT).then_some(source);
     match write_file(alloc, files, source, image, &assembled) {
         Ok(()) => Ok(Ending::Done),
         Err(error) if error.kind() == io::ErrorKind::OutOfMemory => Err(Failure::OutOfMemory),
@@ -209,13 +230,14 @@ fn asm<'a, F: Files, O: Write>(
     }
 }
 
-fn dis<'a, F: Files, O: Write>(
+fn dis<'a, F: Files, I: Read, O: Write>(
     alloc: Global,
     files: &F,
     image: &'a str,
+    input: &mut Counted<I>,
     output: &mut Counted<O>,
 ) -> Result<Ending, Failure<'a>> {
-    let bytes = read_source(alloc, files, image)?;
+    let bytes = read_source(alloc, files, image, input)?;
     if bytes.len() > IMAGE_BYTES {
         let error = io::Error::new(io::ErrorKind::InvalidData, "it has over 3584 bytes");
         return Err(Failure::CannotRead(image, error));
@@ -223,20 +245,69 @@ fn dis<'a, F: Files, O: Write>(
     print_source(alloc, &bytes, output)
 }
 
-fn run<'a, F: Files, O: Write>(
+// What a run is asked on: a source, a file of key events and settings.
+#[derive(Drop)]
+struct Asked<'a> {
+    source: Vec<u8>,
+    keys: KeyFile<'a>,
+    settings: Settings,
+}
+
+// The settings are judged before a file is read, and the key events are read before the source.
+fn read_asked<'a, F: Files, I: Read>(
     alloc: Global,
     files: &F,
     source: &'a str,
-    steps: u32,
+    keys: Option<&'a str>,
     words: &SettingWords<'_>,
-    output: &mut Counted<O>,
-) -> Result<Ending, Failure<'a>> {
+    input: &mut Counted<I>,
+) -> Result<Asked<'a>, Failure<'a>> {
     let settings = settings_of(alloc, words)?;
-    let bytes = read_source(alloc, files, source)?;
-    run_source(alloc, &bytes, steps, settings, output)
+    let keys = match keys {
+        Some(name) => KeyFile {
+            name,
+            bytes: read_file(alloc, files, name)?,
+        },
+        None => KeyFile {
+            name: "",
+            bytes: Vec::new(alloc),
+        },
+    };
+    let source = read_source(alloc, files, source, input)?;
+    Ok(Asked {
+        source,
+        keys,
+        settings,
+    })
 }
 
-fn read_source<'a, F: Files>(
+// The bytes of a file, or of the standard input where the name is `-`.
+fn read_source<'a, F: Files, I: Read>(
+    alloc: Global,
+    files: &F,
+    name: &'a str,
+    input: &mut Counted<I>,
+) -> Result<Vec<u8>, Failure<'a>> {
+    if name == INPUT {
+        read_input(alloc, input)
+    } else {
+        read_file(alloc, files, name)
+    }
+}
+
+fn read_input<'a, I: Read>(
+    alloc: Global,
+    input: &mut Counted<I>,
+) -> Result<Vec<u8>, Failure<'a>> {
+    let mut bytes = Vec::new(alloc);
+    match read_most(input, &mut bytes) {
+        Ok(()) => Ok(bytes),
+        Err(error) if error.kind() == io::ErrorKind::OutOfMemory => Err(Failure::OutOfMemory),
+        Err(_) => Err(Failure::Input),
+    }
+}
+
+fn read_file<'a, F: Files>(
     alloc: Global,
     files: &F,
     name: &'a str,
