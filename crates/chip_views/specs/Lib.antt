@@ -1,5 +1,11 @@
 -- What the views are (own).
---     Dis      the source text of an image
---     Picture  the screen as text
+--     Bitmap    the screen as a picture in bits
+--     Checksum  CRC-32 and Adler-32
+--     Dis       the source text of an image
+--     Picture   the screen as text
+--     Png       the screen as a PNG picture
+pub mod Bitmap
+pub mod Checksum
 pub mod Dis
 pub mod Picture
+pub mod Png

@@ -1,11 +1,16 @@
 //! Views of images, sources and screens: a source text for an image, faults as compilers print them, and pictures.
 #![tactic(auto)]
 
+mod bitmap;
+mod checksum;
 mod dis;
 pub mod laws;
 mod picture;
+mod png;
 #[cfg(test)]
 mod tests;
 
+pub use bitmap::screen_pbm;
 pub use dis::source_of_image;
 pub use picture::{Letters, screen_text};
+pub use png::screen_png;

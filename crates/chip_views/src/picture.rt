@@ -67,8 +67,8 @@ fn cell_at(machine: &Machine, letters: Letters, line: usize, column: usize) -> &
     cell(letters, above, below)
 }
 
-// Whether a point of the machine's size is lit.
-fn is_seen(machine: &Machine, column: usize, row: usize) -> bool
+/// Whether a point of the machine's size is lit.
+pub(crate) fn is_seen(machine: &Machine, column: usize, row: usize) -> bool
     requires { (column < 128) × (row < 64) }
     ensures { result ≡ is_seen machine.now.core.high machine.now.core.lit column row }
 {
