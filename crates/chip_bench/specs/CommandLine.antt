@@ -73,6 +73,12 @@ keys = record (new_rule (codes "keys")) { long = Some (codes "keys"); value_name
 abbrev pub ascii : Rule
 ascii = record (new_rule (codes "ascii")) { long = Some (codes "ascii"); action = Some SetTrue }
 
+abbrev pub pbm : Rule
+pbm = record (new_rule (codes "pbm")) { long = Some (codes "pbm"); value_names = 1 }
+
+abbrev pub png : Rule
+png = record (new_rule (codes "png")) { long = Some (codes "png"); value_names = 1 }
+
 abbrev pub code : Rule
 code = record (new_rule (codes "code")) { value_names = 1; action = Some Set }
 
@@ -80,7 +86,9 @@ abbrev pub run : App
 run = with_rule (with_settings (with_rule (with_rule (new_app (codes "run")) needed_source) steps)) keys
 
 abbrev pub picture : App
-picture = with_rule (with_rule (with_settings (with_rule (with_rule (new_app (codes "picture")) needed_source) steps)) keys) ascii
+picture =
+    with_rule (with_rule (with_rule (with_rule (with_settings (with_rule (with_rule
+    (new_app (codes "picture")) needed_source) steps)) keys) ascii) pbm) png
 
 abbrev pub explain : App
 explain = with_rule (new_app (codes "explain")) code

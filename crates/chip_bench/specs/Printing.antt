@@ -8,7 +8,6 @@ use Rattle.chip_asm.specs.declared.refusal.OpenError.{OpenError}
 use Rattle.chip_asm.specs.declared.refusal.OpenError.TheVariants as unopened
 use Rattle.chip_bench.specs.Answers.{answer_to, faults_text, listing_text}
 use Rattle.std.specs.Borrow.{Bor}
-use Rattle.chip_views.specs.declared.picture.Letters.{Letters}
 use Rattle.chip_bench.specs.KeyFile.{key_fault, session_under}
 use Rattle.chip_bench.specs.Refusals.{refusal_code}
 use Rattle.chip_bench.specs.Serving.{BeginsWith}
@@ -22,6 +21,7 @@ use Rattle.chip_bench.specs.declared.ending.Failure.{Failure}
 use Rattle.chip_bench.specs.declared.ending.Failure.TheVariants as failure
 use Rattle.chip_bench.specs.declared.key_file.KeyFileError.{KeyFileError}
 use Rattle.chip_bench.specs.declared.key_file.KeyFileError.TheVariants.{Line, OutOfMemory}
+use Rattle.chip_bench.specs.declared.question.PictureForm.{PictureForm}
 use Rattle.chip_bench.specs.declared.question.Question.TheVariants.{Registers, Screen, Picture}
 use Rattle.chip_bench.specs.declared.refusal.Refusal.{Refusal}
 use Rattle.chip_bench.specs.declared.refusal.Refusal.TheVariants.{NoImage}
@@ -85,8 +85,8 @@ run_of session step =
     answer_or_why (both_answers (answer_to session (Registers step)) (answer_to session (Screen step))) (faults_of_lines session.lines)
 
 -- `picture`: the answer to the question, or why there is none
-abbrev pub picture_at : Session → ℕ → Letters → Printed
-picture_at session step letters = answer_or_why (answer_to session (Picture step letters)) (faults_of_lines session.lines)
+abbrev pub picture_at : Session → ℕ → PictureForm → Printed
+picture_at session step form = answer_or_why (answer_to session (Picture step form)) (faults_of_lines session.lines)
 
 -- the first refused line of a key file, where the source opens
 abbrev pub fault_under : Option OpenError → Option (ℕ × List ℕ) → Option (ℕ × List ℕ)

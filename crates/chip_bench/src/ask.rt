@@ -4,19 +4,19 @@ ghost use Rattle.std.specs.Option.{option_copied};
 ghost use Rattle.chip_asm.specs.Program.{image_of};
 ghost use Rattle.chip_bench.specs.Session.{session_with};
 ghost use Rattle.chip_bench.specs.Kept.{Replays, IsLastImage};
-ghost use Rattle.chip_bench.specs.Answers.{is_past_end, state_answer, step_refusal, answer_at, image_answer, answer_to, step_asked};
+ghost use Rattle.chip_bench.specs.Answers.{is_past_end, picture_by, state_answer, step_refusal, answer_at, image_answer, answer_to, step_asked};
 ghost use Rattle.chip_bench.specs.Workbench.{ReachesStep, ReusesRun, StaysPut};
 ghost use Rattle.chip_bench.specs.IsAnswer.{IsAnswered, IsUnanswered};
 
 use crate::answer::{faults_answer, hex_line, listing_answer, symbols_answer};
 use crate::machine_answer::{disassembly, memory_line, registers, screen};
-use crate::question::{Question, StateQuestion};
+use crate::question::{PictureForm, Question, StateQuestion};
 use crate::refusal::Refusal;
 use crate::settings::Settings;
 use chip_asm::Source;
 use chip_machine::Machine;
 use chip_replay::{LAST_STEP, Replay};
-use chip_views::screen_text;
+use chip_views::{screen_pbm, screen_png, screen_text};
 use std::alloc::{AllocError, Global};
 
 /// What is asked of a machine's state.
@@ -35,7 +35,19 @@ fn state_answer(
         StateQuestion::Disassembly { at, count } => {
             disassembly(alloc, machine, at as u16, count as u16)
         }
-        StateQuestion::Picture { letters } => screen_text(alloc, machine, letters),
+        StateQuestion::Picture { form } => picture(alloc, machine, form),
+    }
+}
+
+/// The picture of a machine's screen.
+#[tactic(auto, unfolding(crate::specs::Answers::picture_by))]
+fn picture(alloc: Global, machine: &Machine, form: PictureForm) -> Result<Vec<u8>, AllocError>
+    ensures { IfOk result (λ picture. picture.items ≡ picture_by form machine.now) }
+{
+    match form {
+        PictureForm::Text(letters) => screen_text(alloc, machine, letters),
+        PictureForm::Bitmap => screen_pbm(alloc, machine),
+        PictureForm::Png => screen_png(alloc, machine),
     }
 }
 
@@ -151,8 +163,8 @@ pub(crate) fn answer(
             let asked = StateQuestion::Disassembly { at, count };
             answer_at(alloc, image, settings, last, replay, asked, step)
         }
-        Question::Picture { step, letters } => {
-            let asked = StateQuestion::Picture { letters };
+        Question::Picture { step, form } => {
+            let asked = StateQuestion::Picture { form };
             answer_at(alloc, image, settings, last, replay, asked, step)
         }
     }

@@ -5,7 +5,7 @@ ghost use Rattle.clap.specs.Words.{FailsBy, app_of, first_of, kind_of, one_of, r
 ghost use Rattle.clap.specs.declared.builder.command.Command.TheViews.{out-Command as fields_of};
 ghost use Rattle.chip_bench.specs.CommandLine as line;
 ghost use Rattle.chip_bench.specs.SettingWords.{default_words};
-ghost use Rattle.chip_bench.specs.CommandWords.{Asks, AsksFor, AsksSettings, IsProfile, Reads, ReadsOr, AsksLetters, faults_of, needed, profile_fault};
+ghost use Rattle.chip_bench.specs.CommandWords.{Asks, AsksFor, AsksSettings, IsProfile, Reads, ReadsOr, AsksLetters, AsksPicture, AsksRun, faults_of, needed, profile_fault};
 
 use crate::settings::MOST_RATE;
 use chip_machine::Profile;
@@ -79,24 +79,36 @@ pub enum CommandLine<'a> {
         image: &'a str,
     },
     /// To run a source's image.
-    Run {
-        source: &'a str,
-        steps: u32,
-        keys: Option<&'a str>,
-        settings: SettingWords<'a>,
-    },
-    /// To print the screen of a source's image.
-    Picture {
-        source: &'a str,
-        steps: u32,
-        letters: Letters,
-        keys: Option<&'a str>,
-        settings: SettingWords<'a>,
-    },
+    Run(RunWords<'a>),
+    /// To print the screen of a source's image, or to write it as a picture.
+    Picture(PictureWords<'a>),
     /// To print the page on a code, or the codes.
     Explain {
         code: Option<&'a str>,
     },
+}
+
+/// A run, as the words ask for it.
+#[derive(Clone, Copy, Debug, PartialEq, Eq)]
+pub struct RunWords<'a> {
+    pub source: &'a str,
+    pub steps: u32,
+    /// The file of key events.
+    pub keys: Option<&'a str>,
+    pub settings: SettingWords<'a>,
+}
+
+/// A picture, as the words ask for it.
+#[derive(Clone, Copy, Debug, PartialEq, Eq)]
+pub struct PictureWords<'a> {
+    /// At the end of which run.
+    pub run: RunWords<'a>,
+    /// Which characters, where it is printed.
+    pub letters: Letters,
+    /// The file for a portable bitmap.
+    pub bitmap: Option<&'a str>,
+    /// The file for a PNG picture.
+    pub png: Option<&'a str>,
 }
 
 /// The settings, as the words give them.
@@ -172,19 +184,8 @@ fn command_asked<'a>(
         "dis" => CommandLine::Dis {
             image: required_text(found, "image"),
         },
-        "run" => CommandLine::Run {
-            source: required_text(found, "source"),
-            steps: number(found, "steps", 0),
-            keys: found.get_str("keys"),
-            settings: setting_words(found, profile),
-        },
-        "picture" => CommandLine::Picture {
-            source: required_text(found, "source"),
-            steps: number(found, "steps", 0),
-            letters: letters_asked(found),
-            keys: found.get_str("keys"),
-            settings: setting_words(found, profile),
-        },
+        "run" => CommandLine::Run(run_words(found, profile)),
+        "picture" => CommandLine::Picture(picture_words(found, profile)),
         "explain" => CommandLine::Explain {
             code: found.get_str("code"),
         },
@@ -247,6 +248,30 @@ fn seed_asked(found: &ArgMatches<'_>) -> Option<u64>
     ensures { Reads 64 (one_of (codes "seed") (rows_of (found_of found.now))) result }
 {
     found.get_one("seed")
+}
+
+fn run_words<'a>(found: &ArgMatches<'a>, profile: Profile) -> RunWords<'a>
+    ensures { IsProfile (first_of (codes "profile") (rows_of (found_of found.now))) profile
+        → AsksRun (rows_of (found_of found.now)) result }
+{
+    RunWords {
+        source: required_text(found, "source"),
+        steps: number(found, "steps", 0),
+        keys: found.get_str("keys"),
+        settings: setting_words(found, profile),
+    }
+}
+
+fn picture_words<'a>(found: &ArgMatches<'a>, profile: Profile) -> PictureWords<'a>
+    ensures { IsProfile (first_of (codes "profile") (rows_of (found_of found.now))) profile
+        → AsksPicture (rows_of (found_of found.now)) result }
+{
+    PictureWords {
+        run: run_words(found, profile),
+        letters: letters_asked(found),
+        bitmap: found.get_str("pbm"),
+        png: found.get_str("png"),
+    }
 }
 
 fn letters_asked(found: &ArgMatches<'_>) -> Letters
@@ -361,7 +386,9 @@ fn picture_command<'a>(alloc: Global) -> Result<Command<'a>, AllocError>
         .arg(steps_argument(alloc))?;
     let command = with_settings(alloc, command)?
         .arg(keys_argument(alloc))?
-        .arg(ascii_argument(alloc))?;
+        .arg(ascii_argument(alloc))?
+        .arg(pbm_argument(alloc))?
+        .arg(png_argument(alloc))?;
     Ok(command)
 }
 
@@ -427,10 +454,9 @@ fn keys_argument<'a>(alloc: Global) -> Arg<'a>
     ensures rule { rule_of result ≡ line.keys }
     ensures local { result.global ≡ false }
 {
-    Arg::new(alloc, "keys")
-        .long("keys")
-        .value_name("FILE")
-        .help("The key events, a file of lines `S K down` and `S K up` [default: none]")
+    Arg::new(alloc, "keys").long("keys").value_name("FILE").help(
+        "The key events, a file of lines `S K down` and `S K up` [default: none]",
+    )
 }
 
 fn ascii_argument<'a>(alloc: Global) -> Arg<'a>
@@ -443,13 +469,35 @@ fn ascii_argument<'a>(alloc: Global) -> Arg<'a>
         .action(ArgAction::SetTrue)
 }
 
+fn pbm_argument<'a>(alloc: Global) -> Arg<'a>
+    ensures rule { rule_of result ≡ line.pbm }
+    ensures local { result.global ≡ false }
+{
+    Arg::new(alloc, "pbm")
+        .long("pbm")
+        .value_name("FILE")
+        .help("Writes a portable bitmap to a file, and prints nothing")
+}
+
+fn png_argument<'a>(alloc: Global) -> Arg<'a>
+    ensures rule { rule_of result ≡ line.png }
+    ensures local { result.global ≡ false }
+{
+    Arg::new(alloc, "png")
+        .long("png")
+        .value_name("FILE")
+        .help("Writes a PNG picture to a file, and prints nothing")
+}
+
 fn code_argument<'a>(alloc: Global) -> Arg<'a>
     ensures rule { rule_of result ≡ line.code }
     ensures local { result.global ≡ false }
 {
     Arg::new(alloc, "code")
         .value_name("CODE")
-        .help("F1 to F17, N1 to N10, Q1 to Q4, C1, C2, E1 to E4, O1 to O3 or S1 to S7 [default: all, a line each]")
+        .help(
+            "F1 to F17, N1 to N10, Q1 to Q4, C1, C2, E1 to E4, O1 to O3 or S1 to S7 [default: all, a line each]",
+        )
         .action(ArgAction::Set)
 }
 

@@ -69,10 +69,8 @@ impl<'a> Failure<'a> {
         ensures { result ≡ failure_status self.now }
     {
         match self {
-            Failure::Usage(_)
-            | Failure::BadTape
-            | Failure::BadKeys(_, _, _)
-            | Failure::NoPage(_) => 2,
+            Failure::Usage(_) | Failure::BadTape | Failure::BadKeys(_, _, _) | Failure::NoPage(_) =>
+                2,
             Failure::CannotRead(_, _)
             | Failure::CannotWrite(_, _)
             | Failure::Input

@@ -8,11 +8,17 @@ ghost use Rattle.chip_bench.specs.CommandWords.{faults_of};
 ghost use Rattle.std.specs.Io.KnownBytes.{Keeps};
 ghost use Rattle.std.specs.IoError.{error_kind};
 
-use crate::command_line::{CommandLine, SettingWords, not_text, parse_words};
+use crate::command_line::{
+    CommandLine, PictureWords, RunWords, SettingWords, not_text, parse_words,
+};
 use crate::counted::Counted;
 use crate::ending::{Ending, Failure};
 use crate::image_file::write_file;
-use crate::output::{KeyFile, answer_script, explain, image_or_faults, list_source, picture_source, print_source, run_source};
+use crate::output::{
+    KeyFile, answer_script, explain, image_or_faults, list_source, picture_source, print,
+    print_source, run_source,
+};
+use crate::question::PictureForm;
 use crate::settings::Settings;
 use crate::tape::tape_of;
 use chip_machine::limits::IMAGE_BYTES;
@@ -115,26 +121,8 @@ fn carry_out<'a, F: Files, S: AsStr, I: Read, O: Write>(
             list_source(alloc, &bytes, output)
         }
         CommandLine::Dis { image } => dis(alloc, files, image, input, output),
-        CommandLine::Run {
-            source,
-            steps,
-            keys,
-            settings,
-        } => {
-            let asked = read_asked(alloc, files, source, keys, &settings, input)?;
-            run_source(alloc, &asked.source, &asked.keys, steps, asked.settings, output)
-        }
-        CommandLine::Picture {
-            source,
-            steps,
-            letters,
-            keys,
-            settings,
-        } => {
-            let asked = read_asked(alloc, files, source, keys, &settings, input)?;
-            let settings = asked.settings;
-            picture_source(alloc, &asked.source, &asked.keys, steps, letters, settings, output)
-        }
+        CommandLine::Run(words) => run(alloc, files, &words, input, output),
+        CommandLine::Picture(words) => picture(alloc, files, &words, input, output),
         CommandLine::Explain { code } => explain(alloc, code, output),
     }
 }
@@ -222,8 +210,19 @@ fn asm<'a, F: Files, I: Read, O: Write>(
     let Some(assembled) = image_or_faults(alloc, &bytes, output)? else {
         return Ok(Ending::Faulty);
     };
+    write_image(alloc, files, source, image, &assembled)
+}
+
+// Writes a file whole, or leaves what was there.
+fn write_image<'a, F: Files>(
+    alloc: Global,
+    files: &F,
+    source: &'a str,
+    image: &'a str,
+    bytes: &[u8],
+) -> Result<Ending, Failure<'a>> {
     let source = (source != INPUT).then_some(source);
-    match write_file(alloc, files, source, image, &assembled) {
+    match write_file(alloc, files, source, image, bytes) {
         Ok(()) => Ok(Ending::Done),
         Err(error) if error.kind() == io::ErrorKind::OutOfMemory => Err(Failure::OutOfMemory),
         Err(error) => Err(Failure::CannotWrite(image, error)),
@@ -245,6 +244,101 @@ fn dis<'a, F: Files, I: Read, O: Write>(
     print_source(alloc, &bytes, output)
 }
 
+fn run<'a, F: Files, I: Read, O: Write>(
+    alloc: Global,
+    files: &F,
+    words: &RunWords<'a>,
+    input: &mut Counted<I>,
+    output: &mut Counted<O>,
+) -> Result<Ending, Failure<'a>> {
+    let Asked {
+        source,
+        keys,
+        settings,
+    } = read_asked(alloc, files, words, input)?;
+    run_source(alloc, &source, &keys, words.steps, settings, output)
+}
+
+// Without a file for it, the picture is printed.
+fn picture<'a, F: Files, I: Read, O: Write>(
+    alloc: Global,
+    files: &F,
+    words: &PictureWords<'a>,
+    input: &mut Counted<I>,
+    output: &mut Counted<O>,
+) -> Result<Ending, Failure<'a>> {
+    let asked = read_asked(alloc, files, &words.run, input)?;
+    let shot = Shot {
+        words: *words,
+        asked,
+    };
+    if words.bitmap.is_none() && words.png.is_none() {
+        return shot.print(alloc, PictureForm::Text(words.letters), output);
+    }
+    let mut ending = Ending::Done;
+    if let Some(name) = words.bitmap {
+        ending = shot.write(alloc, files, PictureForm::Bitmap, name, output)?;
+    }
+    match (ending, words.png) {
+        (Ending::Done, Some(name)) => shot.write(alloc, files, PictureForm::Png, name, output),
+        _ => Ok(ending),
+    }
+}
+
+// The screen of a source's image after some steps.
+#[derive(Drop)]
+struct Shot<'a> {
+    words: PictureWords<'a>,
+    asked: Asked<'a>,
+}
+
+impl<'a> Shot<'a> {
+    fn print<O: Write>(
+        &self,
+        alloc: Global,
+        form: PictureForm,
+        output: &mut Counted<O>,
+    ) -> Result<Ending, Failure<'a>> {
+        let settings = settings_of(alloc, &self.words.run.settings)?;
+        let steps = self.words.run.steps;
+        let asked = &self.asked;
+        picture_source(
+            alloc,
+            &asked.source,
+            &asked.keys,
+            steps,
+            form,
+            settings,
+            output,
+        )
+    }
+
+    // Writes the picture to a file, as a whole or not at all. Where there is no picture, why is printed.
+    fn write<F: Files, O: Write>(
+        &self,
+        alloc: Global,
+        files: &F,
+        form: PictureForm,
+        name: &'a str,
+        output: &mut Counted<O>,
+    ) -> Result<Ending, Failure<'a>> {
+        let mut picture = Counted::new(Vec::new(alloc));
+        match self.print(alloc, form, &mut picture) {
+            Ok(Ending::Done) => write_image(
+                alloc,
+                files,
+                self.words.run.source,
+                name,
+                picture.get(),
+            ),
+            Ok(Ending::Faulty) => print(picture.get(), Ending::Faulty, output),
+            // A write to memory fails for want of it.
+            Err(Failure::Output) => Err(Failure::OutOfMemory),
+            Err(failure) => Err(failure),
+        }
+    }
+}
+
 // What a run is asked on: a source, a file of key events and settings.
 #[derive(Drop)]
 struct Asked<'a> {
@@ -257,13 +351,11 @@ struct Asked<'a> {
 fn read_asked<'a, F: Files, I: Read>(
     alloc: Global,
     files: &F,
-    source: &'a str,
-    keys: Option<&'a str>,
-    words: &SettingWords<'_>,
+    words: &RunWords<'a>,
     input: &mut Counted<I>,
 ) -> Result<Asked<'a>, Failure<'a>> {
-    let settings = settings_of(alloc, words)?;
-    let keys = match keys {
+    let settings = settings_of(alloc, &words.settings)?;
+    let keys = match words.keys {
         Some(name) => KeyFile {
             name,
             bytes: read_file(alloc, files, name)?,
@@ -273,7 +365,7 @@ fn read_asked<'a, F: Files, I: Read>(
             bytes: Vec::new(alloc),
         },
     };
-    let source = read_source(alloc, files, source, input)?;
+    let source = read_source(alloc, files, words.source, input)?;
     Ok(Asked {
         source,
         keys,
@@ -295,10 +387,7 @@ fn read_source<'a, F: Files, I: Read>(
     }
 }
 
-fn read_input<'a, I: Read>(
-    alloc: Global,
-    input: &mut Counted<I>,
-) -> Result<Vec<u8>, Failure<'a>> {
+fn read_input<'a, I: Read>(alloc: Global, input: &mut Counted<I>) -> Result<Vec<u8>, Failure<'a>> {
     let mut bytes = Vec::new(alloc);
     match read_most(input, &mut bytes) {
         Ok(()) => Ok(bytes),
@@ -307,11 +396,7 @@ fn read_input<'a, I: Read>(
     }
 }
 
-fn read_file<'a, F: Files>(
-    alloc: Global,
-    files: &F,
-    name: &'a str,
-) -> Result<Vec<u8>, Failure<'a>>
+fn read_file<'a, F: Files>(alloc: Global, files: &F, name: &'a str) -> Result<Vec<u8>, Failure<'a>>
     ensures { IfErr result (IsUnread name.entry) }
 {
     let mut bytes = Vec::new(alloc);

@@ -24,7 +24,10 @@ pub(crate) fn contents(alloc: Global) -> Result<Vec<u8>, AllocError> {
 
 fn text_of(alloc: Global, page: &Page) -> Result<Vec<u8>, AllocError> {
     let mut text = Vec::new(alloc);
-    push_all(&mut text, &[page.code, ": ", page.title, "\n\n", page.meaning, "\n\n"])?;
+    push_all(
+        &mut text,
+        &[page.code, ": ", page.title, "\n\n", page.meaning, "\n\n"],
+    )?;
     push_example(&mut text, &page.example)?;
     push_all(&mut text, &["\nThe mend: ", page.mend, "\n"])?;
     Ok(text)
@@ -43,7 +46,10 @@ fn push_example(text: &mut Vec<u8>, example: &Example) -> Result<(), AllocError>
             push_indented(text, script)
         }
         Example::Stop(source) => {
-            push_all(text, &["The program of this source stops so, as `regs 100` shows:\n\n"])?;
+            push_all(
+                text,
+                &["The program of this source stops so, as `regs 100` shows:\n\n"],
+            )?;
             push_indented(text, source)
         }
         Example::Told(what) => push_all(text, &["An example: ", what, "\n"]),

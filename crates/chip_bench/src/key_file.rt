@@ -35,11 +35,7 @@ impl From<AllocError> for KeyFileError {
 /// # Errors
 ///
 /// The first line that is refused, or want of memory; the events of the lines before it are made.
-pub(crate) fn insert_keys(
-    alloc: Global,
-    bench: &mut Bench,
-    file: &[u8],
-) -> Result<(), KeyFileError>
+pub(crate) fn insert_keys(alloc: Global, bench: &mut Bench, file: &[u8]) -> Result<(), KeyFileError>
     ensures none { OnOk result (key_fault bench.old.session file.now ≡ None) }
     ensures session { OnOk result (bench.new.session ≡ session_under bench.old.session file.now) }
     ensures fault { IfErr result (IsKeyFault (key_fault bench.old.session file.now)) }
@@ -113,10 +109,7 @@ fn first_line(bytes: &[u8]) -> (&[u8], &[u8])
 {
     let end = place_of(b'\n', bytes);
     if end < bytes.len() {
-        (
-            without_carriage_return(&bytes[..end]),
-            &bytes[end + 1..],
-        )
+        (without_carriage_return(&bytes[..end]), &bytes[end + 1..])
     } else {
         (bytes, &[])
     }

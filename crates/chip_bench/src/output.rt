@@ -14,13 +14,13 @@ use crate::counted::Counted;
 use crate::ending::{Code, Ending, Failure};
 use crate::explain::{contents, page_text};
 use crate::key_file::{KeyFileError, insert_keys};
-use crate::question::Question;
+use crate::question::{PictureForm, Question};
 use crate::refusal::Refusal;
 use crate::server::{ServeError, refuse, serve, write_whole};
 use crate::settings::Settings;
 use chip_asm::{OpenError, Source};
 use chip_machine::limits::IMAGE_BYTES;
-use chip_views::{Letters, source_of_image};
+use chip_views::source_of_image;
 use std::alloc::Global;
 use std::io::{Read, Write};
 
@@ -164,19 +164,19 @@ pub(crate) fn picture_source<'a, O: Write>(
     source: &[u8],
     keys: &KeyFile<'a>,
     steps: u32,
-    letters: Letters,
+    form: PictureForm,
     settings: Settings,
     output: &mut Counted<O>,
 ) -> Result<Ending, Failure<'a>>
     ensures { PrintsUnder O.contents output.old output.new settings source.now keys.now.bytes.items
-        (λ session. picture_at session steps letters) result }
+        (λ session. picture_at session steps form) result }
 {
     let mut bench = match Bench::open(alloc, source, settings) {
         Ok(bench) => bench,
         Err(error) => return refuse_source(error, output),
     };
     match insert_keys(alloc, &mut bench, &keys.bytes) {
-        Ok(()) => print_picture(alloc, &mut bench, steps, letters, output),
+        Ok(()) => print_picture(alloc, &mut bench, steps, form, output),
         Err(error) => Err(keys.failure(error)),
     }
 }
@@ -203,16 +203,13 @@ fn print_picture<'a, O: Write>(
     alloc: Global,
     bench: &mut Bench,
     steps: u32,
-    letters: Letters,
+    form: PictureForm,
     output: &mut Counted<O>,
 ) -> Result<Ending, Failure<'a>>
-    ensures { Prints O.contents output.old output.new (picture_at bench.old.session steps letters) result }
+    ensures { Prints O.contents output.old output.new (picture_at bench.old.session steps form) result }
 {
     let mut picture = Vec::new(alloc);
-    let question = Question::Picture {
-        step: steps,
-        letters,
-    };
+    let question = Question::Picture { step: steps, form };
     match bench.ask(alloc, &question, &mut picture) {
         Ok(()) => print(&picture, Ending::Done, output),
         Err(why) => print_why(alloc, bench, why, output),
@@ -301,7 +298,7 @@ fn refuse_source<'a, O: Write>(
     }
 }
 
-fn print<'a, O: Write>(
+pub(crate) fn print<'a, O: Write>(
     bytes: &[u8],
     ending: Ending,
     output: &mut Counted<O>,

@@ -22,7 +22,18 @@ pub enum Question {
     /// So many words of the memory at a step, from an address, with their source texts.
     Disassembly { step: u32, at: u32, count: u32 },
     /// The screen at a step, as a picture. No command of a script asks for it.
-    Picture { step: u32, letters: Letters },
+    Picture { step: u32, form: PictureForm },
+}
+
+/// How a picture of the screen is written.
+#[derive(Clone, Copy, Debug, PartialEq, Eq)]
+pub enum PictureForm {
+    /// As text, two points to a character.
+    Text(Letters),
+    /// As a portable bitmap.
+    Bitmap,
+    /// As a PNG file.
+    Png,
 }
 
 /// What is asked of a machine's state.
@@ -37,5 +48,5 @@ pub enum StateQuestion {
     /// So many words of the memory, from an address, with their source texts.
     Disassembly { at: u32, count: u32 },
     /// The screen, as a picture.
-    Picture { letters: Letters },
+    Picture { form: PictureForm },
 }

@@ -10,9 +10,13 @@ mod documents;
 #[cfg(test)]
 mod examples;
 #[cfg(test)]
+mod explain;
+#[cfg(test)]
 mod hindered_files;
 #[cfg(test)]
 mod image_file;
+#[cfg(test)]
+mod pictures;
 #[cfg(test)]
 mod profiles;
 #[cfg(test)]

@@ -34,12 +34,10 @@ returns-clause-asked c =
           rw w.result-is (named, w.required_text-in-dis.ensures)
       | in-run w ↦
           let named : c.args.name.now ≡ codes "run" = search rules in
-          let keys = first_is (found_of c.args.found.now) (codes "keys") _ w.get_str-in-run.ensures in
-          rw w.result-is (named, w.required_text-in-run.ensures, w.number.ensures, keys, w.setting_words.ensures profile)
+          rw w.result-is (named, w.run_words.ensures profile)
       | in-picture w ↦
           let named : c.args.name.now ≡ codes "picture" = search rules in
-          let keys = first_is (found_of c.args.found.now) (codes "keys") _ w.get_str-in-picture.ensures in
-          rw w.result-is (named, w.required_text-in-picture.ensures, w.number-in-picture.ensures, w.letters_asked.ensures, keys, w.setting_words-in-picture.ensures profile)
+          rw w.result-is (named, w.picture_words.ensures profile)
       | in-explain w ↦
           let named : c.args.name.now ≡ codes "explain" = search rules in
           let code = first_is (found_of c.args.found.now) (codes "code") _ w.get_str-in-explain.ensures in
@@ -52,5 +50,5 @@ returns-clause-asked c =
           let not_picture : c.args.name.now ≢ codes "picture" = search rules in
           let not_explain : c.args.name.now ≢ codes "explain" = search rules in
           let source = first_is (found_of c.args.found.now) (codes "source") _ w.get_str-in_default.ensures in
-          rw w.result-is (not_asm, not_list, not_dis, not_run, not_picture, not_explain, source, w.setting_words-in_default.ensures profile)
+          rw w.result-is (not_asm, not_list, not_dis, not_run, not_picture, not_explain, source, w.setting_words.ensures profile)
     ]

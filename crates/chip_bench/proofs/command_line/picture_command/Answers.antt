@@ -14,7 +14,9 @@ returns-clause-app c =
     let with_steps = added with_source c.steps_argument.ensures.rule c.steps_argument.ensures.local c.in_ok-command.ensures in
     let settled = c.in_ok-with_settings.ensures.app ∙ ap line.with_settings with_steps in
     let with_keys = added settled c.keys_argument.ensures.rule c.keys_argument.ensures.local c.in_ok-arg-2.ensures in
-    added with_keys c.ascii_argument.ensures.rule c.ascii_argument.ensures.local c.in_ok-command-2.ensures
+    let with_ascii = added with_keys c.ascii_argument.ensures.rule c.ascii_argument.ensures.local c.in_ok-arg-3.ensures in
+    let with_pbm = added with_ascii c.pbm_argument.ensures.rule c.pbm_argument.ensures.local c.in_ok-arg-4.ensures in
+    added with_pbm c.png_argument.ensures.rule c.png_argument.ensures.local c.in_ok-command-2.ensures
 
 pub returns-clause-local : goal.returns-clause-local
 returns-clause-local c =
@@ -23,4 +25,6 @@ returns-clause-local c =
     let with_source = added_local start local c.in_ok-arg.ensures in
     let with_steps = added_local with_source c.steps_argument.ensures.local c.in_ok-command.ensures in
     let with_keys = added_local (c.in_ok-with_settings.ensures.local with_steps) c.keys_argument.ensures.local c.in_ok-arg-2.ensures in
-    added_local with_keys c.ascii_argument.ensures.local c.in_ok-command-2.ensures
+    let with_ascii = added_local with_keys c.ascii_argument.ensures.local c.in_ok-arg-3.ensures in
+    let with_pbm = added_local with_ascii c.pbm_argument.ensures.local c.in_ok-arg-4.ensures in
+    added_local with_pbm c.png_argument.ensures.local c.in_ok-command-2.ensures
