@@ -12,5 +12,6 @@ pub mod ImageLemmas
 pub mod Parts
 pub mod TapeLemmas
 pub mod TextLemmas
+pub mod KeyLemmas
 pub mod WordLemmas
 pub mod RowLemmas

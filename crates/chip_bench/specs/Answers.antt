@@ -15,12 +15,17 @@ use Rattle.chip_machine.specs.Step.{step_of}
 use Rattle.chip_replay.specs.Limits.{last_step}
 use Rattle.chip_replay.specs.Keys.{held}
 use Rattle.chip_replay.specs.Run.{run}
+use Rattle.chip_views.specs.Bitmap.{pbm_of}
+use Rattle.chip_views.specs.Picture.{picture_of}
+use Rattle.chip_views.specs.Png.{png_of}
 use Rattle.chip_bench.specs.Session.{Session}
 use Rattle.chip_bench.specs.MachineAnswers.{registers_of, memory_of, screen_of, disassembly_of}
 use Rattle.chip_bench.specs.declared.refusal.Refusal.{Refusal}
 use Rattle.chip_bench.specs.declared.refusal.Refusal.TheVariants.{NoImage, StepPastLast, AddressPastEnd}
 use Rattle.chip_bench.specs.declared.question.Question.{Question}
-use Rattle.chip_bench.specs.declared.question.Question.TheVariants.{Image, Symbols, Listing, Faults, Registers, Memory, Screen, Disassembly}
+use Rattle.chip_bench.specs.declared.question.Question.TheVariants.{Image, Symbols, Listing, Faults, Registers, Memory, Screen, Disassembly, Picture}
+use Rattle.chip_bench.specs.declared.question.PictureForm.{PictureForm}
+use Rattle.chip_bench.specs.declared.question.PictureForm.TheVariants as form
 use Rattle.chip_bench.specs.declared.question.StateQuestion.{StateQuestion}
 use Rattle.chip_bench.specs.declared.question.StateQuestion.TheVariants as state
 
@@ -59,6 +64,7 @@ step_asked (Registers step) = Some step
 step_asked (Memory step at count) = Some step
 step_asked (Screen step) = Some step
 step_asked (Disassembly step at count) = Some step
+step_asked (Picture step form) = Some step
 step_asked Image = None
 step_asked Symbols = None
 step_asked Listing = None
@@ -70,6 +76,13 @@ is_past_end (state.Memory at count) = nat_lt MEMORY_BYTES (at + count)
 is_past_end (state.Disassembly at count) = nat_lt MEMORY_BYTES (at + 2 * count)
 is_past_end state.Registers = false
 is_past_end state.Screen = false
+is_past_end (state.Picture form) = false
+
+-- the picture of a state's screen
+unfoldable pub picture_by : PictureForm → State → List ℕ
+picture_by (form.Text letters) s = picture_of letters s
+picture_by form.Bitmap s = pbm_of s
+picture_by form.Png s = png_of s
 
 -- what is asked of a state
 abbrev pub state_answer : StateQuestion → State → List ℕ
@@ -77,6 +90,7 @@ state_answer state.Registers s = registers_of s
 state_answer (state.Memory at count) s = memory_of s at count
 state_answer state.Screen s = screen_of s
 state_answer (state.Disassembly at count) s = disassembly_of s at count
+state_answer (state.Picture form) s = picture_by form s
 
 -- the machine with this image after so many steps from step 0, under the keys and the settings of the session
 unfoldable pub machine_at : Session → List ℕ → ℕ → State
@@ -108,3 +122,4 @@ answer_to session (Registers step) = answer_at session state.Registers step (ima
 answer_to session (Memory step at count) = answer_at session (state.Memory at count) step (image_of session.lines)
 answer_to session (Screen step) = answer_at session state.Screen step (image_of session.lines)
 answer_to session (Disassembly step at count) = answer_at session (state.Disassembly at count) step (image_of session.lines)
+answer_to session (Picture step form) = answer_at session (state.Picture form) step (image_of session.lines)

@@ -3,7 +3,7 @@ use Rattle.std.specs.Prelude.{[], ◌∷◌, Some, codes, true, pos}
 use Rattle.clap.specs.Words.{App, Rule, new_app, new_rule, with_rule, with_subcommand}
 use Rattle.chip_replay.specs.declared.limits.TheConstants.{LAST_STEP, LEAST_SPACING, MOST_SPACING}
 use Rattle.chip_bench.specs.declared.settings.TheConstants.{MOST_RATE}
-use Rattle.clap.specs.declared.builder.action.ArgAction.TheVariants.{Set}
+use Rattle.clap.specs.declared.builder.action.ArgAction.TheVariants.{Set, SetTrue}
 use Rattle.clap.specs.declared.builder.value_parser.ValueParser.TheVariants as vp
 
 abbrev pub source : Rule
@@ -67,13 +67,39 @@ list = with_rule (new_app (codes "list")) needed_source
 abbrev pub dis : App
 dis = with_rule (new_app (codes "dis")) image
 
+abbrev pub keys : Rule
+keys = record (new_rule (codes "keys")) { long = Some (codes "keys"); value_names = 1 }
+
+abbrev pub ascii : Rule
+ascii = record (new_rule (codes "ascii")) { long = Some (codes "ascii"); action = Some SetTrue }
+
+abbrev pub pbm : Rule
+pbm = record (new_rule (codes "pbm")) { long = Some (codes "pbm"); value_names = 1 }
+
+abbrev pub png : Rule
+png = record (new_rule (codes "png")) { long = Some (codes "png"); value_names = 1 }
+
+abbrev pub code : Rule
+code = record (new_rule (codes "code")) { value_names = 1; action = Some Set }
+
 abbrev pub run : App
-run = with_settings (with_rule (with_rule (new_app (codes "run")) needed_source) steps)
+run = with_rule (with_settings (with_rule (with_rule (new_app (codes "run")) needed_source) steps)) keys
+
+abbrev pub picture : App
+picture =
+    with_rule (with_rule (with_rule (with_rule (with_settings (with_rule (with_rule
+    (new_app (codes "picture")) needed_source) steps)) keys) ascii) pbm) png
+
+abbrev pub explain : App
+explain = with_rule (new_app (codes "explain")) code
 
 abbrev pub without_name : App → App
 without_name app = record app { top = record app.top { no_binary_name = true } }
 
+abbrev pub with_version : App → App
+with_version app = record app { top = record app.top { has_version = true } }
+
 -- the program's commands
 abbrev pub chipbench : App
-chipbench = with_subcommand (with_subcommand (with_subcommand (with_subcommand (with_subcommand
-    (without_name (new_app (codes "chipbench"))) debug.top) asm.top) list.top) dis.top) run.top
+chipbench = with_subcommand (with_subcommand (with_subcommand (with_subcommand (with_subcommand (with_subcommand (with_subcommand
+    (without_name (with_version (new_app (codes "chipbench")))) debug.top) asm.top) list.top) dis.top) run.top) picture.top) explain.top

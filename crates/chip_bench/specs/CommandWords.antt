@@ -10,10 +10,14 @@ use Rattle.chip_machine.specs.Profile.{profile_name, profile_names}
 use Rattle.chip_machine.specs.declared.profile.Profile.{Profile}
 use Rattle.chip_machine.specs.declared.profile.Profile.TheVariants.{Schip}
 use Rattle.chip_replay.specs.declared.limits.TheConstants.{LEAST_SPACING}
+use Rattle.chip_views.specs.declared.picture.Letters.{Letters}
+use Rattle.chip_views.specs.declared.picture.Letters.TheVariants.{Blocks, Plain}
 use Rattle.chip_bench.specs.CommandLine.{chipbench}
 use Rattle.chip_bench.specs.SettingWords.{default_words}
 use Rattle.chip_bench.specs.declared.command_line.CommandLine.{CommandLine}
 use Rattle.chip_bench.specs.declared.command_line.CommandLine.TheVariants as line
+use Rattle.chip_bench.specs.declared.command_line.PictureWords.{PictureWords}
+use Rattle.chip_bench.specs.declared.command_line.RunWords.{RunWords}
 use Rattle.chip_bench.specs.declared.command_line.SettingWords.{SettingWords}
 
 -- the name of a profile that there is not
@@ -63,17 +67,38 @@ pub record AsksSettings (rows : List Row) (words : SettingWords) : Type 0 where
 abbrev pub needed : List ℕ → List Row → List ℕ
 needed id rows = unwrap_or (first_of id rows) []
 
+-- plain letters where the value of the flag is `true`, else half blocks
+pub record AsksLetters (flag : Option (List ℕ)) (letters : Letters) : Type 0 where
+  pub plain : flag ≡ Some (codes "true") → letters ≡ Plain
+  pub blocks : flag ≡ Some (codes "false") → letters ≡ Blocks
+  pub none : flag ≡ None → letters ≡ Blocks
+
+-- the run that the values of a command ask for
+pub record AsksRun (rows : List Row) (words : RunWords) : Type 0 where
+  pub source : words.source.now ≡ needed (codes "source") rows
+  pub steps : ReadsOr 32 (one_of (codes "steps") rows) 0 words.steps
+  pub keys : option_copied words.keys ≡ first_of (codes "keys") rows
+  pub settings : AsksSettings rows words.settings
+
+-- the picture that they ask for
+pub record AsksPicture (rows : List Row) (words : PictureWords) : Type 0 where
+  pub run : AsksRun rows words.run
+  pub letters : AsksLetters (one_of (codes "ascii") rows) words.letters
+  pub bitmap : option_copied words.bitmap ≡ first_of (codes "pbm") rows
+  pub png : option_copied words.png ≡ first_of (codes "png") rows
+
 -- What the values of a command of that name ask for.
 abbrev pub Asks : List ℕ → List Row → CommandLine → Type 0
 Asks name rows (line.Asm source image) =
     (name ≡ codes "asm") × (source.now ≡ needed (codes "source") rows) × (image.now ≡ needed (codes "image") rows)
 Asks name rows (line.List source) = (name ≡ codes "list") × (source.now ≡ needed (codes "source") rows)
 Asks name rows (line.Dis image) = (name ≡ codes "dis") × (image.now ≡ needed (codes "image") rows)
-Asks name rows (line.Run source steps settings) =
-    (name ≡ codes "run") × (source.now ≡ needed (codes "source") rows)
-    × ReadsOr 32 (one_of (codes "steps") rows) 0 steps × AsksSettings rows settings
+Asks name rows (line.Run words) = (name ≡ codes "run") × AsksRun rows words
+Asks name rows (line.Picture words) = (name ≡ codes "picture") × AsksPicture rows words
+Asks name rows (line.Explain code) = (name ≡ codes "explain") × (option_copied code ≡ first_of (codes "code") rows)
 Asks name rows (line.Debug source settings) =
     (name ≢ codes "asm") × (name ≢ codes "list") × (name ≢ codes "dis") × (name ≢ codes "run")
+    × (name ≢ codes "picture") × (name ≢ codes "explain")
     × (option_copied source ≡ first_of (codes "source") rows) × AsksSettings rows settings
 
 -- what the words ask for, by the command that they name; without one, a session on the empty source

@@ -11,6 +11,7 @@
 --     Workbench, Kept                    what contracts see of a bench, and what an edit or a question keeps of the run
 --     Commands     the command that a line of a script spells
 --     CommandView  the commands of the code, seen by the bytes that they hold
+--     KeyFile      the key events of a file, as lines of a script
 --     Transcript   the reply to each line of a script, and the transcript of all
 --     Serving      what a call of `serve` reads and writes, for each way in which it ends
 --     CommandLine  the words that the program takes
@@ -42,3 +43,4 @@ pub mod Tape
 pub mod SettingWords
 pub mod Printing
 pub mod CommandWords
+pub mod KeyFile

@@ -1,20 +1,30 @@
 -- What the commands of the program print of a source, and how they end (own).
 use Rattle.std.specs.Prelude.{◌≡◌, ℕ, List, [], ◌++◌, codes, Option, Some, None, Result, Ok, Err}
 use Rattle.std.specs.Io.KnownBytes.{Appends}
+use Rattle.chip_asm.specs.Lines.{open_fault}
 use Rattle.chip_asm.specs.Program.{image_of, faults_of}
 use Rattle.chip_asm.specs.Listing.{listing_of}
 use Rattle.chip_asm.specs.declared.refusal.OpenError.{OpenError}
 use Rattle.chip_asm.specs.declared.refusal.OpenError.TheVariants as unopened
 use Rattle.chip_bench.specs.Answers.{answer_to, faults_text, listing_text}
+use Rattle.std.specs.Borrow.{Bor}
+use Rattle.chip_bench.specs.KeyFile.{key_fault, session_under}
+use Rattle.chip_bench.specs.Refusals.{refusal_code}
 use Rattle.chip_bench.specs.Serving.{BeginsWith}
-use Rattle.chip_bench.specs.Session.{Session}
+use Rattle.chip_bench.specs.Session.{Session, session_of}
+use Rattle.chip_bench.specs.Settings.{SessionSettings}
 use Rattle.chip_bench.specs.Tally.{Tally, one_more}
+use Rattle.chip_bench.specs.Transcript.{refused}
 use Rattle.chip_bench.specs.declared.ending.Ending.{Ending}
 use Rattle.chip_bench.specs.declared.ending.Ending.TheVariants.{Done, Faulty}
 use Rattle.chip_bench.specs.declared.ending.Failure.{Failure}
 use Rattle.chip_bench.specs.declared.ending.Failure.TheVariants as failure
-use Rattle.chip_bench.specs.declared.question.Question.TheVariants.{Registers, Screen}
+use Rattle.chip_bench.specs.declared.key_file.KeyFileError.{KeyFileError}
+use Rattle.chip_bench.specs.declared.key_file.KeyFileError.TheVariants.{Line, OutOfMemory}
+use Rattle.chip_bench.specs.declared.question.PictureForm.{PictureForm}
+use Rattle.chip_bench.specs.declared.question.Question.TheVariants.{Registers, Screen, Picture}
 use Rattle.chip_bench.specs.declared.refusal.Refusal.{Refusal}
+use Rattle.chip_bench.specs.declared.refusal.Refusal.TheVariants.{NoImage}
 
 -- what a command prints on standard output, and how it ends then
 pub record Printed : Type 0 where
@@ -55,15 +65,38 @@ ending_with None = Faulty
 abbrev pub listing_of_lines : List (List ℕ) → Printed
 listing_of_lines lines = printed (listing_text (listing_of lines)) (ending_with (image_of lines))
 
--- `run`: the answers to both questions, or the faults where there are none
-abbrev pub answers_or_faults : Result (List ℕ) Refusal → Result (List ℕ) Refusal → Printed → Printed
-answers_or_faults (Ok registers) (Ok screen) faults = printed (registers ++ screen) Done
-answers_or_faults (Ok registers) (Err why) faults = faults
-answers_or_faults (Err why) screen faults = faults
+-- a question that isn't answered: the faults where there is no image, else the refusal's code
+abbrev pub unanswered : Refusal → Printed → Printed
+unanswered NoImage faults = faults
+unanswered why faults = printed (refused (refusal_code why)) Faulty
 
+abbrev pub answer_or_why : Result (List ℕ) Refusal → Printed → Printed
+answer_or_why (Ok answer) faults = printed answer Done
+answer_or_why (Err why) faults = unanswered why faults
+
+abbrev pub both_answers : Result (List ℕ) Refusal → Result (List ℕ) Refusal → Result (List ℕ) Refusal
+both_answers (Ok registers) (Ok screen) = Ok (registers ++ screen)
+both_answers (Ok registers) (Err why) = Err why
+both_answers (Err why) screen = Err why
+
+-- `run`: the answers to both questions, or why there are none
 abbrev pub run_of : Session → ℕ → Printed
 run_of session step =
-    answers_or_faults (answer_to session (Registers step)) (answer_to session (Screen step)) (faults_of_lines session.lines)
+    answer_or_why (both_answers (answer_to session (Registers step)) (answer_to session (Screen step))) (faults_of_lines session.lines)
+
+-- `picture`: the answer to the question, or why there is none
+abbrev pub picture_at : Session → ℕ → PictureForm → Printed
+picture_at session step form = answer_or_why (answer_to session (Picture step form)) (faults_of_lines session.lines)
+
+-- the first refused line of a key file, where the source opens
+abbrev pub fault_under : Option OpenError → Option (ℕ × List ℕ) → Option (ℕ × List ℕ)
+fault_under (Some fault) refused = None
+fault_under None refused = refused
+
+-- the failure of a key file of that name
+abbrev pub keys_failure : Bor (List ℕ) → KeyFileError → Failure
+keys_failure name (Line number code) = failure.BadKeys name number (record { 0 = code })
+keys_failure name OutOfMemory = failure.OutOfMemory
 
 module _ {W : Type 0} (contents : W → Option (List ℕ)) (old new : Tally W) where
   -- this text was printed, and nothing else, and no write failed
@@ -85,10 +118,37 @@ module _ {W : Type 0} (contents : W → Option (List ℕ)) (old new : Tally W) w
   Prints wanted (Err failure.OutOfMemory) = new ≡ old
   Prints wanted (Err (failure.Usage error)) = ⊥
   Prints wanted (Err failure.BadTape) = ⊥
+  Prints wanted (Err (failure.BadKeys name number code)) = ⊥
+  Prints wanted (Err (failure.NoPage code)) = ⊥
   Prints wanted (Err (failure.CannotRead name why)) = ⊥
   Prints wanted (Err (failure.CannotWrite name why)) = ⊥
   Prints wanted (Err failure.Input) = ⊥
   Prints wanted (Err failure.TooMuchInput) = ⊥
+
+  -- a refused line of a key file: nothing was printed, and the failure has its number and the code
+  abbrev pub RefusesKeys : ℕ × List ℕ → Result Ending Failure → Type 0
+  RefusesKeys line (Err (failure.BadKeys name number code)) = (line ≡ (number, code.0.now)) × (new ≡ old)
+  RefusesKeys line (Err failure.OutOfMemory) = new ≡ old
+  RefusesKeys line (Err failure.Output) = ⊥
+  RefusesKeys line (Err (failure.Usage error)) = ⊥
+  RefusesKeys line (Err failure.BadTape) = ⊥
+  RefusesKeys line (Err (failure.NoPage code)) = ⊥
+  RefusesKeys line (Err (failure.CannotRead name why)) = ⊥
+  RefusesKeys line (Err (failure.CannotWrite name why)) = ⊥
+  RefusesKeys line (Err failure.Input) = ⊥
+  RefusesKeys line (Err failure.TooMuchInput) = ⊥
+  RefusesKeys line (Ok ending) = ⊥
+
+  abbrev pub PrintsUnless : Option (ℕ × List ℕ) → Printed → Result Ending Failure → Type 0
+  PrintsUnless None wanted result = Prints wanted result
+  PrintsUnless (Some line) wanted result = RefusesKeys line result
+
+  -- What a command prints of the session of a source and those settings, under the key events of a file: why the source doesn't
+  -- open, the first refused line of the key file, or what is printed of the session.
+  abbrev pub PrintsUnder : SessionSettings → List ℕ → List ℕ → (Session → Printed) → Result Ending Failure → Type 0
+  PrintsUnder settings source keys printed_by result =
+      PrintsUnless (fault_under (open_fault source) (key_fault (session_of settings source) keys))
+      (printed_of (open_fault source) (printed_by (session_under (session_of settings source) keys))) result
 
   -- a source that doesn't open is refused
   abbrev pub Refuses : OpenError → Result Ending Failure → Type 0

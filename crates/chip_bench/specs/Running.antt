@@ -116,6 +116,8 @@ ending_status Faulty = 1
 abbrev pub failure_status : Failure → ℕ
 failure_status (failure.Usage error) = 2
 failure_status failure.BadTape = 2
+failure_status (failure.BadKeys name number code) = 2
+failure_status (failure.NoPage code) = 2
 failure_status (failure.CannotRead name error) = 3
 failure_status (failure.CannotWrite name error) = 3
 failure_status failure.Input = 3

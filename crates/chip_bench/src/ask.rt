@@ -4,19 +4,20 @@ ghost use Rattle.std.specs.Option.{option_copied};
 ghost use Rattle.chip_asm.specs.Program.{image_of};
 ghost use Rattle.chip_bench.specs.Session.{session_with};
 ghost use Rattle.chip_bench.specs.Kept.{Replays, IsLastImage};
-ghost use Rattle.chip_bench.specs.Answers.{is_past_end, state_answer, step_refusal, answer_at, image_answer, answer_to, step_asked};
+ghost use Rattle.chip_bench.specs.Answers.{is_past_end, picture_by, state_answer, step_refusal, answer_at, image_answer, answer_to, step_asked};
 ghost use Rattle.chip_bench.specs.Workbench.{ReachesStep, ReusesRun, StaysPut};
 ghost use Rattle.chip_bench.specs.IsAnswer.{IsAnswered, IsUnanswered};
 
 use crate::answer::{faults_answer, hex_line, listing_answer, symbols_answer};
 use crate::machine_answer::{disassembly, memory_line, registers, screen};
-use crate::question::{Question, StateQuestion};
+use crate::question::{PictureForm, Question, StateQuestion};
 use crate::refusal::Refusal;
 use crate::settings::Settings;
 use chip_asm::Source;
 use chip_machine::Machine;
 use chip_machine::limits::MEMORY_BYTES;
 use chip_replay::{LAST_STEP, Replay};
+use chip_views::{screen_pbm, screen_png, screen_text};
 use std::alloc::{AllocError, Global};
 
 /// What is asked of a machine's state.
@@ -35,6 +36,19 @@ fn state_answer(
         StateQuestion::Disassembly { at, count } => {
             disassembly(alloc, machine, at as u16, count as u16)
         }
+        StateQuestion::Picture { form } => picture(alloc, machine, form),
+    }
+}
+
+/// The picture of a machine's screen.
+#[tactic(auto, unfolding(crate::specs::Answers::picture_by))]
+fn picture(alloc: Global, machine: &Machine, form: PictureForm) -> Result<Vec<u8>, AllocError>
+    ensures { IfOk result (λ picture. picture.items ≡ picture_by form machine.now) }
+{
+    match form {
+        PictureForm::Text(letters) => screen_text(alloc, machine, letters),
+        PictureForm::Bitmap => screen_pbm(alloc, machine),
+        PictureForm::Png => screen_png(alloc, machine),
     }
 }
 
@@ -47,7 +61,7 @@ fn is_past_end(asked: StateQuestion) -> bool
             > MEMORY_BYTES as u64,
         StateQuestion::Disassembly { at, count } => u64::from(at) + 2 * u64::from(count)
             > MEMORY_BYTES as u64,
-        StateQuestion::Registers | StateQuestion::Screen => false,
+        StateQuestion::Registers | StateQuestion::Screen | StateQuestion::Picture { .. } => false,
     }
 }
 
@@ -150,6 +164,10 @@ pub(crate) fn answer(
         }
         Question::Disassembly { step, at, count } => {
             let asked = StateQuestion::Disassembly { at, count };
+            answer_at(alloc, image, settings, last, replay, asked, step)
+        }
+        Question::Picture { step, form } => {
+            let asked = StateQuestion::Picture { form };
             answer_at(alloc, image, settings, last, replay, asked, step)
         }
     }

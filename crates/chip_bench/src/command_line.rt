@@ -5,12 +5,13 @@ ghost use Rattle.clap.specs.Words.{FailsBy, app_of, first_of, kind_of, one_of, r
 ghost use Rattle.clap.specs.declared.builder.command.Command.TheViews.{out-Command as fields_of};
 ghost use Rattle.chip_bench.specs.CommandLine as line;
 ghost use Rattle.chip_bench.specs.SettingWords.{default_words};
-ghost use Rattle.chip_bench.specs.CommandWords.{Asks, AsksFor, AsksSettings, IsProfile, Reads, ReadsOr, faults_of, needed, profile_fault};
+ghost use Rattle.chip_bench.specs.CommandWords.{Asks, AsksFor, AsksSettings, IsProfile, Reads, ReadsOr, AsksLetters, AsksPicture, AsksRun, faults_of, needed, profile_fault};
 
 use crate::settings::MOST_RATE;
 use chip_machine::Profile;
 use chip_machine::profile::PROFILES;
 use chip_replay::{LAST_STEP, LEAST_SPACING, MOST_SPACING};
+use chip_views::Letters;
 use clap::error::ErrorKind;
 use clap::{Arg, ArgAction, ArgMatches, Command, Error, value_parser};
 use std::alloc::{AllocError, Global};
@@ -18,10 +19,35 @@ use std::convert::AsStr;
 
 const DEFAULT_RATE: u32 = 10;
 
+// The workbench's version, and the kit that proved it, as `rt version` gives it.
+const VERSION: &str = "1.0 (rattle-kit-13b logic dac8208d650f15bf)";
+
 const PROGRAM_NOTES: &str = "\
 Without a command the program is `debug` with an empty source.
 
 Example: chipbench run game.asm --steps 1000";
+
+const DEBUG_NOTES: &str = "\
+Commands, with an example each; N is a line's number, S a step, K a key, A an address:
+  ins N TEXT    puts a line before line N          ins 3 LD V0, 5
+  rep N TEXT    puts a line in the place of N      rep 3 LD V0, 6
+  del N         takes line N out                   del 3
+  kins S K down|up  adds a key event               kins 20 5 down
+  krep S K down|up  changes a key event            krep 20 5 up
+  kdel S K      takes a key event out              kdel 20 5
+  image         the image in hexadecimal           image
+  syms          the names and their values         syms
+  list          the listing                        list
+  faults        the faults, `LINE CODE`            faults
+  regs S        the registers at step S            regs 100
+  mem S A N     N bytes of the memory from A       mem 100 #200 16
+  screen S      the lit rows of the screen         screen 100
+  dis S A N     N words of the memory from A       dis 100 #200 8
+Numbers are decimal, or hexadecimal after `#`. An answer is `ok`, `no CODE`, or lines.
+`chipbench explain CODE` says what a code means. All commands and answers: docs/FORMATS.md;
+the language of sources: docs/LANGUAGE.md; the machine: docs/MACHINE.md; a guide: docs/GUIDE.md.
+
+Example: chipbench debug game.asm --rate 15 --seed 7";
 
 const PROFILE_HELP: &str = "\
 Which machine: `schip` is SUPER-CHIP 1.1, `vip` the COSMAC VIP, without the instructions that SUPER-CHIP added, and with \
@@ -53,11 +79,36 @@ pub enum CommandLine<'a> {
         image: &'a str,
     },
     /// To run a source's image.
-    Run {
-        source: &'a str,
-        steps: u32,
-        settings: SettingWords<'a>,
+    Run(RunWords<'a>),
+    /// To print the screen of a source's image, or to write it as a picture.
+    Picture(PictureWords<'a>),
+    /// To print the page on a code, or the codes.
+    Explain {
+        code: Option<&'a str>,
     },
+}
+
+/// A run, as the words ask for it.
+#[derive(Clone, Copy, Debug, PartialEq, Eq)]
+pub struct RunWords<'a> {
+    pub source: &'a str,
+    pub steps: u32,
+    /// The file of key events.
+    pub keys: Option<&'a str>,
+    pub settings: SettingWords<'a>,
+}
+
+/// A picture, as the words ask for it.
+#[derive(Clone, Copy, Debug, PartialEq, Eq)]
+pub struct PictureWords<'a> {
+    /// At the end of which run.
+    pub run: RunWords<'a>,
+    /// Which characters, where it is printed.
+    pub letters: Letters,
+    /// The file for a portable bitmap.
+    pub bitmap: Option<&'a str>,
+    /// The file for a PNG picture.
+    pub png: Option<&'a str>,
 }
 
 /// The settings, as the words give them.
@@ -133,10 +184,10 @@ fn command_asked<'a>(
         "dis" => CommandLine::Dis {
             image: required_text(found, "image"),
         },
-        "run" => CommandLine::Run {
-            source: required_text(found, "source"),
-            steps: number(found, "steps", 0),
-            settings: setting_words(found, profile),
+        "run" => CommandLine::Run(run_words(found, profile)),
+        "picture" => CommandLine::Picture(picture_words(found, profile)),
+        "explain" => CommandLine::Explain {
+            code: found.get_str("code"),
         },
         _ => CommandLine::Debug {
             source: found.get_str("source"),
@@ -199,6 +250,40 @@ fn seed_asked(found: &ArgMatches<'_>) -> Option<u64>
     found.get_one("seed")
 }
 
+fn run_words<'a>(found: &ArgMatches<'a>, profile: Profile) -> RunWords<'a>
+    ensures { IsProfile (first_of (codes "profile") (rows_of (found_of found.now))) profile
+        → AsksRun (rows_of (found_of found.now)) result }
+{
+    RunWords {
+        source: required_text(found, "source"),
+        steps: number(found, "steps", 0),
+        keys: found.get_str("keys"),
+        settings: setting_words(found, profile),
+    }
+}
+
+fn picture_words<'a>(found: &ArgMatches<'a>, profile: Profile) -> PictureWords<'a>
+    ensures { IsProfile (first_of (codes "profile") (rows_of (found_of found.now))) profile
+        → AsksPicture (rows_of (found_of found.now)) result }
+{
+    PictureWords {
+        run: run_words(found, profile),
+        letters: letters_asked(found),
+        bitmap: found.get_str("pbm"),
+        png: found.get_str("png"),
+    }
+}
+
+fn letters_asked(found: &ArgMatches<'_>) -> Letters
+    ensures { AsksLetters (one_of (codes "ascii") (rows_of (found_of found.now))) result }
+{
+    if found.get_flag("ascii") {
+        Letters::Plain
+    } else {
+        Letters::Blocks
+    }
+}
+
 fn setting_words<'a>(found: &ArgMatches<'a>, profile: Profile) -> SettingWords<'a>
     ensures { IsProfile (first_of (codes "profile") (rows_of (found_of found.now))) profile
         → AsksSettings (rows_of (found_of found.now)) result }
@@ -218,13 +303,16 @@ fn chipbench<'a>(alloc: Global) -> Result<Command<'a>, AllocError>
     let command = Command::new(alloc, "chipbench")
         .about("An assembler for SUPER-CHIP 1.1, and a debugger that replays the image to any step")
         .after_help(PROGRAM_NOTES)
+        .version(VERSION)
         .no_binary_name(true)
         .bin_name("chipbench")?
         .subcommand(debug_command(alloc)?)?
         .subcommand(asm_command(alloc)?)?
         .subcommand(list_command(alloc)?)?
         .subcommand(dis_command(alloc)?)?
-        .subcommand(run_command(alloc)?)?;
+        .subcommand(run_command(alloc)?)?
+        .subcommand(picture_command(alloc)?)?
+        .subcommand(explain_command(alloc)?)?;
     Ok(command)
 }
 
@@ -234,7 +322,7 @@ fn debug_command<'a>(alloc: Global) -> Result<Command<'a>, AllocError>
 {
     let command = Command::new(alloc, "debug")
         .about("Answers the edits and questions on standard input, one a line")
-        .after_help("Example: chipbench debug game.asm --rate 15 --seed 7")
+        .after_help(DEBUG_NOTES)
         .arg(source_argument(alloc).help("The source to begin with [default: the empty source]"))?;
     let command = with_settings(alloc, command)?.arg(every_argument(alloc))?;
     Ok(command)
@@ -283,7 +371,35 @@ fn run_command<'a>(alloc: Global) -> Result<Command<'a>, AllocError>
         .after_help("Example: chipbench run game.asm --steps 1000 --tape 0fa3")
         .arg(source_argument(alloc).required(true))?
         .arg(steps_argument(alloc))?;
-    let command = with_settings(alloc, command)?;
+    let command = with_settings(alloc, command)?.arg(keys_argument(alloc))?;
+    Ok(command)
+}
+
+fn picture_command<'a>(alloc: Global) -> Result<Command<'a>, AllocError>
+    ensures app { IfOk result (λ command. app_of command ≡ line.picture) }
+    ensures local { IfOk result (λ command. (fields_of command).has_globals ≡ false) }
+{
+    let command = Command::new(alloc, "picture")
+        .about("Prints the screen after a number of steps, two points to a character")
+        .after_help("Example: chipbench picture game.asm --steps 1000 --keys game.keys")
+        .arg(source_argument(alloc).required(true))?
+        .arg(steps_argument(alloc))?;
+    let command = with_settings(alloc, command)?
+        .arg(keys_argument(alloc))?
+        .arg(ascii_argument(alloc))?
+        .arg(pbm_argument(alloc))?
+        .arg(png_argument(alloc))?;
+    Ok(command)
+}
+
+fn explain_command<'a>(alloc: Global) -> Result<Command<'a>, AllocError>
+    ensures app { IfOk result (λ command. app_of command ≡ line.explain) }
+    ensures local { IfOk result (λ command. (fields_of command).has_globals ≡ false) }
+{
+    let command = Command::new(alloc, "explain")
+        .about("Prints what a code means, an example that has it, and the mend")
+        .after_help("Example: chipbench explain F9")
+        .arg(code_argument(alloc))?;
     Ok(command)
 }
 
@@ -332,6 +448,57 @@ fn steps_argument<'a>(alloc: Global) -> Arg<'a>
         .help("How many steps to run, 0 to 1000000")
         .value_parser(value_parser!(u32).range(0..=i64::from(LAST_STEP)))
         .required(true)
+}
+
+fn keys_argument<'a>(alloc: Global) -> Arg<'a>
+    ensures rule { rule_of result ≡ line.keys }
+    ensures local { result.global ≡ false }
+{
+    Arg::new(alloc, "keys").long("keys").value_name("FILE").help(
+        "The key events, a file of lines `S K down` and `S K up` [default: none]",
+    )
+}
+
+fn ascii_argument<'a>(alloc: Global) -> Arg<'a>
+    ensures rule { rule_of result ≡ line.ascii }
+    ensures local { result.global ≡ false }
+{
+    Arg::new(alloc, "ascii")
+        .long("ascii")
+        .help("Prints plain letters in the place of half blocks")
+        .action(ArgAction::SetTrue)
+}
+
+fn pbm_argument<'a>(alloc: Global) -> Arg<'a>
+    ensures rule { rule_of result ≡ line.pbm }
+    ensures local { result.global ≡ false }
+{
+    Arg::new(alloc, "pbm")
+        .long("pbm")
+        .value_name("FILE")
+        .help("Writes a portable bitmap to a file, and prints nothing")
+}
+
+fn png_argument<'a>(alloc: Global) -> Arg<'a>
+    ensures rule { rule_of result ≡ line.png }
+    ensures local { result.global ≡ false }
+{
+    Arg::new(alloc, "png")
+        .long("png")
+        .value_name("FILE")
+        .help("Writes a PNG picture to a file, and prints nothing")
+}
+
+fn code_argument<'a>(alloc: Global) -> Arg<'a>
+    ensures rule { rule_of result ≡ line.code }
+    ensures local { result.global ≡ false }
+{
+    Arg::new(alloc, "code")
+        .value_name("CODE")
+        .help(
+            "F1 to F17, N1 to N10, Q1 to Q4, C1, C2, E1 to E4, O1 to O3 or S1 to S7 [default: all, a line each]",
+        )
+        .action(ArgAction::Set)
 }
 
 fn rate_argument<'a>(alloc: Global) -> Arg<'a>

@@ -6,7 +6,7 @@ ghost use Rattle.chip_bench.specs.Running.{ending_status, failure_status, no_mem
 use crate::settings::SetError;
 use clap::error::ErrorKind;
 use std::alloc::AllocError;
-use std::io;
+use std::{fmt, io, str};
 use thiserror::Error;
 
 /// How the program ends where nothing hinders it.
@@ -17,6 +17,16 @@ pub(crate) enum Ending {
     Faulty,
 }
 
+/// The code of a refusal.
+#[derive(Clone, Copy, Debug)]
+pub(crate) struct Code(pub(crate) &'static [u8]);
+
+impl fmt::Display for Code {
+    fn fmt<W: fmt::Write>(&self, f: &mut fmt::Formatter<W>) -> fmt::Result {
+        f.write_str(str::from_utf8(self.0).unwrap_or("?"))
+    }
+}
+
 /// What hinders the program. The text is for the standard error.
 #[derive(Debug, Drop, Error)]
 pub(crate) enum Failure<'a> {
@@ -24,6 +34,11 @@ pub(crate) enum Failure<'a> {
     Usage(clap::Error),
     #[error("chipbench: bad tape\n")]
     BadTape,
+    /// The line of that number of a key file is refused.
+    #[error("chipbench: keys {0} line {1}: {2}\n")]
+    BadKeys(&'a str, usize, Code),
+    #[error("chipbench: no page on {0}; `chipbench explain` lists the codes\n")]
+    NoPage(&'a str),
     #[error("chipbench: cannot read {0}\nreason: {1}\n")]
     CannotRead(&'a str, io::Error),
     #[error("chipbench: cannot write {0}\nreason: {1}\n")]
@@ -54,7 +69,8 @@ impl<'a> Failure<'a> {
         ensures { result ≡ failure_status self.now }
     {
         match self {
-            Failure::Usage(_) | Failure::BadTape => 2,
+            Failure::Usage(_) | Failure::BadTape | Failure::BadKeys(_, _, _) | Failure::NoPage(_) =>
+                2,
             Failure::CannotRead(_, _)
             | Failure::CannotWrite(_, _)
             | Failure::Input

@@ -8,11 +8,17 @@ ghost use Rattle.chip_bench.specs.CommandWords.{faults_of};
 ghost use Rattle.std.specs.Io.KnownBytes.{Keeps};
 ghost use Rattle.std.specs.IoError.{error_kind};
 
-use crate::command_line::{CommandLine, SettingWords, not_text, parse_words};
+use crate::command_line::{
+    CommandLine, PictureWords, RunWords, SettingWords, not_text, parse_words,
+};
 use crate::counted::Counted;
 use crate::ending::{Ending, Failure};
 use crate::image_file::write_file;
-use crate::output::{answer_script, image_or_faults, list_source, print_source, run_source};
+use crate::output::{
+    KeyFile, answer_script, explain, image_or_faults, list_source, picture_source, print,
+    print_source, run_source,
+};
+use crate::question::PictureForm;
 use crate::settings::Settings;
 use crate::tape::tape_of;
 use chip_asm::limits::SOURCE_BYTES;
@@ -23,6 +29,9 @@ use std::convert::AsStr;
 use std::io::{Read, Write};
 use std::rt::Files;
 use std::{fs, io};
+
+// The name of a source that is read from the standard input.
+const INPUT: &str = "-";
 
 // A source of this length or more doesn't open.
 const MOST_SOURCE: u64 = SOURCE_BYTES as u64 + 1;
@@ -107,17 +116,15 @@ fn carry_out<'a, F: Files, S: AsStr, I: Read, O: Write>(
         CommandLine::Debug { source, settings } => {
             debug(alloc, files, source, &settings, input, output)
         }
-        CommandLine::Asm { source, image } => asm(alloc, files, source, image, output),
+        CommandLine::Asm { source, image } => asm(alloc, files, source, image, input, output),
         CommandLine::List { source } => {
-            let bytes = read_source(alloc, files, source)?;
+            let bytes = read_source(alloc, files, source, input)?;
             list_source(alloc, &bytes, output)
         }
-        CommandLine::Dis { image } => dis(alloc, files, image, output),
-        CommandLine::Run {
-            source,
-            steps,
-            settings,
-        } => run(alloc, files, source, steps, &settings, output),
+        CommandLine::Dis { image } => dis(alloc, files, image, input, output),
+        CommandLine::Run(words) => run(alloc, files, &words, input, output),
+        CommandLine::Picture(words) => picture(alloc, files, &words, input, output),
+        CommandLine::Explain { code } => explain(alloc, code, output),
     }
 }
 
@@ -185,38 +192,52 @@ fn debug<'a, F: Files, I: Read, O: Write>(
     let settings = settings_of(alloc, words)?;
     match source {
         Some(name) => {
-            let bytes = read_source(alloc, files, name)?;
+            let bytes = read_file(alloc, files, name)?;
             answer_script(alloc, &bytes, settings, input, output)
         }
         None => answer_script(alloc, b"", settings, input, output),
     }
 }
 
-fn asm<'a, F: Files, O: Write>(
+fn asm<'a, F: Files, I: Read, O: Write>(
     alloc: Global,
     files: &F,
     source: &'a str,
     image: &'a str,
+    input: &mut Counted<I>,
     output: &mut Counted<O>,
 ) -> Result<Ending, Failure<'a>> {
-    let bytes = read_source(alloc, files, source)?;
+    let bytes = read_source(alloc, files, source, input)?;
     let Some(assembled) = image_or_faults(alloc, &bytes, output)? else {
         return Ok(Ending::Faulty);
     };
-    match write_file(alloc, files, source, image, &assembled) {
+    write_image(alloc, files, source, image, &assembled)
+}
+
+// Writes a file whole, or leaves what was there.
+fn write_image<'a, F: Files>(
+    alloc: Global,
+    files: &F,
+    source: &'a str,
+    image: &'a str,
+    bytes: &[u8],
+) -> Result<Ending, Failure<'a>> {
+    let source = (source != INPUT).then_some(source);
+    match write_file(alloc, files, source, image, bytes) {
         Ok(()) => Ok(Ending::Done),
         Err(error) if error.kind() == io::ErrorKind::OutOfMemory => Err(Failure::OutOfMemory),
         Err(error) => Err(Failure::CannotWrite(image, error)),
     }
 }
 
-fn dis<'a, F: Files, O: Write>(
+fn dis<'a, F: Files, I: Read, O: Write>(
     alloc: Global,
     files: &F,
     image: &'a str,
+    input: &mut Counted<I>,
     output: &mut Counted<O>,
 ) -> Result<Ending, Failure<'a>> {
-    let bytes = read_source(alloc, files, image)?;
+    let bytes = read_source(alloc, files, image, input)?;
     if bytes.len() > IMAGE_BYTES {
         let error = io::Error::new(io::ErrorKind::InvalidData, "it has over 3584 bytes");
         return Err(Failure::CannotRead(image, error));
@@ -224,24 +245,159 @@ fn dis<'a, F: Files, O: Write>(
     print_source(alloc, &bytes, output)
 }
 
-fn run<'a, F: Files, O: Write>(
+fn run<'a, F: Files, I: Read, O: Write>(
     alloc: Global,
     files: &F,
-    source: &'a str,
-    steps: u32,
-    words: &SettingWords<'_>,
+    words: &RunWords<'a>,
+    input: &mut Counted<I>,
     output: &mut Counted<O>,
 ) -> Result<Ending, Failure<'a>> {
-    let settings = settings_of(alloc, words)?;
-    let bytes = read_source(alloc, files, source)?;
-    run_source(alloc, &bytes, steps, settings, output)
+    let Asked {
+        source,
+        keys,
+        settings,
+    } = read_asked(alloc, files, words, input)?;
+    run_source(alloc, &source, &keys, words.steps, settings, output)
 }
 
-fn read_source<'a, F: Files>(
+// Without a file for it, the picture is printed.
+fn picture<'a, F: Files, I: Read, O: Write>(
+    alloc: Global,
+    files: &F,
+    words: &PictureWords<'a>,
+    input: &mut Counted<I>,
+    output: &mut Counted<O>,
+) -> Result<Ending, Failure<'a>> {
+    let asked = read_asked(alloc, files, &words.run, input)?;
+    let shot = Shot {
+        words: *words,
+        asked,
+    };
+    if words.bitmap.is_none() && words.png.is_none() {
+        return shot.print(alloc, PictureForm::Text(words.letters), output);
+    }
+    let mut ending = Ending::Done;
+    if let Some(name) = words.bitmap {
+        ending = shot.write(alloc, files, PictureForm::Bitmap, name, output)?;
+    }
+    match (ending, words.png) {
+        (Ending::Done, Some(name)) => shot.write(alloc, files, PictureForm::Png, name, output),
+        _ => Ok(ending),
+    }
+}
+
+// The screen of a source's image after some steps.
+#[derive(Drop)]
+struct Shot<'a> {
+    words: PictureWords<'a>,
+    asked: Asked<'a>,
+}
+
+impl<'a> Shot<'a> {
+    fn print<O: Write>(
+        &self,
+        alloc: Global,
+        form: PictureForm,
+        output: &mut Counted<O>,
+    ) -> Result<Ending, Failure<'a>> {
+        let settings = settings_of(alloc, &self.words.run.settings)?;
+        let steps = self.words.run.steps;
+        let asked = &self.asked;
+        picture_source(
+            alloc,
+            &asked.source,
+            &asked.keys,
+            steps,
+            form,
+            settings,
+            output,
+        )
+    }
+
+    // Writes the picture to a file, as a whole or not at all. Where there is no picture, why is printed.
+    fn write<F: Files, O: Write>(
+        &self,
+        alloc: Global,
+        files: &F,
+        form: PictureForm,
+        name: &'a str,
+        output: &mut Counted<O>,
+    ) -> Result<Ending, Failure<'a>> {
+        let mut picture = Counted::new(Vec::new(alloc));
+        match self.print(alloc, form, &mut picture) {
+            Ok(Ending::Done) => write_image(
+                alloc,
+                files,
+                self.words.run.source,
+                name,
+                picture.get(),
+            ),
+            Ok(Ending::Faulty) => print(picture.get(), Ending::Faulty, output),
+            // A write to memory fails for want of it.
+            Err(Failure::Output) => Err(Failure::OutOfMemory),
+            Err(failure) => Err(failure),
+        }
+    }
+}
+
+// What a run is asked on: a source, a file of key events and settings.
+#[derive(Drop)]
+struct Asked<'a> {
+    source: Vec<u8>,
+    keys: KeyFile<'a>,
+    settings: Settings,
+}
+
+// The settings are judged before a file is read, and the key events are read before the source.
+fn read_asked<'a, F: Files, I: Read>(
+    alloc: Global,
+    files: &F,
+    words: &RunWords<'a>,
+    input: &mut Counted<I>,
+) -> Result<Asked<'a>, Failure<'a>> {
+    let settings = settings_of(alloc, &words.settings)?;
+    let keys = match words.keys {
+        Some(name) => KeyFile {
+            name,
+            bytes: read_file(alloc, files, name)?,
+        },
+        None => KeyFile {
+            name: "",
+            bytes: Vec::new(alloc),
+        },
+    };
+    let source = read_source(alloc, files, words.source, input)?;
+    Ok(Asked {
+        source,
+        keys,
+        settings,
+    })
+}
+
+// The bytes of a file, or of the standard input where the name is `-`.
+fn read_source<'a, F: Files, I: Read>(
     alloc: Global,
     files: &F,
     name: &'a str,
-) -> Result<Vec<u8>, Failure<'a>>
+    input: &mut Counted<I>,
+) -> Result<Vec<u8>, Failure<'a>> {
+    if name == INPUT {
+        read_input(alloc, input)
+    } else {
+        read_file(alloc, files, name)
+    }
+}
+
+fn read_input<'a, I: Read>(alloc: Global, input: &mut Counted<I>) -> Result<Vec<u8>, Failure<'a>> {
+    let mut bytes = Vec::new(alloc);
+    match read_most(input, &mut bytes) {
+        Ok(()) => Ok(bytes),
+        Err(error) if error.kind() == io::ErrorKind::OutOfMemory => Err(Failure::OutOfMemory),
+        Err(_) => Err(Failure::Input),
+    }
+}
+
+fn read_file<'a, F: Files>(alloc: Global, files: &F, name: &'a str) -> Result<Vec<u8>, Failure<'a>>
     ensures { IfErr result (IsUnread name.entry) }
 {
     let mut bytes = Vec::new(alloc);

@@ -14,7 +14,7 @@ use std::{fs, io};
 const MOST_LINKS: u32 = 40;
 
 /// Writes the file of a name whole. On an error it is as it was, or there is none, as before. What is the source isn't
-/// written.
+/// written, where the source is a file.
 ///
 /// The bytes go to a new file in the same folder, `chipbench.part1`, say, which gets the name once they are on the disk, and
 /// which is taken away on an error. A file of that name is replaced if it may be written, and its permissions are kept. Where
@@ -25,7 +25,7 @@ const MOST_LINKS: u32 = 40;
 pub(crate) fn write_file<F: Files>(
     alloc: Global,
     files: &F,
-    source: &str,
+    source: Option<&str>,
     name: &str,
     bytes: &[u8],
 ) -> io::Result<()> {
@@ -44,13 +44,15 @@ pub(crate) fn write_file<F: Files>(
 fn write_over<F: Files>(
     alloc: Global,
     files: &F,
-    source: &str,
+    source: Option<&str>,
     mut old: F::File,
     name: &str,
     bytes: &[u8],
 ) -> io::Result<()> {
     let metadata = old.metadata()?;
-    if is_same(&metadata, &fs::metadata(files, source)?) {
+    if let Some(source) = source
+        && is_same(&metadata, &fs::metadata(files, source)?)
+    {
         return Err(io::Error::new(ErrorKind::InvalidInput, "it is the source"));
     }
     if !metadata.is_file() {

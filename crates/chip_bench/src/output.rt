@@ -3,19 +3,20 @@ ghost use Rattle.std.specs.Prelude.{◌≡◌, ◌≤◌, Ok, Err, Some, None, l
 ghost use Rattle.std.specs.Str.Lines.{lines};
 ghost use Rattle.chip_asm.specs.Lines.{open_fault};
 ghost use Rattle.chip_asm.specs.Program.{image_of};
-ghost use Rattle.chip_replay.specs.Limits.{last_step};
 ghost use Rattle.chip_views.specs.Dis.{source_of_image};
-ghost use Rattle.chip_bench.specs.Session.{session_of};
-ghost use Rattle.chip_bench.specs.Printing.{Prints, Refuses, printed, printed_of, faults_of_lines, faults_unless_image, listing_of_lines, run_of};
+ghost use Rattle.chip_bench.specs.Transcript.{refused};
+ghost use Rattle.chip_bench.specs.Printing.{Prints, Refuses, printed, printed_of, faults_of_lines, faults_unless_image, listing_of_lines, run_of, picture_at, unanswered, keys_failure, PrintsUnder};
 ghost use Rattle.chip_bench.specs.Running.{AnswersScript};
 
 use crate::answer::{faults_answer, listing_answer};
 use crate::bench::Bench;
 use crate::counted::Counted;
-use crate::ending::{Ending, Failure};
-use crate::question::Question;
+use crate::ending::{Code, Ending, Failure};
+use crate::explain::{contents, page_text};
+use crate::key_file::{KeyFileError, insert_keys};
+use crate::question::{PictureForm, Question};
 use crate::refusal::Refusal;
-use crate::server::{ServeError, serve, write_whole};
+use crate::server::{ServeError, refuse, serve, write_whole};
 use crate::settings::Settings;
 use chip_asm::{OpenError, Source};
 use chip_machine::limits::IMAGE_BYTES;
@@ -102,31 +103,146 @@ pub(crate) fn print_source<'a, O: Write>(
     print(&text, Ending::Done, output)
 }
 
+/// A file of key events: its name, and its bytes. Without one there are no bytes.
+#[derive(Drop)]
+pub(crate) struct KeyFile<'a> {
+    pub(crate) name: &'a str,
+    pub(crate) bytes: Vec<u8>,
+}
+
+impl<'a> KeyFile<'a> {
+    fn failure(&self, error: KeyFileError) -> Failure<'a>
+        ensures { result ≡ keys_failure self.now.name error }
+    {
+        match error {
+            KeyFileError::Line(number, code) => Failure::BadKeys(self.name, number, Code(code)),
+            KeyFileError::OutOfMemory => Failure::OutOfMemory,
+        }
+    }
+}
+
+/// `explain`: the page on a code, or all codes.
+pub(crate) fn explain<'a, O: Write>(
+    alloc: Global,
+    code: Option<&'a str>,
+    output: &mut Counted<O>,
+) -> Result<Ending, Failure<'a>> {
+    let Some(code) = code else {
+        return print(&contents(alloc)?, Ending::Done, output);
+    };
+    match page_text(alloc, code)? {
+        Some(page) => print(&page, Ending::Done, output),
+        None => Err(Failure::NoPage(code)),
+    }
+}
+
 /// `run`: the answers to the questions about a step, or the faults where there is no image.
 pub(crate) fn run_source<'a, O: Write>(
     alloc: Global,
     source: &[u8],
+    keys: &KeyFile<'a>,
     steps: u32,
     settings: Settings,
     output: &mut Counted<O>,
 ) -> Result<Ending, Failure<'a>>
-    ensures { steps ≤ last_step → Prints O.contents output.old output.new
-        (printed_of (open_fault source.now) (run_of (session_of settings source.now) steps)) result }
+    ensures { PrintsUnder O.contents output.old output.new settings source.now keys.now.bytes.items
+        (λ session. run_of session steps) result }
 {
     let mut bench = match Bench::open(alloc, source, settings) {
         Ok(bench) => bench,
         Err(error) => return refuse_source(error, output),
     };
+    match insert_keys(alloc, &mut bench, &keys.bytes) {
+        Ok(()) => print_run(alloc, &mut bench, steps, output),
+        Err(error) => Err(keys.failure(error)),
+    }
+}
+
+/// `picture`: the picture of the screen after some steps, or the faults where there is no image.
+pub(crate) fn picture_source<'a, O: Write>(
+    alloc: Global,
+    source: &[u8],
+    keys: &KeyFile<'a>,
+    steps: u32,
+    form: PictureForm,
+    settings: Settings,
+    output: &mut Counted<O>,
+) -> Result<Ending, Failure<'a>>
+    ensures { PrintsUnder O.contents output.old output.new settings source.now keys.now.bytes.items
+        (λ session. picture_at session steps form) result }
+{
+    let mut bench = match Bench::open(alloc, source, settings) {
+        Ok(bench) => bench,
+        Err(error) => return refuse_source(error, output),
+    };
+    match insert_keys(alloc, &mut bench, &keys.bytes) {
+        Ok(()) => print_picture(alloc, &mut bench, steps, form, output),
+        Err(error) => Err(keys.failure(error)),
+    }
+}
+
+fn print_run<'a, O: Write>(
+    alloc: Global,
+    bench: &mut Bench,
+    steps: u32,
+    output: &mut Counted<O>,
+) -> Result<Ending, Failure<'a>>
+    ensures { Prints O.contents output.old output.new (run_of bench.old.session steps) result }
+{
     let mut answers = Vec::new(alloc);
-    match bench.ask(alloc, &Question::Registers { step: steps }, &mut answers) {
-        Ok(()) => {}
-        Err(Refusal::NoImage) => return print_bench_faults(alloc, &mut bench, output),
-        Err(_) => return Err(Failure::OutOfMemory),
+    if let Err(why) = bench.ask(alloc, &Question::Registers { step: steps }, &mut answers) {
+        return print_why(alloc, bench, why, output);
     }
     match bench.ask(alloc, &Question::Screen { step: steps }, &mut answers) {
         Ok(()) => print(&answers, Ending::Done, output),
-        Err(_) => Err(Failure::OutOfMemory),
+        Err(why) => print_why(alloc, bench, why, output),
     }
+}
+
+fn print_picture<'a, O: Write>(
+    alloc: Global,
+    bench: &mut Bench,
+    steps: u32,
+    form: PictureForm,
+    output: &mut Counted<O>,
+) -> Result<Ending, Failure<'a>>
+    ensures { Prints O.contents output.old output.new (picture_at bench.old.session steps form) result }
+{
+    let mut picture = Vec::new(alloc);
+    let question = Question::Picture { step: steps, form };
+    match bench.ask(alloc, &question, &mut picture) {
+        Ok(()) => print(&picture, Ending::Done, output),
+        Err(why) => print_why(alloc, bench, why, output),
+    }
+}
+
+// Prints why a question isn't answered: the faults where there is no image.
+fn print_why<'a, O: Write>(
+    alloc: Global,
+    bench: &mut Bench,
+    why: Refusal,
+    output: &mut Counted<O>,
+) -> Result<Ending, Failure<'a>>
+    ensures why { Prints O.contents output.old output.new (unanswered why (faults_of_lines bench.old.session.lines)) result }
+    ensures memory { why ≡ Refusal.AnswerMemory → (result ≡ Err Failure.OutOfMemory) × (output.new ≡ output.old) }
+{
+    match why {
+        Refusal::NoImage => print_bench_faults(alloc, bench, output),
+        Refusal::AnswerMemory => Err(Failure::OutOfMemory),
+        _ => print_code(alloc, why.code(), output),
+    }
+}
+
+fn print_code<'a, O: Write>(
+    alloc: Global,
+    code: &[u8],
+    output: &mut Counted<O>,
+) -> Result<Ending, Failure<'a>>
+    ensures { Prints O.contents output.old output.new (printed (refused code.now) Ending.Faulty) result }
+{
+    let mut text = Vec::new(alloc);
+    refuse(&mut text, code)?;
+    print(&text, Ending::Faulty, output)
 }
 
 fn print_listing<'a, O: Write>(
@@ -182,7 +298,7 @@ fn refuse_source<'a, O: Write>(
     }
 }
 
-fn print<'a, O: Write>(
+pub(crate) fn print<'a, O: Write>(
     bytes: &[u8],
     ending: Ending,
     output: &mut Counted<O>,

@@ -287,7 +287,7 @@ fn respond(
     }
 }
 
-fn refuse(answer: &mut Vec<u8>, code: &[u8]) -> Result<(), AllocError>
+pub(crate) fn refuse(answer: &mut Vec<u8>, code: &[u8]) -> Result<(), AllocError>
     ensures { OnOk result (answer.new.items ≡ answer.old.items ++ refused code.now) }
 {
     answer.extend_from_slice(b"no ")?;
@@ -305,7 +305,7 @@ fn keep(line: &mut Vec<u8>, byte: u8) -> Result<(), AllocError>
     Ok(())
 }
 
-fn without_carriage_return(line: &[u8]) -> &[u8]
+pub(crate) fn without_carriage_return(line: &[u8]) -> &[u8]
     ensures { result.now ≡ strip_carriage_return line.now }
 {
     match line {

@@ -14,6 +14,8 @@ mod each_step;
 #[cfg(test)]
 mod examples;
 #[cfg(test)]
+mod explain;
+#[cfg(test)]
 mod generated;
 #[cfg(test)]
 mod hindered_files;
@@ -25,6 +27,8 @@ mod image_file;
 mod limits;
 #[cfg(test)]
 mod much_input;
+#[cfg(test)]
+mod pictures;
 #[cfg(test)]
 mod profiles;
 #[cfg(test)]

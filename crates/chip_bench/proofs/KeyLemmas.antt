@@ -1,0 +1,68 @@
+-- The key events of a file, one line after another.
+use Rattle.std.proofs.Common.{◌≡◌, ℕ, ◌+◌, ◌<◌, List, [], length, map, Option, Some, None, refl, ap, sym, ◌∙◌}
+use Rattle.std.specs.List.{after_first}
+use Rattle.chip_asm.specs.Lines.{first_text, is_newline, lines_of}
+use Rattle.chip_asm.proofs.CutSteps.{lines-next, no-lines}
+use Rattle.chip_bench.specs.KeyFile.{first_refusal, key_command, key_commands, key_fault, refusal_to, refused_or_later, session_under}
+use Rattle.chip_bench.specs.Session.{Session, Text}
+use Rattle.chip_bench.specs.Transcript.{after, session_after}
+use Rattle.std.proofs.Common.{Result, Err}
+use Rattle.std.specs.Borrow.{Bor}
+use Rattle.chip_asm.specs.Lines.{open_fault}
+use Rattle.chip_bench.specs.KeyFile.{IsKeyFault}
+use Rattle.chip_bench.specs.Printing.{Printed, PrintsUnder, PrintsUnless, fault_under, keys_failure, printed_of}
+use Rattle.chip_bench.specs.Session.{session_of}
+use Rattle.chip_bench.specs.Settings.{SessionSettings}
+use Rattle.chip_bench.specs.Tally.{Tally}
+use Rattle.chip_bench.specs.declared.ending.Failure.TheVariants as failure
+use Rattle.chip_bench.specs.declared.key_file.KeyFileError.{KeyFileError}
+use Rattle.chip_bench.specs.declared.key_file.KeyFileError.TheVariants.{Line, OutOfMemory}
+
+module _ (s : Session) (n : ℕ) (bytes : List ℕ) (some : 0 < length bytes) where
+  -- a first line that is refused
+  pub refused_here : (code : Text) → refusal_to s (key_command (first_text bytes)) ≡ Some code →
+      first_refusal s n (key_commands bytes) ≡ Some (n, code)
+  refused_here code e =
+      ap (λ ls. first_refusal s n (map key_command ls)) (lines-next bytes some)
+      ∙ ap (λ r. refused_or_later r n (first_refusal (after s (key_command (first_text bytes))) (n + 1) (key_commands (after_first is_newline bytes)))) e
+
+  -- a first line that isn't refused
+  pub refused_later : refusal_to s (key_command (first_text bytes)) ≡ None →
+      first_refusal s n (key_commands bytes) ≡ first_refusal (after s (key_command (first_text bytes))) (n + 1) (key_commands (after_first is_newline bytes))
+  refused_later e =
+      ap (λ ls. first_refusal s n (map key_command ls)) (lines-next bytes some)
+      ∙ ap (λ r. refused_or_later r n (first_refusal (after s (key_command (first_text bytes))) (n + 1) (key_commands (after_first is_newline bytes)))) e
+
+  pub session_later :
+      session_after s (key_commands bytes) ≡ session_after (after s (key_command (first_text bytes))) (key_commands (after_first is_newline bytes))
+  session_later = ap (λ ls. session_after s (map key_command ls)) (lines-next bytes some)
+
+-- no lines are left
+pub refused_none : (s : Session) (n : ℕ) (bytes : List ℕ) → lines_of bytes ≡ [] → first_refusal s n (key_commands bytes) ≡ None
+refused_none s n bytes e = ap (λ ls. first_refusal s n (map key_command ls)) e
+
+pub session_same : (s : Session) (bytes : List ℕ) → lines_of bytes ≡ [] → session_after s (key_commands bytes) ≡ s
+session_same s bytes e = ap (λ ls. session_after s (map key_command ls)) e
+
+pub fault_is : (s : Session) (file : List ℕ) (fault : Option (ℕ × Text)) → first_refusal s 1 (key_commands file) ≡ fault → key_fault s file ≡ fault
+unfolding key_fault
+fault_is s file fault e = e
+
+pub session_is : (s t : Session) (file : List ℕ) → session_after s (key_commands file) ≡ t → t ≡ session_under s file
+unfolding session_under
+session_is s t file e = sym e
+
+-- a key file of which a line is refused, or for which there is no memory
+pub keys_refused : {W : Type 0} (contents : W → Option (List ℕ)) (old : Tally W) (settings : SessionSettings) (source keys : List ℕ)
+    (printed_by : Session → Printed) (name : Bor (List ℕ)) (error : KeyFileError) → open_fault source ≡ None →
+    IsKeyFault (key_fault (session_of settings source) keys) error →
+    PrintsUnder contents old old settings source keys printed_by (Err (keys_failure name error))
+keys_refused contents old settings source keys printed_by name (Line number code) opens fault = rw (opens, fault) (refl, refl)
+keys_refused contents old settings source keys printed_by name OutOfMemory opens fault =
+    by (fault_under (open_fault source) (key_fault (session_of settings source) keys))
+  where
+    by : (found : Option (ℕ × Text)) →
+        PrintsUnless contents old old found (printed_of (open_fault source) (printed_by (session_under (session_of settings source) keys)))
+        (Err failure.OutOfMemory)
+    by None = refl
+    by (Some line) = refl

@@ -1,0 +1,71 @@
+//! The pages on codes, as `explain` prints them.
+
+use crate::pages::{Example, PAGES, Page};
+use std::alloc::{AllocError, Global};
+
+/// The page on a code, in either case, as text; nothing where there is no such code.
+pub(crate) fn page_text(alloc: Global, code: &str) -> Result<Option<Vec<u8>>, AllocError> {
+    for page in &PAGES {
+        if page.code.eq_ignore_ascii_case(code) {
+            return Ok(Some(text_of(alloc, page)?));
+        }
+    }
+    Ok(None)
+}
+
+/// All codes with their titles, a line each.
+pub(crate) fn contents(alloc: Global) -> Result<Vec<u8>, AllocError> {
+    let mut text = Vec::new(alloc);
+    for page in &PAGES {
+        push_all(&mut text, &[page.code, "  ", page.title, "\n"])?;
+    }
+    Ok(text)
+}
+
+fn text_of(alloc: Global, page: &Page) -> Result<Vec<u8>, AllocError> {
+    let mut text = Vec::new(alloc);
+    push_all(
+        &mut text,
+        &[page.code, ": ", page.title, "\n\n", page.meaning, "\n\n"],
+    )?;
+    push_example(&mut text, &page.example)?;
+    push_all(&mut text, &["\nThe mend: ", page.mend, "\n"])?;
+    Ok(text)
+}
+
+fn push_example(text: &mut Vec<u8>, example: &Example) -> Result<(), AllocError> {
+    match *example {
+        Example::Source(source) => {
+            push_all(text, &["The last line of this source has it:\n\n"])?;
+            push_indented(text, source)
+        }
+        Example::Script { source, script } => {
+            push_all(text, &["On this source:\n\n"])?;
+            push_indented(text, source)?;
+            push_all(text, &["\nthe last of these commands is refused so:\n\n"])?;
+            push_indented(text, script)
+        }
+        Example::Stop(source) => {
+            push_all(
+                text,
+                &["The program of this source stops so, as `regs 100` shows:\n\n"],
+            )?;
+            push_indented(text, source)
+        }
+        Example::Told(what) => push_all(text, &["An example: ", what, "\n"]),
+    }
+}
+
+fn push_indented(text: &mut Vec<u8>, lines: &str) -> Result<(), AllocError> {
+    for line in lines.lines() {
+        push_all(text, &["    ", line, "\n"])?;
+    }
+    Ok(())
+}
+
+fn push_all(text: &mut Vec<u8>, parts: &[&str]) -> Result<(), AllocError> {
+    for part in parts {
+        text.extend_from_slice(part.as_bytes())?;
+    }
+    Ok(())
+}

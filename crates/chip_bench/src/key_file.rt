@@ -1,0 +1,136 @@
+//! The key events of a file.
+ghost use Rattle.std.specs.Prelude.{◌≡◌, ◌==◌, ◌<◌, ◌≤◌, None, Some, IfOk, IfErr, OnOk, length};
+ghost use Rattle.std.specs.Option.{option_copied};
+ghost use Rattle.std.specs.List.{position_or_len, after_first};
+ghost use Rattle.chip_asm.specs.Lines.{is_newline, first_text};
+ghost use Rattle.chip_bench.specs.KeyFile.{IsKeyFault, said, key_command, refusal_to, key_fault, session_under};
+ghost use Rattle.chip_bench.specs.Transcript.{after};
+ghost use Rattle.chip_bench.specs.declared.key_file.KeyFileError.TheVariants.{OutOfMemory};
+
+use crate::bench::Bench;
+use crate::command::{Command, is_blank, read_command};
+use crate::refusal::Refusal;
+use crate::server::without_carriage_return;
+use std::alloc::{AllocError, Global};
+
+/// Why the key events of a file can't be made.
+#[derive(Clone, Copy)]
+pub(crate) enum KeyFileError {
+    /// The line of that number, from 1, is refused with that code.
+    Line(usize, &'static [u8]),
+    OutOfMemory,
+}
+
+impl From<AllocError> for KeyFileError {
+    ghost from_gives = { λ _ e. e ≡ OutOfMemory };
+
+    fn from(_error: AllocError) -> KeyFileError {
+        KeyFileError::OutOfMemory
+    }
+}
+
+/// Makes the key events of a file, one after another: a line `S K down` or `S K up` does what `kins S K down` or
+/// `kins S K up` does in a script. A semicolon begins a comment, and a line may be blank.
+///
+/// # Errors
+///
+/// The first line that is refused, or want of memory; the events of the lines before it are made.
+pub(crate) fn insert_keys(alloc: Global, bench: &mut Bench, file: &[u8]) -> Result<(), KeyFileError>
+    ensures none { OnOk result (key_fault bench.old.session file.now ≡ None) }
+    ensures session { OnOk result (bench.new.session ≡ session_under bench.old.session file.now) }
+    ensures fault { IfErr result (IsKeyFault (key_fault bench.old.session file.now)) }
+{
+    let mut rest = file;
+    let mut number = 0;
+    while !rest.is_empty() {
+        let (line, next) = first_line(rest);
+        number += 1;
+        if let Some(code) = insert_key(alloc, bench, line)? {
+            return Err(KeyFileError::Line(number, code));
+        }
+        rest = next;
+    }
+    Ok(())
+}
+
+// Makes the event of a line, or answers the code of why it is refused.
+fn insert_key(
+    alloc: Global,
+    bench: &mut Bench,
+    line: &[u8],
+) -> Result<Option<&'static [u8]>, AllocError>
+    ensures code { IfOk result (λ code. option_copied code ≡ refusal_to bench.old.session (key_command line.now)) }
+    ensures session { OnOk result (bench.new.session ≡ after bench.old.session (key_command line.now)) }
+{
+    let command = key_command(alloc, line)?;
+    make_change(alloc, bench, &command)
+}
+
+// The line of a script that does what a line of the file says.
+#[tactic(auto, unfolding(crate::specs::KeyFile::key_command))]
+fn key_command(alloc: Global, line: &[u8]) -> Result<Vec<u8>, AllocError>
+    ensures { IfOk result (λ command. command.items ≡ key_command line.now) }
+{
+    let text = said(line);
+    let mut command = Vec::new(alloc);
+    if !is_blank(text) {
+        command.extend_from_slice(b"kins ")?;
+        command.extend_from_slice(text)?;
+    }
+    Ok(command)
+}
+
+// Carries out a line of a script that asks nothing, or answers the code of why it is refused.
+#[tactic(auto, unfolding(crate::specs::KeyFile::refusal_to, crate::specs::Transcript::after))]
+fn make_change(
+    alloc: Global,
+    bench: &mut Bench,
+    line: &[u8],
+) -> Result<Option<&'static [u8]>, AllocError>
+    ensures code { IfOk result (λ code. option_copied code ≡ refusal_to bench.old.session line.now) }
+    ensures session { OnOk result (bench.new.session ≡ after bench.old.session line.now) }
+{
+    let edit = match read_command(line) {
+        Ok(Command::Edit(edit)) => edit,
+        Ok(Command::Blank | Command::Ask(_)) => return Ok(None),
+        Err(fault) => return Ok(Some(fault.code())),
+    };
+    match bench.apply(alloc, &edit) {
+        Ok(()) => Ok(None),
+        Err(Refusal::EditMemory) => Err(AllocError),
+        Err(refusal) => Ok(Some(refusal.code())),
+    }
+}
+
+// The first line of some bytes, and what follows it.
+fn first_line(bytes: &[u8]) -> (&[u8], &[u8])
+    ensures line { result.0.now ≡ first_text bytes.now }
+    ensures rest { result.1.now ≡ after_first is_newline bytes.now }
+{
+    let end = place_of(b'\n', bytes);
+    if end < bytes.len() {
+        (without_carriage_return(&bytes[..end]), &bytes[end + 1..])
+    } else {
+        (bytes, &[])
+    }
+}
+
+// What a line says, without its comment.
+fn said(line: &[u8]) -> &[u8]
+    ensures { result.now ≡ said line.now }
+{
+    &line[..place_of(b';', line)]
+}
+
+// Where a byte stands first, or the length where it stands nowhere.
+fn place_of(wanted: u8, text: &[u8]) -> usize
+    ensures value { result ≡ position_or_len (λ byte. byte == wanted) text.now }
+    ensures within { result ≤ length text.now }
+{
+    for (place, byte) in text.iter().enumerate() {
+        if *byte == wanted {
+            return place;
+        }
+    }
+    text.len()
+}

@@ -1,0 +1,387 @@
+//! A page on each code that the workbench prints.
+
+/// What has a code, so that it can be seen.
+#[derive(Clone, Copy, Debug)]
+pub enum Example {
+    /// A source: its last line has the fault.
+    Source(&'static str),
+    /// A source, and a script on it: its last line is refused.
+    Script {
+        source: &'static str,
+        script: &'static str,
+    },
+    /// A source: its program stops within 100 steps.
+    Stop(&'static str),
+    /// What is too large to write out, or depends on the system.
+    Told(&'static str),
+}
+
+/// What a code means.
+#[derive(Clone, Copy, Debug)]
+pub struct Page {
+    pub code: &'static str,
+    pub title: &'static str,
+    pub meaning: &'static str,
+    pub example: Example,
+    pub mend: &'static str,
+}
+
+/// A page on each code, in the order of the documents.
+pub const PAGES: [Page; 47] = [
+    Page {
+        code: "F1",
+        title: "bad character",
+        meaning: "A byte begins no token, or a run of digits is no number, such as `0x10` or `12A`.",
+        example: Example::Source("DB ?"),
+        mend: "Take the byte out. A hexadecimal number is `#10`, an octal one `@17`, a binary one `$1..1`; `;` begins a comment.",
+    },
+    Page {
+        code: "F2",
+        title: "unfinished string",
+        meaning: "A quote has no second quote on its line.",
+        example: Example::Source("DB 'ab"),
+        mend: "Put the same quote at the end of the text. A text has no escapes: one that holds a `'` stands in `\"`.",
+    },
+    Page {
+        code: "F3",
+        title: "unknown word",
+        meaning: "A statement begins with a word that is neither an instruction nor a directive. A label without its colon is such a word.",
+        example: Example::Source("FOO V0"),
+        mend: "Spell the word as docs/LANGUAGE.md has it, or put `:` after a label.",
+    },
+    Page {
+        code: "F4",
+        title: "operands don't fit",
+        meaning: "The operands fit no form of the instruction or directive: one too many or too few, a comma that is missing, or a register where a value belongs.",
+        example: Example::Source("LD V0"),
+        mend: "Compare the line with the table of instructions in docs/LANGUAGE.md. Text of several bytes belongs in `DA 'text'`.",
+    },
+    Page {
+        code: "F5",
+        title: "number above 2147483647",
+        meaning: "A number has more than 31 bits.",
+        example: Example::Source("DB 99999999999"),
+        mend: "Take a smaller number: a byte has 8 bits, a word 16.",
+    },
+    Page {
+        code: "F6",
+        title: "parentheses deeper than 16",
+        meaning: "More than 16 parentheses are open at one place of a line.",
+        example: Example::Source("DB (((((((((((((((((1)))))))))))))))))"),
+        mend: "Give a part of the expression a name by EQU, and use the name.",
+    },
+    Page {
+        code: "F7",
+        title: "name reserved or over 64 bytes",
+        meaning: "A line defines a word that the language has for itself, such as a register, or a name of over 64 bytes.",
+        example: Example::Source("LD: CLS"),
+        mend: "Take another name.",
+    },
+    Page {
+        code: "F8",
+        title: "name defined on an earlier live line",
+        meaning: "Two lines define one name; upper and lower case are the same.",
+        example: Example::Source("X EQU 1\nx EQU 2"),
+        mend: "Give one of them another name.",
+    },
+    Page {
+        code: "F9",
+        title: "undefined name",
+        meaning: "A name has no value. EQU, ORG and DS use only names that earlier lines define.",
+        example: Example::Source("DB NONE"),
+        mend: "Define the name by a label or by EQU, or correct its spelling; for EQU, ORG and DS define it further up.",
+    },
+    Page {
+        code: "F10",
+        title: "value out of range",
+        meaning: "A value doesn't fit its field: a byte is -128 to 255, a word -32768 to 65535, an address 0 to 4095, a height 0 to 15.",
+        example: Example::Source("DB 256"),
+        mend: "Take a smaller value, or DW in the place of DB.",
+    },
+    Page {
+        code: "F11",
+        title: "division by zero",
+        meaning: "The right side of `/` is 0.",
+        example: Example::Source("DB 1/0"),
+        mend: "Correct the expression.",
+    },
+    Page {
+        code: "F12",
+        title: "overflow, or a shift outside 0 to 31",
+        meaning: "A result doesn't fit 32 bits with a sign, or `<` or `>` shifts by less than 0 or more than 31. `<` is a shift, and no comparison.",
+        example: Example::Source("DW 1 < 31"),
+        mend: "Correct the expression.",
+    },
+    Page {
+        code: "F13",
+        title: "ORG below the address",
+        meaning: "ORG goes back to an address that is passed already. The first address is 512.",
+        example: Example::Source("ORG 100"),
+        mend: "Take an address from the line's own on: the listing has it.",
+    },
+    Page {
+        code: "F14",
+        title: "past address 4096",
+        meaning: "The line would end above address 4096: an image has at most 3584 bytes.",
+        example: Example::Source("DS 3585"),
+        mend: "Make the program smaller.",
+    },
+    Page {
+        code: "F15",
+        title: "stray ELSE or ENDIF",
+        meaning: "An ELSE or ENDIF has no IFDEF or IFUND before it, or it is the second ELSE of one.",
+        example: Example::Source("ENDIF"),
+        mend: "Take the line out, or put its IFDEF or IFUND before it.",
+    },
+    Page {
+        code: "F16",
+        title: "IF without ENDIF",
+        meaning: "An IFDEF or IFUND is still open at the end of the source.",
+        example: Example::Source("IFDEF X"),
+        mend: "Put an ENDIF after its lines.",
+    },
+    Page {
+        code: "F17",
+        title: "not in this profile",
+        meaning: "A directive of the Chipper assembler that this one doesn't have: INCLUDE, UNDEF, or OPTION with another word.",
+        example: Example::Source("INCLUDE 'x'"),
+        mend: "Put the file's lines in the place of INCLUDE, and take the others out.",
+    },
+    Page {
+        code: "N1",
+        title: "no such line",
+        meaning: "The number is 0 or above the number of lines (for `ins`, of lines and one more).",
+        example: Example::Script {
+            source: "CLS",
+            script: "del 2",
+        },
+        mend: "`list` shows the lines with their numbers.",
+    },
+    Page {
+        code: "N2",
+        title: "text too long",
+        meaning: "The text has over 200 bytes.",
+        example: Example::Told("`rep 1 ;` and 200 bytes more."),
+        mend: "Cut the line in two, or make its comment shorter.",
+    },
+    Page {
+        code: "N3",
+        title: "too many lines",
+        meaning: "A source has at most 4,000 lines.",
+        example: Example::Told("`ins 1` in a source of 4,000 lines."),
+        mend: "Take lines out first.",
+    },
+    Page {
+        code: "N4",
+        title: "line break in the text",
+        meaning: "The text holds a CR or an LF.",
+        example: Example::Told("`ins 1 A`, a CR, and `B`."),
+        mend: "Make a line of its own of each part.",
+    },
+    Page {
+        code: "N5",
+        title: "step above the last",
+        meaning: "A key event's step is above 1,000,000.",
+        example: Example::Script {
+            source: "CLS",
+            script: "kins 1000001 5 down",
+        },
+        mend: "Take a step from 0 to 1,000,000.",
+    },
+    Page {
+        code: "N6",
+        title: "no such key",
+        meaning: "The keys have the numbers 0 to 15, `#0` to `#F`.",
+        example: Example::Script {
+            source: "CLS",
+            script: "kins 0 16 down",
+        },
+        mend: "Take a key from 0 to 15.",
+    },
+    Page {
+        code: "N7",
+        title: "event there already",
+        meaning: "There is an event of that step and key.",
+        example: Example::Script {
+            source: "CLS",
+            script: "kins 2 5 down\nkins 2 5 up",
+        },
+        mend: "`krep` changes it, and `kdel` takes it out.",
+    },
+    Page {
+        code: "N8",
+        title: "no such event",
+        meaning: "There is no event of that step and key.",
+        example: Example::Script {
+            source: "CLS",
+            script: "kdel 2 5",
+        },
+        mend: "`kins` adds one.",
+    },
+    Page {
+        code: "N9",
+        title: "too many events",
+        meaning: "A session has at most 10,000 key events.",
+        example: Example::Told("`kins` in a session of 10,000 events."),
+        mend: "Take events out by `kdel` first.",
+    },
+    Page {
+        code: "N10",
+        title: "out of memory for an edit",
+        meaning: "There was no memory for an edit; the session is as it was. The library answers it; in a script the session ends.",
+        example: Example::Told("none can be shown: it depends on the system."),
+        mend: "Free memory, and make the edit again.",
+    },
+    Page {
+        code: "Q1",
+        title: "no image",
+        meaning: "Some line has a fault, so that there is no image to show or run.",
+        example: Example::Script {
+            source: "DB NONE",
+            script: "regs 0",
+        },
+        mend: "`faults` shows the lines with their faults.",
+    },
+    Page {
+        code: "Q2",
+        title: "step above the last",
+        meaning: "A question's step is above 1,000,000.",
+        example: Example::Script {
+            source: "CLS",
+            script: "screen 1000001",
+        },
+        mend: "Take a step from 0 to 1,000,000.",
+    },
+    Page {
+        code: "Q3",
+        title: "past address 4096",
+        meaning: "The bytes asked for go past the end of the memory.",
+        example: Example::Script {
+            source: "CLS",
+            script: "mem 0 4095 2",
+        },
+        mend: "Ask for fewer bytes, or from a lower address; a word of `dis` has two bytes.",
+    },
+    Page {
+        code: "Q4",
+        title: "out of memory for an answer",
+        meaning: "There was no memory for an answer. The library answers it; in a script the session ends.",
+        example: Example::Told("none can be shown: it depends on the system."),
+        mend: "Free memory, and ask again.",
+    },
+    Page {
+        code: "C1",
+        title: "no such command",
+        meaning: "The line's first word is no command, or what follows doesn't fit it. Commands are lower case, and begin the line.",
+        example: Example::Script {
+            source: "CLS",
+            script: "Image",
+        },
+        mend: "`chipbench debug --help` has all commands with an example each.",
+    },
+    Page {
+        code: "C2",
+        title: "line too long",
+        meaning: "A line of a script has over 400 bytes.",
+        example: Example::Told("`syms` and 397 spaces."),
+        mend: "Make the line shorter; a source's line has at most 200 bytes.",
+    },
+    Page {
+        code: "E1",
+        title: "input fault",
+        meaning: "A read of the script failed, so that the session ended: `chipbench: input fault`, status 3.",
+        example: Example::Told("a folder as standard input."),
+        mend: "Look at where the standard input comes from.",
+    },
+    Page {
+        code: "E2",
+        title: "output fault",
+        meaning: "A write failed or took no byte, so that the session ended: `chipbench: output fault`, status 3.",
+        example: Example::Told("a full disk behind the standard output."),
+        mend: "Look at where the standard output goes.",
+    },
+    Page {
+        code: "E3",
+        title: "out of memory",
+        meaning: "There was no memory, so that the session ended: `chipbench: out of memory`, status 4.",
+        example: Example::Told("none can be shown: it depends on the system."),
+        mend: "Free memory, and run again. `--every 100000` needs the least.",
+    },
+    Page {
+        code: "E4",
+        title: "too much input",
+        meaning: "A script has at most 100,000 lines and 50,000,000 bytes: `chipbench: too much input`, status 3. All lines within the bounds are answered.",
+        example: Example::Told("a script of 100,000 empty lines and one byte more."),
+        mend: "Cut the script in two.",
+    },
+    Page {
+        code: "O1",
+        title: "line too long",
+        meaning: "A line of the source has over 200 bytes, so that it doesn't open.",
+        example: Example::Told("a line of a semicolon and 200 bytes more."),
+        mend: "Cut the line in two. A file that is no text has such lines too.",
+    },
+    Page {
+        code: "O2",
+        title: "too many lines",
+        meaning: "The source has over 4,000 lines, so that it doesn't open.",
+        example: Example::Told("a file of 4,001 empty lines."),
+        mend: "Make the source shorter.",
+    },
+    Page {
+        code: "O3",
+        title: "out of memory",
+        meaning: "There was no memory to open the source: `chipbench: out of memory`, status 4.",
+        example: Example::Told("none can be shown: it depends on the system."),
+        mend: "Free memory, and run again.",
+    },
+    Page {
+        code: "S1",
+        title: "the program ended",
+        meaning: "The machine carried out EXIT.",
+        example: Example::Stop("EXIT"),
+        mend: "Nothing is wrong. A game that is to go on jumps back before it.",
+    },
+    Page {
+        code: "S2",
+        title: "no instruction",
+        meaning: "The word at pc is no instruction: data was run, or the profile lacks the instruction.",
+        example: Example::Stop("DW 0"),
+        mend: "`dis S A N` shows the words around pc. A jump or a RET before the data is missing, or `--profile` is the wrong one.",
+    },
+    Page {
+        code: "S3",
+        title: "pc past the memory",
+        meaning: "pc is above 4094, where no word stands.",
+        example: Example::Stop("JP 4095"),
+        mend: "Look for the jump or the skip that leads there: `regs` at earlier steps.",
+    },
+    Page {
+        code: "S4",
+        title: "too many calls",
+        meaning: "A seventeenth CALL without a RET.",
+        example: Example::Stop("LOOP: CALL LOOP"),
+        mend: "Each CALL needs a RET that is reached; a JP goes on without coming back.",
+    },
+    Page {
+        code: "S5",
+        title: "RET without CALL",
+        meaning: "No CALL stands open.",
+        example: Example::Stop("RET"),
+        mend: "A subroutine was run into: put a JP before it.",
+    },
+    Page {
+        code: "S6",
+        title: "past the memory's end",
+        meaning: "An instruction would access a byte at or above address 4096.",
+        example: Example::Stop("LD I, 4095\nLD V1, [I]"),
+        mend: "Look at I with `regs`, at the step before.",
+    },
+    Page {
+        code: "S7",
+        title: "no such flag register",
+        meaning: "LD R, Vx or LD Vx, R with x above 7: there are 8 flag registers.",
+        example: Example::Stop("LD R, V8"),
+        mend: "Take V0 to V7.",
+    },
+];

@@ -1,0 +1,277 @@
+#!/usr/bin/env python3
+"""Writes the completions, the manual page and the syntax files from the tables of the sources.
+
+    editors/generate.py           writes the files
+    editors/generate.py --check   writes nothing; the status is 1 where a file isn't what the tables give
+
+The words of the language come from crates/chip_lang/src (form.rt, keyword.rt, statement.rt), those of the
+command line from crates/chip_bench/src/command_line.rt.
+"""
+import json
+import pathlib
+import re
+import sys
+
+HERE = pathlib.Path(__file__).resolve().parent
+CRATES = HERE.parent / "crates"
+
+
+def read(path):
+    return (CRATES / path).read_text(encoding="utf-8")
+
+
+def in_order(words):
+    return list(dict.fromkeys(words))
+
+
+class Language:
+    """The reserved words, and the words of OPTION and ALIGN."""
+
+    def __init__(self):
+        keywords = read("chip_lang/src/keyword.rt")
+        texts = dict.fromkeys(("DIRECTIVES", "SPECIALS"))
+        for name in texts:
+            table = re.search(rf"const {name}: .*?\n\];", keywords, re.S).group(0)
+            texts[name] = re.findall(r'text: b"(\w+)"', table)
+        self.directives = texts["DIRECTIVES"]
+        self.parts = texts["SPECIALS"]
+        self.mnemonics = in_order(re.findall(r'name: "(\w+)"', read("chip_lang/src/form.rt")))
+        options = read("chip_lang/src/statement.rt")
+        options = re.search(r"fn is_known_option.*?\n}", options, re.S).group(0)
+        self.switches = in_order(re.findall(r'b"(\w+)"', options)) + ["ON", "OFF"]
+
+
+class Argument:
+    def __init__(self, body, consts):
+        def one(method):
+            found = re.search(rf'\.{method}\(\s*(?:"((?:[^"\\]|\\.)*)"|([A-Z_]+))', body)
+            return None if not found else found.group(1) or consts.get(found.group(2), "")
+
+        self.long, self.value, self.help = one("long"), one("value_name"), one("help") or ""
+
+
+class Command:
+    def __init__(self, body, arguments):
+        self.name = re.search(r'Command::new\(alloc, "(\w+)"\)', body).group(1)
+        self.about = re.search(r'\.about\(\s*"(.*?)"', body).group(1)
+        example = re.search(r'\.after_help\(\s*"Example: (.*?)"', body)
+        self.example = example.group(1) if example else None
+        names = []
+        for found in re.finditer(r"(\w+)_argument\(alloc\)|with_settings\(alloc", body):
+            names += [found.group(1)] if found.group(1) else ["rate", "tape", "seed", "profile"]
+        self.options = [arguments[name] for name in names if arguments[name].long]
+        self.places = [arguments[name].value for name in names if not arguments[name].long]
+
+
+class Words:
+    """The commands of the program with their options."""
+
+    def __init__(self):
+        text = read("chip_bench/src/command_line.rt")
+        consts = {}
+        for name, value in re.findall(r'const (\w+): &str = "((?:[^"\\]|\\.|\\\n)*)";', text):
+            consts[name] = re.sub(r"\\\n\s*", "", value)
+        functions = dict(re.findall(r"\nfn (\w+)<'a>\(alloc: Global\)(.*?)\n}", text, re.S))
+        arguments = {
+            name[: -len("_argument")]: Argument(body, consts)
+            for name, body in functions.items()
+            if name.endswith("_argument")
+        }
+        top = functions["chipbench"]
+        order = re.findall(r"(\w+_command)\(alloc\)", top)
+        self.about = re.search(r'\.about\(\s*"(.*?)"', top).group(1)
+        self.commands = [Command(functions[name], arguments) for name in order]
+        debug = next(command for command in self.commands if command.name == "debug")
+        notes = consts["DEBUG_NOTES"].replace("\\n", "\n")
+        debug.example = re.search(r"Example: (.*)", notes).group(1)
+        self.codes = re.findall(r'code: "(\w+)"', read("chip_bench/src/pages.rt"))
+
+
+def bash(words):
+    cases = []
+    for command in words.commands:
+        options = " ".join(f"--{option.long}" for option in command.options)
+        cases.append(f'        {command.name}) options="{options} --help" ;;')
+    names = " ".join(command.name for command in words.commands)
+    return "\n".join([
+        "# Completion of chipbench's words for bash; made by editors/generate.py.",
+        "_chipbench() {",
+        "    local word=${COMP_WORDS[COMP_CWORD]} before=${COMP_WORDS[COMP_CWORD-1]} options=",
+        "    if [ \"$COMP_CWORD\" -eq 1 ]; then",
+        f'        COMPREPLY=($(compgen -W "{names} help --help --version" -- "$word"))',
+        "        return",
+        "    fi",
+        "    case $before in",
+        '        --profile) COMPREPLY=($(compgen -W "schip vip" -- "$word")); return ;;',
+        "        --rate | --tape | --seed | --steps | --every) return ;;",
+        f'        explain) COMPREPLY=($(compgen -W "{" ".join(words.codes)}" -- "$word")); return ;;',
+        "    esac",
+        "    case ${COMP_WORDS[1]} in",
+        *cases,
+        "    esac",
+        "    case $word in",
+        '        -*) COMPREPLY=($(compgen -W "$options" -- "$word")) ;;',
+        '        *) COMPREPLY=($(compgen -f -- "$word")) ;;',
+        "    esac",
+        "}",
+        "complete -o filenames -F _chipbench chipbench",
+        "",
+    ])
+
+
+def quoted(text):
+    return "'" + text.replace("'", "'\\''") + "'"
+
+
+def zsh(words):
+    lines = ["#compdef chipbench", "# Completion of chipbench's words for zsh; made by editors/generate.py.", "",
+             "_chipbench() {", "    local -a commands", "    commands=("]
+    lines += [f"        {quoted(command.name + ':' + command.about)}" for command in words.commands]
+    lines += ["    )", "    if (( CURRENT == 2 )); then",
+              "        _describe command commands", "        return", "    fi",
+              "    case $words[2] in"]
+    for command in words.commands:
+        lines.append(f"        {command.name})")
+        if command.name == "explain":
+            lines.append(f"            _values code {' '.join(words.codes)} ;;")
+            continue
+        rest = ["'*:file:_files'"] if command.places else []
+        for option in command.options:
+            text = re.sub(r"[\[\]:]", " ", option.help.split(",")[0].split(" [")[0])
+            action = ":name:(schip vip)" if option.long == "profile" else (
+                ":file:_files" if option.value == "FILE" else f":{option.value}:" if option.value else "")
+            rest.append(quoted(f"--{option.long}[{text}]{action}"))
+        lines.append("            _arguments " + " \\\n                ".join(rest) + " ;;")
+    lines += ["    esac", "}", "", '_chipbench "$@"', ""]
+    return "\n".join(lines)
+
+
+def fish(words):
+    lines = ["# Completion of chipbench's words for fish; made by editors/generate.py."]
+    for command in words.commands:
+        lines.append("complete -c chipbench -n __fish_use_subcommand -f "
+                     f"-a {command.name} -d {quoted(command.about)}")
+    for command in words.commands:
+        here = f"complete -c chipbench -n '__fish_seen_subcommand_from {command.name}'"
+        for option in command.options:
+            text = quoted(option.help.split(",")[0].split(" [")[0])
+            value = " -x -a 'schip vip'" if option.long == "profile" else (
+                " -r" if option.value == "FILE" else " -x" if option.value else "")
+            lines.append(f"{here} -l {option.long}{value} -d {text}")
+        if command.name == "explain":
+            lines.append(f"{here} -f -a '{' '.join(words.codes)}'")
+    return "\n".join(lines + [""])
+
+
+def roff(text):
+    text = text.replace("\\", "\\e").replace("-", "\\-")
+    return "\\&" + text if text[:1] in ".'" else text
+
+
+def manual(words):
+    lines = ['.\\" Made by editors/generate.py.', ".TH CHIPBENCH 1", ".SH NAME",
+             "chipbench \\- " + roff(words.about), ".SH SYNOPSIS"]
+    for command in words.commands:
+        places = " ".join(command.places)
+        if command.name in ("debug", "explain"):
+            places = f"[{places}]"
+        options = " ".join(
+            f"--{o.long}{' ' + o.value if o.value else ''}" if o.long == "steps"
+            else f"[--{o.long}{' ' + o.value if o.value else ''}]" for o in command.options)
+        lines += [".br", roff(" ".join(["chipbench", command.name, places, options]).strip())]
+    lines += [".SH COMMANDS"]
+    for command in words.commands:
+        lines += [".TP", f".B {command.name}", roff(command.about) + "."]
+        lines += [".br", "Example: " + roff(command.example)] if command.example else []
+    lines += [".SH OPTIONS"]
+    seen = {o.long: o for command in words.commands for o in command.options}
+    for option in seen.values():
+        value = f" {option.value}" if option.value else ""
+        lines += [".TP", f".B {roff('--' + option.long + value)}", roff(option.help) + "."]
+    lines += [
+        ".SH EXIT STATUS", ".TP", "0", "Done.", ".TP", "1", "The source has faults, or doesn't open.",
+        ".TP", "2", "The words, a tape or a file of key events are faulty.", ".TP", "3",
+        "A file, the input or the output failed, or there was too much input.", ".TP", "4",
+        "Want of memory.", ".SH SEE ALSO",
+        "docs/FORMATS.md, docs/LANGUAGE.md, docs/MACHINE.md and docs/GUIDE.md of the repository.", ""]
+    return "\n".join(lines)
+
+
+def vim(language):
+    def keyword(group, words):
+        return f"syntax keyword {group} {' '.join(words)}"
+
+    registers = [f"V{digit}" for digit in "0123456789ABCDEF"]
+    return "\n".join([
+        '" CHIP-8 and SUPER-CHIP sources; made by editors/generate.py.',
+        'if exists("b:current_syntax")', "  finish", "endif", "syntax case ignore",
+        keyword("chip8Instruction", language.mnemonics),
+        keyword("chip8Directive", language.directives),
+        keyword("chip8Switch", language.switches),
+        keyword("chip8Register", registers + language.parts),
+        r"syntax match chip8Number /\<\d\+\>\|#\x\+\>\|@\o\+\>\|\$[01.]\+/",
+        r"syntax match chip8Label /^\s*\h\w*\s*:/",
+        "syntax region chip8Text start=/'/ end=/'/ oneline",
+        'syntax region chip8Text start=/"/ end=/"/ oneline',
+        "syntax match chip8Comment /;.*$/",
+        *(f"highlight default link chip8{group} {link}" for group, link in (
+            ("Instruction", "Statement"), ("Directive", "PreProc"), ("Switch", "Constant"),
+            ("Register", "Identifier"), ("Number", "Number"), ("Label", "Label"), ("Text", "String"),
+            ("Comment", "Comment"))),
+        'let b:current_syntax = "chip8"', "",
+    ])
+
+
+def textmate(language):
+    def words(name, texts):
+        return {"name": name + ".chip8", "match": rf"(?i)\b({'|'.join(texts)})\b"}
+
+    patterns = [
+        {"name": "comment.line.semicolon.chip8", "match": ";.*$"},
+        {"name": "string.quoted.single.chip8", "match": "'[^']*'"},
+        {"name": "string.quoted.double.chip8", "match": '"[^"]*"'},
+        {"name": "entity.name.label.chip8", "match": r"^\s*[A-Za-z_]\w*(?=\s*:)"},
+        words("keyword.mnemonic", language.mnemonics),
+        words("keyword.control.directive", language.directives),
+        words("constant.language", language.switches),
+        words("variable.language.register", ["V[0-9A-F]"] + language.parts),
+        {"name": "constant.numeric.chip8", "match": r"#[0-9A-Fa-f]+\b|@[0-7]+\b|\$[01.]+|\b[0-9]+\b"},
+    ]
+    made = {"name": "CHIP-8", "scopeName": "source.chip8", "fileTypes": ["asm", "ch8asm"],
+            "comment": "Made by editors/generate.py.", "patterns": patterns}
+    return json.dumps(made, indent=2) + "\n"
+
+
+def files():
+    words, language = Words(), Language()
+    return {
+        "chipbench.bash": bash(words),
+        "_chipbench": zsh(words),
+        "chipbench.fish": fish(words),
+        "chipbench.1": manual(words),
+        "vim/syntax/chip8.vim": vim(language),
+        "chip8.tmLanguage.json": textmate(language),
+    }
+
+
+def main(arguments):
+    is_check = arguments == ["--check"]
+    if arguments and not is_check:
+        print(__doc__, file=sys.stderr)
+        return 2
+    stale = []
+    for name, text in files().items():
+        path = HERE / name
+        if is_check:
+            if not path.is_file() or path.read_text(encoding="utf-8") != text:
+                stale.append(name)
+        else:
+            path.parent.mkdir(parents=True, exist_ok=True)
+            path.write_text(text, encoding="utf-8")
+    for name in stale:
+        print(f"editors/{name} isn't what the tables give: run editors/generate.py", file=sys.stderr)
+    return 1 if stale else 0
+
+
+if __name__ == "__main__":
+    sys.exit(main(sys.argv[1:]))
