@@ -1,5 +1,4 @@
-use Rattle.std.proofs.Common.{subst, sym, arith}
-use Rattle.chip_lang.specs.Scan.{AreTokens}
+use Rattle.std.proofs.Common.{arith}
 use Rattle.chip_lang.proofs.TokenList.{each_lies_in}
 use Rattle.chip_views.proofs.TokenPlaces.{rises_there}
 use Rattle.chip_views.proofs.place.first_unknown.Goals as goal
