@@ -10,6 +10,7 @@ ghost use Rattle.chip_asm.specs.Lines.{open_fault};
 ghost use Rattle.chip_asm.specs.Program.{image_of};
 ghost use Rattle.chip_views.specs.Dis.{is_visible, is_plain, is_word, result_of, gives_word, word_text, line_text, source_of_image};
 
+use chip_asm::limits::LINE_BYTES;
 use chip_lang::{Body, Coded, Line, Meter, Names, encode, read_line, show};
 use chip_machine::limits::IMAGE_BYTES;
 use std::alloc::{AllocError, Global};
@@ -71,11 +72,11 @@ fn push_word_line(alloc: Global, text: &mut Vec<u8>, word: u16) -> Result<(), Al
     Ok(())
 }
 
-// A line of at most 200 letters, digits, signs and spaces.
+// A line that is not too long, of letters, digits, signs and spaces.
 fn is_plain(text: &[u8]) -> bool
     ensures { result ≡ is_plain text.now }
 {
-    text.len() <= 200 && is_visible(text)
+    text.len() <= LINE_BYTES && is_visible(text)
 }
 
 // Letters, digits, signs and spaces alone.
