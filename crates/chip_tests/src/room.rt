@@ -71,10 +71,15 @@ impl<'a> Room<'a> {
         Ok(())
     }
 
+    /// The bytes of a file.
+    pub(crate) fn bytes(&self, name: &str) -> Result<Vec<u8>, Fail> {
+        let path = self.path(name)?;
+        Ok(fs::read(self.rt, &path)?)
+    }
+
     /// An error unless a file has these bytes.
     pub(crate) fn expect_bytes(&self, name: &str, bytes: &[u8]) -> Result<(), Fail> {
-        let path = self.path(name)?;
-        let found = fs::read(self.rt, &path)?;
+        let found = self.bytes(name)?;
         ensure(found.as_slice() == bytes, name)
     }
 
