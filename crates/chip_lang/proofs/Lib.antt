@@ -17,3 +17,5 @@ pub mod NamesUsed
 pub mod NamesBound
 pub mod FormedLine
 pub mod Lookup
+pub mod Misfit
+pub mod FaultSpan

@@ -181,7 +181,7 @@ pub record LiesIn (line : List ℕ) (t : Token) : Type 0 where
   pub rises : t.start < t.end
   pub inside : t.end ≤ length line
 
-lies_in : (line : List ℕ) (t : Token) → IsToken line t → LiesIn line t
+pub lies_in : (line : List ℕ) (t : Token) → IsToken line t → LiesIn line t
 lies_in line t is =
     let bounded = token_bounded (get_or line t.start 0) (drop (t.start + 1) line) in
     record {

@@ -14,6 +14,7 @@
 --     Uses       the names that a line uses and defines
 --     Meter      counts of work
 --     FaultNumber      the numbers of faults
+--     FaultPlace       at which tokens a fault lies
 --     Seen, SeenLine, SeenShape     values of the program without where they lie in memory
 --     Examples   worked examples
 pub mod Code
@@ -21,6 +22,7 @@ pub mod Decoding
 pub mod Encoding
 pub mod Examples
 pub mod FaultNumber
+pub mod FaultPlace
 pub mod Form
 pub mod Grammar
 pub mod InstrForm

@@ -30,7 +30,7 @@ fn piece_length(tokens: &[Lexeme]) -> usize
 
 /// The tokens before the first comma, and those after it if there is one.
 #[tactic(auto, using(crate::proofs::Pieces::piece_steps))]
-fn first_piece(tokens: &[Lexeme]) -> (&[Lexeme], Option<&[Lexeme]>)
+pub(crate) fn first_piece(tokens: &[Lexeme]) -> (&[Lexeme], Option<&[Lexeme]>)
     ensures { pieces tokens.now ≡ result.0.now ∷ pieces_in (option_copied result.1) }
 {
     let length = piece_length(tokens);
@@ -84,7 +84,7 @@ pub(crate) fn operands_of(
 }
 
 /// The operand that some tokens are, if they are one.
-fn operand_of(alloc: Global, tokens: &[Lexeme]) -> Result<Option<Operand>, AllocError>
+pub(crate) fn operand_of(alloc: Global, tokens: &[Lexeme]) -> Result<Option<Operand>, AllocError>
     ensures { IfOk result (λ found. option_map operand_of found ≡ operand_of_tokens tokens.now) }
 {
     if let Some(operand) = part_of_machine(tokens) {

@@ -64,7 +64,7 @@ fn after_label<'a>(name: &'a Bytes, rest: &'a [Lexeme]) -> Shape<'a>
 }
 
 /// Whether a word can't be defined.
-fn is_bad_name(word: &[u8]) -> bool
+pub(crate) fn is_bad_name(word: &[u8]) -> bool
     ensures { result ≡ is_bad_name word.now }
 {
     is_reserved(word) || word.len() > 64

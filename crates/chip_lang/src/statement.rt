@@ -198,7 +198,7 @@ fn is_known_option(tokens: &[Lexeme]) -> bool
 }
 
 /// Whether a label may stand before a directive.
-fn takes_label(directive: Directive) -> bool
+pub(crate) fn takes_label(directive: Directive) -> bool
     ensures { result ≡ takes_label directive }
 {
     !matches!(

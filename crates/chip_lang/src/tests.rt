@@ -18,6 +18,7 @@ use std::alloc::{AllocError, Global};
 use std::test::Fail;
 
 mod lines;
+mod places;
 
 use lines::LINES;
 

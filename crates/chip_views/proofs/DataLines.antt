@@ -1,6 +1,6 @@
 -- Lines of data whose numbers are hexadecimal.
-use Rattle.std.proofs.Common.{◌≡◌, ℕ, zero, suc, ◌+◌, ◌*◌, ◌-◌, ◌/◌, ◌%◌, ◌<◌, ◌==◌, ◌&&◌, ◌++◌, Bool, true, false, List, [], ◌∷◌, length, take, take_all, map, inl, inr, refl, sym, ap, ◌∙◌, arith, None, Some}
-use Rattle.std.specs.Prelude.{codes, pos, nat_lt, nat_le, if◌then◌else◌}
+use Rattle.std.proofs.Common.{◌≡◌, ℕ, zero, suc, ◌+◌, ◌-◌, ◌/◌, ◌%◌, ◌<◌, ◌==◌, ◌&&◌, ◌++◌, Bool, true, List, [], ◌∷◌, length, take, take_all, map, inl, inr, refl, ap, ◌∙◌, arith, None}
+use Rattle.std.specs.Prelude.{codes, pos, if◌then◌else◌}
 use Rattle.std.specs.List.{list_all, prefix_len}
 use Rattle.std.proofs.lemmas.Bool.{and_parts, cases_lt, eqb-true, le-leb}
 use Rattle.chip_lang.specs.declared.token.Token.{Token}

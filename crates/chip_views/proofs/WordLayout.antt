@@ -1,5 +1,5 @@
 -- Where the lines of words stand, one after another, and which image they have.
-use Rattle.std.proofs.Common.{◌≡◌, ℕ, suc, ◌+◌, ◌-◌, ◌<◌, ◌≤◌, ◌&&◌, ◌++◌, Bool, true, false, not, List, [], ◌∷◌, length, take, take_all, map, reverse, Option, None, Some, Result, Ok, Err, inl, inr, refl, sym, ap, subst, ◌∙◌, arith}
+use Rattle.std.proofs.Common.{◌≡◌, ℕ, suc, ◌+◌, ◌-◌, ◌<◌, ◌≤◌, ◌&&◌, ◌++◌, Bool, true, false, not, List, [], ◌∷◌, length, take, take_all, map, reverse, Option, None, Some, Ok, inl, inr, refl, sym, ap, subst, ◌∙◌, arith}
 use Rattle.std.proofs.lemmas.Bool.{cases_lt, le-leb, lt-leb}
 use Rattle.std.proofs.lemmas.Grind.{same_number_lists}
 use Rattle.std.proofs.lemmas.List.FromFn.{length-map-range_with_len, get_or-map-range_with_len}
@@ -8,10 +8,9 @@ use Rattle.std.proofs.lemmas.List.Elements.{filter_map-append}
 use Rattle.std.proofs.lemmas.List.Sums.{sum_by-append}
 use Rattle.chip_asm.proofs.BlockSteps.{reverse-cons}
 use Rattle.chip_views.proofs.DataLines.{run_of_all}
-use Rattle.std.specs.Prelude.{pos, unsigned_abs, slice_index, filter, find, filter_map, sum_by, take_while, if◌then◌else◌, nat_lt, nat_le}
-use Rattle.std.specs.List.{list_any, list_all, range_with_len}
+use Rattle.std.specs.Prelude.{pos, unsigned_abs, slice_index, filter, find, filter_map, sum_by, take_while}
+use Rattle.std.specs.List.{list_all, range_with_len}
 use Rattle.std.specs.Option.{option_map_or}
-use Rattle.chip_lang.specs.declared.fault.Fault.{Fault}
 use Rattle.chip_lang.specs.Form.{Row}
 use Rattle.chip_lang.specs.Operand.{Operand}
 use Rattle.chip_lang.specs.Tree.{Tree}
@@ -19,8 +18,8 @@ use Rattle.chip_lang.specs.Line.{Body, Reading, read, code, dw, db, align}
 use Rattle.chip_lang.specs.Code.{own_bytes}
 use Rattle.chip_asm.specs.declared.table.Symbol.{Symbol}
 use Rattle.chip_asm.specs.Names.{Name, values_of}
-use Rattle.chip_asm.specs.Layout.{Placed, body_of, is_if, is_if_body, is_end_body, is_org_body, is_side_or_end, is_origin, is_align, is_align_body, is_align_off_body, symbol_of, symbols, with_between, encloses, enclosing, has_ended, is_live, address, is_aligning, value_at, full_size, is_misplaced, fault_of_value, first_fault, place, placed}
-use Rattle.chip_asm.specs.Program.{covers, byte_at, bytes_in_code, fault_in_code, numbered_fault, fault_of, unless_faulty, faults_of_lines, bytes_of_lines, image_of_lines}
+use Rattle.chip_asm.specs.Layout.{Placed, body_of, is_if, is_if_body, is_end_body, is_org_body, is_side_or_end, is_origin, is_align_body, symbol_of, symbols, with_between, encloses, enclosing, has_ended, is_live, address, is_aligning, value_at, full_size, is_misplaced, fault_of_value, first_fault, place, placed}
+use Rattle.chip_asm.specs.Program.{covers, byte_at, bytes_in_code, fault_in_code, numbered_fault, fault_of, unless_faulty, bytes_of_lines, image_of_lines}
 
 -- ---- lines that open no block, end nothing and give no name
 

@@ -1,5 +1,5 @@
 -- The source text of an image that has none: each word as the instruction that it is, else as data (own).
-use Rattle.std.specs.Prelude.{ℕ, ◌+◌, ◌*◌, ◌&&◌, Bool, true, false, nat_le, List, [], ◌∷◌, ◌++◌, codes, length, if◌then◌else◌, Option, Some, None, Result, Ok, Err}
+use Rattle.std.specs.Prelude.{ℕ, ◌+◌, ◌*◌, ◌&&◌, Bool, false, nat_le, List, [], ◌∷◌, ◌++◌, codes, length, if◌then◌else◌, None, Result, Ok, Err}
 use Rattle.std.specs.List.{list_all, flat_map}
 use Rattle.std.specs.Str.{bytes_eq}
 use Rattle.chip_lang.specs.declared.fault.Fault.{Fault}
@@ -7,7 +7,7 @@ use Rattle.chip_lang.specs.declared.code.Coded.{Coded}
 use Rattle.chip_lang.specs.declared.code.Coded.TheVariants.{Bytes, Faulty}
 use Rattle.chip_lang.specs.Code.{own_bytes, word_bytes}
 use Rattle.chip_lang.specs.Examples.{none}
-use Rattle.chip_lang.specs.Line.{Body, code, Reading, bad, read, reading_of}
+use Rattle.chip_lang.specs.Line.{code, Reading, read, reading_of}
 use Rattle.chip_lang.specs.Show.{show_of, hex_word, hex_byte}
 
 -- a letter, a digit, a sign or a space

@@ -7,6 +7,9 @@ use chip_machine::limits::IMAGE_BYTES;
 use std::alloc::Global;
 use std::test::Fail;
 
+mod checks;
+mod pictures;
+
 // Whether the text of an image is this, and assembles to the image.
 fn is_shown(alloc: Global, image: &[u8], text: &str) -> Result<bool, Fail>
     requires { length image.now ≤ IMAGE_BYTES }

@@ -1,8 +1,7 @@
-use Rattle.std.proofs.Common.{◌≡◌, Some, None, ◌++◌, ap, ◌∙◌, arith}
+use Rattle.std.proofs.Common.{ap, ◌∙◌, arith}
 use Rattle.std.specs.Str.Lines.{lines}
 use Rattle.chip_asm.specs.Lines.{open_fault}
 use Rattle.chip_asm.specs.Program.{image_of}
-use Rattle.chip_views.specs.Dis.{source_of_image}
 use Rattle.chip_views.proofs.ImageText.{image_of_text, opens}
 use Rattle.chip_views.proofs.dis.source_of_image.Goals as goal
 

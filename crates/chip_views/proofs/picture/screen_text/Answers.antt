@@ -1,4 +1,4 @@
-use Rattle.std.proofs.Common.{[], ℕ}
+use Rattle.std.proofs.Common.{[]}
 use Rattle.chip_views.specs.Picture.{picture_line}
 use Rattle.chip_views.proofs.Parts.{parts_more}
 use Rattle.chip_views.proofs.picture.screen_text.Goals as goal
