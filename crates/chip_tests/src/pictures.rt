@@ -1,4 +1,4 @@
-//! The words `picture`, `--keys` and `-`, in runs of the program.
+//! The words `picture`, `check`, `--keys` and `-`, in runs of the program.
 use crate::words::{new_folder, run_on};
 use std::fs;
 use std::test::Fail;
@@ -57,5 +57,14 @@ fn takes_key_events_from_a_file(rt: HostRuntime) -> Result<(), Fail> {
     let said = format!(in alloc; "chipbench: keys {keys} line 2: N7\n")?;
     assert!(rt; run.errors.as_slice() == said.as_bytes());
     fs::remove_dir_all(&rt, &folder)?;
+    Ok(())
+}
+
+#[test]
+fn shows_where_a_fault_lies(rt: HostRuntime) -> Result<(), Fail> {
+    assert!(rt; prints(&rt, &["check", "-"], b"CLS\nloop: JP loop\n", 0, "")?);
+    let source = "a: LD V0, 2 + none + A\n";
+    let text = "-:1:15: F9: undefined name\na: LD V0, 2 + none + A\n              ^~~~\n";
+    assert!(rt; prints(&rt, &["check", "-"], source.as_bytes(), 1, text)?);
     Ok(())
 }
