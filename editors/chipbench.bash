@@ -2,7 +2,7 @@
 _chipbench() {
     local word=${COMP_WORDS[COMP_CWORD]} before=${COMP_WORDS[COMP_CWORD-1]} options=
     if [ "$COMP_CWORD" -eq 1 ]; then
-        COMPREPLY=($(compgen -W "debug asm list dis run picture explain help --help --version" -- "$word"))
+        COMPREPLY=($(compgen -W "debug asm list dis run picture check explain help --help --version" -- "$word"))
         return
     fi
     case $before in
@@ -17,6 +17,7 @@ _chipbench() {
         dis) options=" --help" ;;
         run) options="--steps --rate --tape --seed --profile --keys --help" ;;
         picture) options="--steps --rate --tape --seed --profile --keys --ascii --pbm --png --help" ;;
+        check) options=" --help" ;;
         explain) options=" --help" ;;
     esac
     case $word in

@@ -5,6 +5,7 @@ complete -c chipbench -n __fish_use_subcommand -f -a list -d 'Prints the listing
 complete -c chipbench -n __fish_use_subcommand -f -a dis -d 'Prints a source whose image is that of a file'
 complete -c chipbench -n __fish_use_subcommand -f -a run -d 'Prints the registers and the screen after a number of steps'
 complete -c chipbench -n __fish_use_subcommand -f -a picture -d 'Prints the screen after a number of steps, two points to a character'
+complete -c chipbench -n __fish_use_subcommand -f -a check -d 'Prints each fault of a source with its place and a sentence'
 complete -c chipbench -n __fish_use_subcommand -f -a explain -d 'Prints what a code means, an example that has it, and the mend'
 complete -c chipbench -n '__fish_seen_subcommand_from debug' -l rate -x -d 'How many steps lie between two ticks of the timers'
 complete -c chipbench -n '__fish_seen_subcommand_from debug' -l tape -x -d 'The random bytes'

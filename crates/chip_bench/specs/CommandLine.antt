@@ -64,6 +64,9 @@ asm = with_rule (with_rule (new_app (codes "asm")) needed_source) image
 abbrev pub list : App
 list = with_rule (new_app (codes "list")) needed_source
 
+abbrev pub check : App
+check = with_rule (new_app (codes "check")) needed_source
+
 abbrev pub dis : App
 dis = with_rule (new_app (codes "dis")) image
 
@@ -101,5 +104,5 @@ with_version app = record app { top = record app.top { has_version = true } }
 
 -- the program's commands
 abbrev pub chipbench : App
-chipbench = with_subcommand (with_subcommand (with_subcommand (with_subcommand (with_subcommand (with_subcommand (with_subcommand
-    (without_name (with_version (new_app (codes "chipbench")))) debug.top) asm.top) list.top) dis.top) run.top) picture.top) explain.top
+chipbench = with_subcommand (with_subcommand (with_subcommand (with_subcommand (with_subcommand (with_subcommand (with_subcommand (with_subcommand
+    (without_name (with_version (new_app (codes "chipbench")))) debug.top) asm.top) list.top) dis.top) run.top) picture.top) check.top) explain.top

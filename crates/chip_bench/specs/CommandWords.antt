@@ -92,12 +92,13 @@ abbrev pub Asks : List ℕ → List Row → CommandLine → Type 0
 Asks name rows (line.Asm source image) =
     (name ≡ codes "asm") × (source.now ≡ needed (codes "source") rows) × (image.now ≡ needed (codes "image") rows)
 Asks name rows (line.List source) = (name ≡ codes "list") × (source.now ≡ needed (codes "source") rows)
+Asks name rows (line.Check source) = (name ≡ codes "check") × (source.now ≡ needed (codes "source") rows)
 Asks name rows (line.Dis image) = (name ≡ codes "dis") × (image.now ≡ needed (codes "image") rows)
 Asks name rows (line.Run words) = (name ≡ codes "run") × AsksRun rows words
 Asks name rows (line.Picture words) = (name ≡ codes "picture") × AsksPicture rows words
 Asks name rows (line.Explain code) = (name ≡ codes "explain") × (option_copied code ≡ first_of (codes "code") rows)
 Asks name rows (line.Debug source settings) =
-    (name ≢ codes "asm") × (name ≢ codes "list") × (name ≢ codes "dis") × (name ≢ codes "run")
+    (name ≢ codes "asm") × (name ≢ codes "list") × (name ≢ codes "check") × (name ≢ codes "dis") × (name ≢ codes "run")
     × (name ≢ codes "picture") × (name ≢ codes "explain")
     × (option_copied source ≡ first_of (codes "source") rows) × AsksSettings rows settings
 

@@ -6,6 +6,7 @@ use Rattle.chip_asm.specs.Program.{image_of, faults_of}
 use Rattle.chip_asm.specs.Listing.{listing_of}
 use Rattle.chip_asm.specs.declared.refusal.OpenError.{OpenError}
 use Rattle.chip_asm.specs.declared.refusal.OpenError.TheVariants as unopened
+use Rattle.chip_views.specs.Check.{check_of}
 use Rattle.chip_bench.specs.Answers.{answer_to, faults_text, listing_text}
 use Rattle.std.specs.Borrow.{Bor}
 use Rattle.chip_bench.specs.KeyFile.{key_fault, session_under}
@@ -64,6 +65,10 @@ ending_with None = Faulty
 -- `list`
 abbrev pub listing_of_lines : List (List ℕ) → Printed
 listing_of_lines lines = printed (listing_text (listing_of lines)) (ending_with (image_of lines))
+
+-- `check`
+abbrev pub check_of_lines : List ℕ → List (List ℕ) → Printed
+check_of_lines name lines = printed (check_of name lines) (ending_with (image_of lines))
 
 -- a question that isn't answered: the faults where there is no image, else the refusal's code
 abbrev pub unanswered : Refusal → Printed → Printed

@@ -74,6 +74,10 @@ pub enum CommandLine<'a> {
     List {
         source: &'a str,
     },
+    /// To print the faults of a source with their places.
+    Check {
+        source: &'a str,
+    },
     /// To print a source of an image.
     Dis {
         image: &'a str,
@@ -179,6 +183,9 @@ fn command_asked<'a>(
             image: required_text(found, "image"),
         },
         "list" => CommandLine::List {
+            source: required_text(found, "source"),
+        },
+        "check" => CommandLine::Check {
             source: required_text(found, "source"),
         },
         "dis" => CommandLine::Dis {
@@ -312,6 +319,7 @@ fn chipbench<'a>(alloc: Global) -> Result<Command<'a>, AllocError>
         .subcommand(dis_command(alloc)?)?
         .subcommand(run_command(alloc)?)?
         .subcommand(picture_command(alloc)?)?
+        .subcommand(check_command(alloc)?)?
         .subcommand(explain_command(alloc)?)?;
     Ok(command)
 }
@@ -347,6 +355,17 @@ fn list_command<'a>(alloc: Global) -> Result<Command<'a>, AllocError>
     let command = Command::new(alloc, "list")
         .about("Prints the listing of a source")
         .after_help("Example: chipbench list game.asm")
+        .arg(source_argument(alloc).required(true))?;
+    Ok(command)
+}
+
+fn check_command<'a>(alloc: Global) -> Result<Command<'a>, AllocError>
+    ensures app { IfOk result (λ command. app_of command ≡ line.check) }
+    ensures local { IfOk result (λ command. (fields_of command).has_globals ≡ false) }
+{
+    let command = Command::new(alloc, "check")
+        .about("Prints each fault of a source with its place and a sentence")
+        .after_help("Example: chipbench check game.asm")
         .arg(source_argument(alloc).required(true))?;
     Ok(command)
 }

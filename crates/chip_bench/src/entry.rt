@@ -15,8 +15,8 @@ use crate::counted::Counted;
 use crate::ending::{Ending, Failure};
 use crate::image_file::write_file;
 use crate::output::{
-    KeyFile, answer_script, explain, image_or_faults, list_source, picture_source, print,
-    print_source, run_source,
+    KeyFile, answer_script, check_source, explain, image_or_faults, list_source, picture_source,
+    print, print_source, run_source,
 };
 use crate::question::PictureForm;
 use crate::settings::Settings;
@@ -120,6 +120,10 @@ fn carry_out<'a, F: Files, S: AsStr, I: Read, O: Write>(
         CommandLine::List { source } => {
             let bytes = read_source(alloc, files, source, input)?;
             list_source(alloc, &bytes, output)
+        }
+        CommandLine::Check { source } => {
+            let bytes = read_source(alloc, files, source, input)?;
+            check_source(alloc, source, &bytes, output)
         }
         CommandLine::Dis { image } => dis(alloc, files, image, input, output),
         CommandLine::Run(words) => run(alloc, files, &words, input, output),

@@ -5,7 +5,7 @@ ghost use Rattle.chip_asm.specs.Lines.{open_fault};
 ghost use Rattle.chip_asm.specs.Program.{image_of};
 ghost use Rattle.chip_views.specs.Dis.{source_of_image};
 ghost use Rattle.chip_bench.specs.Transcript.{refused};
-ghost use Rattle.chip_bench.specs.Printing.{Prints, Refuses, printed, printed_of, faults_of_lines, faults_unless_image, listing_of_lines, run_of, picture_at, unanswered, keys_failure, PrintsUnder};
+ghost use Rattle.chip_bench.specs.Printing.{Prints, Refuses, printed, printed_of, check_of_lines, faults_of_lines, faults_unless_image, listing_of_lines, run_of, picture_at, unanswered, keys_failure, PrintsUnder};
 ghost use Rattle.chip_bench.specs.Running.{AnswersScript};
 
 use crate::answer::{faults_answer, listing_answer};
@@ -20,7 +20,7 @@ use crate::server::{ServeError, refuse, serve, write_whole};
 use crate::settings::Settings;
 use chip_asm::{OpenError, Source};
 use chip_machine::limits::IMAGE_BYTES;
-use chip_views::source_of_image;
+use chip_views::{check_text, source_of_image};
 use std::alloc::Global;
 use std::io::{Read, Write};
 
@@ -84,6 +84,22 @@ pub(crate) fn list_source<'a, O: Write>(
 {
     match Source::open(alloc, source) {
         Ok(opened) => print_listing(alloc, &opened, output),
+        Err(error) => refuse_source(error, output),
+    }
+}
+
+/// `check`: the faults of a source with their places.
+pub(crate) fn check_source<'a, O: Write>(
+    alloc: Global,
+    name: &str,
+    source: &[u8],
+    output: &mut Counted<O>,
+) -> Result<Ending, Failure<'a>>
+    ensures { Prints O.contents output.old output.new
+        (printed_of (open_fault source.now) (check_of_lines name.now (lines source.now))) result }
+{
+    match Source::open(alloc, source) {
+        Ok(opened) => print_check(alloc, name, source, &opened, output),
         Err(error) => refuse_source(error, output),
     }
 }
@@ -256,6 +272,23 @@ fn print_listing<'a, O: Write>(
     match source.image() {
         Some(_) => print(&listing, Ending::Done, output),
         None => print(&listing, Ending::Faulty, output),
+    }
+}
+
+fn print_check<'a, O: Write>(
+    alloc: Global,
+    name: &str,
+    bytes: &[u8],
+    source: &Source,
+    output: &mut Counted<O>,
+) -> Result<Ending, Failure<'a>>
+    requires { source.now.lines ≡ lines bytes.now }
+    ensures { Prints O.contents output.old output.new (check_of_lines name.now source.now.lines) result }
+{
+    let text = check_text(alloc, name.as_bytes(), bytes, source)?;
+    match source.image() {
+        Some(_) => print(&text, Ending::Done, output),
+        None => print(&text, Ending::Faulty, output),
     }
 }
 

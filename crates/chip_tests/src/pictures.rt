@@ -1,4 +1,4 @@
-//! The words `picture`, `--keys` and `-`, in runs of the program.
+//! The words `picture`, `check`, `--keys` and `-`, in runs of the program.
 use crate::room::Room;
 use crate::words::{Ran, ensure, run_on};
 use std::test::Fail;
@@ -77,4 +77,11 @@ fn takes_key_events_from_a_file(rt: HostRuntime) -> Result<(), Fail> {
         "what is said of wrong keys",
     )?;
     room.end()
+}
+
+#[test]
+fn shows_where_a_fault_lies(rt: HostRuntime) -> Result<(), Fail> {
+    run(&rt, "check -", b"CLS\nloop: JP loop\n")?.expect(0, b"", b"")?;
+    let text = b"-:1:15: F9: undefined name\na: LD V0, 2 + none + A\n              ^~~~\n";
+    run(&rt, "check -", b"a: LD V0, 2 + none + A\n")?.expect(1, text, b"")
 }

@@ -346,6 +346,7 @@ fn says_why_a_source_does_not_open(rt: HostRuntime) -> Result<(), Fail> {
 const LISTING: &[u8] = b"   1 0200 6005          LD V0, 5
    2 0202 7001          LOOP: ADD V0, 1
    3 0204 1202          JP LOOP
+.
 ";
 
 const RUN: &[u8] = b"v 06 00 00 00 00 00 00 00 00 00 00 00 00 00 00 00

@@ -4,7 +4,7 @@ use Rattle.clap.specs.Words.{FailsBy, found_of}
 use Rattle.chip_bench.specs.CommandWords.{IsProfile, profile_fault}
 use Rattle.chip_bench.proofs.WordLemmas.{first_is}
 use Rattle.chip_bench.proofs.command_line.command_asked.Goals as goal
-use Rattle.chip_bench.proofs.command_line.command_asked.Goals.{in-asm, in-list, in-dis, in-run, in-picture, in-explain, in_default}
+use Rattle.chip_bench.proofs.command_line.command_asked.Goals.{in-asm, in-list, in-check, in-dis, in-run, in-picture, in-explain, in_default}
 
 pub returns-in_err-profile-clause-fault : goal.returns-in_err-profile-clause-fault
 returns-in_err-profile-clause-fault c =
@@ -29,6 +29,9 @@ returns-clause-asked c =
       | in-list w ↦
           let named : c.args.name.now ≡ codes "list" = search rules in
           rw w.result-is (named, w.required_text-in-list.ensures)
+      | in-check w ↦
+          let named : c.args.name.now ≡ codes "check" = search rules in
+          rw w.result-is (named, w.required_text-in-check.ensures)
       | in-dis w ↦
           let named : c.args.name.now ≡ codes "dis" = search rules in
           rw w.result-is (named, w.required_text-in-dis.ensures)
@@ -45,10 +48,11 @@ returns-clause-asked c =
       | in_default w ↦
           let not_asm : c.args.name.now ≢ codes "asm" = search rules in
           let not_list : c.args.name.now ≢ codes "list" = search rules in
+          let not_check : c.args.name.now ≢ codes "check" = search rules in
           let not_dis : c.args.name.now ≢ codes "dis" = search rules in
           let not_run : c.args.name.now ≢ codes "run" = search rules in
           let not_picture : c.args.name.now ≢ codes "picture" = search rules in
           let not_explain : c.args.name.now ≢ codes "explain" = search rules in
           let source = first_is (found_of c.args.found.now) (codes "source") _ w.get_str-in_default.ensures in
-          rw w.result-is (not_asm, not_list, not_dis, not_run, not_picture, not_explain, source, w.setting_words.ensures profile)
+          rw w.result-is (not_asm, not_list, not_check, not_dis, not_run, not_picture, not_explain, source, w.setting_words.ensures profile)
     ]
