@@ -94,6 +94,10 @@ fn letters(last: Option<u8>) -> Plenty {
 
 #[test]
 fn there_are_50_000_000_bytes(rt: HostRuntime) -> Result<(), Fail> {
-    expect(&rt, letters(None), Ok(()), b"no C2\n")?;
+    expect(&rt, letters(None), Ok(()), b"no C2\n")
+}
+
+#[test]
+fn no_letter_follows_50_000_000_bytes(rt: HostRuntime) -> Result<(), Fail> {
     expect(&rt, letters(Some(b'x')), Err(ServeError::TooMuchInput), b"")
 }

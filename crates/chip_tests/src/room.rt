@@ -1,10 +1,10 @@
 //! A folder of files, for tests of what the program does with them. Its calls have no clauses, so that tests of many calls are
 //! proved fast.
-use crate::words::{Ran, ensure, run_on};
+use crate::words::{Ran, ensure, new_folder, run_on};
+use std::fs;
 use std::os::unix::fs::{MetadataExt, PermissionsExt, symlink};
 use std::rt::Files;
 use std::test::Fail;
-use std::{env, fs};
 
 /// A new folder, whose files no other run has, and which goes with `end`.
 #[derive(Drop)]
@@ -15,11 +15,7 @@ pub(crate) struct Room<'a> {
 
 impl<'a> Room<'a> {
     pub(crate) fn new(rt: &'a HostRuntime, name: &str) -> Result<Room<'a>, Fail> {
-        let place = env::temp_dir(rt)?;
-        let place = place.as_path();
-        let number = std::process::id(rt.process());
-        let folder = format!(in rt.alloc(); "{}/chipbench-{name}-{number}", place.as_str())?;
-        fs::create_dir(rt, &folder)?;
+        let folder = new_folder(rt, name)?;
         Ok(Room { rt, folder })
     }
 

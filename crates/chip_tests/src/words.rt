@@ -6,10 +6,10 @@ use chip_bench::{Counted, program, refuse_words, tape_of};
 use std::alloc::Global;
 use std::cell::Cell;
 use std::convert::AsStr;
-use std::io;
 use std::io::{Read, Write};
 use std::rt::Files;
 use std::test::Fail;
+use std::{env, fs, io};
 
 /// An error unless it is so, with its place.
 pub(crate) fn ensure(is_so: bool, place: &str) -> Result<(), Fail> {
@@ -62,6 +62,16 @@ pub(crate) fn run_on<F: Files, S: AsStr>(
         output: Vec::from_slice(alloc, output.get())?,
         errors,
     })
+}
+
+/// A new folder, whose files no other run has.
+pub(crate) fn new_folder(rt: &HostRuntime, name: &str) -> Result<String, Fail> {
+    let place = env::temp_dir(rt)?;
+    let place = place.as_path();
+    let number = std::process::id(rt.process());
+    let folder = format!(in rt.alloc(); "{}/chipbench-{name}-{number}", place.as_str())?;
+    fs::create_dir(rt, &folder)?;
+    Ok(folder)
 }
 
 /// A run by the words of a line, on a script of two commands.
