@@ -120,9 +120,12 @@ fn place_of(events: &[(u32, u32, bool)], step: u32, key: u32) -> Option<usize> {
 fn key_edit(alloc: Global, edited: &mut Edited, state: &mut u32) -> Result<String, Fail> {
     let step = 64 * (next(state) % 32);
     let key = next(state) % 4;
-    if let Some(place) = place_of(&edited.events, step, key) {
-        edited.events.remove(place);
-        return Ok(format!(in alloc; "kdel {step} {key}")?);
+    match place_of(&edited.events, step, key) {
+        Some(place) if place < edited.events.len() => {
+            edited.events.remove(place);
+            return Ok(format!(in alloc; "kdel {step} {key}")?);
+        }
+        _ => (),
     }
     let is_down = next(state) % 3 != 0;
     let down = if is_down { "down" } else { "up" };
