@@ -11,7 +11,7 @@ use chip_lang::line::{Body, Line, read_line};
 use chip_lang::meter::Meter;
 use chip_lang::names::Names;
 use chip_lang::show;
-use chip_lang::token::tokens;
+use chip_lang::token::{Kind, Token, tokens};
 use chip_lang::used_names::{agree_on, defines, uses};
 use chip_lang::value::eval;
 use std::alloc::{AllocError, Global};
@@ -235,12 +235,22 @@ fn source_texts(rt: HostRuntime) -> Result<(), Fail> {
     Ok(())
 }
 
+/// Whether the token at a place is of this kind, with these bounds.
+fn has_token(found: &[Token], place: usize, kind: Kind, start: usize, end: usize) -> bool {
+    match found.get(place) {
+        Some(token) => token.kind == kind && token.start == start && token.end == end,
+        None => false,
+    }
+}
+
 #[test]
 fn tokens_of_a_line(rt: HostRuntime) -> Result<(), Fail> {
     let found = tokens(rt.alloc(), b"P: DB #0f ;x")?;
     assert_eq!(rt; found.len(), 4);
-    assert_eq!(rt; found[3].start, 6);
-    assert_eq!(rt; found[3].end, 9);
+    assert!(rt; has_token(&found, 0, Kind::Word, 0, 1));
+    assert!(rt; has_token(&found, 1, Kind::Sign(b':'), 1, 2));
+    assert!(rt; has_token(&found, 2, Kind::Word, 3, 5));
+    assert!(rt; has_token(&found, 3, Kind::Number(15), 6, 9));
     Ok(())
 }
 
