@@ -38,7 +38,8 @@ fn check(
 ) -> Result<(), Fail> {
     let mut machine = loaded_as(alloc, case.words, profile)?;
     run(&mut machine, case.steps, 0);
-    let wanted = (wanted.registers, wanted.pc, wanted.index, wanted.stop);
+    let registers = wanted.registers;
+    let wanted = (registers, wanted.pc, wanted.index, wanted.stop);
     assert_eq!(rt; seen(&machine), wanted, "after {}, {profile:?}", case.name);
     Ok(())
 }
