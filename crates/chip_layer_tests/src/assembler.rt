@@ -2,7 +2,7 @@ mod sessions;
 
 use chip_asm::{OpenError, Refusal, Source};
 use chip_lang::Fault;
-use std::alloc::Global;
+use std::alloc::{AllocError, Global};
 use std::test::Fail;
 
 fn has_image(source: &Source, expected: &[u8]) -> bool {
@@ -13,16 +13,55 @@ fn has_image(source: &Source, expected: &[u8]) -> bool {
 }
 
 // Edits without their clauses, of which the tests have no use: a test of many of them would be proved slowly.
-fn insert(alloc: Global, source: &mut Source, line: usize, text: &[u8]) -> Result<(), Refusal> {
+pub(crate) fn insert(
+    alloc: Global,
+    source: &mut Source,
+    line: usize,
+    text: &[u8],
+) -> Result<(), Refusal> {
     source.insert(alloc, line, text)
 }
 
-fn replace(alloc: Global, source: &mut Source, line: usize, text: &[u8]) -> Result<(), Refusal> {
+pub(crate) fn replace(
+    alloc: Global,
+    source: &mut Source,
+    line: usize,
+    text: &[u8],
+) -> Result<(), Refusal> {
     source.replace(alloc, line, text)
 }
 
-fn delete(alloc: Global, source: &mut Source, line: usize) -> Result<(), Refusal> {
+pub(crate) fn delete(alloc: Global, source: &mut Source, line: usize) -> Result<(), Refusal> {
     source.delete(alloc, line)
+}
+
+// What a source answers, without its clauses.
+pub(crate) fn opened(alloc: Global, text: &[u8]) -> Result<Source, OpenError> {
+    Source::open(alloc, text)
+}
+
+fn has_some_image(source: &Source) -> bool {
+    source.image().is_some()
+}
+
+fn fault(source: &Source, line: usize) -> Option<Fault> {
+    source.fault(line)
+}
+
+fn lines(source: &Source) -> usize {
+    source.lines()
+}
+
+fn parsed(source: &Source) -> u64 {
+    source.work().parsed
+}
+
+fn encoded(source: &Source) -> u64 {
+    source.work().encoded
+}
+
+fn listed(alloc: Global, source: &Source) -> Result<Vec<u8>, AllocError> {
+    source.listing(alloc)
 }
 
 const COUNTING: &[u8] = b"LD V0, 5\nLOOP: ADD V0, 1\nJP LOOP\n";
@@ -30,14 +69,14 @@ const COUNTING: &[u8] = b"LD V0, 5\nLOOP: ADD V0, 1\nJP LOOP\n";
 #[test]
 fn an_edit_encodes_only_what_needs_it(rt: HostRuntime) -> Result<(), Fail> {
     let alloc = rt.alloc();
-    let mut source = Source::open(alloc, COUNTING)?;
-    assert_eq!(rt; source.lines(), 3);
-    assert_eq!(rt; source.work().parsed, 3);
-    assert_eq!(rt; source.work().encoded, 3);
+    let mut source = opened(alloc, COUNTING)?;
+    assert_eq!(rt; lines(&source), 3);
+    assert_eq!(rt; parsed(&source), 3);
+    assert_eq!(rt; encoded(&source), 3);
     assert!(rt; has_image(&source, &[0x60, 5, 0x70, 1, 0x12, 2]));
     insert(alloc, &mut source, 2, b"CLS")?;
-    assert_eq!(rt; source.work().parsed, 4);
-    assert_eq!(rt; source.work().encoded, 5);
+    assert_eq!(rt; parsed(&source), 4);
+    assert_eq!(rt; encoded(&source), 5);
     assert!(rt; has_image(&source, &[0x60, 5, 0, 0xe0, 0x70, 1, 0x12, 4]));
     assert!(rt; source.symbol(b"looP") == source.symbol(b"LOOP"));
     let symbol = source.symbol(b"LOOP").ok_or("LOOP")?;
@@ -73,31 +112,31 @@ fn lines_are_edited_one_after_another(rt: HostRuntime) -> Result<(), Fail> {
     delete(alloc, &mut source, 2)?;
     assert!(rt; has_image(&source, &[0x60, 9, 0x70, 1, 0x12, 2]));
     delete(alloc, &mut source, 2)?;
-    assert_eq!(rt; source.fault(2), Some(Fault::UndefinedName));
-    assert!(rt; source.image().is_none());
+    assert_eq!(rt; fault(&source, 2), Some(Fault::UndefinedName));
+    assert!(rt; !has_some_image(&source));
     Ok(())
 }
 
 #[test]
 fn a_listing_shows_addresses_and_bytes(rt: HostRuntime) -> Result<(), Fail> {
     let alloc = rt.alloc();
-    let source = Source::open(alloc, COUNTING)?;
-    let listing = source.listing(alloc)?;
+    let source = opened(alloc, COUNTING)?;
+    let listing = listed(alloc, &source)?;
     assert_eq!(rt;
         listing.as_slice(),
         b"   1 0200 6005          LD V0, 5\n   2 0202 7001          LOOP: ADD V0, 1\n   3 0204 1202          JP LOOP\n".as_slice()
     );
-    let mut source = Source::open(alloc, b"IFDEF X\nDB 1\nELSE\nDB 2\nENDIF")?;
+    let mut source = opened(alloc, b"IFDEF X\nDB 1\nELSE\nDB 2\nENDIF")?;
     assert!(rt; has_image(&source, &[2, 0]));
     insert(alloc, &mut source, 1, b"X EQU 7")?;
     assert!(rt; has_image(&source, &[1, 0]));
     assert_eq!(rt;
-        source.listing(alloc)?.as_slice(),
+        listed(alloc, &source)?.as_slice(),
         b"   1 0200 =7            X EQU 7\n   2 0200               IFDEF X\n   3 0200 0100          DB 1\n   4 0202               ELSE\n   5 ----               DB 2\n   6 0202               ENDIF\n".as_slice()
     );
-    let source = Source::open(alloc, b"DS 3584")?;
+    let source = opened(alloc, b"DS 3584")?;
     assert_eq!(rt;
-        source.listing(alloc)?.as_slice(),
+        listed(alloc, &source)?.as_slice(),
         b"   1 0200 000000000000+ DS 3584\n".as_slice()
     );
     Ok(())
@@ -106,21 +145,21 @@ fn a_listing_shows_addresses_and_bytes(rt: HostRuntime) -> Result<(), Fail> {
 #[test]
 fn faults_stand_in_line_order(rt: HostRuntime) -> Result<(), Fail> {
     let alloc = rt.alloc();
-    let source = Source::open(alloc, b"DB Q\nP EQU Q\nQ EQU 1")?;
+    let source = opened(alloc, b"DB Q\nP EQU Q\nQ EQU 1")?;
     let faults = source.faults(alloc)?;
     assert_eq!(rt; faults.len(), 1);
     assert_eq!(rt; faults[0], (2, Fault::UndefinedName));
-    let source = Source::open(alloc, b"X EQU 1\nx EQU 2\nDB X")?;
-    assert_eq!(rt; source.fault(2), Some(Fault::DefinedTwice));
+    let source = opened(alloc, b"X EQU 1\nx EQU 2\nDB X")?;
+    assert_eq!(rt; fault(&source, 2), Some(Fault::DefinedTwice));
     let symbol = source.symbol(b"X").ok_or("X")?;
     assert_eq!(rt; symbol.value, 1);
-    let source = Source::open(alloc, b"IFDEF X\nIFDEF Y\nENDIF\nDB 1\nENDIF")?;
+    let source = opened(alloc, b"IFDEF X\nIFDEF Y\nENDIF\nDB 1\nENDIF")?;
     assert!(rt; has_image(&source, &[]));
     Ok(())
 }
 
 fn one_fault(rt: &HostRuntime, text: &[u8]) -> Result<Option<Fault>, OpenError> {
-    Ok(Source::open(rt.alloc(), text)?.fault(1))
+    Ok(fault(&opened(rt.alloc(), text)?, 1))
 }
 
 #[test]
@@ -152,11 +191,11 @@ fn each_fault_has_its_line(rt: HostRuntime) -> Result<(), Fail> {
 #[test]
 fn data_is_written_as_it_stands(rt: HostRuntime) -> Result<(), Fail> {
     let alloc = rt.alloc();
-    let source = Source::open(alloc, b"DB $..1111.., 255, -128, 1 + 2 * 3 < 1")?;
+    let source = opened(alloc, b"DB $..1111.., 255, -128, 1 + 2 * 3 < 1")?;
     assert!(rt; has_image(&source, &[0x3c, 0xff, 0x80, 0x0d]));
-    let source = Source::open(alloc, b"DW 6 | 1 ^ 7 & 2, -7/2")?;
+    let source = opened(alloc, b"DW 6 | 1 ^ 7 & 2, -7/2")?;
     assert!(rt; has_image(&source, &[0, 5, 0xff, 0xfd]));
-    let source = Source::open(
+    let source = opened(
         alloc,
         b"OPTION SCHIP11\nALIGN OFF\nXREF ON\nJP START ; go\nDATA: DB #3C, $.1..1.1.\nstart: LD I, data",
     )?;
@@ -168,7 +207,7 @@ fn data_is_written_as_it_stands(rt: HostRuntime) -> Result<(), Fail> {
 fn an_image_has_at_most_3584_bytes(rt: HostRuntime) -> Result<(), Fail> {
     let alloc = rt.alloc();
     for text in [b"DS 3584".as_slice(), b"ORG 4096"] {
-        let source = Source::open(alloc, text)?;
+        let source = opened(alloc, text)?;
         assert!(rt; has_image(&source, &[0; 3584]));
     }
     Ok(())
@@ -178,14 +217,14 @@ fn an_image_has_at_most_3584_bytes(rt: HostRuntime) -> Result<(), Fail> {
 fn names_have_their_values_and_lines(rt: HostRuntime) -> Result<(), Fail> {
     let alloc = rt.alloc();
     let text = b"P EQU 3\nQ = P * (2 + P) - ~0\nDB Q, 'Z', #0f, @17, $1.1";
-    let source = Source::open(alloc, text)?;
+    let source = opened(alloc, text)?;
     assert!(rt; has_image(&source, &[0x10, 0x5a, 0x0f, 0x0f, 5, 0]));
     let symbol = source.symbol(b"q").ok_or("q")?;
     assert_eq!(rt; symbol.value, 16);
     assert_eq!(rt; symbol.line, 2);
-    let source = Source::open(alloc, b"DEFINE Z1\nDB Z1")?;
+    let source = opened(alloc, b"DEFINE Z1\nDB Z1")?;
     assert!(rt; has_image(&source, &[0, 0]));
-    let source = Source::open(alloc, b"DB 6 \\ 3")?;
+    let source = opened(alloc, b"DB 6 \\ 3")?;
     assert!(rt; has_image(&source, &[5, 0]));
     Ok(())
 }
@@ -195,8 +234,8 @@ fn a_source_has_at_most_4000_lines(rt: HostRuntime) -> Result<(), Fail> {
     let alloc = rt.alloc();
     let long = [b' '; 201];
     let mut text = vec![in alloc; b'\n'; 4000]?;
-    let mut source = Source::open(alloc, &text)?;
-    assert_eq!(rt; source.lines(), 4000);
+    let mut source = opened(alloc, &text)?;
+    assert_eq!(rt; lines(&source), 4000);
     assert_eq!(rt;
         insert(alloc, &mut source, 4002, &long),
         Err(Refusal::NoSuchLine)
@@ -222,8 +261,8 @@ fn a_source_has_at_most_4000_lines(rt: HostRuntime) -> Result<(), Fail> {
         Err(Refusal::LineBreak)
     );
     assert_eq!(rt; delete(alloc, &mut source, 4001), Err(Refusal::NoSuchLine));
-    assert_eq!(rt; source.lines(), 4000);
-    assert_eq!(rt; source.work().parsed, 4000);
+    assert_eq!(rt; lines(&source), 4000);
+    assert_eq!(rt; parsed(&source), 4000);
     replace(alloc, &mut source, 4000, b"DB 7")?;
     delete(alloc, &mut source, 1)?;
     insert(alloc, &mut source, 4000, b"DB 8")?;
@@ -233,10 +272,7 @@ fn a_source_has_at_most_4000_lines(rt: HostRuntime) -> Result<(), Fail> {
     );
     assert!(rt; has_image(&source, &[7, 0, 8, 0]));
     text.push(b'x')?;
-    assert_eq!(rt;
-        Source::open(alloc, &text).err(),
-        Some(OpenError::TooManyLines)
-    );
+    assert_eq!(rt; opened(alloc, &text).err(), Some(OpenError::TooManyLines));
     Ok(())
 }
 
@@ -244,51 +280,45 @@ fn a_source_has_at_most_4000_lines(rt: HostRuntime) -> Result<(), Fail> {
 fn a_line_has_at_most_200_bytes(rt: HostRuntime) -> Result<(), Fail> {
     let alloc = rt.alloc();
     let mut text = vec![in alloc; b' '; 200]?;
-    let mut source = Source::open(alloc, &text)?;
+    let mut source = opened(alloc, &text)?;
     insert(alloc, &mut source, 1, &text)?;
     replace(alloc, &mut source, 2, &text)?;
-    assert_eq!(rt; source.lines(), 2);
+    assert_eq!(rt; lines(&source), 2);
     text.push(b'\r')?;
-    assert_eq!(rt;
-        Source::open(alloc, &text).err(),
-        Some(OpenError::LineTooLong(1))
-    );
+    assert_eq!(rt; opened(alloc, &text).err(), Some(OpenError::LineTooLong(1)));
     text.push(b'\n')?;
-    assert_eq!(rt; Source::open(alloc, &text)?.lines(), 1);
+    assert_eq!(rt; lines(&opened(alloc, &text)?), 1);
     text.extend_from_slice(&[b' '; 201])?;
-    assert_eq!(rt;
-        Source::open(alloc, &text).err(),
-        Some(OpenError::LineTooLong(2))
-    );
+    assert_eq!(rt; opened(alloc, &text).err(), Some(OpenError::LineTooLong(2)));
     Ok(())
 }
 
 #[test]
 fn kept_codes_are_used_again(rt: HostRuntime) -> Result<(), Fail> {
     let alloc = rt.alloc();
-    let mut source = Source::open(alloc, b"N EQU 1\nDB N\nDB 5\nLD V0, N")?;
-    assert_eq!(rt; source.work().parsed, 4);
-    assert!(rt; source.work().encoded <= 4);
+    let mut source = opened(alloc, b"N EQU 1\nDB N\nDB 5\nLD V0, N")?;
+    assert_eq!(rt; parsed(&source), 4);
+    assert!(rt; encoded(&source) <= 4);
     assert!(rt; has_image(&source, &[1, 0, 5, 0, 0x60, 1]));
     replace(alloc, &mut source, 1, b"N EQU 2")?;
-    assert_eq!(rt; source.work().parsed, 5);
-    assert!(rt; source.work().encoded <= 7);
+    assert_eq!(rt; parsed(&source), 5);
+    assert!(rt; encoded(&source) <= 7);
     assert!(rt; has_image(&source, &[2, 0, 5, 0, 0x60, 2]));
     replace(alloc, &mut source, 1, b"N EQU 2")?;
-    assert_eq!(rt; source.work().parsed, 6);
-    assert!(rt; source.work().encoded <= 8);
+    assert_eq!(rt; parsed(&source), 6);
+    assert!(rt; encoded(&source) <= 8);
     insert(alloc, &mut source, 1, b"IFDEF ZZ")?;
-    assert_eq!(rt; source.work().parsed, 7);
-    assert!(rt; source.work().encoded <= 8);
-    assert_eq!(rt; source.fault(1), Some(Fault::UnclosedIf));
-    assert!(rt; source.image().is_none());
+    assert_eq!(rt; parsed(&source), 7);
+    assert!(rt; encoded(&source) <= 8);
+    assert_eq!(rt; fault(&source, 1), Some(Fault::UnclosedIf));
+    assert!(rt; !has_some_image(&source));
     insert(alloc, &mut source, 6, b"ENDIF")?;
-    assert_eq!(rt; source.work().parsed, 8);
-    assert!(rt; source.work().encoded <= 10);
+    assert_eq!(rt; parsed(&source), 8);
+    assert!(rt; encoded(&source) <= 10);
     assert!(rt; has_image(&source, &[]));
     insert(alloc, &mut source, 1, b"DEFINE ZZ")?;
-    assert_eq!(rt; source.work().parsed, 9);
-    assert!(rt; source.work().encoded <= 15);
+    assert_eq!(rt; parsed(&source), 9);
+    assert!(rt; encoded(&source) <= 15);
     assert!(rt; has_image(&source, &[2, 0, 5, 0, 0x60, 2]));
     Ok(())
 }

@@ -1,4 +1,5 @@
 //! Sessions of edits: after each edit all answers are those of the lines opened anew.
+use crate::assembler::{delete, insert, opened, replace};
 use chip_asm::Source;
 use chip_machine::limits::IMAGE_BYTES;
 use std::alloc::Global;
@@ -90,7 +91,7 @@ fn fresh_answers(alloc: Global, texts: &[&[u8]]) -> Result<Vec<u8>, Fail> {
         text.extend_from_slice(line)?;
         text.push(b'\n')?;
     }
-    answers(alloc, &Source::open(alloc, &text)?)
+    answers(alloc, &opened(alloc, &text)?)
 }
 
 /// How many edits went each way.
@@ -100,6 +101,11 @@ struct Ways {
     remade: u32,
     inserted: u32,
     deleted: u32,
+}
+
+/// Whether the last edit changed one line alone: one that lays all lines out anew tells all places.
+fn is_rewritten(source: &Source) -> bool {
+    source.changed().len() < IMAGE_BYTES
 }
 
 /// Makes one edit, in the source and in its texts.
@@ -114,17 +120,16 @@ fn edit_once(
     let place = next(state) as usize % (texts.len() + 1);
     let way = next(state) % 8;
     if place == texts.len() || (way == 0 && texts.len() < MOST_LINES) {
-        source.insert(alloc, place + 1, text)?;
+        insert(alloc, source, place + 1, text)?;
         texts.insert(place, text)?;
         ways.inserted = ways.inserted.saturating_add(1);
     } else if way == 1 || texts.len() > MOST_LINES {
-        source.delete(alloc, place + 1)?;
+        delete(alloc, source, place + 1)?;
         texts.remove(place);
         ways.deleted = ways.deleted.saturating_add(1);
     } else {
-        source.replace(alloc, place + 1, text)?;
-        // An edit that lays all lines out anew tells all places.
-        if source.changed().len() < IMAGE_BYTES {
+        replace(alloc, source, place + 1, text)?;
+        if is_rewritten(source) {
             ways.rewritten = ways.rewritten.saturating_add(1);
         } else {
             ways.remade = ways.remade.saturating_add(1);
