@@ -151,15 +151,16 @@ def fish(words):
     for command in words.commands:
         lines.append("complete -c chipbench -n __fish_use_subcommand -f "
                      f"-a {command.name} -d {quoted(command.about)}")
+    takers = {}
     for command in words.commands:
-        here = f"complete -c chipbench -n '__fish_seen_subcommand_from {command.name}'"
         for option in command.options:
             text = quoted(option.help.split(",")[0].split(" [")[0])
             value = " -x -a 'schip vip'" if option.long == "profile" else (
                 " -r" if option.value == "FILE" else " -x" if option.value else "")
-            lines.append(f"{here} -l {option.long}{value} -d {text}")
-        if command.name == "explain":
-            lines.append(f"{here} -f -a '{' '.join(words.codes)}'")
+            takers.setdefault(f"-l {option.long}{value} -d {text}", []).append(command.name)
+    takers[f"-f -a '{' '.join(words.codes)}'"] = ["explain"]
+    for words_after, names in takers.items():
+        lines.append(f"complete -c chipbench -n '__fish_seen_subcommand_from {' '.join(names)}' {words_after}")
     return "\n".join(lines + [""])
 
 
