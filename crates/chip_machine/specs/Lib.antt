@@ -8,6 +8,7 @@
 --   State     the state of the machine
 --   Start     the state before the first step
 --   Step      the table of the instructions, one step, and the addresses that it touches
+--   Block     some steps that don't read the keys
 --   Frame     the frame law
 --   ImageLaw  what the image is in the memory at the start
 --   Limits    the size of the memory and where the image stands
@@ -16,6 +17,7 @@
 -- The rest are proofs, which a reader may skip. They stand here for a crate above whose trait asks for them as its laws:
 --   Overwritten   memory after bytes were written, address by address
 --   FrameTheorem  the frame law holds, and a step keeps a state proper
+pub mod Block
 pub mod Codes
 pub mod Digits
 pub mod Frame
