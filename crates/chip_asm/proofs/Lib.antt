@@ -26,3 +26,5 @@ pub mod Views
 pub mod EditTexts
 pub mod CutSteps
 pub mod ListingSteps
+pub mod LinesApart
+pub mod NamesDiffer
