@@ -2,7 +2,7 @@
 use Rattle.std.proofs.Common.{◌≡◌, ◌≢◌, ℕ, ◌+◌, ◌<◌, min, Bool, true, false, cond, eqb, ◌||◌, List, length, take, get_or, set, refl, sym, ap, ◌∙◌, subst, arith, get_or-set_other, get_or-set_same}
 use Rattle.std.proofs.lemmas.List.Folds.{list_any_more}
 use Rattle.std.proofs.lemmas.Bool.Decides.{nat_tests}
-use Rattle.chip_replay.specs.Machine.{is_among}
+use Rattle.chip_machine.specs.Touched.{is_among}
 
 min_again : (b : Bool) (x s : ℕ) → min (cond b (min x s) x) s ≡ cond (b || true) (min x s) x
 min_again true x s = omega arith

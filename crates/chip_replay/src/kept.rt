@@ -2,7 +2,7 @@
 
 ghost use Rattle.std.specs.Prelude.{◌≡◌, ℕ, ◌+◌, ◌-◌, ◌*◌, ◌/◌, ◌<◌, ◌≤◌, ◌==◌, List, [], ◌∷◌, ◌++◌, length, min, max, IfOk, IfSome, OnOk, OnErr, if◌then◌else◌, slice_index, slice_index_or, slice_set, take, map, nat_lt, true, ◌⊎◌};
 ghost use Rattle.chip_replay.specs.Limits.{image_start, image_room};
-ghost use Rattle.chip_replay.specs.Machine.{is_among, touched};
+ghost use Rattle.chip_machine.specs.Touched.{is_among, touched};
 ghost use Rattle.chip_replay.specs.Run.{run, GoesOn};
 ghost use Rattle.chip_replay.specs.Keys.{Events, held};
 ghost use Rattle.chip_replay.specs.Changes.{KnowsKeys};

@@ -4,7 +4,7 @@ ghost use Rattle.std.specs.Prelude.{◌≡◌, ◌==◌, ℕ, ◌+◌, ◌^◌, 
 ghost use Rattle.chip_machine.specs.Block.{quiet, block, first_noted};
 ghost use Rattle.chip_replay.specs.Frame.{AgreeOff, IsFramed};
 ghost use Rattle.chip_replay.specs.Limits.{memory_size};
-ghost use Rattle.chip_replay.specs.Machine.{touched};
+ghost use Rattle.chip_machine.specs.Touched.{touched};
 
 use chip_machine::touch::Touch;
 use std::alloc::AllocError;

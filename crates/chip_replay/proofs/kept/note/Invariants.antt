@@ -1,6 +1,6 @@
 use Rattle.std.proofs.Common.{◌≡◌, ℕ, ◌<◌, length, take, min, slice_index}
 use Rattle.std.specs.Prelude.{if◌then◌else◌}
-use Rattle.chip_replay.specs.Machine.{is_among}
+use Rattle.chip_machine.specs.Touched.{is_among}
 use Rattle.chip_replay.specs.Limits.{memory_size}
 use Rattle.chip_replay.proofs.kept.note.Given as goal
 

@@ -1,5 +1,5 @@
 use Rattle.std.proofs.Common.{◌≡◌, ◌+◌, ◌-◌, ◌%◌, ◌<◌, ◌≤◌, min, cond, eqb, subst, sym, [], ◌∷◌, ◌++◌, ap, ◌∙◌, arith}
-use Rattle.chip_replay.specs.Machine.{touched}
+use Rattle.chip_machine.specs.Touched.{touched}
 use Rattle.chip_replay.specs.Run.{run, GoesOn}
 use Rattle.chip_replay.specs.Keys.{held}
 use Rattle.chip_replay.specs.Changes.{KnowsKeys}

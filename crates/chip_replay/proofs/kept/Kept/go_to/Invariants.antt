@@ -1,5 +1,5 @@
 use Rattle.std.proofs.Common.{◌≡◌, ◌+◌, ◌-◌, ◌%◌, ◌≤◌, None}
-use Rattle.chip_replay.specs.Machine.{touched}
+use Rattle.chip_machine.specs.Touched.{touched}
 use Rattle.chip_replay.specs.Run.{run}
 use Rattle.chip_replay.specs.Keys.{held}
 use Rattle.chip_replay.specs.Changes.{KnowsKeys}
