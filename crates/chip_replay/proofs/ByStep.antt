@@ -12,6 +12,7 @@ use Rattle.std.specs.declared.cmp.Ordering.TheVariants.{Less, Equal, Greater}
 use Rattle.chip_replay.specs.Changes.{change_at, was_down, KnowsKeys, HoldsKeys}
 use Rattle.chip_replay.specs.History.{IsHolding}
 use Rattle.chip_replay.specs.declared.keys.Holding.{Holding}
+use Rattle.chip_replay.specs.Mask.{mask}
 use Rattle.chip_replay.proofs.KeyFacts.{mask-same}
 use Rattle.chip_replay.specs.Keys.{Events, event_at, is_down, held}
 

@@ -36,7 +36,8 @@ module _ (s p left : ℕ) (above : 0 < p) (is : left ≡ p - s % p) where
   left_by : (b : Bool) (n : ℕ) → n ≤ left → eqb n left ≡ b → cond b p (left - n) ≡ p - (s + n) % p
   left_by true n l e =
       let same : n ≡ left = grind (arith, nat_tests) in
-      sym (ap (λ m. p - (s + m) % p) same ∙ ap (λ r. p - r) rest_left)
+      let rest : (s + n) % p ≡ 0 = ap (λ m. (s + m) % p) same ∙ rest_left in
+      omega (arith, rest)
   left_by false n l e =
       let apart : n ≢ left = grind (arith, nat_tests) in
       omega (arith, rest_after n (omega arith))

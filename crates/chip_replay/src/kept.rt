@@ -94,13 +94,14 @@ impl<M: Traced> Kept<M> {
             let most = (step - at).min(to_tick).min(to_checkpoint);
             let made = self.go_on(keys, at, most, to_tick);
             self.ran = self.ran.saturating_add(u64::from(made));
-            at += made;
+            let next = at + made;
             let due = made == to_checkpoint;
             to_tick = left_after(to_tick, made, rate);
             to_checkpoint = left_after(to_checkpoint, made, self.spacing);
-            if at > self.reach {
-                self.extend(at, due)?;
+            if next > self.reach {
+                self.extend(next, due)?;
             }
+            at = next;
         }
         self.lent_step = Some(step);
         Ok(())

@@ -18,7 +18,7 @@ loop-until-preserved c =
     let entries = c.self.inside.steps.changes.entries in
     let at = c.loop-until.until in
     let says = λ (s k : ℕ) (lk : k < 16). c.self.invariant.1 s k lk ∙ ap (λ (e : Events). event_at e s k) c.self.view_is in
-    let changed = λ (k : ℕ) (lk : k < 16). c.change.ensures.0 k lk ∙ ap (λ o. unwrap_or o (slice_index_or c.loop-until.down k false)) (c.at.ensures k) in
+    let changed = λ (k : ℕ) (lk : k < 16). c.change.ensures.set k lk ∙ ap (λ o. unwrap_or o (slice_index_or c.loop-until.down k false)) (c.at.ensures k) in
     record {
       size = c.change.ensures.size;
       before = changed_before events at c.next-until.result c.next-until.ensures.after (change_at entries) says c.next-until.ensures.none_between c.loop-until.down c.change.new.down c.loop-until.invariant.before changed;
