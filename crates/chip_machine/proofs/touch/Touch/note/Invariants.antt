@@ -1,4 +1,4 @@
-use Rattle.std.proofs.Common.{◌≡◌, ℕ, ◌<◌, length, take, min, slice_index}
+use Rattle.std.proofs.Common.{◌≡◌, length, take}
 use Rattle.chip_lang.specs.declared.limits.TheConstants.{MEMORY_BYTES}
 use Rattle.chip_machine.specs.Touched.{IsNoted, is_among}
 use Rattle.chip_machine.proofs.touch.Touch.note.Given as goal
