@@ -4,7 +4,7 @@ use Rattle.std.proofs.lemmas.Bool.{cases_lt, cases_eq, false≢true}
 use Rattle.std.proofs.lemmas.Bool.Decides.{nat_tests}
 use Rattle.chip_machine.specs.Block.{quiet, block, first_noted}
 use Rattle.chip_replay.specs.Limits.{last_step, memory_size, never}
-use Rattle.chip_replay.specs.Run.{run, ticks, GoesOn}
+use Rattle.chip_replay.specs.Run.{run, GoesOn}
 use Rattle.chip_replay.specs.History.{IsFirst, AreFirst}
 use Rattle.chip_replay.proofs.Spaced.{ends_left}
 

@@ -1,7 +1,6 @@
 pub mod Spaced
 pub mod OneByte
 pub mod Patched
-pub mod Noted
 pub mod Blocks
 pub mod Sound
 pub mod Changed

@@ -2,7 +2,7 @@
 
 ghost use Rattle.std.specs.Prelude.{◌≡◌, ℕ, ◌+◌, ◌-◌, ◌*◌, ◌/◌, ◌<◌, ◌≤◌, ◌==◌, List, [], ◌∷◌, ◌++◌, length, min, max, IfOk, IfSome, OnOk, OnErr, if◌then◌else◌, slice_index, slice_index_or, slice_set, take, map, nat_lt, true, ◌⊎◌};
 ghost use Rattle.chip_replay.specs.Limits.{image_start, image_room};
-ghost use Rattle.chip_machine.specs.Touched.{is_among, touched};
+ghost use Rattle.chip_machine.specs.Touched.{touched, IsNoted};
 ghost use Rattle.chip_replay.specs.Run.{run, GoesOn};
 ghost use Rattle.chip_replay.specs.Keys.{Events, held};
 ghost use Rattle.chip_replay.specs.Changes.{KnowsKeys};
@@ -141,7 +141,13 @@ impl<M: Traced> Kept<M> {
         let now = at + made;
         keys.hold(&mut self.holding, now);
         let tick = made + 1 == to_tick;
-        make_step(&mut self.lent, self.holding.keys, tick, &mut self.first_touch, now);
+        make_step(
+            &mut self.lent,
+            self.holding.keys,
+            tick,
+            &mut self.first_touch,
+            now,
+        );
         made + 1
     }
 
@@ -374,36 +380,9 @@ fn make_step<M: Traced>(state: &mut M, keys: u16, tick: bool, first_touch: &mut 
     requires table { length first_touch.old ≡ MEMORY_BYTES }
     ensures state { state.new ≡ M.step_of state.old keys tick }
     ensures length { length first_touch.new ≡ MEMORY_BYTES }
-    ensures noted { (at : ℕ) → at < MEMORY_BYTES → slice_index first_touch.new at
-        ≡ (if touched M.touches state.old at then min (slice_index first_touch.old at) number else slice_index first_touch.old at) }
+    ensures noted { IsNoted (touched M.touches state.old) number first_touch.old first_touch.new }
 {
     let mut touch = Touch::new();
     state.step(keys, tick, &mut touch);
-    note(first_touch, &touch, number);
-}
-
-/// Notes a step at the addresses that it is the first to touch.
-#[inline(always)]
-fn note(first_touch: &mut [u32], touch: &Touch, step: u32)
-    requires table { length first_touch.old ≡ MEMORY_BYTES }
-    ensures length { length first_touch.new ≡ MEMORY_BYTES }
-    ensures noted { (at : ℕ) → at < MEMORY_BYTES → slice_index first_touch.new at
-        ≡ (if is_among touch.now at then min (slice_index first_touch.old at) step else slice_index first_touch.old at) }
-{
-    for i in 0..touch.len() {
-        if let Some(at) = touch.get(i) {
-            note_at(first_touch, at as usize, step);
-        }
-    }
-}
-
-/// Notes a step at an address, where it is the first to touch it.
-#[inline(always)]
-fn note_at(first_touch: &mut [u32], at: usize, step: u32)
-    requires { at < length first_touch.old }
-    ensures { first_touch.new ≡ slice_set first_touch.old at (min (slice_index first_touch.old at) step) }
-{
-    if step < first_touch[at] {
-        first_touch[at] = step;
-    }
+    touch.note(first_touch, number);
 }

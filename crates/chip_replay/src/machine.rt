@@ -29,6 +29,10 @@ impl Traced for Machine {
         self.step(keys, tick, touch);
     }
 
+    fn steps(&mut self, tick: bool, from: u32, count: u32, first_touch: &mut [u32]) -> u32 {
+        self.steps(tick, from, count, first_touch)
+    }
+
     fn poke(&mut self, at: u16, byte: u8) {
         self.poke(at, byte);
     }

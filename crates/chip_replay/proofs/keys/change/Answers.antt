@@ -1,4 +1,4 @@
-use Rattle.std.proofs.Common.{ℕ, ◌<◌, ◌∙◌, false, None, unwrap_or, slice_index_or, length-set, get_or-set_other, ap, sym, rules, arith}
+use Rattle.std.proofs.Common.{◌∙◌, false, None, unwrap_or, slice_index_or, length-set, get_or-set_other, ap, arith}
 use Rattle.chip_replay.proofs.ByStep.{set_more}
 use Rattle.chip_replay.proofs.keys.change.Goals as goal
 

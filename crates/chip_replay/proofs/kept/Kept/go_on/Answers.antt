@@ -1,11 +1,11 @@
-use Rattle.std.proofs.Common.{◌≡◌, ◌≢◌, ℕ, ◌+◌, ◌<◌, ◌++◌, cond, min, max, List, take, length, slice_index, refl, ap, sym, ◌∙◌, subst, rules, arith}
+use Rattle.std.proofs.Common.{◌≡◌, ℕ, ◌+◌, ◌<◌, ◌++◌, cond, min, max, List, take, length, slice_index, refl, ap, sym, ◌∙◌, subst, arith}
 use Rattle.std.proofs.Math.Seq.{take-append_seam}
 use Rattle.chip_machine.specs.Touched.{touched}
 use Rattle.chip_machine.specs.Block.{first_noted}
 use Rattle.chip_replay.specs.Limits.{memory_size}
 use Rattle.chip_replay.specs.Keys.{held}
 use Rattle.chip_replay.specs.History.{AreFirst}
-use Rattle.chip_replay.proofs.ByStep.{holds_held, knows_next, knows_later}
+use Rattle.chip_replay.proofs.ByStep.{holds_held, knows_later}
 use Rattle.chip_replay.proofs.Blocks.{block_is, block_ticks, first_block, state_more, first_more}
 use Rattle.chip_replay.proofs.kept.Kept.go_on.Goals as goal
 
@@ -29,7 +29,7 @@ returns-then-made-most-clause-first g c = λ state reach goes here low first.
     let made = c.steps-made.result in
     let noted = λ (a : ℕ) (la : a < memory_size). c.steps-made.ensures.noted a la ∙ ap (λ xs. first_noted m.step_of c.args.self.now.lent (touched m.touches) c.args.at a (slice_index xs a) made) c.deref_mut.ensures.value in
     subst (AreFirst (touched m.touches) state (max reach (c.args.at + made))) (sym (written c.args.self.now.first_touch.len c.steps-made.new.first_touch _ (sym c.deref_mut.ensures.len ∙ ap length c.deref_mut.ensures.value ∙ c.requires.table ∙ sym c.steps-made.ensures.size)))
-    ( first_block m.step_of (touched m.touches) m.reads_keys g.met.M.Traced.keyless_step (held c.args.keys.now) c.args.at c.args.most c.args.to_tick c.requires.up_to_tick state goes c.args.self.now.lent here made c.steps-made.ensures.at_most c.steps-made.ensures.keyless reach c.args.self.now.first_touch.items c.steps-made.new.first_touch low c.requires.in_range noted first)
+    (first_block m.step_of (touched m.touches) m.reads_keys g.met.M.Traced.keyless_step (held c.args.keys.now) c.args.at c.args.most c.args.to_tick c.requires.up_to_tick state goes c.args.self.now.lent here made c.steps-made.ensures.at_most c.steps-made.ensures.keyless reach c.args.self.now.first_touch.items c.steps-made.new.first_touch low c.requires.in_range noted first)
 
 pub returns-clause-state : goal.returns-clause-state
 returns-clause-state g c = λ state goes here.

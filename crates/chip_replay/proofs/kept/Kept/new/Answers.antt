@@ -1,4 +1,4 @@
-use Rattle.std.proofs.Common.{◌≡◌, ◌∙◌, ap, replicate, slice_index, refl, false, arith, rules}
+use Rattle.std.proofs.Common.{◌≡◌, ◌∙◌, ap, replicate, slice_index, refl, false, rules}
 use Rattle.std.proofs.lemmas.List.{get_or-replicate}
 use Rattle.chip_replay.specs.Limits.{memory_size, never}
 use Rattle.chip_replay.proofs.ByStep.{knows_none}

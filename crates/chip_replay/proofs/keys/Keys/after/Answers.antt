@@ -1,4 +1,4 @@
-use Rattle.std.proofs.Common.{◌≡◌, ℕ, ◌<◌, ◌∙◌, false, None, unwrap_or, slice_index_or, ap, sym, rules, arith}
+use Rattle.std.proofs.Common.{ℕ, ◌<◌, ◌∙◌, false, unwrap_or, slice_index_or, ap, arith}
 use Rattle.chip_replay.specs.Keys.{Events, event_at}
 use Rattle.chip_replay.specs.Changes.{change_at}
 use Rattle.chip_replay.proofs.ByStep.{changed_stays, changed_before}
