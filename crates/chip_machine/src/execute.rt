@@ -2,6 +2,7 @@
 
 ghost use Rattle.std.specs.Prelude.{◌≡◌, ◌+◌, ◌<◌, ◌≤◌, ◌++◌, length, OnOk, OnErr, IfErr, Ok, Err};
 ghost use Rattle.chip_machine.specs.Step.{effect, perform, accessed};
+ghost use Rattle.chip_machine.specs.Touched.{IsNoted, is_among};
 
 use crate::limits::{LAST_WORD, MEMORY_BYTES};
 use crate::processor::Processor;
@@ -71,4 +72,28 @@ pub(crate) fn execute(
         Instr::LoadFlags(x) => processor.row_load_flags(x)?,
     }
     Ok(())
+}
+
+/// Carries out an instruction with no key down, and notes the bytes that it accesses at I under a number. What `touch` holds is lost.
+#[inline(always)]
+pub(crate) fn execute_noted(
+    processor: &mut Processor,
+    memory: &mut [u8],
+    instr: Instr,
+    number: u32,
+    first_touch: &mut [u32],
+    touch: &mut Touch,
+) -> Result<(), Stop>
+    requires size { length memory.old ≡ MEMORY_BYTES }
+    requires pc { processor.old.pc ≤ LAST_WORD }
+    requires table { length first_touch.old ≡ MEMORY_BYTES }
+    ensures ok { OnOk result (perform 0 (record { core = processor.old; memory = memory.old }) (effect instr processor.old) ≡ Ok (record { core = processor.new; memory = memory.new })) }
+    ensures why { IfErr result (λ why. perform 0 (record { core = processor.old; memory = memory.old }) (effect instr processor.old) ≡ Err why) }
+    ensures same { OnErr result ((processor.new ≡ processor.old) × (memory.new ≡ memory.old)) }
+    ensures noted { IsNoted (is_among (accessed processor.old.index (effect instr processor.old))) number first_touch.old first_touch.new }
+{
+    touch.clear();
+    let done = execute(processor, memory, instr, 0, touch);
+    touch.note(first_touch, number);
+    done
 }
