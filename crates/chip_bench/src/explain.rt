@@ -1,25 +1,38 @@
 //! The pages on codes, as `explain` prints them.
 
-use crate::pages::{Example, PAGES, Page};
+use crate::pages::{Example, Page, all_pages};
 use std::alloc::{AllocError, Global};
 
 /// The page on a code, in either case, as text; nothing where there is no such code.
 pub(crate) fn page_text(alloc: Global, code: &str) -> Result<Option<Vec<u8>>, AllocError> {
-    for page in &PAGES {
-        if page.code.eq_ignore_ascii_case(code) {
+    for group in &all_pages() {
+        if let Some(page) = page_among(group, code) {
             return Ok(Some(text_of(alloc, page)?));
         }
     }
     Ok(None)
 }
 
+fn page_among<'a>(pages: &'a [Page], code: &str) -> Option<&'a Page> {
+    pages
+        .iter()
+        .find(|page| page.code.eq_ignore_ascii_case(code))
+}
+
 /// All codes with their titles, a line each.
 pub(crate) fn contents(alloc: Global) -> Result<Vec<u8>, AllocError> {
     let mut text = Vec::new(alloc);
-    for page in &PAGES {
-        push_all(&mut text, &[page.code, "  ", page.title, "\n"])?;
+    for group in &all_pages() {
+        push_titles(&mut text, group)?;
     }
     Ok(text)
+}
+
+fn push_titles(text: &mut Vec<u8>, pages: &[Page]) -> Result<(), AllocError> {
+    for page in pages {
+        push_all(text, &[page.code, "  ", page.title, "\n"])?;
+    }
+    Ok(())
 }
 
 fn text_of(alloc: Global, page: &Page) -> Result<Vec<u8>, AllocError> {
