@@ -1,28 +1,53 @@
 //! The pages on codes, as `explain` prints them.
+ghost use Rattle.std.specs.Prelude.{◌≡◌, ◌++◌, IfOk, OnOk, option_map, option_copied, flat_map};
+ghost use Rattle.chip_bench.specs.Pages.{IsContents, IsPageText, contents_text, example_text, indented, page_of, page_text};
 
+use crate::key_file::first_line;
 use crate::pages::{Example, PAGES, Page};
 use std::alloc::{AllocError, Global};
 
 /// The page on a code, in either case, as text; nothing where there is no such code.
-pub(crate) fn page_text(alloc: Global, code: &str) -> Result<Option<Vec<u8>>, AllocError> {
-    for page in &PAGES {
-        if page.code.eq_ignore_ascii_case(code) {
-            return Ok(Some(text_of(alloc, page)?));
-        }
+pub(crate) fn page_text(alloc: Global, code: &str) -> Result<Option<Vec<u8>>, AllocError>
+    ensures { IfOk result (λ text. IsPageText code.now (option_map (λ v. v.items) text)) }
+{
+    match page_of(&PAGES, code) {
+        Some(page) => Ok(Some(text_of(alloc, page)?)),
+        None => Ok(None),
     }
-    Ok(None)
+}
+
+// The page on a code among pages.
+#[tactic(auto, unfolding(crate::specs::Pages::page_of))]
+fn page_of<'p>(pages: &'p [Page], code: &str) -> Option<&'p Page>
+    ensures { option_copied result ≡ page_of pages.now code.now }
+{
+    pages
+        .iter()
+        .find(|page| page.code.eq_ignore_ascii_case(code))
 }
 
 /// All codes with their titles, a line each.
-pub(crate) fn contents(alloc: Global) -> Result<Vec<u8>, AllocError> {
+pub(crate) fn contents(alloc: Global) -> Result<Vec<u8>, AllocError>
+    ensures { IfOk result (λ text. IsContents text.items) }
+{
+    titles(alloc, &PAGES)
+}
+
+// The titles of pages.
+#[tactic(auto, unfolding(crate::specs::Pages::contents_text))]
+fn titles(alloc: Global, pages: &[Page]) -> Result<Vec<u8>, AllocError>
+    ensures { IfOk result (λ text. text.items ≡ contents_text pages.now) }
+{
     let mut text = Vec::new(alloc);
-    for page in &PAGES {
+    for page in pages {
         push_all(&mut text, &[page.code, "  ", page.title, "\n"])?;
     }
     Ok(text)
 }
 
-fn text_of(alloc: Global, page: &Page) -> Result<Vec<u8>, AllocError> {
+fn text_of(alloc: Global, page: &Page) -> Result<Vec<u8>, AllocError>
+    ensures { IfOk result (λ text. text.items ≡ page_text page.now) }
+{
     let mut text = Vec::new(alloc);
     push_all(
         &mut text,
@@ -33,7 +58,9 @@ fn text_of(alloc: Global, page: &Page) -> Result<Vec<u8>, AllocError> {
     Ok(text)
 }
 
-fn push_example(text: &mut Vec<u8>, example: &Example) -> Result<(), AllocError> {
+fn push_example(text: &mut Vec<u8>, example: &Example) -> Result<(), AllocError>
+    ensures { OnOk result (text.new.items ≡ text.old.items ++ example_text example.now) }
+{
     match *example {
         Example::Source(source) => {
             push_all(text, &["The last line of this source has it:\n\n"])?;
@@ -56,14 +83,23 @@ fn push_example(text: &mut Vec<u8>, example: &Example) -> Result<(), AllocError>
     }
 }
 
-fn push_indented(text: &mut Vec<u8>, lines: &str) -> Result<(), AllocError> {
-    for line in lines.lines() {
-        push_all(text, &["    ", line, "\n"])?;
+fn push_indented(text: &mut Vec<u8>, lines: &str) -> Result<(), AllocError>
+    ensures { OnOk result (text.new.items ≡ text.old.items ++ indented lines.now) }
+{
+    let mut rest = lines.as_bytes();
+    while !rest.is_empty() {
+        let (line, next) = first_line(rest);
+        text.extend_from_slice(b"    ")?;
+        text.extend_from_slice(line)?;
+        text.extend_from_slice(b"\n")?;
+        rest = next;
     }
     Ok(())
 }
 
-fn push_all(text: &mut Vec<u8>, parts: &[&str]) -> Result<(), AllocError> {
+fn push_all(text: &mut Vec<u8>, parts: &[&str]) -> Result<(), AllocError>
+    ensures { OnOk result (text.new.items ≡ text.old.items ++ flat_map (λ part. part.now) parts.now) }
+{
     for part in parts {
         text.extend_from_slice(part.as_bytes())?;
     }
