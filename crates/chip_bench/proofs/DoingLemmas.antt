@@ -1,7 +1,6 @@
 -- What each command did, from what its steps did.
-use Rattle.std.proofs.Common.{◌≡◌, ◌≢◌, ◌⊎◌, inl, inr, ℕ, List, [], ◌++◌, codes, append_assoc, Option, Some, None, Result, Ok, Err, IfOk, IfErr, option_map, length, ◌<◌, ◌≤◌, arith, refl, sym, ◌∙◌, ap, subst}
+use Rattle.std.proofs.Common.{◌≡◌, ◌⊎◌, inl, inr, ℕ, List, [], ◌++◌, append_assoc, Option, Some, None, Result, Ok, Err, IfErr, IfSome, length, ◌<◌, ◌≤◌, arith, refl, sym, ◌∙◌, ap, subst}
 use Rattle.std.specs.Prelude.{IsErrAnd}
-use Rattle.std.proofs.lemmas.List.{append-nil}
 use Rattle.std.specs.Borrow.{Bor}
 use Rattle.std.specs.Global.{Vec}
 use Rattle.std.specs.Str.Lines.{lines}
@@ -9,9 +8,8 @@ use Rattle.std.specs.declared.io.Error.{Error as IoError}
 use Rattle.chip_asm.specs.Lines.{open_fault}
 use Rattle.chip_lang.specs.declared.limits.TheConstants.{IMAGE_BYTES}
 use Rattle.chip_views.specs.Dis.{source_of_image}
-use Rattle.chip_bench.specs.CommandWords.{AsksFor}
-use Rattle.chip_bench.specs.Doing.{Assembles, AssemblesBy, Checks, Debugs, Declined, Disassembles, DisassemblesBytes, Does, Explains, FromFile, FromKeys, FromSource, GivesSource, IfSettled, IsAsked, IsFileWritten, IsImageHindered, IsImageOrFaults, IsKeysUnread, IsShort, IsSourceUnread, IsUnasked, IsUnsettled, Lists, Outcome, Performs, Runs, WithAsked, image_in}
-use Rattle.chip_bench.specs.Pages.{IsContents, IsPageText, contents_text}
+use Rattle.chip_bench.specs.Doing.{Assembles, AssemblesBy, Checks, Debugs, Declined, Disassembles, DisassemblesBytes, Does, Explains, FromKeys, FromSource, GivesSource, IfSettled, IsAsked, IsFileWritten, IsImageHindered, IsImageOrFaults, IsKeysUnread, IsShort, IsSourceUnread, IsUnasked, IsUnsettled, Lists, Outcome, Runs, WithAsked, image_in}
+use Rattle.chip_bench.specs.Pages.{IsPageText}
 use Rattle.chip_bench.specs.Printing.{Prints, PrintsUnder, check_of_lines, listing_of_lines, printed, printed_of, run_of}
 use Rattle.chip_bench.specs.Running.{AnswersScript, IsUnread}
 use Rattle.chip_bench.specs.Settings.{SessionSettings}
@@ -20,12 +18,10 @@ use Rattle.chip_bench.specs.Tally.{Tally}
 use Rattle.chip_bench.specs.declared.command_line.CommandLine.{CommandLine}
 use Rattle.chip_bench.specs.declared.command_line.RunWords.{RunWords}
 use Rattle.chip_bench.specs.declared.command_line.SettingWords.{SettingWords}
-use Rattle.chip_bench.specs.declared.ending.Ending.{Ending}
 use Rattle.chip_bench.specs.declared.ending.Ending.TheVariants.{Done}
 use Rattle.chip_bench.specs.declared.ending.Failure.{Failure}
 use Rattle.chip_bench.specs.declared.ending.Failure.TheVariants as failure
 use Rattle.chip_bench.specs.declared.entry.Asked.{Asked}
-use Rattle.chip_bench.specs.declared.pages.Page.{Page}
 use Rattle.chip_bench.proofs.RunningLemmas.{unsettled}
 
 -- settings that there are not, or no memory for them
@@ -141,26 +137,34 @@ module _ {R W : Type 0} (remaining : R → Option (List ℕ)) (contents : W → 
       Debugs remaining contents in_old in_new out_old out_new source words ended
   debugs_none source words settings ended none asked script = rw (none, asked) script
 
-  pub performed : (words : List (List ℕ)) (asked other : CommandLine) (ended : Outcome) → AsksFor words asked → asked ≡ other →
-      Does remaining contents in_old in_new out_old out_new other ended → Performs remaining contents in_old in_new out_old out_new words ended
-  performed words asked other ended asks e did =
-      inl (asked, asks, subst (λ (line : CommandLine). Does remaining contents in_old in_new out_old out_new line ended) (sym e) did)
+  pub does_it : (asked other : CommandLine) (ended : Outcome) → asked ≡ other → Does remaining contents in_old in_new out_old out_new other ended →
+      Does remaining contents in_old in_new out_old out_new asked ended
+  does_it asked other ended e did =
+      subst (λ (line : CommandLine). Does remaining contents in_old in_new out_old out_new line ended) (sym e) did
 
   -- the image of a source is written
   pub assembles_image : (source name : Bor (List ℕ)) (bytes text image : List ℕ) (ended : Outcome) → text ≡ bytes →
       GivesSource remaining in_old in_new source.now bytes → IsImageOrFaults contents out_old out_new text (Some image) →
       IsFileWritten name ended → Assembles remaining contents in_old in_new out_old out_new source name ended
   assembles_image source name bytes text image ended same gives found written =
-      inl (bytes, gives, subst (λ (b : List ℕ). AssemblesBy contents out_old out_new (image_in b) b name ended) same
-      (subst (λ (o : Option (List ℕ)). AssemblesBy contents out_old out_new o text name ended) (sym found.0) (written, found.1)))
+      inl (
+        bytes,
+        gives,
+        subst (λ (b : List ℕ). AssemblesBy contents out_old out_new (image_in b) b name ended) same
+            (subst (λ (o : Option (List ℕ)). AssemblesBy contents out_old out_new o text name ended) (sym found.0) (written, found.1)),
+      )
 
   -- its faults are printed
   pub assembles_faults : (source name : Bor (List ℕ)) (bytes text : List ℕ) (ended : Outcome) → text ≡ bytes →
       GivesSource remaining in_old in_new source.now bytes → image_in text ≡ None → AssemblesBy contents out_old out_new None text name ended →
       Assembles remaining contents in_old in_new out_old out_new source name ended
   assembles_faults source name bytes text ended same gives none printed =
-      inl (bytes, gives, subst (λ (b : List ℕ). AssemblesBy contents out_old out_new (image_in b) b name ended) same
-      (subst (λ (o : Option (List ℕ)). AssemblesBy contents out_old out_new o text name ended) (sym none) printed))
+      inl (
+        bytes,
+        gives,
+        subst (λ (b : List ℕ). AssemblesBy contents out_old out_new (image_in b) b name ended) same
+            (subst (λ (o : Option (List ℕ)). AssemblesBy contents out_old out_new o text name ended) (sym none) printed),
+      )
 
   -- or neither can be
   pub assembles_not : (source name : Bor (List ℕ)) (bytes text : List ℕ) (ended : Outcome) (why : Failure) → ended ≡ Err why → text ≡ bytes →
@@ -192,17 +196,15 @@ module _ {R W : Type 0} (remaining : R → Option (List ℕ)) (contents : W → 
 module _ {W : Type 0} (contents : W → Option (List ℕ)) (old new : Tally W) where
   -- the page on a code is printed
   pub explained : (code : Option (Bor (List ℕ))) (name : Bor (List ℕ)) (found : Option (Vec ℕ)) (page : Vec ℕ) (text : List ℕ) (ended : Outcome) →
-      code ≡ Some name → IsPageText name.now (option_map (λ (v : Vec ℕ). v.items) found) → found ≡ Some page → text ≡ page.items →
+      code ≡ Some name → IfSome found (λ v. IsPageText name.now v.items) → found ≡ Some page → text ≡ page.items →
       Prints contents old new (printed text Done) ended → Explains contents old new code ended
   explained code name found page text ended is named some same prints =
       subst (λ (c : Option (Bor (List ℕ))). Explains contents old new c ended) (sym is)
-      (inl (Some page.items, subst (λ (f : Option (Vec ℕ)). IsPageText name.now (option_map (λ (v : Vec ℕ). v.items) f)) some named,
-      subst (λ (t : List ℕ). Prints contents old new (printed t Done) ended) same prints))
-
-pub some_contents : {E : Type 0} (pages : List Page) (result : Result (Vec ℕ) E) → IfOk result (λ text. text.items ≡ contents_text pages) →
-    IfOk result (λ text. IsContents text.items)
-some_contents pages (Ok text) e = (pages, e)
-some_contents pages (Err why) e = tt
+      (inl (
+        page.items,
+        subst (λ (f : Option (Vec ℕ)). IfSome f (λ v. IsPageText name.now v.items)) some named,
+        subst (λ (t : List ℕ). Prints contents old new (printed t Done) ended) same prints,
+      ))
 
 pub three_parts : (t₀ t₁ t₂ t₃ a b c d : List ℕ) → t₀ ≡ [] → t₁ ≡ t₀ ++ a → t₂ ≡ t₁ ++ b → b ≡ d → t₃ ≡ t₂ ++ c → t₃ ≡ a ++ (d ++ c)
 three_parts t₀ t₁ t₂ t₃ a b c d e₀ e₁ e₂ e e₃ =
@@ -267,10 +269,14 @@ module _ {R W : Type 0} (remaining : R → Option (List ℕ)) (contents : W → 
       GivesSource remaining in_old in_new image.now bytes → Prints contents old new (printed (source_of_image text) Done) ended →
       Disassembles remaining contents in_old in_new old new image ended
   disassembles image bytes text ended same short gives did =
-      inl (bytes, gives, record {
-        fits = λ _. subst (λ (t : List ℕ). Prints contents old new (printed (source_of_image t) Done) ended) same did;
-        too_long = λ long. absurd (omega arith);
-      })
+      inl (
+        bytes,
+        gives,
+        record {
+          fits = λ _. subst (λ (t : List ℕ). Prints contents old new (printed (source_of_image t) Done) ended) same did;
+          too_long = λ long. absurd (omega arith);
+        },
+      )
 
   pub runs : (words : RunWords) (asked : Asked) (settings : SessionSettings) (keys source : List ℕ) (ended : Outcome) →
       IsAsked remaining in_old in_new words asked → settings ≡ asked.settings → keys ≡ asked.keys.bytes.items → source ≡ asked.source.items →
@@ -287,14 +293,13 @@ module _ {R : Type 0} (remaining : R → Option (List ℕ)) (in_old in_new : Tal
       GivesSource remaining in_old in_new words.source.now asked.source.items → IsAsked remaining in_old in_new words asked
   asked_is asked settled keys gives =
       settles remaining in_old in_new (Unit {0}) tt (settings_asked words.settings) asked.settings
-      (λ settings. FromKeys remaining in_old in_new (Unit {0}) words.keys (λ keys. FromSource remaining in_old in_new (Unit {0}) words.source (Did settings keys)))
+      (λ settings. FromKeys remaining in_old in_new (Unit {0}) words.keys (λ keys. FromSource remaining in_old in_new (Unit {0}) words.source
+      (λ source ended. (settings ≡ asked.settings) × (keys ≡ asked.keys.bytes.items) × (source ≡ asked.source.items))))
       (Ok Done) settled
       (keys_read remaining in_old in_new (Unit {0}) tt words.keys asked.keys.bytes.items
-      (λ keys. FromSource remaining in_old in_new (Unit {0}) words.source (Did asked.settings keys)) (Ok Done) keys
+      (λ keys. FromSource remaining in_old in_new (Unit {0}) words.source
+      (λ source ended. (asked.settings ≡ asked.settings) × (keys ≡ asked.keys.bytes.items) × (source ≡ asked.source.items))) (Ok Done) keys
       (inl (asked.source.items, gives, (refl, refl, refl))))
-    where
-      abbrev Did : SessionSettings → List ℕ → List ℕ → Outcome → Type 0
-      Did settings keys source ended = (settings ≡ asked.settings) × (keys ≡ asked.keys.bytes.items) × (source ≡ asked.source.items)
 
   -- the source wasn't
   pub unasked_source : {T : Type 0} (settings : SessionSettings) (bytes : List ℕ) (result : Result T Failure) (why : Failure) → result ≡ Err why →

@@ -1,11 +1,11 @@
 -- The text of a page, put together from its parts.
-use Rattle.std.proofs.Common.{◌≡◌, ℕ, ◌<◌, List, [], ◌++◌, codes, length, Option, Some, None, Result, Ok, Err, OnOk, option_map, option_copied, ap, sym, ◌∙◌, append_assoc}
+use Rattle.std.proofs.Common.{◌≡◌, ℕ, ◌<◌, List, [], ◌++◌, codes, length, Option, Some, Result, Ok, Err, OnOk, option_copied, Bool, true, false, cond, ◌∷◌, refl, ap, sym, ◌∙◌, append_assoc}
 use Rattle.std.proofs.lemmas.List.{append-nil}
 use Rattle.std.specs.Borrow.{Bor}
-use Rattle.std.specs.List.{after_first, flat_map}
+use Rattle.std.specs.List.{after_first, find, flat_map}
 use Rattle.chip_asm.specs.Lines.{first_text, is_newline, lines_of}
-use Rattle.chip_asm.proofs.CutSteps.{lines-next, no-lines}
-use Rattle.chip_bench.specs.Pages.{IsPageText, example_text, indented, indented_line, page_of, page_text}
+use Rattle.chip_asm.proofs.CutSteps.{lines-next}
+use Rattle.chip_bench.specs.Pages.{IsContents, IsPageText, contents_text, example_text, has_code, indented, indented_line, page_of, page_text, title_line}
 use Rattle.chip_bench.specs.declared.pages.Page.{Page}
 
 regroup : (a b c d e : List ℕ) → (((a ++ b) ++ c) ++ d) ++ e ≡ a ++ ((b ++ (c ++ d)) ++ e)
@@ -57,12 +57,34 @@ page_is page t₀ t₁ t₂ t₃ e₀ e₁ e₂ e₃ =
     ∙ parts page.code.now (codes ": ") page.title.now (codes "\n\n") page.meaning.now (codes "\n\n") (example_text page.example)
     (codes "\nThe mend: ") page.mend.now (codes "\n")
 
--- the page on a code, among some pages
-pub some_page : (pages : List Page) (code text : List ℕ) (found : Option (Bor Page)) (page : Bor Page) → option_copied found ≡ page_of pages code →
-    found ≡ Some page → text ≡ page_text page.now → IsPageText code (Some text)
-some_page pages code text found page e is t =
-    (pages, ap Some t ∙ ap (option_map page_text) (ap option_copied (sym is) ∙ e))
+-- the page that was found has the code
+has_it : (code : List ℕ) (pages : List Page) (page : Page) → page_of pages code ≡ Some page → has_code code page ≡ true
+unfolding page_of
+has_it code [] page e = cc
+has_it code (x ∷ pages) page e = by_test (has_code code x) refl e (has_it code pages page)
+  where
+    by_test : (b : Bool) → has_code code x ≡ b → cond b (Some x) (find (has_code code) pages) ≡ Some page →
+        (find (has_code code) pages ≡ Some page → has_code code page ≡ true) → has_code code page ≡ true
+    by_test true is e later = let same : x ≡ page = cc in ap (has_code code) (sym same) ∙ is
+    by_test false is e later = later e
 
-pub no_page : (pages : List Page) (code : List ℕ) (found : Option (Bor Page)) → option_copied found ≡ page_of pages code →
-    found ≡ None → IsPageText code None
-no_page pages code found e is = (pages, ap (option_map page_text) (ap option_copied (sym is) ∙ e))
+pub page_found : (pages : List Page) (code text : List ℕ) (found : Option (Bor Page)) (page : Bor Page) → option_copied found ≡ page_of pages code →
+    found ≡ Some page → text ≡ page_text page.now → IsPageText code text
+page_found pages code text found page e is t = record {
+  page = page.now;
+  on_code = has_it code pages page.now (sym e ∙ ap option_copied is);
+  text_is = t;
+}
+
+contents-append : (a b : List Page) → contents_text (a ++ b) ≡ contents_text a ++ contents_text b
+unfolding contents_text
+contents-append [] b = refl
+contents-append (x ∷ a) b = ap (λ t. title_line x ++ t) (contents-append a b) ∙ sym (append_assoc (title_line x) (contents_text a) (contents_text b))
+
+pub no_contents : (text : List ℕ) → text ≡ [] → IsContents text
+unfolding contents_text
+no_contents text e = ([], e)
+
+pub more_contents : (text new : List ℕ) (group : List Page) → IsContents text → new ≡ text ++ contents_text group → IsContents new
+more_contents text new group (pages, e) h =
+    (pages ++ group, h ∙ ap (λ t. t ++ contents_text group) e ∙ sym (contents-append pages group))

@@ -7,7 +7,7 @@
 --     Performs, ShowsVersion         the same, for the words of the command line
 --     Ends                           how the program ended after that
 -- No contract says what bytes a file gives or takes: of a file's bytes these words say that there are some.
-use Rattle.std.specs.Prelude.{◌≡◌, ◌≢◌, ◌⊎◌, ℕ, ◌<◌, ◌≤◌, Bool, List, [], ◌∷◌, codes, length, take, Option, Some, None, IfSome, Result, Ok, Err, IsErrAnd}
+use Rattle.std.specs.Prelude.{◌≡◌, ◌≢◌, ◌⊎◌, ℕ, ◌<◌, ◌≤◌, Bool, List, [], codes, length, take, Option, Some, None, IfSome, Result, Ok, Err, IsErrAnd}
 use Rattle.std.specs.Borrow.{Bor}
 use Rattle.std.specs.Io.KnownBytes.{Keeps}
 use Rattle.std.specs.Str.Lines.{lines}
@@ -154,16 +154,16 @@ module _ {W : Type 0} (contents : W → Option (List ℕ)) (out_old out_new : Ta
     pub too_long : IMAGE_BYTES < length image → Fails (IsUnread name) ended
 
   -- `explain`: the page on the code, where there is one
-  abbrev pub ExplainsBy : Option (List ℕ) → Bor (List ℕ) → Outcome → Type 0
-  ExplainsBy (Some page) code ended = Prints contents out_old out_new (printed page Done) ended
-  ExplainsBy None code ended = (ended ≡ Err (failure.NoPage code)) × (out_new ≡ out_old)
+  abbrev pub ExplainsCode : Bor (List ℕ) → Outcome → Type 0
+  ExplainsCode code ended =
+      ((page : List ℕ) × IsPageText code.now page × Prints contents out_old out_new (printed page Done) ended)
+      ⊎ Fails (λ why. (why ≡ failure.NoPage code) ⊎ IsShort why) ended
 
-  -- or all codes; nothing where there is no memory
+  -- or all codes
   abbrev pub Explains : Option (Bor (List ℕ)) → Outcome → Type 0
   Explains None ended =
       ((text : List ℕ) × IsContents text × Prints contents out_old out_new (printed text Done) ended) ⊎ Fails IsShort ended
-  Explains (Some code) ended =
-      ((page : Option (List ℕ)) × IsPageText code.now page × ExplainsBy page code ended) ⊎ Fails IsShort ended
+  Explains (Some code) ended = ExplainsCode code ended
 
 -- What is done.
 module _ {R W : Type 0} (remaining : R → Option (List ℕ)) (contents : W → Option (List ℕ))

@@ -3,7 +3,7 @@
 --     page_text, contents_text   a page as it is printed, and all codes with their titles
 --     IsPageText, IsContents     the texts that are printed for a code, and without one
 --     version_text               what `--version` prints
-use Rattle.std.specs.Prelude.{◌≡◌, ℕ, List, [], ◌∷◌, ◌++◌, codes, flat_map, find, Bool, Option, option_map}
+use Rattle.std.specs.Prelude.{◌≡◌, ℕ, List, ◌++◌, codes, flat_map, find, Bool, true, Option}
 use Rattle.std.specs.Str.{str_eq_ignore_ascii_case}
 use Rattle.chip_asm.specs.Lines.{lines_of}
 use Rattle.chip_bench.specs.declared.command_line.TheConstants.{VERSION}
@@ -49,9 +49,13 @@ contents_text pages = flat_map title_line pages
 abbrev pub version_text : List ℕ
 version_text = codes "chipbench " ++ (VERSION.now ++ codes "\n")
 
--- The table of the pages is a constant that no clause can name: these say that there are pages of which a text is. The tests go through all.
-abbrev pub IsPageText : List ℕ → Option (List ℕ) → Type 0
-IsPageText code text = (pages : List Page) × (text ≡ option_map page_text (page_of pages code))
+-- The pages are statics, which no clause can name: these say that there is such a page, or are such pages. The tests go through all.
+-- the text of a page on that code
+pub record IsPageText (code text : List ℕ) : Type 0 where
+  pub page : Page
+  pub on_code : has_code code page ≡ true
+  pub text_is : text ≡ page_text page
 
+-- the codes and titles of some pages
 abbrev pub IsContents : List ℕ → Type 0
 IsContents text = (pages : List Page) × (text ≡ contents_text pages)

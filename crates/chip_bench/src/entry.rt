@@ -7,7 +7,7 @@ ghost use Rattle.chip_bench.specs.Printing.{Prints, printed};
 ghost use Rattle.chip_bench.specs.Settings.{default_settings};
 ghost use Rattle.chip_bench.specs.SettingWords.{settings_asked, tape_asked};
 ghost use Rattle.chip_bench.specs.Running.{AnswersScript, RunsSession, status_of, failure_status, AreFaulty, IsUsage, IsWithoutWords, IsUnread, source_bytes_read};
-ghost use Rattle.chip_bench.specs.Doing.{Assembles, Checks, Debugs, Disassembles, Ends, GivesSource, IsAsked, IsFileWritten, IsKeysUnread, IsSourceUnread, IsUnasked, Lists, Performs, Runs, ShowsVersion};
+ghost use Rattle.chip_bench.specs.Doing.{Assembles, Checks, Debugs, Disassembles, Does, Ends, GivesSource, IsAsked, IsFileWritten, IsKeysUnread, IsSourceUnread, IsUnasked, Lists, Performs, Runs, ShowsVersion};
 ghost use Rattle.chip_bench.specs.CommandWords.{faults_of};
 ghost use Rattle.std.specs.Io.KnownBytes.{Keeps};
 ghost use Rattle.std.specs.IoError.{error_kind};
@@ -122,11 +122,22 @@ fn carry_out<'a, F: Files, S: AsStr, I: Read, O: Write>(
     ensures version { faults_of (map S.text words.entry.now) ≡ ErrorKind.DisplayVersion ∷ []
         → ShowsVersion I.remaining O.contents input.old input.new output.old output.new result }
 {
-    let line = match parse_words(alloc, words) {
-        Ok(line) => line,
-        Err(help) if !help.use_stderr() => return show_help(alloc, &help, output),
-        Err(fault) => return Err(Failure::from(fault)),
-    };
+    match parse_words(alloc, words) {
+        Ok(line) => perform(alloc, files, line, input, output),
+        Err(help) if !help.use_stderr() => show_help(alloc, &help, output),
+        Err(fault) => Err(Failure::from(fault)),
+    }
+}
+
+fn perform<'a, F: Files, I: Read, O: Write>(
+    alloc: Global,
+    files: &F,
+    line: CommandLine<'a>,
+    input: &mut Counted<I>,
+    output: &mut Counted<O>,
+) -> Result<Ending, Failure<'a>>
+    ensures { Does I.remaining O.contents input.old input.new output.old output.new line.entry result }
+{
     match line {
         CommandLine::Debug { source, settings } => {
             debug(alloc, files, source, &settings, input, output)

@@ -1,24 +1,25 @@
 //! The pages on codes, as `explain` prints them.
-ghost use Rattle.std.specs.Prelude.{◌≡◌, ◌++◌, IfOk, OnOk, option_map, option_copied, flat_map};
+ghost use Rattle.std.specs.Prelude.{◌≡◌, ◌++◌, IfOk, IfSome, OnOk, option_copied, flat_map};
 ghost use Rattle.chip_bench.specs.Pages.{IsContents, IsPageText, contents_text, example_text, indented, page_of, page_text};
 
 use crate::key_file::first_line;
-use crate::pages::{Example, PAGES, Page};
+use crate::pages::{Example, Page, all_pages};
 use std::alloc::{AllocError, Global};
 
 /// The page on a code, in either case, as text; nothing where there is no such code.
 pub(crate) fn page_text(alloc: Global, code: &str) -> Result<Option<Vec<u8>>, AllocError>
-    ensures { IfOk result (λ text. IsPageText code.now (option_map (λ v. v.items) text)) }
+    ensures { IfOk result (λ text. IfSome text (λ page. IsPageText code.now page.items)) }
 {
-    match page_of(&PAGES, code) {
-        Some(page) => Ok(Some(text_of(alloc, page)?)),
-        None => Ok(None),
+    for group in &all_pages() {
+        if let Some(page) = page_among(group, code) {
+            return Ok(Some(text_of(alloc, page)?));
+        }
     }
+    Ok(None)
 }
 
-// The page on a code among pages.
 #[tactic(auto, unfolding(crate::specs::Pages::page_of))]
-fn page_of<'p>(pages: &'p [Page], code: &str) -> Option<&'p Page>
+fn page_among<'a>(pages: &'a [Page], code: &str) -> Option<&'a Page>
     ensures { option_copied result ≡ page_of pages.now code.now }
 {
     pages
@@ -30,19 +31,21 @@ fn page_of<'p>(pages: &'p [Page], code: &str) -> Option<&'p Page>
 pub(crate) fn contents(alloc: Global) -> Result<Vec<u8>, AllocError>
     ensures { IfOk result (λ text. IsContents text.items) }
 {
-    titles(alloc, &PAGES)
-}
-
-// The titles of pages.
-#[tactic(auto, unfolding(crate::specs::Pages::contents_text))]
-fn titles(alloc: Global, pages: &[Page]) -> Result<Vec<u8>, AllocError>
-    ensures { IfOk result (λ text. text.items ≡ contents_text pages.now) }
-{
     let mut text = Vec::new(alloc);
-    for page in pages {
-        push_all(&mut text, &[page.code, "  ", page.title, "\n"])?;
+    for group in &all_pages() {
+        push_titles(&mut text, group)?;
     }
     Ok(text)
+}
+
+#[tactic(auto, unfolding(crate::specs::Pages::contents_text))]
+fn push_titles(text: &mut Vec<u8>, pages: &[Page]) -> Result<(), AllocError>
+    ensures { OnOk result (text.new.items ≡ text.old.items ++ contents_text pages.now) }
+{
+    for page in pages {
+        push_all(text, &[page.code, "  ", page.title, "\n"])?;
+    }
+    Ok(())
 }
 
 fn text_of(alloc: Global, page: &Page) -> Result<Vec<u8>, AllocError>

@@ -33,7 +33,7 @@ pub use command_line::{CommandLine, PictureWords, RunWords, SettingWords, parse_
 pub use counted::Counted;
 pub use edit::Edit;
 pub use entry::{program, refuse_words};
-pub use pages::{Example, PAGES, Page};
+pub use pages::{Example, Page, all_pages};
 pub use question::{PictureForm, Question, StateQuestion};
 pub use refusal::Refusal;
 pub use server::{ServeError, serve};

@@ -26,8 +26,27 @@ pub struct Page {
     pub mend: &'static str,
 }
 
-/// A page on each code, in the order of the documents.
-pub const PAGES: [Page; 47] = [
+/// All pages, in the order of the documents.
+pub fn all_pages() -> [&'static [Page]; 3] {
+    [fault_pages(), command_pages(), end_pages()]
+}
+
+// Each table is read by one function alone, since the proof of a function reads the whole of each static that it names.
+
+fn fault_pages() -> &'static [Page] {
+    &FAULT_PAGES
+}
+
+fn command_pages() -> &'static [Page] {
+    &COMMAND_PAGES
+}
+
+fn end_pages() -> &'static [Page] {
+    &END_PAGES
+}
+
+// The faults of a source's lines.
+static FAULT_PAGES: [Page; 17] = [
     Page {
         code: "F1",
         title: "bad character",
@@ -147,6 +166,10 @@ pub const PAGES: [Page; 47] = [
         example: Example::Source("INCLUDE 'x'"),
         mend: "Put the file's lines in the place of INCLUDE, and take the others out.",
     },
+];
+
+// The refusals of edits and questions, and the faults of commands.
+static COMMAND_PAGES: [Page; 16] = [
     Page {
         code: "N1",
         title: "no such line",
@@ -286,6 +309,10 @@ pub const PAGES: [Page; 47] = [
         example: Example::Told("`syms` and 397 spaces."),
         mend: "Make the line shorter; a source's line has at most 200 bytes.",
     },
+];
+
+// Why a session ends or doesn't open, and why a program stops.
+static END_PAGES: [Page; 14] = [
     Page {
         code: "E1",
         title: "input fault",

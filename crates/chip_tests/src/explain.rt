@@ -1,5 +1,5 @@
 //! The pages on codes: each example has its code.
-use chip_bench::{Counted, Example, PAGES, Page, Settings, serve};
+use chip_bench::{Counted, Example, Page, Settings, all_pages, serve};
 use std::alloc::Global;
 use std::test::Fail;
 
@@ -41,8 +41,10 @@ fn contains(text: &[u8], part: &[u8]) -> bool {
 
 #[test]
 fn each_example_has_its_code(rt: HostRuntime) -> Result<(), Fail> {
-    for page in &PAGES {
-        assert!(rt; has_code(rt.alloc(), page)?, "at {}", page.code);
+    for pages in &all_pages() {
+        for page in *pages {
+            assert!(rt; has_code(rt.alloc(), page)?, "at {}", page.code);
+        }
     }
     Ok(())
 }

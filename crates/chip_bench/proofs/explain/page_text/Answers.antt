@@ -1,10 +1,7 @@
-use Rattle.chip_bench.proofs.PageLemmas.{no_page, some_page}
+use Rattle.chip_bench.proofs.PageLemmas.{page_found}
 use Rattle.chip_bench.proofs.explain.page_text.Goals as goal
 
-pub returns-in_ok-text_of-in-Some : goal.returns-in_ok-text_of-in-Some
-returns-in_ok-text_of-in-Some c =
-    some_page _ c.args.code.now c.in_ok-text_of-in-Some.field-0.items c.page_of.result c.in-Some.page c.page_of.ensures c.in-Some.is
-    c.in_ok-text_of-in-Some.ensures
-
-pub returns-in-None : goal.returns-in-None
-returns-in-None c = no_page _ c.args.code.now c.page_of.result c.page_of.ensures c.in-None.is
+pub returns-in-Some : goal.returns-in-Some
+returns-in-Some c =
+    page_found _ c.args.code.now c.in_ok-text_of.field-0.items c.page_among.result c.in-Some.page c.page_among.ensures c.in-Some.is
+    c.in_ok-text_of.ensures

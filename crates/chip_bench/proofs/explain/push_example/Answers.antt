@@ -1,7 +1,7 @@
-use Rattle.std.proofs.Common.{◌≡◌, ◌∙◌, ◌++◌, codes, OnOk, sym, subst}
+use Rattle.std.proofs.Common.{◌≡◌, ◌++◌, codes, OnOk, sym, subst}
 use Rattle.chip_bench.specs.Pages.{example_text, indented}
 use Rattle.chip_bench.specs.declared.pages.Example.{Example}
-use Rattle.chip_bench.proofs.PageLemmas.{both_pushed, pushed_twice}
+use Rattle.chip_bench.proofs.PageLemmas.{both_pushed}
 use Rattle.chip_bench.proofs.explain.push_example.Goals as goal
 
 pub returns-in_ok-push_all-in-Source : goal.returns-in_ok-push_all-in-Source

@@ -1,5 +1,5 @@
-use Rattle.std.proofs.Common.{◌≡◌, ◌∙◌, ℕ, ◌<◌, ◌++◌, List, codes, length, ap, sym, arith}
-use Rattle.chip_asm.proofs.CutSteps.{after-shorter, no-lines, some-bytes}
+use Rattle.std.proofs.Common.{◌∙◌, ℕ, ◌<◌, ◌++◌, List, codes, length, ap, sym}
+use Rattle.chip_asm.proofs.CutSteps.{some-bytes}
 use Rattle.chip_bench.proofs.PageLemmas.{line_more}
 use Rattle.chip_bench.proofs.explain.push_indented.Goals as goal
 

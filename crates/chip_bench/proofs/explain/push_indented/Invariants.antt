@@ -1,7 +1,5 @@
 use Rattle.std.proofs.Common.{◌≡◌, ◌++◌, length}
-use Rattle.std.specs.List.{flat_map}
-use Rattle.chip_asm.specs.Lines.{lines_of}
-use Rattle.chip_bench.specs.Pages.{indented_line, indented}
+use Rattle.chip_bench.specs.Pages.{indented}
 use Rattle.chip_bench.proofs.explain.push_indented.Given as goal
 
 abbrev pub decreases-loop-rest : goal.decreases-loop-rest

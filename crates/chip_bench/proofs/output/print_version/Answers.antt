@@ -1,5 +1,4 @@
 use Rattle.std.proofs.Common.{◌∙◌, List, ℕ, codes, subst}
-use Rattle.chip_bench.specs.Pages.{version_text}
 use Rattle.chip_bench.specs.Printing.{Prints, printed}
 use Rattle.chip_bench.specs.declared.command_line.TheConstants.{VERSION}
 use Rattle.chip_bench.specs.declared.ending.Ending.TheVariants.{Done}
