@@ -1,4 +1,4 @@
-use Rattle.std.proofs.Common.{◌≡◌, sym, subst, ℕ, List, Err}
+use Rattle.std.proofs.Common.{sym, subst, ℕ, List, Err}
 use Rattle.chip_bench.specs.KeyFile.{IsKeyFault, key_fault}
 use Rattle.chip_bench.specs.Printing.{PrintsUnder, picture_at}
 use Rattle.chip_bench.specs.Session.{Session, session_of}
