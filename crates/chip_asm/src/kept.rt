@@ -1,5 +1,5 @@
 //! What is kept of a source, and the one way in which an edit changes it.
-ghost use Rattle.std.specs.Prelude.{◌≡◌, ◌+◌, ◌<◌, ◌≤◌, ℕ, List, [], true, Some, slice_set, OnOk, OnErr, IfOk, IfSome, length, vec_len, vec_capacity, map, slice_index};
+ghost use Rattle.std.specs.Prelude.{◌≡◌, ◌+◌, ◌<◌, ◌≤◌, ℕ, List, All, [], true, Some, slice_set, OnOk, OnErr, IfOk, IfSome, length, vec_len, vec_capacity, map, slice_index};
 ghost use Rattle.std.specs.Option.{option_copied};
 ghost use Rattle.chip_lang.specs.Line.{Reading, reading_of};
 ghost use Rattle.chip_asm.specs.declared.kept_line.KeptLine.{KeptLine};
@@ -38,11 +38,11 @@ pub(crate) struct Kept {
     pub(crate) faults: usize,
 }
 
-/// What an edit makes new: the layout, and a code for each line that needs one.
+/// What an edit makes new: the layout, and a code for each line that needs one, with its place.
 #[derive(Drop)]
 struct Prepared {
     layout: Layout,
-    codes: Vec<Option<Coded>>,
+    codes: Vec<(usize, Coded)>,
 }
 
 impl Kept {
@@ -254,7 +254,7 @@ impl Kept {
         requires few { length self.old.lines.items ≤ MOST_LINES }
         requires are_read { readings_in self.old.lines.items ≡ map reading_of (texts_in self.old.lines.items) }
         requires laid_out { IsLayoutOf prepared.layout (readings_in self.old.lines.items) }
-        requires count { length prepared.codes.items ≡ length self.old.lines.items }
+        requires within { All (λ e. e.0 < length self.old.lines.items) prepared.codes.items }
         requires current { (lines : List KeptLine) → IsMerged self.old.lines.items prepared.codes.items lines → AreCurrent lines }
         requires image { vec_len self.old.image ≡ IMAGE_BYTES }
         ensures texts { texts_in self.new.lines.items ≡ texts_in self.old.lines.items }
