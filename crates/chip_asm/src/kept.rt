@@ -26,12 +26,15 @@ use chip_lang::laws::same_code;
 use chip_lang::limits::{IMAGE_BYTES, IMAGE_START};
 use chip_lang::{Coded, Line, Meter};
 use std::alloc::{AllocError, Global};
+use std::mem;
 
 /// The lines of a source, with all that is known of them.
 #[derive(Drop)]
 pub(crate) struct Kept {
     pub(crate) lines: Vec<KeptLine>,
     pub(crate) layout: Layout,
+    /// The layout before the last edit, for its room.
+    pub(crate) spare: Layout,
     /// The byte at each address from `IMAGE_START` on, also where a line has a fault. Empty until there is a line.
     pub(crate) image: Vec<u8>,
     /// How many lines have a fault.
@@ -54,6 +57,7 @@ impl Kept {
         Kept {
             lines: Vec::new(alloc),
             layout: Layout::new(alloc),
+            spare: Layout::new(alloc),
             image: Vec::new(alloc),
             faults: 0,
         }
@@ -244,7 +248,8 @@ impl Kept {
     {
         self.lines.reserve(1)?;
         fill_up(&mut self.image)?;
-        let layout = Layout::after(alloc, &self.lines, edit)?;
+        let spare = mem::replace(&mut self.spare, Layout::new(alloc));
+        let layout = Layout::after(alloc, spare, &self.lines, edit)?;
         let codes = recode(alloc, meter, &self.lines, edit, &self.layout, &layout)?;
         Ok(Prepared { layout, codes })
     }
@@ -262,7 +267,7 @@ impl Kept {
     {
         let Prepared { layout, codes } = prepared;
         write_codes(&mut self.lines, codes);
-        self.layout = layout;
+        self.spare = mem::replace(&mut self.layout, layout);
         clear(&mut self.image);
         self.faults = write_lines(&mut self.image, &self.lines, &self.layout);
     }

@@ -77,9 +77,10 @@ impl Pass {
     ghost use Rattle.chip_asm.specs.Placements.{is_placed};
     ghost use Rattle.chip_asm.specs.Follows.{Follows, placement_of, next_address, next_aligning};
 
-    /// Before the first line.
+    /// Before the first line, with a table without names.
     #[tactic(auto, unfolding(crate::specs::Layout::address, crate::specs::Layout::is_aligning, crate::specs::Layout::has_ended, crate::specs::Layout::enclosing, crate::specs::Layout::symbols))]
-    pub(crate) fn new(alloc: Global) -> Self
+    pub(crate) fn new(alloc: Global, names: Table) -> Self
+        requires { names ≡ [] }
         ensures { Follows result [] }
     {
         Pass {
@@ -87,7 +88,7 @@ impl Pass {
             aligning: true,
             ended: false,
             blocks: Vec::new(alloc),
-            names: Table::new(alloc),
+            names,
         }
     }
 
