@@ -4,6 +4,7 @@ pub mod PlaceSteps
 pub mod Numbers
 pub mod Placing
 pub mod NextLine
+pub mod BareLines
 pub mod LayoutSteps
 pub mod MarkSteps
 pub mod Edited
