@@ -13,7 +13,8 @@ use std::marker::Model;
 pub struct Touch {
     addresses: [u16; TOUCHES],
     count: usize,
-    /// The newest addresses stand in a row from here on. They aren't written out before others follow.
+    /// Where the newest addresses begin, which stand in a row and aren't written out before others
+    /// follow.
     row_start: u16,
     row_len: usize,
 }
@@ -94,7 +95,8 @@ impl Touch {
         true
     }
 
-    /// Notes a step at the addresses: in the table each address keeps the least number of a step that was noted there.
+    /// Notes a step at the addresses: in the table each address keeps the least number of a step that
+    /// was noted there.
     #[inline(always)]
     pub fn note(&self, first_touch: &mut [u32], number: u32)
         requires { length first_touch.old ≡ MEMORY_BYTES }
@@ -132,7 +134,8 @@ fn count_up(numbers: &mut [u16], start: u16)
 #[inline(always)]
 pub(crate) fn note_at(first_touch: &mut [u32], at: usize, number: u32)
     requires { at < length first_touch.old }
-    ensures { first_touch.new ≡ slice_set first_touch.old at (min (slice_index first_touch.old at) number) }
+    ensures { first_touch.new
+        ≡ slice_set first_touch.old at (min (slice_index first_touch.old at) number) }
 {
     if number < first_touch[at] {
         first_touch[at] = number;
@@ -164,7 +167,8 @@ fn note_row(first_touch: &mut [u32], start: usize, len: usize, number: u32)
 /// Notes a step at each place of a part of the table.
 #[inline(always)]
 fn note_all(part: &mut [u32], number: u32)
-    ensures { (k : ℕ) → k < length part.old → slice_index part.new k ≡ min (slice_index part.old k) number }
+    ensures { (k : ℕ) → k < length part.old
+        → slice_index part.new k ≡ min (slice_index part.old k) number }
 {
     for known in part.iter_mut() {
         *known = (*known).min(number);
