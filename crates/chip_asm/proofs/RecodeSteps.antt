@@ -94,23 +94,3 @@ code-pushed old new origin xs i r b e =
 -- where two tables are one, they agree on each line
 pub agree-same : (S T : Symbols) (line : Reading) → S ≡ T → agree_on S T line ≡ true
 agree-same S T line same = ap (λ U. agree_on S U line) (sym same) ∙ all_same S (names_used line)
-
--- a line without names, and one with one name
-pub no-name : (p : List ℕ → Bool) (names : List (List ℕ)) → slice_get names 0 ≡ None → list_all p names ≡ true
-no-name p [] e = refl
-no-name p (n ∷ ns) e = cc
-
-pub one-name : (p : List ℕ → Bool) (names : List (List ℕ)) (name : List ℕ) → slice_get names 0 ≡ Some name → slice_get names 1 ≡ None → list_all p names ≡ p name
-one-name p [] name e f = cc
-one-name p (n ∷ []) name e f = (let same : n ≡ name = cc in rw same (last (p name)))
-  where
-    last : (b : Bool) → (b && true) ≡ b
-    last true = refl
-    last false = refl
-one-name p (n ∷ m ∷ ms) name e f = cc
-
-pub agree-none : (S T : Symbols) (line : Reading) → slice_get (names_used line) 0 ≡ None → agree_on S T line ≡ true
-agree-none S T line e = no-name (has_same_value S T) (names_used line) e
-
-pub agree-one : (S T : Symbols) (line : Reading) (name : List ℕ) → slice_get (names_used line) 0 ≡ Some name → slice_get (names_used line) 1 ≡ None → agree_on S T line ≡ has_same_value S T name
-agree-one S T line name e f = one-name (has_same_value S T) (names_used line) name e f

@@ -17,7 +17,7 @@ ghost use Rattle.chip_asm.specs.Kept.{AreCurrent, HasCodeAt, IsMerged, IsKept};
 use crate::changed::Changed;
 use crate::edit::{Edit, make_edit, replace_line};
 use crate::effect::has_same_effect;
-use crate::hints::{fill_hints, shift_hints};
+use crate::hints::{fill_hints, note_hints, shift_hints};
 use crate::image::{clear, count_of, fill_up, kept_bytes, kept_fault, write_line, write_lines};
 use crate::kept_line::{KeptLine, with_code};
 use crate::layout::Layout;
@@ -261,7 +261,7 @@ impl Kept {
             alloc,
             meter,
             &self.lines,
-            &mut self.hints,
+            &self.hints,
             edit,
             &self.layout,
             &layout,
@@ -281,6 +281,7 @@ impl Kept {
         ensures kept { IsKept self.new }
     {
         let Prepared { layout, codes } = prepared;
+        note_hints(&mut self.hints, &self.lines, &codes, &layout.names);
         write_codes(&mut self.lines, codes);
         self.spare = mem::replace(&mut self.layout, layout);
         clear(&mut self.image);

@@ -12,13 +12,13 @@ ghost use Rattle.chip_asm.specs.Names.{values_of};
 ghost use Rattle.chip_asm.specs.Kept.{IsMerged};
 
 use crate::edit::{Edit, count_after, line_after, place_before};
-use crate::hints::{hint_at, note_hint};
+use crate::hints::{Hinted, hint_at};
 use crate::kept_line::KeptLine;
 use crate::layout::Layout;
 use crate::limits::MOST_LINES;
 use crate::placement::Placement;
 use crate::table::Table;
-use chip_lang::{Body, Coded, Line, Meter, agree_on, encode, uses};
+use chip_lang::{Body, Coded, Line, Meter, agree_on, encode};
 use std::alloc::{AllocError, Global};
 
 /// Whether the line has bytes of its own.
@@ -43,31 +43,24 @@ fn is_placed_at(placements: &[Placement], place: usize) -> bool
     }
 }
 
-/// Whether each name of a line has one value, or none, under both layouts. The names need no search where none was moved. A line with one
-/// name has a hint at its place before the edit: where the name stood in the table last.
-fn keeps_values(
-    old: &Layout,
-    new: &Layout,
-    unmoved: bool,
-    line: &Line,
-    hints: &mut [usize],
-    before: usize,
-) -> bool
+/// Whether each name of a line has one value, or none, under both layouts. The names need no search where none was moved, and hardly one
+/// where they stand at the hint.
+fn keeps_values(old: &Layout, new: &Layout, unmoved: bool, line: &Line, hint: usize) -> bool
     requires { unmoved ≡ true → values_of old.now.names ≡ values_of new.now.names }
     ensures { result ≡ agree_on (values_of old.now.names) (values_of new.now.names) (seen_line line.now) }
 {
     if unmoved {
         return true;
     }
-    let Some(name) = uses(line, 0) else {
-        return true;
+    let before = Hinted {
+        table: &old.names,
+        hint,
     };
-    if let Some(_second) = uses(line, 1) {
-        return agree_on(line, &old.names, &new.names);
-    }
-    let hint = old.names.index_near(hint_at(hints, before), name);
-    note_hint(hints, before, hint);
-    old.names.value_near(hint, name) == new.names.value_near(hint, name)
+    let after = Hinted {
+        table: &new.names,
+        hint,
+    };
+    agree_on(line, &before, &after)
 }
 
 /// Whether the line at a place of the new source has to be encoded again.
@@ -79,7 +72,7 @@ fn is_encoded_again(
     edit: &Edit,
     place: usize,
     line: &Line,
-    hints: &mut [usize],
+    hints: &[usize],
 ) -> bool
     requires place { place ≤ MOST_LINES }
     requires unmoved { unmoved ≡ true → values_of old.now.names ≡ values_of new.now.names }
@@ -92,7 +85,7 @@ fn is_encoded_again(
     match place_before(edit, place) {
         Some(before) => {
             !(is_placed_at(&old.placements, before)
-                && keeps_values(old, new, unmoved, line, hints, before))
+                && keeps_values(old, new, unmoved, line, hint_at(hints, before)))
         }
         None => true,
     }
@@ -162,7 +155,7 @@ pub(crate) fn recode(
     alloc: Global,
     meter: &mut Meter,
     lines: &[KeptLine],
-    hints: &mut [usize],
+    hints: &[usize],
     edit: &Edit,
     old: &Layout,
     new: &Layout,
