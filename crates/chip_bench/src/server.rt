@@ -45,7 +45,7 @@ pub enum ServeError {
 }
 
 // Why the rest of a script is given up.
-#[derive(Clone, Copy, Debug, PartialEq, Eq)]
+#[derive(Clone, Copy)]
 pub(crate) enum Stop {
     WriterFailed,
     OutOfMemory,
