@@ -2,7 +2,7 @@
 use Rattle.std.proofs.Common.{◌≡◌, ℕ, ◌+◌, ◌<◌, List, [], length, map, Option, Some, None, refl, ap, sym, ◌∙◌}
 use Rattle.std.specs.List.{after_first}
 use Rattle.chip_asm.specs.Lines.{first_text, is_newline, lines_of}
-use Rattle.chip_asm.proofs.CutSteps.{lines-next, no-lines}
+use Rattle.chip_asm.proofs.CutSteps.{lines-next}
 use Rattle.chip_bench.specs.KeyFile.{first_refusal, key_command, key_commands, key_fault, refusal_to, refused_or_later, session_under}
 use Rattle.chip_bench.specs.Session.{Session, Text}
 use Rattle.chip_bench.specs.Transcript.{after, session_after}

@@ -15,3 +15,5 @@ pub mod TextLemmas
 pub mod KeyLemmas
 pub mod WordLemmas
 pub mod RowLemmas
+pub mod PageLemmas
+pub mod DoingLemmas

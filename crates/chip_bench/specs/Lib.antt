@@ -18,6 +18,8 @@
 --     Running      what a run of the program reads, writes and answers
 --     SettingWords what the words of the command line say of settings
 --     Tape         the tape of a seed
+--     Pages        what `explain` prints
+--     Doing        what the program does for each thing that its words can ask for
 --     Progress     how far a script has been carried out, for the private contracts behind `serve`
 pub mod Tally
 pub mod Lines
@@ -44,3 +46,5 @@ pub mod SettingWords
 pub mod Printing
 pub mod CommandWords
 pub mod KeyFile
+pub mod Pages
+pub mod Doing

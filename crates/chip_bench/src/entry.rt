@@ -1,9 +1,13 @@
 //! The program behind `main`.
-ghost use Rattle.std.specs.Prelude.{◌≡◌, [], Ok, Err, None, Some, IfOk, IfErr, IsErr, OnOk, IfSome, ◌⊎◌, ◌++◌, map, take};
+ghost use Rattle.std.specs.Prelude.{◌≡◌, [], ◌∷◌, Ok, Err, None, Some, IfOk, IfErr, IsErr, OnOk, IfSome, ◌⊎◌, ◌++◌, map, take};
 ghost use Rattle.hex.specs.Hex.{decode_of};
+ghost use Rattle.clap.specs.Words.{kind_of};
+ghost use Rattle.chip_bench.specs.Pages.{version_text};
+ghost use Rattle.chip_bench.specs.Printing.{Prints, printed};
 ghost use Rattle.chip_bench.specs.Settings.{default_settings};
 ghost use Rattle.chip_bench.specs.SettingWords.{settings_asked, tape_asked};
-ghost use Rattle.chip_bench.specs.Running.{AnswersScript, AnswersIfAsked, RunsSession, status_of, failure_status, AreFaulty, IsUsage, IsWithoutWords, IsUnread, source_bytes_read};
+ghost use Rattle.chip_bench.specs.Running.{AnswersScript, RunsSession, status_of, failure_status, AreFaulty, IsUsage, IsWithoutWords, IsUnread, source_bytes_read};
+ghost use Rattle.chip_bench.specs.Doing.{Assembles, Checks, Debugs, Disassembles, Does, Ends, GivesSource, IsAsked, IsFileWritten, IsKeysUnread, IsSourceUnread, IsUnasked, Lists, Performs, Runs, ShowsVersion};
 ghost use Rattle.chip_bench.specs.CommandWords.{faults_of};
 ghost use Rattle.std.specs.Io.KnownBytes.{Keeps};
 ghost use Rattle.std.specs.IoError.{error_kind};
@@ -16,13 +20,14 @@ use crate::ending::{Ending, Failure};
 use crate::image_file::write_file;
 use crate::output::{
     KeyFile, answer_script, check_source, explain, image_or_faults, list_source, picture_source,
-    print, print_source, run_source,
+    print, print_source, print_version, run_source,
 };
 use crate::question::PictureForm;
 use crate::settings::Settings;
 use crate::tape::tape_of;
 use chip_asm::limits::SOURCE_BYTES;
 use chip_machine::limits::IMAGE_BYTES;
+use clap::error::ErrorKind;
 use hex::FromHexError;
 use std::alloc::Global;
 use std::convert::AsStr;
@@ -57,6 +62,12 @@ pub fn program<F: Files, S: AsStr, I: Read, O: Write, E: Write>(
     // Words with a fault are refused, and nothing is read or written.
     ensures usage { AreFaulty (faults_of (map S.text words.now)) → ((result ≡ 2) ⊎ (result ≡ 4))
         × (input.new ≡ input.old) × Keeps (O.contents output.old.inner) (O.contents output.new.inner) }
+    // Words without a fault ask for something, and that is done.
+    ensures good { faults_of (map S.text words.now) ≡ [] → Ends O.contents (λ written ended.
+        Performs I.remaining O.contents input.old input.new output.old written (map S.text words.now) ended)
+        output.new result }
+    ensures version { faults_of (map S.text words.now) ≡ ErrorKind.DisplayVersion ∷ [] → Ends O.contents (λ written ended.
+        ShowsVersion I.remaining O.contents input.old input.new output.old written ended) output.new result }
 {
     let ended = carry_out(alloc, files, words, input, output);
     let flushed = output.flush();
@@ -106,25 +117,34 @@ fn carry_out<'a, F: Files, S: AsStr, I: Read, O: Write>(
         input.old input.new output.old output.new result }
     ensures usage { AreFaulty (faults_of (map S.text words.entry.now)) → IsUsage result
         × (input.new ≡ input.old) × (output.new ≡ output.old) }
+    ensures good { faults_of (map S.text words.entry.now) ≡ [] → Performs I.remaining O.contents
+        input.old input.new output.old output.new (map S.text words.entry.now) result }
+    ensures version { faults_of (map S.text words.entry.now) ≡ ErrorKind.DisplayVersion ∷ []
+        → ShowsVersion I.remaining O.contents input.old input.new output.old output.new result }
 {
-    let line = match parse_words(alloc, words) {
-        Ok(line) => line,
-        Err(help) if !help.use_stderr() => return show_help(&help, output),
-        Err(fault) => return Err(Failure::from(fault)),
-    };
+    match parse_words(alloc, words) {
+        Ok(line) => perform(alloc, files, line, input, output),
+        Err(help) if !help.use_stderr() => show_help(alloc, &help, output),
+        Err(fault) => Err(Failure::from(fault)),
+    }
+}
+
+fn perform<'a, F: Files, I: Read, O: Write>(
+    alloc: Global,
+    files: &F,
+    line: CommandLine<'a>,
+    input: &mut Counted<I>,
+    output: &mut Counted<O>,
+) -> Result<Ending, Failure<'a>>
+    ensures { Does I.remaining O.contents input.old input.new output.old output.new line.entry result }
+{
     match line {
         CommandLine::Debug { source, settings } => {
             debug(alloc, files, source, &settings, input, output)
         }
         CommandLine::Asm { source, image } => asm(alloc, files, source, image, input, output),
-        CommandLine::List { source } => {
-            let bytes = read_source(alloc, files, source, input)?;
-            list_source(alloc, &bytes, output)
-        }
-        CommandLine::Check { source } => {
-            let bytes = read_source(alloc, files, source, input)?;
-            check_source(alloc, source, &bytes, output)
-        }
+        CommandLine::List { source } => list(alloc, files, source, input, output),
+        CommandLine::Check { source } => check(alloc, files, source, input, output),
         CommandLine::Dis { image } => dis(alloc, files, image, input, output),
         CommandLine::Run(words) => run(alloc, files, &words, input, output),
         CommandLine::Picture(words) => picture(alloc, files, &words, input, output),
@@ -132,15 +152,21 @@ fn carry_out<'a, F: Files, S: AsStr, I: Read, O: Write>(
     }
 }
 
+// Shows help or the version, of which only the version's text is known to contracts.
 fn show_help<'a, O: Write>(
+    alloc: Global,
     help: &clap::Error,
     output: &mut Counted<O>,
 ) -> Result<Ending, Failure<'a>>
-    ensures { (result ≡ Ok Ending.Done) ⊎ (result ≡ Err Failure.Output) }
+    ensures { kind_of help.now ≡ ErrorKind.DisplayVersion
+        → Prints O.contents output.old output.new (printed version_text Ending.Done) result }
 {
-    match write!(output, "{help}") {
-        Ok(()) => Ok(Ending::Done),
-        Err(_) => Err(Failure::Output),
+    match help.kind() {
+        ErrorKind::DisplayVersion => print_version(alloc, output),
+        _ => match write!(output, "{help}") {
+            Ok(()) => Ok(Ending::Done),
+            Err(_) => Err(Failure::Output),
+        },
     }
 }
 
@@ -190,8 +216,7 @@ fn debug<'a, F: Files, I: Read, O: Write>(
     input: &mut Counted<I>,
     output: &mut Counted<O>,
 ) -> Result<Ending, Failure<'a>>
-    ensures { source.entry ≡ None → AnswersIfAsked I.remaining O.contents [] input.old input.new output.old output.new
-        (settings_asked words.now) result }
+    ensures { Debugs I.remaining O.contents input.old input.new output.old output.new source.entry words.now result }
 {
     let settings = settings_of(alloc, words)?;
     match source {
@@ -210,12 +235,40 @@ fn asm<'a, F: Files, I: Read, O: Write>(
     image: &'a str,
     input: &mut Counted<I>,
     output: &mut Counted<O>,
-) -> Result<Ending, Failure<'a>> {
+) -> Result<Ending, Failure<'a>>
+    ensures { Assembles I.remaining O.contents input.old input.new output.old output.new source.entry image.entry result }
+{
     let bytes = read_source(alloc, files, source, input)?;
     let Some(assembled) = image_or_faults(alloc, &bytes, output)? else {
         return Ok(Ending::Faulty);
     };
     write_image(alloc, files, source, image, &assembled)
+}
+
+fn list<'a, F: Files, I: Read, O: Write>(
+    alloc: Global,
+    files: &F,
+    source: &'a str,
+    input: &mut Counted<I>,
+    output: &mut Counted<O>,
+) -> Result<Ending, Failure<'a>>
+    ensures { Lists I.remaining O.contents input.old input.new output.old output.new source.entry result }
+{
+    let bytes = read_source(alloc, files, source, input)?;
+    list_source(alloc, &bytes, output)
+}
+
+fn check<'a, F: Files, I: Read, O: Write>(
+    alloc: Global,
+    files: &F,
+    source: &'a str,
+    input: &mut Counted<I>,
+    output: &mut Counted<O>,
+) -> Result<Ending, Failure<'a>>
+    ensures { Checks I.remaining O.contents input.old input.new output.old output.new source.entry result }
+{
+    let bytes = read_source(alloc, files, source, input)?;
+    check_source(alloc, source, &bytes, output)
 }
 
 // Writes a file whole, or leaves what was there.
@@ -225,7 +278,9 @@ fn write_image<'a, F: Files>(
     source: &'a str,
     image: &'a str,
     bytes: &[u8],
-) -> Result<Ending, Failure<'a>> {
+) -> Result<Ending, Failure<'a>>
+    ensures { IsFileWritten image.entry result }
+{
     let source = (source != INPUT).then_some(source);
     match write_file(alloc, files, source, image, bytes) {
         Ok(()) => Ok(Ending::Done),
@@ -240,7 +295,9 @@ fn dis<'a, F: Files, I: Read, O: Write>(
     image: &'a str,
     input: &mut Counted<I>,
     output: &mut Counted<O>,
-) -> Result<Ending, Failure<'a>> {
+) -> Result<Ending, Failure<'a>>
+    ensures { Disassembles I.remaining O.contents input.old input.new output.old output.new image.entry result }
+{
     let bytes = read_source(alloc, files, image, input)?;
     if bytes.len() > IMAGE_BYTES {
         let error = io::Error::new(io::ErrorKind::InvalidData, "it has over 3584 bytes");
@@ -255,7 +312,9 @@ fn run<'a, F: Files, I: Read, O: Write>(
     words: &RunWords<'a>,
     input: &mut Counted<I>,
     output: &mut Counted<O>,
-) -> Result<Ending, Failure<'a>> {
+) -> Result<Ending, Failure<'a>>
+    ensures { Runs I.remaining O.contents input.old input.new output.old output.new words.entry.now result }
+{
     let Asked {
         source,
         keys,
@@ -358,18 +417,12 @@ fn read_asked<'a, F: Files, I: Read>(
     files: &F,
     words: &RunWords<'a>,
     input: &mut Counted<I>,
-) -> Result<Asked<'a>, Failure<'a>> {
+) -> Result<Asked<'a>, Failure<'a>>
+    ensures ok { IfOk result (λ asked. IsAsked I.remaining input.old input.new words.entry.now asked) }
+    ensures err { IfErr result (λ why. IsUnasked I.remaining input.old input.new words.entry.now why) }
+{
     let settings = settings_of(alloc, &words.settings)?;
-    let keys = match words.keys {
-        Some(name) => KeyFile {
-            name,
-            bytes: read_file(alloc, files, name)?,
-        },
-        None => KeyFile {
-            name: "",
-            bytes: Vec::new(alloc),
-        },
-    };
+    let keys = read_keys(alloc, files, words.keys)?;
     let source = read_source(alloc, files, words.source, input)?;
     Ok(Asked {
         source,
@@ -378,13 +431,37 @@ fn read_asked<'a, F: Files, I: Read>(
     })
 }
 
+// The file of key events of that name, or no events without one.
+fn read_keys<'a, F: Files>(
+    alloc: Global,
+    files: &F,
+    name: Option<&'a str>,
+) -> Result<KeyFile<'a>, Failure<'a>>
+    ensures ok { IfOk result (λ keys. name.entry ≡ None → keys.bytes.items ≡ []) }
+    ensures err { IfErr result (IsKeysUnread name.entry) }
+{
+    match name {
+        Some(name) => Ok(KeyFile {
+            name,
+            bytes: read_file(alloc, files, name)?,
+        }),
+        None => Ok(KeyFile {
+            name: "",
+            bytes: Vec::new(alloc),
+        }),
+    }
+}
+
 // The bytes of a file, or of the standard input where the name is `-`.
 fn read_source<'a, F: Files, I: Read>(
     alloc: Global,
     files: &F,
     name: &'a str,
     input: &mut Counted<I>,
-) -> Result<Vec<u8>, Failure<'a>> {
+) -> Result<Vec<u8>, Failure<'a>>
+    ensures ok { IfOk result (λ bytes. GivesSource I.remaining input.old input.new name.entry.now bytes.items) }
+    ensures err { IfErr result (IsSourceUnread name.entry) }
+{
     if name == INPUT {
         read_input(alloc, input)
     } else {
@@ -392,7 +469,11 @@ fn read_source<'a, F: Files, I: Read>(
     }
 }
 
-fn read_input<'a, I: Read>(alloc: Global, input: &mut Counted<I>) -> Result<Vec<u8>, Failure<'a>> {
+fn read_input<'a, I: Read>(alloc: Global, input: &mut Counted<I>) -> Result<Vec<u8>, Failure<'a>>
+    ensures ok { IfOk result (λ bytes. IfSome (I.remaining input.old.inner)
+        (λ all. bytes.items ≡ take source_bytes_read all)) }
+    ensures err { IfErr result (λ why. (why ≡ Failure.OutOfMemory) ⊎ (why ≡ Failure.Input)) }
+{
     let mut bytes = Vec::new(alloc);
     match read_most(input, &mut bytes) {
         Ok(()) => Ok(bytes),

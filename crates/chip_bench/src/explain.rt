@@ -1,10 +1,15 @@
 //! The pages on codes, as `explain` prints them.
+ghost use Rattle.std.specs.Prelude.{◌≡◌, ◌++◌, IfOk, IfSome, OnOk, option_copied, flat_map};
+ghost use Rattle.chip_bench.specs.Pages.{IsContents, IsPageText, contents_text, example_text, indented, page_of, page_text};
 
+use crate::key_file::first_line;
 use crate::pages::{Example, Page, all_pages};
 use std::alloc::{AllocError, Global};
 
 /// The page on a code, in either case, as text; nothing where there is no such code.
-pub(crate) fn page_text(alloc: Global, code: &str) -> Result<Option<Vec<u8>>, AllocError> {
+pub(crate) fn page_text(alloc: Global, code: &str) -> Result<Option<Vec<u8>>, AllocError>
+    ensures { IfOk result (λ text. IfSome text (λ page. IsPageText code.now page.items)) }
+{
     for group in &all_pages() {
         if let Some(page) = page_among(group, code) {
             return Ok(Some(text_of(alloc, page)?));
@@ -13,14 +18,19 @@ pub(crate) fn page_text(alloc: Global, code: &str) -> Result<Option<Vec<u8>>, Al
     Ok(None)
 }
 
-fn page_among<'a>(pages: &'a [Page], code: &str) -> Option<&'a Page> {
+#[tactic(auto, unfolding(crate::specs::Pages::page_of))]
+fn page_among<'a>(pages: &'a [Page], code: &str) -> Option<&'a Page>
+    ensures { option_copied result ≡ page_of pages.now code.now }
+{
     pages
         .iter()
         .find(|page| page.code.eq_ignore_ascii_case(code))
 }
 
 /// All codes with their titles, a line each.
-pub(crate) fn contents(alloc: Global) -> Result<Vec<u8>, AllocError> {
+pub(crate) fn contents(alloc: Global) -> Result<Vec<u8>, AllocError>
+    ensures { IfOk result (λ text. IsContents text.items) }
+{
     let mut text = Vec::new(alloc);
     for group in &all_pages() {
         push_titles(&mut text, group)?;
@@ -28,14 +38,19 @@ pub(crate) fn contents(alloc: Global) -> Result<Vec<u8>, AllocError> {
     Ok(text)
 }
 
-fn push_titles(text: &mut Vec<u8>, pages: &[Page]) -> Result<(), AllocError> {
+#[tactic(auto, unfolding(crate::specs::Pages::contents_text))]
+fn push_titles(text: &mut Vec<u8>, pages: &[Page]) -> Result<(), AllocError>
+    ensures { OnOk result (text.new.items ≡ text.old.items ++ contents_text pages.now) }
+{
     for page in pages {
         push_all(text, &[page.code, "  ", page.title, "\n"])?;
     }
     Ok(())
 }
 
-fn text_of(alloc: Global, page: &Page) -> Result<Vec<u8>, AllocError> {
+fn text_of(alloc: Global, page: &Page) -> Result<Vec<u8>, AllocError>
+    ensures { IfOk result (λ text. text.items ≡ page_text page.now) }
+{
     let mut text = Vec::new(alloc);
     push_all(
         &mut text,
@@ -46,7 +61,9 @@ fn text_of(alloc: Global, page: &Page) -> Result<Vec<u8>, AllocError> {
     Ok(text)
 }
 
-fn push_example(text: &mut Vec<u8>, example: &Example) -> Result<(), AllocError> {
+fn push_example(text: &mut Vec<u8>, example: &Example) -> Result<(), AllocError>
+    ensures { OnOk result (text.new.items ≡ text.old.items ++ example_text example.now) }
+{
     match *example {
         Example::Source(source) => {
             push_all(text, &["The last line of this source has it:\n\n"])?;
@@ -69,14 +86,23 @@ fn push_example(text: &mut Vec<u8>, example: &Example) -> Result<(), AllocError>
     }
 }
 
-fn push_indented(text: &mut Vec<u8>, lines: &str) -> Result<(), AllocError> {
-    for line in lines.lines() {
-        push_all(text, &["    ", line, "\n"])?;
+fn push_indented(text: &mut Vec<u8>, lines: &str) -> Result<(), AllocError>
+    ensures { OnOk result (text.new.items ≡ text.old.items ++ indented lines.now) }
+{
+    let mut rest = lines.as_bytes();
+    while !rest.is_empty() {
+        let (line, next) = first_line(rest);
+        text.extend_from_slice(b"    ")?;
+        text.extend_from_slice(line)?;
+        text.extend_from_slice(b"\n")?;
+        rest = next;
     }
     Ok(())
 }
 
-fn push_all(text: &mut Vec<u8>, parts: &[&str]) -> Result<(), AllocError> {
+fn push_all(text: &mut Vec<u8>, parts: &[&str]) -> Result<(), AllocError>
+    ensures { OnOk result (text.new.items ≡ text.old.items ++ flat_map (λ part. part.now) parts.now) }
+{
     for part in parts {
         text.extend_from_slice(part.as_bytes())?;
     }

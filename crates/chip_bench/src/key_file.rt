@@ -102,8 +102,8 @@ fn make_change(
     }
 }
 
-// The first line of some bytes, and what follows it.
-fn first_line(bytes: &[u8]) -> (&[u8], &[u8])
+/// The first line of some bytes, and what follows it.
+pub(crate) fn first_line(bytes: &[u8]) -> (&[u8], &[u8])
     ensures line { result.0.now ≡ first_text bytes.now }
     ensures rest { result.1.now ≡ after_first is_newline bytes.now }
 {

@@ -1,16 +1,19 @@
 //! What each command reads and prints, from the bytes of a source.
-ghost use Rattle.std.specs.Prelude.{◌≡◌, ◌≤◌, Ok, Err, Some, None, length, IfOk, IfErr, IfSome, IfNone};
+ghost use Rattle.std.specs.Prelude.{◌≡◌, ◌≤◌, Ok, Err, Some, None, length, IfOk, MatchResult, option_map};
 ghost use Rattle.std.specs.Str.Lines.{lines};
 ghost use Rattle.chip_asm.specs.Lines.{open_fault};
 ghost use Rattle.chip_asm.specs.Program.{image_of};
 ghost use Rattle.chip_views.specs.Dis.{source_of_image};
 ghost use Rattle.chip_bench.specs.Transcript.{refused};
-ghost use Rattle.chip_bench.specs.Printing.{Prints, Refuses, printed, printed_of, check_of_lines, faults_of_lines, faults_unless_image, listing_of_lines, run_of, picture_at, unanswered, keys_failure, PrintsUnder, PrintsUnless};
+ghost use Rattle.chip_bench.specs.Printing.{Prints, Refuses, printed, printed_of, check_of_lines, faults_of_lines, listing_of_lines, run_of, picture_at, unanswered, keys_failure, PrintsUnder, PrintsUnless};
 ghost use Rattle.chip_bench.specs.KeyFile.{key_fault, session_under};
 ghost use Rattle.chip_bench.specs.Running.{AnswersScript};
+ghost use Rattle.chip_bench.specs.Doing.{Explains, IsImageHindered, IsImageOrFaults};
+ghost use Rattle.chip_bench.specs.Pages.{version_text};
 
 use crate::answer::{faults_answer, listing_answer};
 use crate::bench::Bench;
+use crate::command_line::VERSION;
 use crate::counted::Counted;
 use crate::ending::{Code, Ending, Failure};
 use crate::explain::{contents, page_text};
@@ -51,39 +54,21 @@ pub(crate) fn image_or_faults<'a, O: Write>(
     source: &[u8],
     output: &mut Counted<O>,
 ) -> Result<Option<Vec<u8>>, Failure<'a>>
-    ensures image { IfOk result (λ found. IfSome found (λ image. (open_fault source.now ≡ None)
-        × (image_of (lines source.now) ≡ Some image.items) × (output.new ≡ output.old))) }
-    ensures none { IfOk result (λ found. IfNone found (Prints O.contents output.old output.new
-        (printed_of (open_fault source.now) (faults_unless_image (lines source.now))) (Ok Ending.Faulty))) }
-    ensures err { IfErr result (λ failure. Prints O.contents output.old output.new
-        (printed_of (open_fault source.now) (faults_unless_image (lines source.now))) (Err failure)) }
+    ensures { MatchResult result
+        (λ found. IsImageOrFaults O.contents output.old output.new source.now (option_map (λ v. v.items) found))
+        (λ failure. IsImageHindered O.contents output.old output.new source.now failure) }
 {
-    match Source::open(alloc, source) {
-        Ok(opened) => opened_image(alloc, &opened, output),
+    let opened = match Source::open(alloc, source) {
+        Ok(opened) => opened,
         Err(error) => {
             refuse_source(error, output)?;
-            Ok(None)
+            return Ok(None);
         }
-    }
-}
-
-// The image of a source that opens. Where there is none, its faults are printed.
-fn opened_image<'a, O: Write>(
-    alloc: Global,
-    source: &Source,
-    output: &mut Counted<O>,
-) -> Result<Option<Vec<u8>>, Failure<'a>>
-    ensures image { IfOk result (λ found. IfSome found (λ image. (image_of source.now.lines ≡ Some image.items)
-        × (output.new ≡ output.old))) }
-    ensures none { IfOk result (λ found. IfNone found (Prints O.contents output.old output.new
-        (faults_unless_image source.now.lines) (Ok Ending.Faulty))) }
-    ensures err { IfErr result (λ failure. Prints O.contents output.old output.new
-        (faults_unless_image source.now.lines) (Err failure)) }
-{
-    match source.image() {
+    };
+    match opened.image() {
         Some(image) => Ok(Some(Vec::from_slice(alloc, image)?)),
         None => {
-            print_faults(alloc, source, output)?;
+            print_faults(alloc, &opened, output)?;
             Ok(None)
         }
     }
@@ -158,7 +143,9 @@ pub(crate) fn explain<'a, O: Write>(
     alloc: Global,
     code: Option<&'a str>,
     output: &mut Counted<O>,
-) -> Result<Ending, Failure<'a>> {
+) -> Result<Ending, Failure<'a>>
+    ensures { Explains O.contents output.old output.new code.entry result }
+{
     let Some(code) = code else {
         return print(&contents(alloc)?, Ending::Done, output);
     };
@@ -166,6 +153,20 @@ pub(crate) fn explain<'a, O: Write>(
         Some(page) => print(&page, Ending::Done, output),
         None => Err(Failure::NoPage(code)),
     }
+}
+
+/// `--version`: the program's name and version.
+pub(crate) fn print_version<'a, O: Write>(
+    alloc: Global,
+    output: &mut Counted<O>,
+) -> Result<Ending, Failure<'a>>
+    ensures { Prints O.contents output.old output.new (printed version_text Ending.Done) result }
+{
+    let mut text = Vec::new(alloc);
+    text.extend_from_slice(b"chipbench ")?;
+    text.extend_from_slice(VERSION.as_bytes())?;
+    text.extend_from_slice(b"\n")?;
+    print(&text, Ending::Done, output)
 }
 
 /// `run`: the answers to the questions about a step, or the faults where there is no image.

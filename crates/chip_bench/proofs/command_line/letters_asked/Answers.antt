@@ -2,7 +2,6 @@ use Rattle.std.proofs.Common.{◌≡◌, subst, codes, refl, List, ℕ, Bool, tr
 use Rattle.clap.proofs.WalkLemmas.{one_text-rows}
 use Rattle.clap.specs.Words.{found_of, one_of, one_text, rows_of}
 use Rattle.clap.specs.declared.parser.matches.Found.{Found}
-use Rattle.chip_views.specs.declared.picture.Letters.{Letters}
 use Rattle.chip_views.specs.declared.picture.Letters.TheVariants.{Blocks, Plain}
 use Rattle.chip_bench.specs.CommandWords.{AsksLetters}
 use Rattle.chip_bench.proofs.command_line.letters_asked.Goals as goal

@@ -1,4 +1,4 @@
-use Rattle.std.proofs.Common.{◌≡◌, ◌∙◌, ap, ap₂, sym, ℕ, ◌+◌, ◌<◌, ◌≤◌, Some, None, List, length, arith}
+use Rattle.std.proofs.Common.{◌≡◌, ◌∙◌, ap, ap₂, sym, ℕ, ◌+◌, ◌<◌, Some, None, List, length, arith}
 use Rattle.std.specs.Option.{option_copied}
 use Rattle.std.specs.List.{after_first}
 use Rattle.chip_asm.specs.Lines.{first_text, is_newline}

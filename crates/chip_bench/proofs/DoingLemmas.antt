@@ -1,0 +1,315 @@
+-- What each command did, from what its steps did.
+use Rattle.std.proofs.Common.{◌≡◌, ◌⊎◌, inl, inr, ℕ, List, [], ◌++◌, append_assoc, Option, Some, None, Result, Ok, Err, IfErr, IfSome, length, ◌<◌, ◌≤◌, arith, refl, sym, ◌∙◌, ap, subst}
+use Rattle.std.specs.Prelude.{IsErrAnd}
+use Rattle.std.specs.Borrow.{Bor}
+use Rattle.std.specs.Global.{Vec}
+use Rattle.std.specs.Str.Lines.{lines}
+use Rattle.std.specs.declared.io.Error.{Error as IoError}
+use Rattle.chip_asm.specs.Lines.{open_fault}
+use Rattle.chip_lang.specs.declared.limits.TheConstants.{IMAGE_BYTES}
+use Rattle.chip_views.specs.Dis.{source_of_image}
+use Rattle.chip_bench.specs.Doing.{Assembles, AssemblesBy, Checks, Debugs, Declined, Disassembles, DisassemblesBytes, Does, Explains, FromKeys, FromSource, GivesSource, IfSettled, IsAsked, IsFileWritten, IsImageHindered, IsImageOrFaults, IsKeysUnread, IsShort, IsSourceUnread, IsUnasked, IsUnsettled, Lists, Outcome, Runs, WithAsked, image_in}
+use Rattle.chip_bench.specs.Pages.{IsPageText}
+use Rattle.chip_bench.specs.Printing.{Prints, PrintsUnder, check_of_lines, listing_of_lines, printed, printed_of, run_of}
+use Rattle.chip_bench.specs.Running.{AnswersScript, IsUnread}
+use Rattle.chip_bench.specs.Settings.{SessionSettings}
+use Rattle.chip_bench.specs.SettingWords.{settings_asked}
+use Rattle.chip_bench.specs.Tally.{Tally}
+use Rattle.chip_bench.specs.declared.command_line.CommandLine.{CommandLine}
+use Rattle.chip_bench.specs.declared.command_line.RunWords.{RunWords}
+use Rattle.chip_bench.specs.declared.command_line.SettingWords.{SettingWords}
+use Rattle.chip_bench.specs.declared.ending.Ending.TheVariants.{Done}
+use Rattle.chip_bench.specs.declared.ending.Failure.{Failure}
+use Rattle.chip_bench.specs.declared.ending.Failure.TheVariants as failure
+use Rattle.chip_bench.specs.declared.entry.Asked.{Asked}
+use Rattle.chip_bench.proofs.RunningLemmas.{unsettled}
+
+-- settings that there are not, or no memory for them
+abbrev pub Unsettles : Option SessionSettings → Failure → Type 0
+Unsettles asked why = (why ≡ failure.OutOfMemory) ⊎ ((why ≡ failure.BadTape) × (asked ≡ None))
+
+fails : (Why : Failure → Type 0) (ended : Outcome) (why : Failure) → ended ≡ Err why → Why why → IsErrAnd ended Why
+fails Why ended why e w = subst (λ (r : Outcome). IsErrAnd r Why) (sym e) w
+
+module _ {R : Type 0} (remaining : R → Option (List ℕ)) (in_old in_new : Tally R) (Unwritten : Type 0) (quiet : Unwritten) where
+  pub declines : (Why : Failure → Type 0) (ended : Outcome) (why : Failure) → ended ≡ Err why → Why why → in_new ≡ in_old →
+      Declined remaining in_old in_new Unwritten Why ended
+  declines Why ended why e w same = (fails Why ended why e w, same, quiet)
+
+  pub unsettles : (asked : Option SessionSettings) (Did : SessionSettings → Outcome → Type 0) (ended : Outcome) (why : Failure) → ended ≡ Err why →
+      in_new ≡ in_old → Unsettles asked why → IfSettled remaining in_old in_new Unwritten asked Did ended
+  unsettles None Did ended why e same (inl m) = declines IsUnsettled ended why e (inr m) same
+  unsettles None Did ended why e same (inr b) = declines IsUnsettled ended why e (inl b.0) same
+  unsettles (Some settings) Did ended why e same (inl m) = inr (declines IsShort ended why e m same)
+  unsettles (Some settings) Did ended why e same (inr b) = absurd (some_is_none b.1)
+    where
+      some_is_none : Some settings ≡ None → ⊥
+      some_is_none h = cc
+
+  pub settles : (asked : Option SessionSettings) (settings : SessionSettings) (Did : SessionSettings → Outcome → Type 0) (ended : Outcome) →
+      asked ≡ Some settings → Did settings ended → IfSettled remaining in_old in_new Unwritten asked Did ended
+  settles asked settings Did ended e did =
+      subst (λ (o : Option SessionSettings). IfSettled remaining in_old in_new Unwritten o Did ended) (sym e) (inl did)
+
+  pub source_unread : (name : Bor (List ℕ)) (Did : List ℕ → Outcome → Type 0) (ended : Outcome) (why : Failure) → ended ≡ Err why →
+      IsSourceUnread name why → FromSource remaining in_old in_new Unwritten name Did ended
+  source_unread name Did ended why e w = inr (fails (IsSourceUnread name) ended why e w, quiet)
+
+  pub source_read : (name : Bor (List ℕ)) (bytes text : List ℕ) (Did : List ℕ → Outcome → Type 0) (ended : Outcome) → text ≡ bytes →
+      GivesSource remaining in_old in_new name.now bytes → Did text ended → FromSource remaining in_old in_new Unwritten name Did ended
+  source_read name bytes text Did ended same gives did = inl (bytes, gives, subst (λ (t : List ℕ). Did t ended) same did)
+
+  pub keys_unread : (keys : Option (Bor (List ℕ))) (Did : List ℕ → Outcome → Type 0) (ended : Outcome) (why : Failure) → ended ≡ Err why →
+      in_new ≡ in_old → IsKeysUnread keys why → FromKeys remaining in_old in_new Unwritten keys Did ended
+  keys_unread None Did ended why e same w = absurd w
+  keys_unread (Some name) Did ended why e same w = inr (declines (IsUnread name) ended why e w same)
+
+  pub keys_read : (keys : Option (Bor (List ℕ))) (bytes : List ℕ) (Did : List ℕ → Outcome → Type 0) (ended : Outcome) →
+      (keys ≡ None → bytes ≡ []) → Did bytes ended → FromKeys remaining in_old in_new Unwritten keys Did ended
+  keys_read None bytes Did ended none did = subst (λ (b : List ℕ). Did b ended) (none refl) did
+  keys_read (Some name) bytes Did ended none did = inl (bytes, did)
+
+-- from what was read of one ending to another
+module _ {R : Type 0} (remaining : R → Option (List ℕ)) (in_old in_new : Tally R) (U V : Type 0) (ended other : Outcome)
+    (errs : (Why : Failure → Type 0) → IsErrAnd ended Why → IsErrAnd other Why × V) where
+  declined_next : (Why : Failure → Type 0) → Declined remaining in_old in_new U Why ended → Declined remaining in_old in_new V Why other
+  declined_next Why d = let e = errs Why d.0 in (e.0, d.1, e.1)
+
+  source_next : (name : Bor (List ℕ)) (Did Next : List ℕ → Outcome → Type 0) → ((bytes : List ℕ) → Did bytes ended → Next bytes other) →
+      FromSource remaining in_old in_new U name Did ended → FromSource remaining in_old in_new V name Next other
+  source_next name Did Next f (inl (bytes, gives, did)) = inl (bytes, gives, f bytes did)
+  source_next name Did Next f (inr (why, u)) = inr (errs (IsSourceUnread name) why)
+
+  keys_next : (keys : Option (Bor (List ℕ))) (Did Next : List ℕ → Outcome → Type 0) → ((bytes : List ℕ) → Did bytes ended → Next bytes other) →
+      FromKeys remaining in_old in_new U keys Did ended → FromKeys remaining in_old in_new V keys Next other
+  keys_next None Did Next f did = f [] did
+  keys_next (Some name) Did Next f (inl (bytes, did)) = inl (bytes, f bytes did)
+  keys_next (Some name) Did Next f (inr d) = inr (declined_next (IsUnread name) d)
+
+  settled_next : (asked : Option SessionSettings) (Did Next : SessionSettings → Outcome → Type 0) →
+      ((settings : SessionSettings) → Did settings ended → Next settings other) →
+      IfSettled remaining in_old in_new U asked Did ended → IfSettled remaining in_old in_new V asked Next other
+  settled_next None Did Next f d = declined_next IsUnsettled d
+  settled_next (Some settings) Did Next f (inl did) = inl (f settings did)
+  settled_next (Some settings) Did Next f (inr d) = inr (declined_next IsShort d)
+
+  pub asked_next : (words : RunWords) (Did Next : SessionSettings → List ℕ → List ℕ → Outcome → Type 0) →
+      ((settings : SessionSettings) (keys source : List ℕ) → Did settings keys source ended → Next settings keys source other) →
+      WithAsked remaining in_old in_new U words Did ended → WithAsked remaining in_old in_new V words Next other
+  asked_next words Did Next f =
+      settled_next (settings_asked words.settings)
+      (λ settings. FromKeys remaining in_old in_new U words.keys (λ keys. FromSource remaining in_old in_new U words.source (Did settings keys)))
+      (λ settings. FromKeys remaining in_old in_new V words.keys (λ keys. FromSource remaining in_old in_new V words.source (Next settings keys)))
+      (λ settings. keys_next words.keys
+      (λ keys. FromSource remaining in_old in_new U words.source (Did settings keys))
+      (λ keys. FromSource remaining in_old in_new V words.source (Next settings keys))
+      (λ keys. source_next words.source (Did settings keys) (Next settings keys) (f settings keys)))
+
+module _ {R : Type 0} (remaining : R → Option (List ℕ)) (in_old in_new : Tally R) (V : Type 0) (words : RunWords)
+    (Did : SessionSettings → List ℕ → List ℕ → Outcome → Type 0) (ended : Outcome) where
+  -- a run's words were read, and then this was done
+  pub asked_then : (asked : Asked) → IsAsked remaining in_old in_new words asked →
+      Did asked.settings asked.keys.bytes.items asked.source.items ended → WithAsked remaining in_old in_new V words Did ended
+  asked_then asked is did =
+      asked_next remaining in_old in_new (Unit {0}) V (Ok Done) ended (λ Why h. absurd h) words
+      (λ settings keys source done. (settings ≡ asked.settings) × (keys ≡ asked.keys.bytes.items) × (source ≡ asked.source.items)) Did
+      (λ settings keys source e. rw (e.0, e.1, e.2) did) is
+
+  -- they weren't
+  pub asked_not : (quiet : V) (why : Failure) → ended ≡ Err why → IsUnasked remaining in_old in_new words why →
+      WithAsked remaining in_old in_new V words Did ended
+  asked_not quiet why e is =
+      asked_next remaining in_old in_new (Unit {0}) V (Err why) ended (λ Why h. (fails Why ended why e h, quiet)) words
+      (λ settings keys source done. ⊥) Did (λ settings keys source none. absurd none) is
+
+module _ {R W : Type 0} (remaining : R → Option (List ℕ)) (contents : W → Option (List ℕ)) (in_old in_new : Tally R) (out_old out_new : Tally W) where
+  -- a session on the bytes of a file
+  pub debugs_file : (source : Option (Bor (List ℕ))) (name : Bor (List ℕ)) (words : SettingWords) (settings : SessionSettings) (bytes text : List ℕ)
+      (ended : Outcome) → source ≡ Some name → settings_asked words ≡ Some settings → text ≡ bytes →
+      AnswersScript remaining contents settings text in_old in_new out_old out_new ended →
+      Debugs remaining contents in_old in_new out_old out_new source words ended
+  debugs_file source name words settings bytes text ended some asked same script =
+      rw (some, asked) (inl (inl (text, script)))
+
+  -- on the empty source
+  pub debugs_none : (source : Option (Bor (List ℕ))) (words : SettingWords) (settings : SessionSettings) (ended : Outcome) → source ≡ None →
+      settings_asked words ≡ Some settings → AnswersScript remaining contents settings [] in_old in_new out_old out_new ended →
+      Debugs remaining contents in_old in_new out_old out_new source words ended
+  debugs_none source words settings ended none asked script = rw (none, asked) script
+
+  pub does_it : (asked other : CommandLine) (ended : Outcome) → asked ≡ other → Does remaining contents in_old in_new out_old out_new other ended →
+      Does remaining contents in_old in_new out_old out_new asked ended
+  does_it asked other ended e did =
+      subst (λ (line : CommandLine). Does remaining contents in_old in_new out_old out_new line ended) (sym e) did
+
+  -- the image of a source is written
+  pub assembles_image : (source name : Bor (List ℕ)) (bytes text image : List ℕ) (ended : Outcome) → text ≡ bytes →
+      GivesSource remaining in_old in_new source.now bytes → IsImageOrFaults contents out_old out_new text (Some image) →
+      IsFileWritten name ended → Assembles remaining contents in_old in_new out_old out_new source name ended
+  assembles_image source name bytes text image ended same gives found written =
+      inl (
+        bytes,
+        gives,
+        subst (λ (b : List ℕ). AssemblesBy contents out_old out_new (image_in b) b name ended) same
+            (subst (λ (o : Option (List ℕ)). AssemblesBy contents out_old out_new o text name ended) (sym found.0) (written, found.1)),
+      )
+
+  -- its faults are printed
+  pub assembles_faults : (source name : Bor (List ℕ)) (bytes text : List ℕ) (ended : Outcome) → text ≡ bytes →
+      GivesSource remaining in_old in_new source.now bytes → image_in text ≡ None → AssemblesBy contents out_old out_new None text name ended →
+      Assembles remaining contents in_old in_new out_old out_new source name ended
+  assembles_faults source name bytes text ended same gives none printed =
+      inl (
+        bytes,
+        gives,
+        subst (λ (b : List ℕ). AssemblesBy contents out_old out_new (image_in b) b name ended) same
+            (subst (λ (o : Option (List ℕ)). AssemblesBy contents out_old out_new o text name ended) (sym none) printed),
+      )
+
+  -- or neither can be
+  pub assembles_not : (source name : Bor (List ℕ)) (bytes text : List ℕ) (ended : Outcome) (why : Failure) → ended ≡ Err why → text ≡ bytes →
+      GivesSource remaining in_old in_new source.now bytes → IsImageHindered contents out_old out_new text why →
+      Assembles remaining contents in_old in_new out_old out_new source name ended
+  assembles_not source name bytes text ended why e same gives (inl (short, quiet)) =
+      inl (bytes, gives, by_image (image_in bytes))
+    where
+      by_image : (image : Option (List ℕ)) → AssemblesBy contents out_old out_new image bytes name ended
+      by_image (Some image) = (inr (fails (λ w. (w ≡ failure.OutOfMemory) ⊎ ((b : _) × (w ≡ failure.CannotWrite name b))) ended why e (inl short)), quiet)
+      by_image None = rw (e, short) quiet
+  assembles_not source name bytes text ended why e same gives (inr (none, prints)) =
+      assembles_faults source name bytes text ended same gives none (rw e prints)
+
+module _ {R W : Type 0} (remaining : R → Option (List ℕ)) (contents : W → Option (List ℕ)) (input : Tally R) (output : Tally W) where
+  -- there are no settings for a session
+  pub debugs_unsettled : (source : Option (Bor (List ℕ))) (words : SettingWords) (ended : Outcome) (why : Failure) → ended ≡ Err why →
+      Unsettles (settings_asked words) why → Debugs remaining contents input input output output source words ended
+  debugs_unsettled None words ended why e u = unsettled remaining contents (settings_asked words) why ended input output e u
+  debugs_unsettled (Some name) words ended why e u = unsettles remaining input input (output ≡ output) refl (settings_asked words) _ ended why e refl u
+
+  -- the file can't be read
+  pub debugs_unread : (source : Option (Bor (List ℕ))) (name : Bor (List ℕ)) (words : SettingWords) (settings : SessionSettings) (ended : Outcome)
+      (why : Failure) → ended ≡ Err why → source ≡ Some name → settings_asked words ≡ Some settings → IsUnread name why →
+      Debugs remaining contents input input output output source words ended
+  debugs_unread source name words settings ended why e some asked w =
+      rw (some, asked) (inl (inr (declines remaining input input (output ≡ output) refl (IsUnread name) ended why e w refl)))
+
+module _ {W : Type 0} (contents : W → Option (List ℕ)) (old new : Tally W) where
+  -- the page on a code is printed
+  pub explained : (code : Option (Bor (List ℕ))) (name : Bor (List ℕ)) (found : Option (Vec ℕ)) (page : Vec ℕ) (text : List ℕ) (ended : Outcome) →
+      code ≡ Some name → IfSome found (λ v. IsPageText name.now v.items) → found ≡ Some page → text ≡ page.items →
+      Prints contents old new (printed text Done) ended → Explains contents old new code ended
+  explained code name found page text ended is named some same prints =
+      subst (λ (c : Option (Bor (List ℕ))). Explains contents old new c ended) (sym is)
+      (inl (
+        page.items,
+        subst (λ (f : Option (Vec ℕ)). IfSome f (λ v. IsPageText name.now v.items)) some named,
+        subst (λ (t : List ℕ). Prints contents old new (printed t Done) ended) same prints,
+      ))
+
+pub three_parts : (t₀ t₁ t₂ t₃ a b c d : List ℕ) → t₀ ≡ [] → t₁ ≡ t₀ ++ a → t₂ ≡ t₁ ++ b → b ≡ d → t₃ ≡ t₂ ++ c → t₃ ≡ a ++ (d ++ c)
+three_parts t₀ t₁ t₂ t₃ a b c d e₀ e₁ e₂ e e₃ =
+    e₃ ∙ ap (λ t. t ++ c) (e₂ ∙ ap (λ t. t ++ b) (e₁ ∙ ap (λ t. t ++ a) e₀)) ∙ regrouped a b c ∙ ap (λ t. a ++ (t ++ c)) e
+  where
+    regrouped : (a b c : List ℕ) → (([] ++ a) ++ b) ++ c ≡ a ++ (b ++ c)
+    regrouped a b c = simp append_assoc
+
+module _ {R W : Type 0} (remaining : R → Option (List ℕ)) (contents : W → Option (List ℕ)) (in_old in_new : Tally R) (output : Tally W) where
+  -- the source can't be read
+  pub lists_not : (source : Bor (List ℕ)) (ended : Outcome) (why : Failure) → ended ≡ Err why → IsSourceUnread source why →
+      Lists remaining contents in_old in_new output output source ended
+  lists_not source ended why e w =
+      source_unread remaining in_old in_new (output ≡ output) refl source
+      (λ bytes. Prints contents output output (printed_of (open_fault bytes) (listing_of_lines (lines bytes)))) ended why e w
+
+  pub checks_not : (source : Bor (List ℕ)) (ended : Outcome) (why : Failure) → ended ≡ Err why → IsSourceUnread source why →
+      Checks remaining contents in_old in_new output output source ended
+  checks_not source ended why e w =
+      source_unread remaining in_old in_new (output ≡ output) refl source
+      (λ bytes. Prints contents output output (printed_of (open_fault bytes) (check_of_lines source.now (lines bytes)))) ended why e w
+
+  pub disassembles_not : (image : Bor (List ℕ)) (ended : Outcome) (why : Failure) → ended ≡ Err why → IsSourceUnread image why →
+      Disassembles remaining contents in_old in_new output output image ended
+  disassembles_not image ended why e w =
+      source_unread remaining in_old in_new (output ≡ output) refl image (DisassemblesBytes contents output output image) ended why e w
+
+  pub assembles_unread : (source name : Bor (List ℕ)) (ended : Outcome) (why : Failure) → ended ≡ Err why → IsSourceUnread source why →
+      Assembles remaining contents in_old in_new output output source name ended
+  assembles_unread source name ended why e w =
+      source_unread remaining in_old in_new (output ≡ output) refl source
+      (λ bytes. AssemblesBy contents output output (image_in bytes) bytes name) ended why e w
+
+  -- the image is too long
+  pub too_long : (image : Bor (List ℕ)) (bytes : List ℕ) (because : IoError) → IMAGE_BYTES < length bytes →
+      GivesSource remaining in_old in_new image.now bytes →
+      Disassembles remaining contents in_old in_new output output image (Err (failure.CannotRead image because))
+  too_long image bytes because long gives =
+      inl (bytes, gives, record { fits = λ short. absurd (omega arith); too_long = λ _. (inr (because, refl), refl) })
+
+  -- a run's words can't be read
+  pub runs_not : (words : RunWords) (ended : Outcome) (why : Failure) → ended ≡ Err why → IsUnasked remaining in_old in_new words why →
+      Runs remaining contents in_old in_new output output words ended
+  runs_not words ended why e is =
+      asked_not remaining in_old in_new (output ≡ output) words
+      (λ settings keys source. PrintsUnder contents output output settings source keys (λ session. run_of session words.steps)) ended refl why e is
+
+module _ {R W : Type 0} (remaining : R → Option (List ℕ)) (contents : W → Option (List ℕ)) (in_old in_new : Tally R) (old new : Tally W) where
+  pub lists : (source : Bor (List ℕ)) (bytes text : List ℕ) (ended : Outcome) → text ≡ bytes → GivesSource remaining in_old in_new source.now bytes →
+      Prints contents old new (printed_of (open_fault text) (listing_of_lines (lines text))) ended →
+      Lists remaining contents in_old in_new old new source ended
+  lists source bytes text ended same gives did =
+      inl (bytes, gives, subst (λ (t : List ℕ). Prints contents old new (printed_of (open_fault t) (listing_of_lines (lines t))) ended) same did)
+
+  pub checks : (source : Bor (List ℕ)) (bytes text : List ℕ) (ended : Outcome) → text ≡ bytes → GivesSource remaining in_old in_new source.now bytes →
+      Prints contents old new (printed_of (open_fault text) (check_of_lines source.now (lines text))) ended →
+      Checks remaining contents in_old in_new old new source ended
+  checks source bytes text ended same gives did =
+      inl (bytes, gives, subst (λ (t : List ℕ). Prints contents old new (printed_of (open_fault t) (check_of_lines source.now (lines t))) ended) same did)
+
+  pub disassembles : (image : Bor (List ℕ)) (bytes text : List ℕ) (ended : Outcome) → text ≡ bytes → length bytes ≤ IMAGE_BYTES →
+      GivesSource remaining in_old in_new image.now bytes → Prints contents old new (printed (source_of_image text) Done) ended →
+      Disassembles remaining contents in_old in_new old new image ended
+  disassembles image bytes text ended same short gives did =
+      inl (
+        bytes,
+        gives,
+        record {
+          fits = λ _. subst (λ (t : List ℕ). Prints contents old new (printed (source_of_image t) Done) ended) same did;
+          too_long = λ long. absurd (omega arith);
+        },
+      )
+
+  pub runs : (words : RunWords) (asked : Asked) (settings : SessionSettings) (keys source : List ℕ) (ended : Outcome) →
+      IsAsked remaining in_old in_new words asked → settings ≡ asked.settings → keys ≡ asked.keys.bytes.items → source ≡ asked.source.items →
+      PrintsUnder contents old new settings source keys (λ session. run_of session words.steps) ended →
+      Runs remaining contents in_old in_new old new words ended
+  runs words asked settings keys source ended is s k t did =
+      asked_then remaining in_old in_new (new ≡ old) words
+      (λ settings keys source. PrintsUnder contents old new settings source keys (λ session. run_of session words.steps)) ended asked is
+      (rw (sym s, sym k, sym t) did)
+
+module _ {R : Type 0} (remaining : R → Option (List ℕ)) (in_old in_new : Tally R) (words : RunWords) where
+  -- what a run's words ask for was read
+  pub asked_is : (asked : Asked) → settings_asked words.settings ≡ Some asked.settings → (words.keys ≡ None → asked.keys.bytes.items ≡ []) →
+      GivesSource remaining in_old in_new words.source.now asked.source.items → IsAsked remaining in_old in_new words asked
+  asked_is asked settled keys gives =
+      settles remaining in_old in_new (Unit {0}) tt (settings_asked words.settings) asked.settings
+      (λ settings. FromKeys remaining in_old in_new (Unit {0}) words.keys (λ keys. FromSource remaining in_old in_new (Unit {0}) words.source
+      (λ source ended. (settings ≡ asked.settings) × (keys ≡ asked.keys.bytes.items) × (source ≡ asked.source.items))))
+      (Ok Done) settled
+      (keys_read remaining in_old in_new (Unit {0}) tt words.keys asked.keys.bytes.items
+      (λ keys. FromSource remaining in_old in_new (Unit {0}) words.source
+      (λ source ended. (asked.settings ≡ asked.settings) × (keys ≡ asked.keys.bytes.items) × (source ≡ asked.source.items))) (Ok Done) keys
+      (inl (asked.source.items, gives, (refl, refl, refl))))
+
+  -- the source wasn't
+  pub unasked_source : {T : Type 0} (settings : SessionSettings) (bytes : List ℕ) (result : Result T Failure) (why : Failure) → result ≡ Err why →
+      settings_asked words.settings ≡ Some settings → (words.keys ≡ None → bytes ≡ []) → IsSourceUnread words.source why →
+      IfErr result (λ y. IsUnasked remaining in_old in_new words y)
+  unasked_source {T} settings bytes result why e settled keys w =
+      subst (λ (r : Result T Failure). IfErr r (λ y. IsUnasked remaining in_old in_new words y)) (sym e)
+      (settles remaining in_old in_new (Unit {0}) tt (settings_asked words.settings) settings
+      (λ settings. FromKeys remaining in_old in_new (Unit {0}) words.keys (λ keys. FromSource remaining in_old in_new (Unit {0}) words.source (λ source ended. ⊥)))
+      (Err why) settled
+      (keys_read remaining in_old in_new (Unit {0}) tt words.keys bytes
+      (λ keys. FromSource remaining in_old in_new (Unit {0}) words.source (λ source ended. ⊥)) (Err why) keys
+      (source_unread remaining in_old in_new (Unit {0}) tt words.source (λ source ended. ⊥) (Err why) why refl w)))

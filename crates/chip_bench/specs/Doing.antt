@@ -1,0 +1,236 @@
+-- What the program does for each thing that its words can ask for (own).
+--     IsSourceUnread, IsUnwritten, IsFileWritten   what hinders reading a source or writing a file; that it was written
+--     GivesSource                    the bytes of a source of that name
+--     FromSource, FromFile, FromKeys, WithAsked    what a command did with the bytes that it read, or why it read none
+--     Debugs, Assembles, Lists, Checks, Disassembles, Runs, Explains    what each command did
+--     Does                           the same, by what was asked
+--     Performs, ShowsVersion         the same, for the words of the command line
+--     Ends                           how the program ended after that
+-- No contract says what bytes a file gives or takes: of a file's bytes these words say that there are some.
+use Rattle.std.specs.Prelude.{◌≡◌, ◌≢◌, ◌⊎◌, ℕ, ◌<◌, ◌≤◌, Bool, List, [], codes, length, take, Option, Some, None, IfSome, Result, Ok, Err, IsErrAnd}
+use Rattle.std.specs.Borrow.{Bor}
+use Rattle.std.specs.Io.KnownBytes.{Keeps}
+use Rattle.std.specs.Str.Lines.{lines}
+use Rattle.std.specs.declared.io.Error.{Error as IoError}
+use Rattle.chip_asm.specs.Lines.{open_fault}
+use Rattle.chip_asm.specs.Program.{image_of}
+use Rattle.chip_asm.specs.declared.refusal.OpenError.{OpenError}
+use Rattle.chip_lang.specs.declared.limits.TheConstants.{IMAGE_BYTES}
+use Rattle.chip_views.specs.Dis.{source_of_image}
+use Rattle.chip_bench.specs.CommandWords.{AsksFor}
+use Rattle.chip_bench.specs.Pages.{IsContents, IsPageText, version_text}
+use Rattle.chip_bench.specs.Printing.{PrintsUnder, Prints, check_of_lines, faults_of_lines, listing_of_lines, printed, printed_of, run_of}
+use Rattle.chip_bench.specs.Running.{AnswersIfAsked, AnswersScript, IsUnread, source_bytes_read, status_of}
+use Rattle.chip_bench.specs.SettingWords.{settings_asked}
+use Rattle.chip_bench.specs.Settings.{SessionSettings}
+use Rattle.chip_bench.specs.Tally.{Tally}
+use Rattle.chip_bench.specs.declared.command_line.CommandLine.{CommandLine}
+use Rattle.chip_bench.specs.declared.command_line.CommandLine.TheVariants as line
+use Rattle.chip_bench.specs.declared.command_line.RunWords.{RunWords}
+use Rattle.chip_bench.specs.declared.command_line.SettingWords.{SettingWords}
+use Rattle.chip_bench.specs.declared.ending.Ending.{Ending}
+use Rattle.chip_bench.specs.declared.ending.Ending.TheVariants.{Done, Faulty}
+use Rattle.chip_bench.specs.declared.ending.Failure.{Failure}
+use Rattle.chip_bench.specs.declared.ending.Failure.TheVariants as failure
+use Rattle.chip_bench.specs.declared.entry.Asked.{Asked}
+
+abbrev pub Outcome : Type 0
+Outcome = Result Ending Failure
+
+-- the name of standard input, in the place of a source's file
+abbrev pub standard_input : List ℕ
+standard_input = codes "-"
+
+-- want of memory
+abbrev pub IsShort : Failure → Type 0
+IsShort why = why ≡ failure.OutOfMemory
+
+-- settings that there are not, or want of memory
+abbrev pub IsUnsettled : Failure → Type 0
+IsUnsettled why = (why ≡ failure.BadTape) ⊎ (why ≡ failure.OutOfMemory)
+
+-- what hinders reading a source of that name
+abbrev pub IsSourceUnread : Bor (List ℕ) → Failure → Type 0
+IsSourceUnread name why = IsUnread name why ⊎ ((why ≡ failure.Input) × (name.now ≡ standard_input))
+
+-- what hinders writing a file of that name
+abbrev pub IsUnwritten : Bor (List ℕ) → Failure → Type 0
+IsUnwritten name why = (why ≡ failure.OutOfMemory) ⊎ ((because : IoError) × (why ≡ failure.CannotWrite name because))
+
+-- for private contracts: what hinders reading a file of key events
+abbrev pub IsKeysUnread : Option (Bor (List ℕ)) → Failure → Type 0
+IsKeysUnread None why = ⊥
+IsKeysUnread (Some name) why = IsUnread name why
+
+-- a file of that name was written, or it couldn't be
+abbrev pub IsFileWritten : Bor (List ℕ) → Outcome → Type 0
+IsFileWritten name ended = (ended ≡ Ok Done) ⊎ IsErrAnd ended (IsUnwritten name)
+
+-- the image of a source that opens and has no fault
+abbrev pub image_if_opened : Option OpenError → Option (List ℕ) → Option (List ℕ)
+image_if_opened (Some fault) image = None
+image_if_opened None image = image
+
+abbrev pub image_in : List ℕ → Option (List ℕ)
+image_in source = image_if_opened (open_fault source) (image_of (lines source))
+
+module _ {R : Type 0} (remaining : R → Option (List ℕ)) (in_old in_new : Tally R) where
+  -- The bytes of a source: where its name is `-`, those of standard input, up to a number from which on no source opens. For another name
+  -- standard input isn't read.
+  pub record GivesSource (name bytes : List ℕ) : Type 0 where
+    pub given : name ≡ standard_input → IfSome (remaining in_old.inner) (λ all. bytes ≡ take source_bytes_read all)
+    pub untouched : name ≢ standard_input → in_new ≡ in_old
+
+-- What is read. `Unwritten` says that nothing was written.
+module _ {R : Type 0} (remaining : R → Option (List ℕ)) (in_old in_new : Tally R) (Unwritten : Type 0) where
+  -- It ended so before a source was read, and nothing was written.
+  abbrev pub Declined : (Failure → Type 0) → Outcome → Type 0
+  Declined Why ended = IsErrAnd ended Why × (in_new ≡ in_old) × Unwritten
+
+  -- what a command did with the bytes of a source
+  abbrev pub FromSource : Bor (List ℕ) → (List ℕ → Outcome → Type 0) → Outcome → Type 0
+  FromSource name Did ended =
+      ((bytes : List ℕ) × GivesSource remaining in_old in_new name.now bytes × Did bytes ended) ⊎ (IsErrAnd ended (IsSourceUnread name) × Unwritten)
+
+  -- with the bytes of a file
+  abbrev pub FromFile : Bor (List ℕ) → (List ℕ → Outcome → Type 0) → Outcome → Type 0
+  FromFile name Did ended = ((bytes : List ℕ) × Did bytes ended) ⊎ Declined (IsUnread name) ended
+
+  -- with the bytes of a file of key events, or none without the file
+  abbrev pub FromKeys : Option (Bor (List ℕ)) → (List ℕ → Outcome → Type 0) → Outcome → Type 0
+  FromKeys None Did ended = Did [] ended
+  FromKeys (Some name) Did ended = FromFile name Did ended
+
+  -- under the settings that the words ask for
+  abbrev pub IfSettled : Option SessionSettings → (SessionSettings → Outcome → Type 0) → Outcome → Type 0
+  IfSettled None Did ended = Declined IsUnsettled ended
+  IfSettled (Some settings) Did ended = Did settings ended ⊎ Declined IsShort ended
+
+  -- under those settings, with the key events and the source
+  abbrev pub WithAsked : RunWords → (SessionSettings → List ℕ → List ℕ → Outcome → Type 0) → Outcome → Type 0
+  WithAsked words Did ended =
+      IfSettled (settings_asked words.settings) (λ settings. FromKeys words.keys (λ keys. FromSource words.source (Did settings keys))) ended
+
+module _ {R : Type 0} (remaining : R → Option (List ℕ)) (in_old in_new : Tally R) where
+  -- for private contracts: what was read is what the words of a run ask for
+  abbrev pub IsAsked : RunWords → Asked → Type 0
+  IsAsked words asked =
+      WithAsked remaining in_old in_new (Unit {0}) words (λ settings keys source ended.
+      (settings ≡ asked.settings) × (keys ≡ asked.keys.bytes.items) × (source ≡ asked.source.items)) (Ok Done)
+
+  -- for private contracts: it couldn't be read
+  abbrev pub IsUnasked : RunWords → Failure → Type 0
+  IsUnasked words why = WithAsked remaining in_old in_new (Unit {0}) words (λ settings keys source ended. ⊥) (Err why)
+
+-- What is written.
+module _ {W : Type 0} (contents : W → Option (List ℕ)) (out_old out_new : Tally W) where
+  -- it ended on such a failure, and nothing was written
+  abbrev pub Fails : (Failure → Type 0) → Outcome → Type 0
+  Fails Why ended = IsErrAnd ended Why × (out_new ≡ out_old)
+
+  -- `asm`: where the source has an image, its file was written, or couldn't be; else the faults are printed
+  abbrev pub AssemblesBy : Option (List ℕ) → List ℕ → Bor (List ℕ) → Outcome → Type 0
+  AssemblesBy (Some image) source name ended = IsFileWritten name ended × (out_new ≡ out_old)
+  AssemblesBy None source name ended =
+      Prints contents out_old out_new (printed_of (open_fault source) (faults_of_lines (lines source))) ended
+
+  -- for private contracts: the image of a source, or its faults, which are printed
+  abbrev pub IsImageOrFaults : List ℕ → Option (List ℕ) → Type 0
+  IsImageOrFaults source (Some image) = (image_in source ≡ Some image) × (out_new ≡ out_old)
+  IsImageOrFaults source None =
+      (image_in source ≡ None)
+      × Prints contents out_old out_new (printed_of (open_fault source) (faults_of_lines (lines source))) (Ok Faulty)
+
+  -- for private contracts: there was no memory, or the faults couldn't be printed
+  abbrev pub IsImageHindered : List ℕ → Failure → Type 0
+  IsImageHindered source why =
+      (IsShort why × (out_new ≡ out_old))
+      ⊎ ((image_in source ≡ None)
+      × Prints contents out_old out_new (printed_of (open_fault source) (faults_of_lines (lines source))) (Err why))
+
+  -- `dis`: of an image that isn't too long, a source of it
+  pub record DisassemblesBytes (name : Bor (List ℕ)) (image : List ℕ) (ended : Outcome) : Type 0 where
+    pub fits : length image ≤ IMAGE_BYTES → Prints contents out_old out_new (printed (source_of_image image) Done) ended
+    pub too_long : IMAGE_BYTES < length image → Fails (IsUnread name) ended
+
+  -- `explain`: the page on the code, where there is one
+  abbrev pub ExplainsCode : Bor (List ℕ) → Outcome → Type 0
+  ExplainsCode code ended =
+      ((page : List ℕ) × IsPageText code.now page × Prints contents out_old out_new (printed page Done) ended)
+      ⊎ Fails (λ why. (why ≡ failure.NoPage code) ⊎ IsShort why) ended
+
+  -- or all codes
+  abbrev pub Explains : Option (Bor (List ℕ)) → Outcome → Type 0
+  Explains None ended =
+      ((text : List ℕ) × IsContents text × Prints contents out_old out_new (printed text Done) ended) ⊎ Fails IsShort ended
+  Explains (Some code) ended = ExplainsCode code ended
+
+-- What is done.
+module _ {R W : Type 0} (remaining : R → Option (List ℕ)) (contents : W → Option (List ℕ))
+    (in_old in_new : Tally R) (out_old out_new : Tally W) where
+  -- `debug`: without a source, a session on the empty one
+  abbrev pub Debugs : Option (Bor (List ℕ)) → SettingWords → Outcome → Type 0
+  Debugs None words ended =
+      AnswersIfAsked remaining contents [] in_old in_new out_old out_new (settings_asked words) ended
+  Debugs (Some name) words ended =
+      IfSettled remaining in_old in_new (out_new ≡ out_old) (settings_asked words) (λ settings.
+      FromFile remaining in_old in_new (out_new ≡ out_old) name (λ source.
+      AnswersScript remaining contents settings source in_old in_new out_old out_new)) ended
+
+  abbrev pub Assembles : Bor (List ℕ) → Bor (List ℕ) → Outcome → Type 0
+  Assembles source name ended =
+      FromSource remaining in_old in_new (out_new ≡ out_old) source
+      (λ bytes. AssemblesBy contents out_old out_new (image_in bytes) bytes name) ended
+
+  -- `list`
+  abbrev pub Lists : Bor (List ℕ) → Outcome → Type 0
+  Lists source ended =
+      FromSource remaining in_old in_new (out_new ≡ out_old) source (λ bytes.
+      Prints contents out_old out_new (printed_of (open_fault bytes) (listing_of_lines (lines bytes)))) ended
+
+  -- `check`
+  abbrev pub Checks : Bor (List ℕ) → Outcome → Type 0
+  Checks source ended =
+      FromSource remaining in_old in_new (out_new ≡ out_old) source (λ bytes.
+      Prints contents out_old out_new (printed_of (open_fault bytes) (check_of_lines source.now (lines bytes)))) ended
+
+  abbrev pub Disassembles : Bor (List ℕ) → Outcome → Type 0
+  Disassembles image ended =
+      FromSource remaining in_old in_new (out_new ≡ out_old) image (DisassemblesBytes contents out_old out_new image) ended
+
+  -- `run`
+  abbrev pub Runs : RunWords → Outcome → Type 0
+  Runs words ended =
+      WithAsked remaining in_old in_new (out_new ≡ out_old) words (λ settings keys source.
+      PrintsUnder contents out_old out_new settings source keys (λ session. run_of session words.steps)) ended
+
+  -- what the program did for what it was asked
+  abbrev pub Does : CommandLine → Outcome → Type 0
+  Does (line.Debug source words) ended = Debugs source words ended
+  Does (line.Asm source image) ended = Assembles source image ended
+  Does (line.List source) ended = Lists source ended
+  Does (line.Check source) ended = Checks source ended
+  Does (line.Dis image) ended = Disassembles image ended
+  Does (line.Run words) ended = Runs words ended
+  Does (line.Picture words) ended = Unit {0}
+  Does (line.Explain code) ended = Explains contents out_old out_new code ended × (in_new ≡ in_old)
+
+  -- what it did for words without a fault: what they ask for, unless there was no memory to read them
+  abbrev pub Performs : List (List ℕ) → Outcome → Type 0
+  Performs words ended =
+      ((asked : CommandLine) × AsksFor words asked × Does asked ended)
+      ⊎ Declined remaining in_old in_new (out_new ≡ out_old) IsShort ended
+
+  -- what it did for the version's word
+  abbrev pub ShowsVersion : Outcome → Type 0
+  ShowsVersion ended = Prints contents out_old out_new (printed version_text Done) ended × (in_new ≡ in_old)
+
+-- How the program ended: `Did` says what it did, after which the output was flushed.
+pub record Ends {W : Type 0} (contents : W → Option (List ℕ)) (Did : Tally W → Outcome → Type 0) (out_new : Tally W) (status : ℕ) : Type 0 where
+  pub written : Tally W
+  pub ended : Outcome
+  pub flushed : Bool
+  pub did : Did written ended
+  pub kept : Keeps (contents written.inner) (contents out_new.inner)
+  pub failures : out_new.failures ≡ written.failures
+  pub status_is : status ≡ status_of ended flushed
