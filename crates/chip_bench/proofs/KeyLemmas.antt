@@ -6,17 +6,6 @@ use Rattle.chip_asm.proofs.CutSteps.{lines-next}
 use Rattle.chip_bench.specs.KeyFile.{first_refusal, key_command, key_commands, key_fault, refusal_to, refused_or_later, session_under}
 use Rattle.chip_bench.specs.Session.{Session, Text}
 use Rattle.chip_bench.specs.Transcript.{after, session_after}
-use Rattle.std.proofs.Common.{Err}
-use Rattle.std.specs.Borrow.{Bor}
-use Rattle.chip_asm.specs.Lines.{open_fault}
-use Rattle.chip_bench.specs.KeyFile.{IsKeyFault}
-use Rattle.chip_bench.specs.Printing.{Printed, PrintsUnder, PrintsUnless, fault_under, keys_failure, printed_of}
-use Rattle.chip_bench.specs.Session.{session_of}
-use Rattle.chip_bench.specs.Settings.{SessionSettings}
-use Rattle.chip_bench.specs.Tally.{Tally}
-use Rattle.chip_bench.specs.declared.ending.Failure.TheVariants as failure
-use Rattle.chip_bench.specs.declared.key_file.KeyFileError.{KeyFileError}
-use Rattle.chip_bench.specs.declared.key_file.KeyFileError.TheVariants.{Line, OutOfMemory}
 
 module _ (s : Session) (n : ℕ) (bytes : List ℕ) (some : 0 < length bytes) where
   -- a first line that is refused
@@ -51,18 +40,3 @@ fault_is s file fault e = e
 pub session_is : (s t : Session) (file : List ℕ) → session_after s (key_commands file) ≡ t → t ≡ session_under s file
 unfolding session_under
 session_is s t file e = sym e
-
--- a key file of which a line is refused, or for which there is no memory
-pub keys_refused : {W : Type 0} (contents : W → Option (List ℕ)) (old : Tally W) (settings : SessionSettings) (source keys : List ℕ)
-    (printed_by : Session → Printed) (name : Bor (List ℕ)) (error : KeyFileError) → open_fault source ≡ None →
-    IsKeyFault (key_fault (session_of settings source) keys) error →
-    PrintsUnder contents old old settings source keys printed_by (Err (keys_failure name error))
-keys_refused contents old settings source keys printed_by name (Line number code) opens fault = rw (opens, fault) (refl, refl)
-keys_refused contents old settings source keys printed_by name OutOfMemory opens fault =
-    by (fault_under (open_fault source) (key_fault (session_of settings source) keys))
-  where
-    by : (found : Option (ℕ × Text)) →
-        PrintsUnless contents old old found (printed_of (open_fault source) (printed_by (session_under (session_of settings source) keys)))
-        (Err failure.OutOfMemory)
-    by None = refl
-    by (Some line) = refl

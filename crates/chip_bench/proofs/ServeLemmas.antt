@@ -6,6 +6,7 @@ use Rattle.std.proofs.Math.Seq.{take-append-add}
 use Rattle.chip_bench.specs.declared.limits.TheConstants.{SCRIPT_BYTES, SCRIPT_LINES}
 use Rattle.chip_bench.specs.Lines.{lines, complete_lines}
 use Rattle.chip_bench.specs.Session.{Session}
+use Rattle.chip_bench.specs.Tally.{one_more}
 use Rattle.chip_bench.specs.Transcript.{transcript_of, session_after}
 use Rattle.chip_bench.specs.Serving.{WithinBounds, PassesBound, lines_in_bounds, BeginsWith, Served, Exchanged, Exchanges, Opens, UnlessOpened, reader_failures, writer_failures}
 use Rattle.chip_bench.specs.Progress.{fault_of, failures_after, Reached, Stopped, Carries, Ended}
@@ -162,15 +163,15 @@ opens_stop found stop.WriterFailed h = h
 opens_stop found stop.OutOfMemory h = h
 opens_stop found stop.TooMuchInput h = h
 
-pub reader_kept : (e : Stop) (failures : ℕ) → reader_failures (Err (fault_of e)) failures ≡ failures
-reader_kept stop.WriterFailed failures = refl
-reader_kept stop.OutOfMemory failures = refl
-reader_kept stop.TooMuchInput failures = refl
+pub reader_kept : (e : Stop) (old held new : ℕ) → new ≡ held → held ≡ old → new ≡ reader_failures (Err (fault_of e)) old
+reader_kept stop.WriterFailed old held new same kept = same ∙ kept
+reader_kept stop.OutOfMemory old held new same kept = same ∙ kept
+reader_kept stop.TooMuchInput old held new same kept = same ∙ kept
 
-pub writer_counted : (e : Stop) (failures : ℕ) → failures_after (Err e) failures ≡ writer_failures (Err (fault_of e)) failures
-writer_counted stop.WriterFailed failures = refl
-writer_counted stop.OutOfMemory failures = refl
-writer_counted stop.TooMuchInput failures = refl
+pub writer_counted : (e : Stop) (old held new : ℕ) → new ≡ failures_after (Err e) held → held ≡ old → new ≡ writer_failures (Err (fault_of e)) old
+writer_counted stop.WriterFailed old held new counted kept = counted ∙ ap one_more kept
+writer_counted stop.OutOfMemory old held new counted kept = counted ∙ kept
+writer_counted stop.TooMuchInput old held new counted kept = counted ∙ kept
 
 pub opened_stop : (e : Stop) (P : Type 0) → UnlessOpened (Err (fault_of e)) P
 opened_stop stop.WriterFailed P = tt

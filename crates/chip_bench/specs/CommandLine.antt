@@ -102,7 +102,14 @@ without_name app = record app { top = record app.top { no_binary_name = true } }
 abbrev pub with_version : App → App
 with_version app = record app { top = record app.top { has_version = true } }
 
+abbrev pub with_debug_to_dis : App → App
+with_debug_to_dis app =
+    with_subcommand (with_subcommand (with_subcommand (with_subcommand app debug.top) asm.top) list.top) dis.top
+
+abbrev pub with_run_to_explain : App → App
+with_run_to_explain app =
+    with_subcommand (with_subcommand (with_subcommand (with_subcommand app run.top) picture.top) check.top) explain.top
+
 -- the program's commands
 abbrev pub chipbench : App
-chipbench = with_subcommand (with_subcommand (with_subcommand (with_subcommand (with_subcommand (with_subcommand (with_subcommand (with_subcommand
-    (without_name (with_version (new_app (codes "chipbench")))) debug.top) asm.top) list.top) dis.top) run.top) picture.top) check.top) explain.top
+chipbench = with_run_to_explain (with_debug_to_dis (without_name (with_version (new_app (codes "chipbench")))))

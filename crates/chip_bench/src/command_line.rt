@@ -312,16 +312,30 @@ fn chipbench<'a>(alloc: Global) -> Result<Command<'a>, AllocError>
         .after_help(PROGRAM_NOTES)
         .version(VERSION)
         .no_binary_name(true)
-        .bin_name("chipbench")?
+        .bin_name("chipbench")?;
+    with_run_to_explain(alloc, with_debug_to_dis(alloc, command)?)
+}
+
+// Adds the first half of the commands.
+fn with_debug_to_dis<'a>(alloc: Global, command: Command<'a>) -> Result<Command<'a>, AllocError>
+    ensures { IfOk result (λ with. app_of with ≡ line.with_debug_to_dis (app_of command.entry)) }
+{
+    command
         .subcommand(debug_command(alloc)?)?
         .subcommand(asm_command(alloc)?)?
         .subcommand(list_command(alloc)?)?
-        .subcommand(dis_command(alloc)?)?
+        .subcommand(dis_command(alloc)?)
+}
+
+// Adds the second half of the commands.
+fn with_run_to_explain<'a>(alloc: Global, command: Command<'a>) -> Result<Command<'a>, AllocError>
+    ensures { IfOk result (λ with. app_of with ≡ line.with_run_to_explain (app_of command.entry)) }
+{
+    command
         .subcommand(run_command(alloc)?)?
         .subcommand(picture_command(alloc)?)?
         .subcommand(check_command(alloc)?)?
-        .subcommand(explain_command(alloc)?)?;
-    Ok(command)
+        .subcommand(explain_command(alloc)?)
 }
 
 fn debug_command<'a>(alloc: Global) -> Result<Command<'a>, AllocError>

@@ -5,7 +5,8 @@ ghost use Rattle.chip_asm.specs.Lines.{open_fault};
 ghost use Rattle.chip_asm.specs.Program.{image_of};
 ghost use Rattle.chip_views.specs.Dis.{source_of_image};
 ghost use Rattle.chip_bench.specs.Transcript.{refused};
-ghost use Rattle.chip_bench.specs.Printing.{Prints, Refuses, printed, printed_of, check_of_lines, faults_of_lines, listing_of_lines, run_of, picture_at, unanswered, keys_failure, PrintsUnder};
+ghost use Rattle.chip_bench.specs.Printing.{Prints, Refuses, printed, printed_of, check_of_lines, faults_of_lines, listing_of_lines, run_of, picture_at, unanswered, keys_failure, PrintsUnder, PrintsUnless};
+ghost use Rattle.chip_bench.specs.KeyFile.{key_fault, session_under};
 ghost use Rattle.chip_bench.specs.Running.{AnswersScript};
 ghost use Rattle.chip_bench.specs.Doing.{Explains, IsImageHindered, IsImageOrFaults};
 ghost use Rattle.chip_bench.specs.Pages.{version_text};
@@ -180,12 +181,24 @@ pub(crate) fn run_source<'a, O: Write>(
     ensures { PrintsUnder O.contents output.old output.new settings source.now keys.now.bytes.items
         (λ session. run_of session steps) result }
 {
-    let mut bench = match Bench::open(alloc, source, settings) {
-        Ok(bench) => bench,
-        Err(error) => return refuse_source(error, output),
-    };
-    match insert_keys(alloc, &mut bench, &keys.bytes) {
-        Ok(()) => print_run(alloc, &mut bench, steps, output),
+    match Bench::open(alloc, source, settings) {
+        Ok(mut bench) => print_run_under(alloc, &mut bench, keys, steps, output),
+        Err(error) => refuse_source(error, output),
+    }
+}
+
+fn print_run_under<'a, O: Write>(
+    alloc: Global,
+    bench: &mut Bench,
+    keys: &KeyFile<'a>,
+    steps: u32,
+    output: &mut Counted<O>,
+) -> Result<Ending, Failure<'a>>
+    ensures { PrintsUnless O.contents output.old output.new (key_fault bench.old.session keys.now.bytes.items)
+        (run_of (session_under bench.old.session keys.now.bytes.items) steps) result }
+{
+    match insert_keys(alloc, bench, &keys.bytes) {
+        Ok(()) => print_run(alloc, bench, steps, output),
         Err(error) => Err(keys.failure(error)),
     }
 }
@@ -203,12 +216,25 @@ pub(crate) fn picture_source<'a, O: Write>(
     ensures { PrintsUnder O.contents output.old output.new settings source.now keys.now.bytes.items
         (λ session. picture_at session steps form) result }
 {
-    let mut bench = match Bench::open(alloc, source, settings) {
-        Ok(bench) => bench,
-        Err(error) => return refuse_source(error, output),
-    };
-    match insert_keys(alloc, &mut bench, &keys.bytes) {
-        Ok(()) => print_picture(alloc, &mut bench, steps, form, output),
+    match Bench::open(alloc, source, settings) {
+        Ok(mut bench) => print_picture_under(alloc, &mut bench, keys, steps, form, output),
+        Err(error) => refuse_source(error, output),
+    }
+}
+
+fn print_picture_under<'a, O: Write>(
+    alloc: Global,
+    bench: &mut Bench,
+    keys: &KeyFile<'a>,
+    steps: u32,
+    form: PictureForm,
+    output: &mut Counted<O>,
+) -> Result<Ending, Failure<'a>>
+    ensures { PrintsUnless O.contents output.old output.new (key_fault bench.old.session keys.now.bytes.items)
+        (picture_at (session_under bench.old.session keys.now.bytes.items) steps form) result }
+{
+    match insert_keys(alloc, bench, &keys.bytes) {
+        Ok(()) => print_picture(alloc, bench, steps, form, output),
         Err(error) => Err(keys.failure(error)),
     }
 }

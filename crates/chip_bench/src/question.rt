@@ -37,7 +37,7 @@ pub enum PictureForm {
 }
 
 /// What is asked of a machine's state.
-#[derive(Clone, Copy, Debug, PartialEq, Eq)]
+#[derive(Clone, Copy)]
 pub enum StateQuestion {
     /// The registers, timers, flags and frames.
     Registers,

@@ -45,7 +45,7 @@ pub enum ServeError {
 }
 
 // Why the rest of a script is given up.
-#[derive(Clone, Copy, Debug, PartialEq, Eq)]
+#[derive(Clone, Copy)]
 pub(crate) enum Stop {
     WriterFailed,
     OutOfMemory,
@@ -96,13 +96,32 @@ pub fn serve<R: Read, W: Write>(
     ensures reader_failed { reader.new.failures ≡ reader_failures result reader.old.failures }
     ensures writer_failed { writer.new.failures ≡ writer_failures result writer.old.failures }
 {
-    let bench = match Bench::open(alloc, source, settings) {
-        Ok(bench) => bench,
-        Err(e) => return Err(ServeError::Source(e)),
-    };
-    let mut conversation = Conversation::new(alloc, bench);
+    match Bench::open(alloc, source, settings) {
+        Ok(bench) => converse(alloc, &mut Conversation::new(alloc, bench), reader, writer),
+        Err(e) => Err(ServeError::Source(e)),
+    }
+}
+
+// Carries out the script that the reader gives.
+fn converse<R: Read, W: Write>(
+    alloc: Global,
+    conversation: &mut Conversation,
+    reader: &mut Counted<R>,
+    writer: &mut Counted<W>,
+) -> Result<(), ServeError>
+    requires line { conversation.old.line.items ≡ [] }
+    requires complete { conversation.old.complete ≡ 0 }
+    requires taken { conversation.old.taken ≡ 0 }
+    ensures transcript { Exchanges (R.remaining reader.old.inner) (R.remaining reader.new.inner)
+        (W.contents writer.old.inner) (W.contents writer.new.inner)
+        (Served result conversation.old.bench.session) }
+    ensures source { Opens None result }
+    ensures opened { UnlessOpened result ((reader.new ≡ reader.old) × (writer.new ≡ writer.old)) }
+    ensures reader_failed { reader.new.failures ≡ reader_failures result reader.old.failures }
+    ensures writer_failed { writer.new.failures ≡ writer_failures result writer.old.failures }
+{
     let mut piece = [0; PIECE_LEN];
-    loop {
+    'pieces: loop {
         match reader.read(&mut piece) {
             Err(_) => return Err(ServeError::ReaderFailed),
             Ok(0) => {
@@ -205,21 +224,15 @@ impl Conversation {
         Ok(())
     }
 
-    fn end<W: Write>(self, alloc: Global, writer: &mut Counted<W>) -> Result<(), Stop>
-        ensures ended { (start : Session) (before given : List ℕ) → Reached start before given self (W.contents writer.old.inner)
+    fn end<W: Write>(&mut self, alloc: Global, writer: &mut Counted<W>) -> Result<(), Stop>
+        ensures ended { (start : Session) (before given : List ℕ) → Reached start before given self.old (W.contents writer.old.inner)
             → Ended result start before given (W.contents writer.new.inner) }
         ensures failures { writer.new.failures ≡ failures_after result writer.old.failures }
     {
-        let Conversation {
-            mut bench,
-            line,
-            mut answer,
-            ..
-        } = self;
-        if line.is_empty() {
+        if self.line.is_empty() {
             return Ok(());
         }
-        say(alloc, &mut bench, &line, &mut answer, writer)
+        say(alloc, &mut self.bench, &self.line, &mut self.answer, writer)
     }
 }
 
