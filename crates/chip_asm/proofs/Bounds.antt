@@ -26,7 +26,7 @@ fits-by true here (org e) v low top b p = let r = org-range here v b p in record
 fits-by false here (org e) v low top b p = let r = org-range here v b p in record { high = omega arith; next_low = (let k = r.0 in omega arith); next_high = r.1 }
 fits-by a here body v low top b p = let k = ltb-false MEMORY_BYTES (here + full_size a here body v) p in record { high = k; next_low = omega arith; next_high = k }
 
-no_fault : {A : Type 0} (b : Bool) (f : A) (rest : Option A) → cond b (Some f) rest ≡ None → (b ≡ false) × (rest ≡ None)
+pub no_fault : {A : Type 0} (b : Bool) (f : A) (rest : Option A) → cond b (Some f) rest ≡ None → (b ≡ false) × (rest ≡ None)
 no_fault true f rest e = cc
 no_fault false f rest e = (refl, e)
 

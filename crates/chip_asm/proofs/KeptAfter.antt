@@ -1,5 +1,5 @@
 -- What is kept stays right over an edit.
-use Rattle.std.proofs.Common.{◌≡◌, ℕ, ◌<◌, Bool, true, false, List, [], length, get_or, refl, ap, sym, ◌∙◌, arith, Option, Some, subst}
+use Rattle.std.proofs.Common.{◌≡◌, ℕ, ◌<◌, Bool, true, false, List, [], length, get_or, refl, ap, sym, ◌∙◌, arith, Option, Some, subst, All}
 use Rattle.std.specs.Prelude.{unwrap_or}
 use Rattle.std.proofs.lemmas.List.{get_or-map, length-map}
 use Rattle.std.specs.List.{enumerate_from}
@@ -17,7 +17,7 @@ use Rattle.chip_asm.specs.Recode.{has_code, is_placed_at, is_encoded_again, code
 use Rattle.chip_asm.specs.Kept.{AreCurrent, IsMerged}
 use Rattle.chip_asm.proofs.Edited.{length-lines_after}
 use Rattle.chip_asm.proofs.RecodeSteps.{code-among}
-use Rattle.chip_asm.proofs.StayedCodes.{Stayed, Stood, stood, stayed, fresh-at, SameCode}
+use Rattle.chip_asm.proofs.StayedCodes.{Stayed, Stood, stood, stayed, fresh-at, codes-within, SameCode}
 
 -- a line that stood before and is accepted has the code that it had there
 abbrev pub HadCodes : List Reading → List KeptLine → (ℕ → Option ℕ) → Type 0
@@ -75,11 +75,10 @@ pub had-none : (lines : List KeptLine) (origin : ℕ → Option ℕ) → HadCode
 had-none lines origin = λ place before line inside from was c. absurd (let bad : true ≡ false = sym was ∙ not_placed before in cc)
 
 -- new codes, one for each line, make all codes current
-pub currents : (same : SameCode) (old : List Reading) (lines : List KeptLine) (codes : List (Option Coded)) (origin : ℕ → Option ℕ) → HadCodes old lines origin
+pub currents : (same : SameCode) (old : List Reading) (lines : List KeptLine) (codes : List (ℕ × Coded)) (origin : ℕ → Option ℕ) → HadCodes old lines origin
     → codes ≡ new_codes old (readings_in lines) origin → (made : List KeptLine) → IsMerged lines codes made → AreCurrent made
 currents same old lines codes origin had e made m =
-    current-merged same old lines made origin had (subst (λ (cs : List (Option Coded)). IsMerged lines cs made) e m)
+    current-merged same old lines made origin had (subst (λ (cs : List (ℕ × Coded)). IsMerged lines cs made) e m)
 
-pub length-codes : (old : List Reading) (lines : List KeptLine) (codes : List (Option Coded)) (origin : ℕ → Option ℕ) → codes ≡ new_codes old (readings_in lines) origin → length codes ≡ length lines
-length-codes old lines codes origin e =
-    ap length e ∙ length-map (enumerate_from 0 (readings_in lines)) (new_code old (readings_in lines) origin) ∙ length-enumerate_from 0 (readings_in lines) ∙ length-map lines reading_in
+pub within-codes : (old : List Reading) (lines : List KeptLine) (codes : List (ℕ × Coded)) (origin : ℕ → Option ℕ) → codes ≡ new_codes old (readings_in lines) origin → All (λ (e : ℕ × Coded). e.0 < length lines) codes
+within-codes old lines codes origin e = rw e (codes-within (new_code old (readings_in lines) origin) 0 (readings_in lines) (length lines) (omega (arith, length-map lines reading_in)))

@@ -1,86 +1,50 @@
 -- New codes written over the kept ones, from the last line back.
-use Rattle.std.proofs.Common.{◌≡◌, ℕ, ◌+◌, ◌-◌, ◌<◌, ◌≤◌, Bool, true, false, List, length, take, drop, ◌++◌, set, get_or, refl, ap, sym, ◌∙◌, arith, Option, Some, None, eqb, length-set}
+use Rattle.std.proofs.Common.{◌≡◌, ℕ, ◌+◌, ◌-◌, ◌<◌, ◌≤◌, Bool, true, false, cond, List, [], ◌∷◌, length, take, drop, ◌++◌, set, get_or, refl, ap, sym, ◌∙◌, arith, Option, Some, None, eqb, length-set, All}
 use Rattle.std.specs.Prelude.{unwrap_or}
 use Rattle.std.proofs.lemmas.Bool.{eqb-true, eqb-false}
-use Rattle.std.proofs.lemmas.List.{get_or-set_same, get_or-set_other, get_or-take, take-take, take_all, take-append-le}
+use Rattle.std.proofs.lemmas.List.Elements.{All-get_or}
+use Rattle.std.proofs.lemmas.List.{get_or-set_same, get_or-set_other, get_or-take, take-take, take_all, take-append-le, length-take, at_drop_more}
 use Rattle.std.proofs.Math.Seq.{map-set_same}
 use Rattle.chip_lang.specs.declared.code.Coded.{Coded}
 use Rattle.chip_asm.specs.declared.kept_line.KeptLine.{KeptLine}
 use Rattle.chip_asm.specs.Records.{reading_in, readings_in, texts_in}
+use Rattle.chip_asm.specs.Recode.{code_at}
 use Rattle.chip_asm.specs.Kept.{IsMerged}
 
--- the codes from a place on are written
-pub record Written (was lines : List KeptLine) (fresh : List (Option Coded)) (place : ℕ) : Type 0 where
-  pub long : length lines ≡ length was
-  pub texts : texts_in lines ≡ texts_in was
-  pub readings : readings_in lines ≡ readings_in was
-  pub done : (k : ℕ) (d : KeptLine) → place ≤ k → k < length was → (get_or lines k d).code ≡ unwrap_or (get_or fresh k None) (get_or was k d).code
-  pub rest : (k : ℕ) (d : KeptLine) → k < place → get_or lines k d ≡ get_or was k d
+pub merged-none : (was : List KeptLine) → IsMerged was [] was
+merged-none was = record { long = refl; texts = refl; readings = refl; each = λ place line inside. refl }
 
-pub written-none : (was : List KeptLine) (fresh : List (Option Coded)) (place : ℕ) → length was ≤ place → Written was was fresh place
-written-none was fresh place h = record { long = refl; texts = refl; readings = refl; done = λ k d a b. absurd (omega arith); rest = λ k d a. refl }
+new-by : (was lines : List KeptLine) (fresh : List (ℕ × Coded)) (e : ℕ × Coded) (k : ℕ) (d x : KeptLine) (here : Bool) → eqb k e.0 ≡ here → IsMerged was fresh lines
+    → e.0 < length lines → k < length was
+    → (get_or (set lines e.0 (record x { code = e.1 })) k d).code ≡ unwrap_or (cond here (Some e.1) (code_at fresh k)) (get_or was k d).code
+new-by was lines fresh e k d x true same m inside b =
+    let at : k ≡ e.0 = eqb-true k e.0 same in
+    ap (λ i. (get_or (set lines e.0 (record x { code = e.1 })) i d).code) at ∙ ap (λ (z : KeptLine). z.code) (get_or-set_same lines e.0 (record x { code = e.1 }) d inside)
+new-by was lines fresh e k d x false same m inside b =
+    ap (λ (z : KeptLine). z.code) (get_or-set_other lines e.0 k (record x { code = e.1 }) d (eqb-false k e.0 same)) ∙ m.each k d b
 
-done-by : (was lines : List KeptLine) (fresh : List (Option Coded)) (place k : ℕ) (d : KeptLine) (here : Bool) → eqb k place ≡ here → Written was lines fresh (place + 1) → get_or fresh place None ≡ None → place ≤ k → k < length was
-    → (get_or lines k d).code ≡ unwrap_or (get_or fresh k None) (get_or was k d).code
-done-by was lines fresh place k d true e w n a b =
-    let at : k ≡ place = eqb-true k place e in
-    let none : get_or fresh k None ≡ None = ap (λ i. get_or fresh i None) at ∙ n in
-    ap (λ (z : KeptLine). z.code) (w.rest k d (omega arith)) ∙ (rw none refl)
-done-by was lines fresh place k d false e w n a b =
-    let other = eqb-false k place e in
-    w.done k d (later place k a other) b
-  where
-    later : (p k : ℕ) → p ≤ k → (k ≡ p → ⊥) → p + 1 ≤ k
-    later p k h n = omega arith
-
--- a place without a new code
-pub written-kept : (was lines : List KeptLine) (fresh : List (Option Coded)) (place : ℕ) → Written was lines fresh (place + 1) → get_or fresh place None ≡ None → Written was lines fresh place
-written-kept was lines fresh place w n = record {
-  long = w.long;
-  texts = w.texts;
-  readings = w.readings;
-  done = λ k d a b. done-by was lines fresh place k d (eqb k place) refl w n a b;
-  rest = λ k d a. w.rest k d (omega arith);
+-- one code more
+pub merged-new : (was lines : List KeptLine) (fresh : List (ℕ × Coded)) (e : ℕ × Coded) (x d : KeptLine) → IsMerged was fresh lines → e.0 < length lines
+    → x ≡ get_or lines e.0 d → IsMerged was (e ∷ fresh) (set lines e.0 (record x { code = e.1 }))
+merged-new was lines fresh e x d m inside is = record {
+  long = length-set lines e.0 (record x { code = e.1 }) ∙ m.long;
+  texts = map-set_same (λ (z : KeptLine). z.text) lines e.0 (record x { code = e.1 }) d (ap (λ (z : KeptLine). z.text) is) ∙ m.texts;
+  readings = map-set_same reading_in lines e.0 (record x { code = e.1 }) d (ap reading_in is) ∙ m.readings;
+  each = λ k f b. new-by was lines fresh e k f x (eqb k e.0) refl m inside b;
 }
-
-some-by : (was lines : List KeptLine) (fresh : List (Option Coded)) (place k : ℕ) (d x : KeptLine) (code : Coded) (here : Bool) → eqb k place ≡ here → Written was lines fresh (place + 1) → get_or fresh place None ≡ Some code
-    → place < length lines → place ≤ k → k < length was
-    → (get_or (set lines place (record x { code = code })) k d).code ≡ unwrap_or (get_or fresh k None) (get_or was k d).code
-some-by was lines fresh place k d x code true e w n inside a b =
-    let at : k ≡ place = eqb-true k place e in
-    let some : get_or fresh k None ≡ Some code = ap (λ i. get_or fresh i None) at ∙ n in
-    rw some (ap (λ i. (get_or (set lines place (record x { code = code })) i d).code) at ∙ ap (λ (z : KeptLine). z.code) (get_or-set_same lines place (record x { code = code }) d inside))
-some-by was lines fresh place k d x code false e w n inside a b =
-    let other = eqb-false k place e in
-    ap (λ (z : KeptLine). z.code) (get_or-set_other lines place k (record x { code = code }) d other) ∙ w.done k d (later place k a other) b
-  where
-    later : (p k : ℕ) → p ≤ k → (k ≡ p → ⊥) → p + 1 ≤ k
-    later p k h n = omega arith
-
--- a place with one
-pub written-new : (was lines : List KeptLine) (fresh : List (Option Coded)) (place : ℕ) (x d : KeptLine) (code : Coded) → Written was lines fresh (place + 1) → get_or fresh place None ≡ Some code → place < length lines
-    → x ≡ get_or lines place d → Written was (set lines place (record x { code = code })) fresh place
-written-new was lines fresh place x d code w n inside is = record {
-  long = length-set lines place (record x { code = code }) ∙ w.long;
-  texts = map-set_same (λ (z : KeptLine). z.text) lines place (record x { code = code }) d (ap (λ (z : KeptLine). z.text) is) ∙ w.texts;
-  readings = map-set_same reading_in lines place (record x { code = code }) d (ap reading_in is) ∙ w.readings;
-  done = λ k e a b. some-by was lines fresh place k e x code (eqb k place) refl w n inside a b;
-  rest = λ k e a. get_or-set_other lines place k (record x { code = code }) e (λ same. absurd (omega arith)) ∙ w.rest k e (omega arith);
-}
-
-pub merged : (was lines : List KeptLine) (fresh : List (Option Coded)) → Written was lines fresh 0 → IsMerged was fresh lines
-merged was lines fresh w = record { long = w.long; texts = w.texts; readings = w.readings; each = λ place line inside. w.done place line (omega arith) inside }
 
 -- the last new code is taken off
-pub popped : (all fresh less : List (Option Coded)) (place count : ℕ) (code : Option Coded) → place ≡ count → fresh ≡ take place all → 0 < count → less ≡ take (count - 1) fresh
-    → Some code ≡ Some (get_or fresh (count - 1) None) → (place ≡ place - 1 + 1) × (less ≡ take (place - 1) all) × (get_or all (place - 1) None ≡ code)
-popped all fresh less place count code n f some l c =
-    let last : count - 1 ≡ place - 1 = omega arith in
-    let shorter : take (place - 1) (take place all) ≡ take (place - 1) all = take-take (place - 1) place all (omega arith) in
-    let it : code ≡ get_or fresh (count - 1) None = cc in (
-      omega arith,
-      l ∙ (rw (last, f) shorter),
-      sym (get_or-take place all (place - 1) None (omega arith)) ∙ ap (λ xs. get_or xs (place - 1) None) (sym f) ∙ ap (λ i. get_or fresh i None) (sym last) ∙ sym it,
+pub popped : (all fresh less : List (ℕ × Coded)) (count : ℕ) (e : ℕ × Coded) → count ≡ length fresh → fresh ≡ take count all → 0 < count → less ≡ take (count - 1) fresh
+    → Some e ≡ Some (get_or fresh (count - 1) e) → (less ≡ take (count - 1) all) × (drop (count - 1) all ≡ e ∷ drop count all) × ((n : ℕ) → All (λ (e : ℕ × Coded). e.0 < n) all → e.0 < n)
+popped all fresh less count e n f some l c =
+    let shorter : take (count - 1) (take count all) ≡ take (count - 1) all = take-take (count - 1) count all (omega arith) in
+    let inside : count - 1 < length all = omega (arith, n, ap length f, length-take count all) in
+    let next : count - 1 + 1 ≡ count = omega arith in
+    let it : e ≡ get_or fresh (count - 1) e = cc in
+    let there : get_or all (count - 1) e ≡ e = sym (get_or-take count all (count - 1) e (omega arith)) ∙ ap (λ xs. get_or xs (count - 1) e) (sym f) ∙ sym it in (
+      l ∙ ap (take (count - 1)) f ∙ shorter,
+      at_drop_more (λ xs. xs) all (count - 1) e inside ∙ (rw (there, next) refl),
+      (λ m each. rw there at (All-get_or (λ (e : ℕ × Coded). e.0 < m) all (count - 1) e inside each)),
     )
 
 -- a vector whose elements were all written

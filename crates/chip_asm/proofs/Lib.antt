@@ -4,6 +4,7 @@ pub mod PlaceSteps
 pub mod Numbers
 pub mod Placing
 pub mod NextLine
+pub mod BareLines
 pub mod LayoutSteps
 pub mod MarkSteps
 pub mod Edited
@@ -26,3 +27,5 @@ pub mod Views
 pub mod EditTexts
 pub mod CutSteps
 pub mod ListingSteps
+pub mod LinesApart
+pub mod NamesDiffer

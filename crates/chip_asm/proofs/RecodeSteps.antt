@@ -1,6 +1,8 @@
 -- Counting and collecting the lines that are encoded again.
-use Rattle.std.proofs.Common.{◌≡◌, ℕ, ℤ, suc, zero, ◌+◌, ◌<◌, ◌≤◌, Bool, true, false, cond, List, [], ◌∷◌, ◌++◌, length, take, get_or, count_by, slice_get, refl, ap, sym, ◌∙◌, arith, Option, Some, None}
-use Rattle.std.specs.List.{enumerate_from, list_all}
+use Rattle.std.proofs.Common.{◌≡◌, ℕ, ℤ, suc, zero, ◌+◌, ◌<◌, ◌≤◌, Bool, true, false, cond, List, [], ◌∷◌, ◌++◌, length, take, get_or, count_by, slice_get, refl, ap, sym, ◌∙◌, arith, Option, Some, None, option_map, option_to_list}
+use Rattle.std.specs.List.{enumerate_from, list_all, cons_option}
+use Rattle.chip_lang.specs.declared.code.Coded.{Coded}
+use Rattle.std.proofs.lemmas.List.Elements.{filter_map-append}
 use Rattle.std.specs.Option.{option_eq}
 use Rattle.std.specs.Ordering.{int_eq}
 use Rattle.std.proofs.lemmas.Bool.Decides.{Decides-int_eq}
@@ -17,7 +19,7 @@ use Rattle.chip_lang.specs.Code.{own_bytes, coded, code_of}
 use Rattle.chip_asm.specs.Names.{values_of}
 use Rattle.chip_asm.specs.Layout.{body_of}
 use Rattle.chip_asm.specs.Program.{names_of_lines}
-use Rattle.chip_asm.specs.Recode.{has_code, is_encoded_again, code_among, new_code}
+use Rattle.chip_asm.specs.Recode.{has_code, is_encoded_again, code_among, new_code, codes_placed}
 
 pub count_by-take : {X : Type 0} (p : X → Bool) (xs : List X) (i : ℕ) → count_by p (take i xs) ≤ count_by p xs
 count_by-take p xs zero = omega arith
@@ -77,6 +79,17 @@ option_same (Some z) = (Decides-int_eq z z).1 refl
 all_same : (S : Symbols) (names : List (List ℕ)) → list_all (has_same_value S S) names ≡ true
 all_same S [] = refl
 all_same S (name ∷ names) = rw (option_same (value_of_name S name), all_same S names) refl
+
+-- what is appended for a line is what its code gives
+pub code-pushed : (old new : List Reading) (origin : ℕ → Option ℕ) (xs : List (ℕ × Reading)) (i : ℕ) (r : Reading) (b : Bool) → is_encoded_again old new origin (i, r) ≡ b
+    → codes_placed (new_code old new origin) xs ++ option_to_list (cond b (Some (i, code_of r (values_of (names_of_lines new)))) None) ≡ codes_placed (new_code old new origin) (xs ++ (i, r) ∷ [])
+code-pushed old new origin xs i r b e =
+    sym (filter_map-append (λ at. option_map (λ c. (at.0, c)) (new_code old new origin at)) xs ((i, r) ∷ []) ∙ ap (λ l. codes_placed (new_code old new origin) xs ++ l)
+    (ap (λ (o : Option Coded). cons_option {X = ℕ × Coded} (option_map (λ c. (i, c)) o) []) (sym (code-again old new origin i r b e)) ∙ one b (code_of r (values_of (names_of_lines new)))))
+  where
+    one : (b : Bool) (code : Coded) → cons_option {X = ℕ × Coded} (option_map (λ c. (i, c)) (cond b (Some code) None)) [] ≡ option_to_list (cond b (Some (i, code)) None)
+    one true code = refl
+    one false code = refl
 
 -- where two tables are one, they agree on each line
 pub agree-same : (S T : Symbols) (line : Reading) → S ≡ T → agree_on S T line ≡ true

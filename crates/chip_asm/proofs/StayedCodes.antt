@@ -1,11 +1,13 @@
 -- A kept code stands where the names that the line uses keep their values.
-use Rattle.std.proofs.Common.{◌≡◌, ℕ, ◌+◌, ◌-◌, ◌<◌, ◌≤◌, Bool, true, false, cond, ◌&&◌, nat_lt, nat_eq, List, length, get_or, refl, ap, ◌∙◌, arith, Option, Some, None}
-use Rattle.std.specs.List.{enumerate_from}
+use Rattle.std.proofs.Common.{◌≡◌, ℕ, zero, suc, [], ◌∷◌, All, option_map, ◌+◌, ◌-◌, ◌<◌, ◌≤◌, Bool, true, false, cond, ◌&&◌, nat_lt, nat_eq, List, length, get_or, refl, ap, ◌∙◌, arith, Option, Some, None}
+use Rattle.std.specs.List.{enumerate_from, cons_option}
+use Rattle.std.proofs.lemmas.Bool.Decides.{nat_tests}
+use Rattle.std.proofs.lemmas.List.Elements.{All-nil, All-cons}
+use Rattle.chip_lang.specs.declared.code.Coded.{Coded}
 use Rattle.std.specs.Option.{option_map_or}
 use Rattle.std.proofs.lemmas.Bool.{and_parts, not-false, false≢true, ltb-true, ltb-false, eqb-false}
-use Rattle.std.proofs.lemmas.List.{get_or-map, get_or-set_other}
+use Rattle.std.proofs.lemmas.List.{get_or-set_other}
 use Rattle.std.proofs.lemmas.List.Edits.{get_or-insert_below, get_or-insert_above, get_or-remove_below, get_or-remove_above}
-use Rattle.std.proofs.lemmas.List.FromFn.{length-enumerate_from, get_or-enumerate_from}
 use Rattle.chip_lang.specs.Line.{Reading}
 use Rattle.chip_lang.specs.Value.{Symbols}
 use Rattle.chip_lang.specs.Code.{code_of}
@@ -18,7 +20,7 @@ use Rattle.chip_asm.specs.Layout.{body_of}
 use Rattle.chip_asm.specs.Layouts.{placements_of}
 use Rattle.chip_asm.specs.Program.{names_of_lines}
 use Rattle.chip_asm.specs.Records.{IsPlaceWithin, lines_after, count_after, place_before}
-use Rattle.chip_asm.specs.Recode.{has_code, is_placed_at, is_encoded_again, new_code, new_codes}
+use Rattle.chip_asm.specs.Recode.{has_code, is_placed_at, is_encoded_again, new_code, new_codes, codes_placed, code_at}
 
 some-same : (x y : ℕ) → Some x ≡ Some y → x ≡ y
 some-same x y e = cc
@@ -109,13 +111,61 @@ pub stayed : (old new : List Reading) (origin : ℕ → Option ℕ) (at : ℕ ×
 unfolding is_encoded_again
 stayed old new origin at n c p = stayed-from old new origin at (origin at.0) refl (not-false _ (rw (c, p) at n))
 
+none-before : (given : ℕ × Reading → Option Coded) (from : ℕ) (xs : List Reading) (k : ℕ) → k < from → code_at (codes_placed given (enumerate_from from xs)) k ≡ None
+none-before given from [] k h = refl
+none-before given from (x ∷ xs) k h = by (given (from, x)) (none-before given (from + 1) xs k (omega arith))
+  where
+    other : nat_eq k from ≡ false
+    other = grind (arith, nat_tests)
+
+    by : (o : Option Coded) → code_at (codes_placed given (enumerate_from (from + 1) xs)) k ≡ None
+        → code_at (cons_option (option_map (λ c. (from, c)) o) (codes_placed given (enumerate_from (from + 1) xs))) k ≡ None
+    by None rest = rest
+    by (Some code) rest = rw other rest
+
+-- the code for a place is that of the line there
+code-at : (given : ℕ × Reading → Option Coded) (from : ℕ) (xs : List Reading) (k : ℕ) (r : Reading) → k < length xs
+    → code_at (codes_placed given (enumerate_from from xs)) (from + k) ≡ given (from + k, get_or xs k r)
+code-at given from [] k r h = absurd (omega arith)
+code-at given from (x ∷ xs) zero r h = by (given (from, x)) refl ∙ (rw first refl)
+  where
+    first : from + zero ≡ from
+    first = omega arith
+
+    here : nat_eq (from + zero) from ≡ true
+    here = grind (arith, nat_tests)
+
+    by : (o : Option Coded) → given (from, x) ≡ o → code_at (cons_option (option_map (λ c. (from, c)) o) (codes_placed given (enumerate_from (from + 1) xs))) (from + zero) ≡ o
+    by None e = none-before given (from + 1) xs (from + zero) (omega arith)
+    by (Some code) e = rw here refl
+code-at given from (x ∷ xs) (suc k) r h = by (given (from, x)) ∙ (rw next (code-at given (from + 1) xs k r (omega arith)))
+  where
+    next : from + suc k ≡ from + 1 + k
+    next = omega arith
+
+    other : nat_eq (from + suc k) from ≡ false
+    other = grind (arith, nat_tests)
+
+    by : (o : Option Coded) → code_at (cons_option (option_map (λ c. (from, c)) o) (codes_placed given (enumerate_from (from + 1) xs))) (from + suc k) ≡ code_at (codes_placed given (enumerate_from (from + 1) xs)) (from + suc k)
+    by None = refl
+    by (Some code) = rw other refl
+
 pub fresh-at : (old new : List Reading) (origin : ℕ → Option ℕ) (place : ℕ) (r : Reading) → place < length new → get_or new place r ≡ r
-    → get_or (new_codes old new origin) place None ≡ new_code old new origin (place, r)
+    → code_at (new_codes old new origin) place ≡ new_code old new origin (place, r)
 fresh-at old new origin place r h e =
-    let inside : place < length (enumerate_from 0 new) = omega (arith, length-enumerate_from 0 new) in
     let zero_more : 0 + place ≡ place = omega arith in
-    get_or-map (new_code old new origin) (enumerate_from 0 new) place (place, r) None inside
-    ∙ ap (new_code old new origin) (get_or-enumerate_from 0 new place (place, r) h ∙ (rw (zero_more, e) refl))
+    let found : code_at (new_codes old new origin) (0 + place) ≡ new_code old new origin (0 + place, get_or new place r) = code-at (new_code old new origin) 0 new place r h in
+    rw (zero_more, e) at found
+
+-- the codes are those of lines that are there
+pub codes-within : (given : ℕ × Reading → Option Coded) (from : ℕ) (xs : List Reading) (n : ℕ) → from + length xs ≤ n → All (λ (e : ℕ × Coded). e.0 < n) (codes_placed given (enumerate_from from xs))
+codes-within given from [] n h = All-nil (λ (e : ℕ × Coded). e.0 < n)
+codes-within given from (x ∷ xs) n h = by (given (from, x)) (codes-within given (from + 1) xs n (omega arith))
+  where
+    by : (o : Option Coded) → All (λ (e : ℕ × Coded). e.0 < n) (codes_placed given (enumerate_from (from + 1) xs))
+        → All (λ (e : ℕ × Coded). e.0 < n) (cons_option (option_map (λ c. (from, c)) o) (codes_placed given (enumerate_from (from + 1) xs)))
+    by None rest = rest
+    by (Some code) rest = All-cons (λ (e : ℕ × Coded). e.0 < n) (from, code) _ (omega arith) rest
 
 -- tables that agree on the names of a line give it the same code
 abbrev pub SameCode : Type 0

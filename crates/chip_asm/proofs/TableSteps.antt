@@ -1,7 +1,10 @@
 -- The table of names: what is found in it.
-use Rattle.std.proofs.Common.{◌≡◌, ◌+◌, ℕ, ℤ, Bool, true, false, cond, List, [], ◌∷◌, map, refl, ap, sym, ◌∙◌, Option, Some, None, option_map, option_to_list, drop, take, slice_get, zero, suc, ◌++◌, arith, length, unwrap_or}
+use Rattle.std.proofs.Common.{◌≡◌, ◌+◌, ℕ, ℤ, Bool, true, false, cond, List, [], ◌∷◌, map, refl, ap, sym, ◌∙◌, Option, Some, None, option_map, option_to_list, drop, take, slice_get, zero, suc, ◌++◌, arith, length, unwrap_or, ◌<◌, ◌≤◌, IfSome, nat_lt}
 use Rattle.std.specs.Str.{bytes_eq}
-use Rattle.std.specs.Map.{lookup}
+use Rattle.std.specs.Map.{lookup, keys_of}
+use Rattle.std.specs.List.{position_or_len, position}
+use Rattle.std.proofs.lemmas.Bool.Decides.{nat_tests}
+use Rattle.indexmap.specs.IndexMap.{set_value_at}
 use Rattle.std.specs.Ordering.{nat_cmp}
 use Rattle.std.specs.Cmp.Lexicographic.{slice_cmp}
 use Rattle.std.specs.Global.{Vec}
@@ -9,7 +12,7 @@ use Rattle.std.specs.FinMap as finite
 use Rattle.std.specs.FinMap.{get-from_entries}
 use Rattle.std.proofs.lemmas.Cmp.{nat_list_cmp_total}
 use Rattle.std.proofs.lemmas.Map.Text.{is_eq-slice_cmp}
-use Rattle.std.proofs.lemmas.List.{at_drop_more, length-map}
+use Rattle.std.proofs.lemmas.List.{at_drop_more, length-map, length-take, take_all, map-append}
 use Rattle.std.proofs.lemmas.Option.{get_or_from_slice_get, slice_get-map, slice_get_within}
 use Rattle.chip_lang.specs.Value.{value_of_name}
 use Rattle.chip_asm.specs.declared.table.Symbol.{Symbol}
@@ -33,7 +36,7 @@ unfolding values_of
 value-of-name names name = get-from_entries nat_list_cmp_total (map (λ e. (e.0, e.1.value)) names) name ∙ find-seen name names
 
 -- an entry, as a name with its symbol
-abbrev seen : Vec ℕ × Symbol → Name × Symbol
+abbrev pub seen : Vec ℕ × Symbol → Name × Symbol
 seen entry = (entry.0.items, entry.1)
 
 -- what is found from a place on is the entry there, where its name is the one asked for, and else what is found after it
@@ -81,3 +84,74 @@ same-parts {n} {m} {v} {w} e =
     let name : n ≡ m = ap (λ (o : Option (Name × ℤ)). (unwrap_or o (n, v)).0) e in
     let value : v ≡ w = ap (λ (o : Option (Name × ℤ)). (unwrap_or o (n, v)).1) e in
     (name, value)
+
+-- what stands at a place of the first elements
+pub taken-at : {X : Type 0} (n i : ℕ) (xs : List X) → i < n → slice_get (take n xs) i ≡ slice_get xs i
+taken-at zero i xs h = absurd (omega arith)
+taken-at (suc n) i [] h = refl
+taken-at (suc n) zero (x ∷ xs) h = refl
+taken-at (suc n) (suc i) (x ∷ xs) h = taken-at n i xs (omega arith)
+
+-- an entry among the first ones
+pub entry-taken : (n i : ℕ) (entries : List (Vec ℕ × Symbol)) (entry : Vec ℕ × Symbol) → i < n → Some entry ≡ slice_get entries i → Some entry ≡ slice_get (take n entries) i
+entry-taken n i entries entry h is = is ∙ sym (taken-at n i entries h)
+
+-- there are as many names as entries count
+pub within-count : (n : ℕ) (entries : List (Vec ℕ × Symbol)) (names : List (Name × Symbol)) → n ≤ length entries → map seen (take n entries) ≡ names → length names ≡ n
+within-count n entries names h view = omega (arith, length-map (take n entries) seen, ap length view, length-take n entries)
+
+-- the value at a place of the first entries is written, and one entry more counts
+pub set-taken : (n : ℕ) (entries : List (Vec ℕ × Symbol)) (name : Name) (symbol : Symbol) → n < length entries → IfSome (slice_get entries n) (λ e. e.0.items ≡ name)
+    → map seen (take (suc n) (set_value_at entries n symbol)) ≡ map seen (take n entries) ++ (name, symbol) ∷ []
+set-taken n [] name symbol h same = absurd (omega arith)
+set-taken zero (e ∷ es) name symbol h same = ap (λ (n : Name). (n, symbol) ∷ []) same
+set-taken (suc n) (e ∷ es) name symbol h same = ap (λ l. seen e ∷ l) (set-taken n es name symbol (omega arith) same)
+
+-- a look-up among the first entries
+lookup-taken : (test : Vec ℕ → Bool) (n : ℕ) (entries : List (Vec ℕ × Symbol)) → lookup test (take n entries) ≡ cond (nat_lt (position_or_len test (keys_of entries)) n) (lookup test entries) None
+lookup-taken test zero entries =
+    let no : nat_lt (position_or_len test (keys_of entries)) 0 ≡ false = grind (arith, nat_tests) in
+    rw no refl
+lookup-taken test (suc n) [] = refl_none (nat_lt 0 (suc n))
+  where
+    refl_none : (b : Bool) → ◌≡◌ {A = Option Symbol} None (cond b None None)
+    refl_none true = refl
+    refl_none false = refl
+lookup-taken test (suc n) (e ∷ es) = by (test e.0) refl (lookup-taken test n es)
+  where
+    by : (b : Bool) → test e.0 ≡ b → lookup test (take n es) ≡ cond (nat_lt (position_or_len test (keys_of es)) n) (lookup test es) None
+        → cond b (Some e.1) (lookup test (take n es)) ≡ cond (nat_lt (position_or_len test (e.0 ∷ keys_of es)) (suc n)) (cond b (Some e.1) (lookup test es)) None
+    by true h rest =
+        let first : nat_lt 0 (suc n) ≡ true = grind (arith, nat_tests) in
+        rw h (ap (λ b. cond b (Some e.1) None) (sym first))
+    by false h rest =
+        let p : ℕ = position_or_len test (keys_of es) in
+        let shift : nat_lt (1 + p) (suc n) ≡ nat_lt p n = grind (arith, nat_tests) in
+        rw (h, rest) (ap (λ b. cond b (lookup test es) None) (sym shift))
+
+same-place : (b : Bool) (p i : ℕ) → Some i ≡ cond b (Some p) None → p ≡ i
+same-place true p i e = cc
+same-place false p i e = cc
+
+-- what is found at a place that counts, or at one that doesn't
+pub found-taken : (test : Vec ℕ → Bool) (n : ℕ) (entries : List (Vec ℕ × Symbol)) (i : ℕ) (s : Symbol) (b : Bool) → Some i ≡ position test (keys_of entries) → Some s ≡ lookup test entries
+    → nat_lt i n ≡ b → lookup test (take n entries) ≡ cond b (Some s) None
+found-taken test n entries i s b at found counts =
+    lookup-taken test n entries ∙ (rw (same-place (nat_lt (position_or_len test (keys_of entries)) (length (keys_of entries))) (position_or_len test (keys_of entries)) i at, counts, ← found) refl)
+
+pub missing-taken : (test : Vec ℕ → Bool) (n : ℕ) (entries : List (Vec ℕ × Symbol)) → None ≡ lookup test entries → lookup test (take n entries) ≡ None
+missing-taken test n entries missing = lookup-taken test n entries ∙ (rw (← missing) (none (nat_lt (position_or_len test (keys_of entries)) n)))
+  where
+    none : (b : Bool) → ◌≡◌ {A = Option Symbol} (cond b None None) None
+    none true = refl
+    none false = refl
+
+-- a new name after the first ones
+pub new-taken : (n m : ℕ) (old made : List (Vec ℕ × Symbol)) (entry : Vec ℕ × Symbol) → made ≡ take n old ++ entry ∷ [] → m ≡ length made
+    → map seen (take m made) ≡ map seen (take n old) ++ seen entry ∷ []
+new-taken n m old made entry e long =
+    ap (map seen) (take_all m made (omega arith) ∙ e) ∙ map-append seen (take n old) (entry ∷ [])
+
+pub lookup-first : (name : Name) (n : ℕ) (old cut : List (Vec ℕ × Symbol)) (names : List (Name × Symbol)) → map seen (take n old) ≡ names → cut ≡ take n old → lookup_name names name ≡ None
+    → lookup (λ (k : Vec ℕ). bytes_eq name k.items) cut ≡ None
+lookup-first name n old cut names view is none = ap (lookup (λ (k : Vec ℕ). bytes_eq name k.items)) is ∙ lookup-seen name (take n old) ∙ ap (λ t. lookup_name t name) view ∙ none

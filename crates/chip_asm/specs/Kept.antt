@@ -1,5 +1,5 @@
 -- What a source keeps beside the texts of its lines (own).
-use Rattle.std.specs.Prelude.{◌≡◌, ℕ, ◌+◌, ◌<◌, ◌≤◌, true, List, map, length, slice_index, slice_index_or, Option, None, unwrap_or, vec_len}
+use Rattle.std.specs.Prelude.{◌≡◌, ℕ, ◌+◌, ◌<◌, ◌≤◌, true, List, map, length, slice_index, slice_index_or, unwrap_or, vec_len}
 use Rattle.chip_asm.specs.declared.limits.TheConstants.{MOST_LINES}
 use Rattle.chip_lang.specs.declared.limits.TheConstants.{IMAGE_BYTES, IMAGE_START}
 use Rattle.chip_lang.specs.declared.code.Coded.{Coded}
@@ -10,7 +10,7 @@ use Rattle.chip_asm.specs.Layout.{body_of, placed}
 use Rattle.chip_asm.specs.Layouts.{IsLayoutOf, placements_of}
 use Rattle.chip_asm.specs.Program.{faults_of_lines, byte_at}
 use Rattle.chip_asm.specs.Records.{reading_in, readings_in, texts_in}
-use Rattle.chip_asm.specs.Recode.{has_code, is_placed_at, code_among}
+use Rattle.chip_asm.specs.Recode.{has_code, is_placed_at, code_among, code_at}
 
 -- an accepted line's code is its code under the names as they are
 pub record AreCurrent (lines : List KeptLine) : Type 0 where
@@ -36,9 +36,9 @@ pub record IsKept (kept : Kept) : Type 0 where
   pub counted : kept.faults ≡ length (faults_of_lines (readings_in kept.lines.items))
 
 -- the new codes stand in the place of the kept ones, and nothing else changed
-pub record IsMerged (kept : List KeptLine) (fresh : List (Option Coded)) (lines : List KeptLine) : Type 0 where
+pub record IsMerged (kept : List KeptLine) (fresh : List (ℕ × Coded)) (lines : List KeptLine) : Type 0 where
   pub long : length lines ≡ length kept
   pub texts : texts_in lines ≡ texts_in kept
   pub readings : readings_in lines ≡ readings_in kept
   pub each : (place : ℕ) (line : KeptLine) → place < length kept
-      → (slice_index_or lines place line).code ≡ unwrap_or (slice_index_or fresh place None) (slice_index_or kept place line).code
+      → (slice_index_or lines place line).code ≡ unwrap_or (code_at fresh place) (slice_index_or kept place line).code

@@ -9,8 +9,9 @@
 --     Changes      which places of the image an edit changes
 --     Sources      what contracts see of a source
 --   What the functions inside say of what they keep:
---     Turns, Follows, Placements, Marks, Layouts      the first pass
+--     Turns, Follows, Bare, Placements, Marks, Layouts      the first pass
 --     Records, Recode, Effect, Kept                   kept lines and their codes
+pub mod Bare
 pub mod Changes
 pub mod Edits
 pub mod Effect

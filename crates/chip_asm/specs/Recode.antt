@@ -1,6 +1,7 @@
 -- Which lines are encoded anew, by what is kept (own).
-use Rattle.std.specs.Prelude.{ℕ, Bool, true, false, not, ◌&&◌, List, map, count_by, Option, Some, None, if◌then◌else◌, slice_get}
+use Rattle.std.specs.Prelude.{ℕ, Bool, true, false, not, ◌&&◌, List, count_by, Option, Some, None, if◌then◌else◌, slice_get, nat_eq, filter_map, option_map}
 use Rattle.std.specs.List.{enumerate_from}
+use Rattle.std.specs.Map.{lookup}
 use Rattle.std.specs.Option.{option_map_or}
 use Rattle.chip_lang.specs.declared.code.Coded.{Coded}
 use Rattle.chip_lang.specs.Line.{Body, db, dw, da, code, Reading}
@@ -38,8 +39,16 @@ code_among lines line = coded (own_bytes (body_of line) (values_of (names_of_lin
 abbrev pub new_code : (old new : List Reading) → (ℕ → Option ℕ) → ℕ × Reading → Option Coded
 new_code old new origin at = if is_encoded_again old new origin at then Some (code_among new at.1) else None
 
-abbrev pub new_codes : (old new : List Reading) → (ℕ → Option ℕ) → List (Option Coded)
-new_codes old new origin = map (new_code old new origin) (enumerate_from 0 new)
+-- the codes of the lines that have one, each with the place of its line
+abbrev pub codes_placed : (ℕ × Reading → Option Coded) → List (ℕ × Reading) → List (ℕ × Coded)
+codes_placed given lines = filter_map (λ at. option_map (λ c. (at.0, c)) (given at)) lines
+
+abbrev pub new_codes : (old new : List Reading) → (ℕ → Option ℕ) → List (ℕ × Coded)
+new_codes old new origin = codes_placed (new_code old new origin) (enumerate_from 0 new)
+
+-- the code for a place
+abbrev pub code_at : List (ℕ × Coded) → ℕ → Option Coded
+code_at codes place = lookup (nat_eq place) codes
 
 abbrev pub count_again : (old new : List Reading) → (ℕ → Option ℕ) → ℕ
 count_again old new origin = count_by (is_encoded_again old new origin) (enumerate_from 0 new)

@@ -1,5 +1,5 @@
 //! What is kept of a source, and the one way in which an edit changes it.
-ghost use Rattle.std.specs.Prelude.{◌≡◌, ◌+◌, ◌<◌, ◌≤◌, ℕ, List, [], true, Some, slice_set, OnOk, OnErr, IfOk, IfSome, length, vec_len, vec_capacity, map, slice_index};
+ghost use Rattle.std.specs.Prelude.{◌≡◌, ◌+◌, ◌<◌, ◌≤◌, ℕ, List, All, [], true, Some, slice_set, OnOk, OnErr, IfOk, IfSome, length, vec_len, vec_capacity, map, slice_index};
 ghost use Rattle.std.specs.Option.{option_copied};
 ghost use Rattle.chip_lang.specs.Line.{Reading, reading_of};
 ghost use Rattle.chip_asm.specs.declared.kept_line.KeptLine.{KeptLine};
@@ -26,23 +26,26 @@ use chip_lang::laws::same_code;
 use chip_lang::limits::{IMAGE_BYTES, IMAGE_START};
 use chip_lang::{Coded, Line, Meter};
 use std::alloc::{AllocError, Global};
+use std::mem;
 
 /// The lines of a source, with all that is known of them.
 #[derive(Drop)]
 pub(crate) struct Kept {
     pub(crate) lines: Vec<KeptLine>,
     pub(crate) layout: Layout,
+    /// The layout before the last edit, for its room.
+    pub(crate) spare: Layout,
     /// The byte at each address from `IMAGE_START` on, also where a line has a fault. Empty until there is a line.
     pub(crate) image: Vec<u8>,
     /// How many lines have a fault.
     pub(crate) faults: usize,
 }
 
-/// What an edit makes new: the layout, and a code for each line that needs one.
+/// What an edit makes new: the layout, and a code for each line that needs one, with its place.
 #[derive(Drop)]
 struct Prepared {
     layout: Layout,
-    codes: Vec<Option<Coded>>,
+    codes: Vec<(usize, Coded)>,
 }
 
 impl Kept {
@@ -54,6 +57,7 @@ impl Kept {
         Kept {
             lines: Vec::new(alloc),
             layout: Layout::new(alloc),
+            spare: Layout::new(alloc),
             image: Vec::new(alloc),
             faults: 0,
         }
@@ -244,7 +248,8 @@ impl Kept {
     {
         self.lines.reserve(1)?;
         fill_up(&mut self.image)?;
-        let layout = Layout::after(alloc, &self.lines, edit)?;
+        let spare = mem::replace(&mut self.spare, Layout::new(alloc));
+        let layout = Layout::after(alloc, spare, &self.lines, edit)?;
         let codes = recode(alloc, meter, &self.lines, edit, &self.layout, &layout)?;
         Ok(Prepared { layout, codes })
     }
@@ -254,7 +259,7 @@ impl Kept {
         requires few { length self.old.lines.items ≤ MOST_LINES }
         requires are_read { readings_in self.old.lines.items ≡ map reading_of (texts_in self.old.lines.items) }
         requires laid_out { IsLayoutOf prepared.layout (readings_in self.old.lines.items) }
-        requires count { length prepared.codes.items ≡ length self.old.lines.items }
+        requires within { All (λ e. e.0 < length self.old.lines.items) prepared.codes.items }
         requires current { (lines : List KeptLine) → IsMerged self.old.lines.items prepared.codes.items lines → AreCurrent lines }
         requires image { vec_len self.old.image ≡ IMAGE_BYTES }
         ensures texts { texts_in self.new.lines.items ≡ texts_in self.old.lines.items }
@@ -262,7 +267,7 @@ impl Kept {
     {
         let Prepared { layout, codes } = prepared;
         write_codes(&mut self.lines, codes);
-        self.layout = layout;
+        self.spare = mem::replace(&mut self.layout, layout);
         clear(&mut self.image);
         self.faults = write_lines(&mut self.image, &self.lines, &self.layout);
     }

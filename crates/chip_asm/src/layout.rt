@@ -82,15 +82,27 @@ impl Layout {
         }
     }
 
-    /// The layout of the lines after an edit.
-    pub(crate) fn after(alloc: Global, lines: &[KeptLine], edit: &Edit) -> Result<Self, AllocError>
+    /// The layout of the lines after an edit, in the room of another one, whose names serve again where they still come in this order.
+    pub(crate) fn after(
+        alloc: Global,
+        spare: Layout,
+        lines: &[KeptLine],
+        edit: &Edit,
+    ) -> Result<Self, AllocError>
         requires within { IsPlaceWithin (length lines.now) edit.now }
         requires few { length lines.now ≤ MOST_LINES }
         ensures { IfOk result (λ layout. IsLayoutOf layout (readings_in (lines_after lines.now edit.now))) }
     {
-        let mut pass = Pass::new(alloc);
+        let Layout {
+            mut placements,
+            mut names,
+            end: _,
+        } = spare;
+        names.restart();
+        placements.clear();
+        let mut pass = Pass::new(alloc, names);
         let count = count_after(lines.len(), edit);
-        let mut placements = Vec::with_capacity(alloc, count)?;
+        placements.reserve(count)?;
         for place in 0..count {
             let line = line_after(lines, edit, place);
             placements.push(pass.step(alloc, place + 1, line)?)?;

@@ -9,6 +9,7 @@ mod effect;
 mod image;
 mod kept;
 mod kept_line;
+pub mod laws;
 mod layout;
 pub mod limits;
 mod listing;

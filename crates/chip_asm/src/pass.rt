@@ -1,5 +1,6 @@
 //! The first pass: one line after another.
-ghost use Rattle.std.specs.Prelude.{◌≡◌, ℕ, ◌+◌, ◌-◌, ◌≤◌, ◌<◌, ◌^◌, List, [], ◌∷◌, ◌++◌, OnOk, IfOk, length, reverse, is_some, is_none, unsigned_abs, int_lt, pos, nat_lt, Option, None, Ok, true, false, ◌&&◌, ◌||◌, if◌then◌else◌, option_to_list};
+ghost use Rattle.std.specs.Prelude.{◌≡◌, ℕ, ◌+◌, ◌-◌, ◌≤◌, ◌<◌, ◌^◌, List, [], ◌∷◌, ◌++◌, OnOk, IfOk, IfSome, length, reverse, is_some, is_none, unsigned_abs, int_lt, pos, nat_lt, Option, None, Ok, true, false, ◌&&◌, ◌||◌, if◌then◌else◌, option_to_list};
+ghost use Rattle.chip_asm.specs.Bare.{IsBare, fault_of_bare, size_of_bare};
 ghost use Rattle.chip_asm.specs.Layout.{value_at, own_size, is_padded, full_size, is_negative_space, is_backwards, is_past_end, fault_of_value, is_redefinition, is_if_body, body_of, value_or_zero, condition_of, is_org_body, is_end_body, symbol_given};
 ghost use Rattle.chip_lang.specs.SeenLine.{seen_line, seen_body};
 ghost use Rattle.chip_lang.specs.Line.{Reading, empty as empty_body};
@@ -66,6 +67,23 @@ fn is_if(body: &Body) -> bool
     matches!(body, Body::Ifdef(_) | Body::Ifund(_))
 }
 
+/// The size of a line of which the pass asks nothing else: one that gives no name, and is an instruction or has no statement.
+fn bare_size(line: &Line) -> Option<usize>
+    ensures { IfSome result (λ size. IsBare (seen_line line.now) size) }
+{
+    match line {
+        Line::Read {
+            label: None,
+            body: Body::Empty,
+        } => Some(0),
+        Line::Read {
+            label: None,
+            body: Body::Code(_, _),
+        } => Some(2),
+        _ => None,
+    }
+}
+
 pub(crate) fn is_data(body: &Body) -> bool
     ensures { result ≡ is_padded (seen_body body.now) }
 {
@@ -77,9 +95,10 @@ impl Pass {
     ghost use Rattle.chip_asm.specs.Placements.{is_placed};
     ghost use Rattle.chip_asm.specs.Follows.{Follows, placement_of, next_address, next_aligning};
 
-    /// Before the first line.
+    /// Before the first line, with a table without names.
     #[tactic(auto, unfolding(crate::specs::Layout::address, crate::specs::Layout::is_aligning, crate::specs::Layout::has_ended, crate::specs::Layout::enclosing, crate::specs::Layout::symbols))]
-    pub(crate) fn new(alloc: Global) -> Self
+    pub(crate) fn new(alloc: Global, names: Table) -> Self
+        requires { names ≡ [] }
         ensures { Follows result [] }
     {
         Pass {
@@ -87,7 +106,7 @@ impl Pass {
             aligning: true,
             ended: false,
             blocks: Vec::new(alloc),
-            names: Table::new(alloc),
+            names,
         }
     }
 
@@ -275,6 +294,9 @@ impl Pass {
         ensures follows { (lines : List Reading) → Follows self.old (placed lines) → number ≡ length lines + 1
             → OnOk result (Follows self.new (placed (lines ++ seen_line line.now ∷ []))) }
     {
+        if let Some(size) = bare_size(line) {
+            return Ok(self.step_bare(number, size));
+        }
         let empty = Body::Empty;
         let body = body_or(line, &empty);
         let placement = self.place(number, line);
@@ -295,6 +317,53 @@ impl Pass {
             placement.size,
         );
         Ok(placement)
+    }
+
+    /// The fault of a line of this size of which nothing else is asked.
+    fn fault_of_bare(&self, live: bool, size: usize) -> Option<Fault>
+        ensures { result ≡ fault_of_bare live self.now.here size }
+    {
+        if live && size > MEMORY_BYTES - self.here {
+            Some(Fault::PastMemory)
+        } else {
+            None
+        }
+    }
+
+    /// The bytes that such a line takes.
+    fn size_of_bare(&self, live: bool, size: usize) -> usize
+        ensures size { result ≡ size_of_bare live self.now.here size }
+        ensures within { self.now.here + result ≤ MEMORY_BYTES }
+    {
+        if live && size <= MEMORY_BYTES - self.here {
+            size
+        } else {
+            0
+        }
+    }
+
+    /// Goes on by such a line.
+    fn step_bare(&mut self, number: usize, size: usize) -> Placement
+        ensures found { (lines : List Reading) (line : Reading) → IsBare line size → Follows self.old (placed lines) → number ≡ length lines + 1
+            → result ≡ placement_of (place (placed lines) line) }
+        ensures follows { (lines : List Reading) (line : Reading) → IsBare line size → Follows self.old (placed lines) → number ≡ length lines + 1
+            → Follows self.new (placed (lines ++ line ∷ [])) }
+    {
+        let empty = Body::Empty;
+        let live = self.is_live(&empty);
+        let fault = self.fault_of_bare(live, size);
+        let taken = self.size_of_bare(live, size);
+        let here = self.here;
+        self.here += taken;
+        Placement {
+            number,
+            is_if: false,
+            live,
+            here,
+            fault,
+            value: 0,
+            size: taken,
+        }
     }
 
     /// Whether the condition of an IF line holds.

@@ -1,5 +1,5 @@
 //! The lines that an edit makes encode again.
-ghost use Rattle.std.specs.Prelude.{◌≡◌, ◌<◌, ◌≤◌, ◌+◌, ℕ, List, IfOk, OnErr, Option, Result, Ok, Err, length, Some, None, true, if◌then◌else◌, ◌&&◌, vec_len};
+ghost use Rattle.std.specs.Prelude.{◌≡◌, ◌<◌, ◌≤◌, ◌+◌, ◌++◌, ℕ, List, All, IfOk, OnOk, OnErr, Option, Result, Ok, Err, length, Some, None, true, if◌then◌else◌, ◌&&◌, option_to_list};
 ghost use Rattle.chip_lang.specs.Line.{Reading};
 ghost use Rattle.chip_lang.specs.SeenLine.{seen_line};
 ghost use Rattle.chip_lang.specs.Uses.{agree_on};
@@ -76,6 +76,28 @@ fn is_encoded_again(
     }
 }
 
+/// Appends the line's code with its place, where it is wanted.
+fn push_code_if(
+    wanted: bool,
+    alloc: Global,
+    meter: &mut Meter,
+    codes: &mut Vec<(usize, Coded)>,
+    place: usize,
+    line: &Line,
+    names: &Table,
+) -> Result<(), AllocError>
+    ensures codes { OnOk result (codes.new.items ≡ codes.old.items ++ option_to_list (if wanted then Some (place, code_of (seen_line line.now) (values_of names.now)) else None)) }
+    ensures encoded { meter.new.encoded ≤ meter.old.encoded + (if wanted then 1 else 0) }
+    ensures not_lowered { meter.old.encoded ≤ meter.new.encoded }
+    ensures parsed { meter.new.parsed ≡ meter.old.parsed }
+{
+    if wanted {
+        let code = encode(alloc, meter, line, names)?;
+        codes.push((place, code))?;
+    }
+    Ok(())
+}
+
 /// The line's code, where it is wanted.
 fn encode_if(
     wanted: bool,
@@ -113,7 +135,7 @@ pub(crate) fn code_if_accepted(
     encode_if(wanted, alloc, meter, line, names)
 }
 
-/// The new codes, and none for a line whose code stands.
+/// The new codes, each with the place of its line.
 pub(crate) fn recode(
     alloc: Global,
     meter: &mut Meter,
@@ -121,7 +143,7 @@ pub(crate) fn recode(
     edit: &Edit,
     old: &Layout,
     new: &Layout,
-) -> Result<Vec<Option<Coded>>, AllocError>
+) -> Result<Vec<(usize, Coded)>, AllocError>
     requires within { IsPlaceWithin (length lines.now) edit.now }
     requires few { length lines.now ≤ MOST_LINES }
     requires new { IsLayoutOf new.now (readings_in (lines_after lines.now edit.now)) }
@@ -132,11 +154,11 @@ pub(crate) fn recode(
 {
     let unmoved = old.names.has_same_values(&new.names);
     let count = count_after(lines.len(), edit);
-    let mut codes = Vec::with_capacity(alloc, count)?;
+    let mut codes = Vec::new(alloc);
     for place in 0..count {
-        let line = line_after(lines, edit, place);
+        let line = line_after(&*lines, &*edit, place);
         let again = is_encoded_again(old, new, unmoved, edit, place, line);
-        codes.push(encode_if(again, alloc, meter, line, &new.names)?)?;
+        push_code_if(again, alloc, meter, &mut codes, place, line, &new.names)?;
     }
     Ok(codes)
 }
@@ -148,16 +170,12 @@ fn write_code(kept: &mut KeptLine, code: Coded)
 }
 
 /// Writes the new codes over the kept ones.
-pub(crate) fn write_codes(lines: &mut [KeptLine], fresh: Vec<Option<Coded>>)
-    requires { vec_len fresh ≡ length lines.old }
+pub(crate) fn write_codes(lines: &mut [KeptLine], fresh: Vec<(usize, Coded)>)
+    requires { All (λ e. e.0 < length lines.old) fresh.items }
     ensures { IsMerged lines.old fresh.items lines.new }
 {
-    let mut place = lines.len();
     let mut fresh = fresh;
-    while let Some(code) = fresh.pop() {
-        place -= 1;
-        if let Some(code) = code {
-            write_code(&mut lines[place], code);
-        }
+    while let Some((place, code)) = fresh.pop() {
+        write_code(&mut lines[place], code);
     }
 }

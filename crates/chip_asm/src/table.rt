@@ -1,5 +1,5 @@
 //! The names of a source.
-ghost use Rattle.std.specs.Prelude.{◌≡◌, ◌≢◌, ◌++◌, [], ◌∷◌, OnOk, IfOk, None, Some, true, false, length, map, slice_get, ◌<◌};
+ghost use Rattle.std.specs.Prelude.{◌≡◌, ◌≢◌, ◌++◌, [], ◌∷◌, OnOk, IfOk, IfSome, None, Some, true, false, length, map, slice_get, ◌<◌};
 ghost use Rattle.std.specs.Str.{bytes_eq};
 ghost use Rattle.chip_lang.specs.Line.{upper};
 ghost use Rattle.chip_asm.specs.Names.{lookup_name, valued, values_of};
@@ -41,20 +41,34 @@ fn is_spelled(text: &[u8], name: &[u8]) -> bool
     upper(*byte) == *letter && is_spelled(text, name)
 }
 
-/// The names in line order, each with its value and line. Names are in upper case.
+/// Whether the entry at an index has this name.
+fn is_key_at(symbols: &IndexMap<Vec<u8>, Symbol>, index: usize, name: &[u8]) -> bool
+    ensures { result ≡ true → IfSome (slice_get symbols.now.entries index) (λ e. e.0.items ≡ name.now) }
+{
+    match symbols.get_index(index) {
+        Some((key, _)) => key.as_slice() == name,
+        None => false,
+    }
+}
+
+/// The names in line order, each with its value and line: the first `count` entries. Names are in upper case.
+/// The entries after them are of no meaning; a name that stands there at the right place needs no new key.
 #[derive(Drop)]
 pub(crate) struct Table {
     pub(crate) symbols: IndexMap<Vec<u8>, Symbol>,
+    pub(crate) count: usize,
 }
 
 impl Model for Table {
-    ghost use Rattle.std.specs.Prelude.{List, map};
+    ghost use Rattle.std.specs.Prelude.{List, map, take, length, ◌≤◌};
     ghost use Rattle.chip_asm.specs.declared.table.Symbol.{Symbol};
     ghost use Rattle.chip_asm.specs.Names.{Name};
 
     ghost Value = { List (Name × Symbol) };
 
-    ghost view = { λ t. map (λ e. (e.0.items, e.1)) t.symbols.entries };
+    ghost view = { λ t. map (λ e. (e.0.items, e.1)) (take t.count t.symbols.entries) };
+
+    ghost invariant = { λ t. t.count ≤ length t.symbols.entries };
 }
 
 impl Table {
@@ -63,21 +77,38 @@ impl Table {
     {
         Table {
             symbols: IndexMap::new(alloc),
+            count: 0,
         }
+    }
+
+    /// Without names; the keys stay for names to come.
+    pub(crate) fn restart(&mut self)
+        ensures { self.new ≡ [] }
+    {
+        self.count = 0;
     }
 
     /// The value and the line of a name.
     pub(crate) fn symbol(&self, name: &[u8]) -> Option<Symbol>
         ensures { result ≡ lookup_name self.now name.now }
     {
-        self.symbols.get(name).copied()
+        match self.symbols.get_full(name) {
+            Some((index, _, symbol)) => {
+                if index < self.count {
+                    Some(*symbol)
+                } else {
+                    None
+                }
+            }
+            None => None,
+        }
     }
 
     /// The value and the line of a name in either case.
     pub(crate) fn symbol_in_any_case(&self, name: &[u8]) -> Option<Symbol>
         ensures { result ≡ lookup_name self.now (map upper name.now) }
     {
-        for index in 0..self.symbols.len() {
+        for index in 0..self.count {
             let Some((key, symbol)) = self.symbols.get_index(index) else {
                 unreachable!();
             };
@@ -93,7 +124,7 @@ impl Table {
         ensures { IfOk result (λ symbols. symbols.items ≡ self.now) }
     {
         let mut symbols = Vec::new(alloc);
-        for index in 0..self.symbols.len() {
+        for index in 0..self.count {
             symbols.push(self.entry(alloc, index)?)?;
         }
         Ok(symbols)
@@ -115,10 +146,10 @@ impl Table {
         ensures same { result ≡ true → values_of self.now ≡ values_of other.now }
         ensures differs { result ≡ false → valued self.now ≢ valued other.now }
     {
-        if self.symbols.len() != other.symbols.len() {
+        if self.count != other.count {
             return false;
         }
-        for index in 0..self.symbols.len() {
+        for index in 0..self.count {
             if !self.has_same_value_at(other, index) {
                 return false;
             }
@@ -126,8 +157,10 @@ impl Table {
         true
     }
 
-    /// Whether both tables have the same name with the same value at an index, or none there.
+    /// Whether both tables have the same name with the same value at an index.
     fn has_same_value_at(&self, other: &Table, index: usize) -> bool
+        requires mine { index < length self.now }
+        requires others { index < length other.now }
         ensures same { result ≡ true → slice_get (valued self.now) index ≡ slice_get (valued other.now) index }
         ensures differs { result ≡ false → slice_get (valued self.now) index ≢ slice_get (valued other.now) index }
     {
@@ -138,8 +171,7 @@ impl Table {
             (Some((name, symbol)), Some((other_name, other_symbol))) => {
                 symbol.value == other_symbol.value && name.as_slice() == other_name.as_slice()
             }
-            (None, None) => true,
-            _ => false,
+            _ => unreachable!(),
         }
     }
 
@@ -153,8 +185,15 @@ impl Table {
         requires { lookup_name self.old name.now ≡ None }
         ensures { OnOk result (self.new ≡ self.old ++ (name.now, symbol) ∷ []) }
     {
+        if self.count < self.symbols.len() && is_key_at(&self.symbols, self.count, name) {
+            self.symbols[self.count] = symbol;
+            self.count += 1;
+            return Ok(());
+        }
+        self.symbols.truncate(self.count);
         let key = Vec::from_slice(alloc, name)?;
         self.symbols.insert(key, symbol)?;
+        self.count = self.symbols.len();
         Ok(())
     }
 }

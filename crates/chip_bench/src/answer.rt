@@ -13,7 +13,7 @@ use std::alloc::{AllocError, Global};
 pub(crate) fn hex_line(alloc: Global, bytes: &[u8]) -> Result<Vec<u8>, AllocError>
     ensures { IfOk result (λ text. text.items ≡ hex_line bytes.now) }
 {
-    let mut text = Vec::new(alloc);
+    let mut text = Vec::with_capacity(alloc, 2 * bytes.len() + 1)?;
     push_hex(&mut text, bytes)?;
     text.push(b'\n')?;
     Ok(text)

@@ -10,12 +10,15 @@ use chip_machine::limits::{LAST_WORD, MEMORY_BYTES};
 use chip_machine::{Machine, Stop};
 use std::alloc::{AllocError, Global};
 
+// Room for the answer about a machine's registers, where few calls are open.
+const REGISTERS_ROOM: usize = 256;
+
 /// The registers, timers, flags and frames of a machine, in three lines.
 #[tactic(auto, unfolding(crate::specs::MachineAnswers::registers_of))]
 pub fn registers(alloc: Global, machine: &Machine) -> Result<Vec<u8>, AllocError>
     ensures { IfOk result (λ answer. answer.items ≡ registers_of machine.now) }
 {
-    let mut answer = Vec::new(alloc);
+    let mut answer = Vec::with_capacity(alloc, REGISTERS_ROOM)?;
     push_register_line(&mut answer, machine)?;
     push_state_line(&mut answer, machine)?;
     push_flag_line(&mut answer, machine)?;
@@ -115,7 +118,7 @@ pub fn memory_line(
 {
     let start = usize::from(at);
     let end = start + usize::from(count);
-    let mut answer = Vec::new(alloc);
+    let mut answer = Vec::with_capacity(alloc, 2 * usize::from(count) + 1)?;
     push_hex(&mut answer, &machine.memory()[start..end])?;
     answer.push(b'\n')?;
     Ok(answer)

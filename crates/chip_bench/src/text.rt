@@ -46,11 +46,12 @@ fn hex_digit(value: u8) -> u8
     value + b'0' + if value > 9 { 39 } else { 0 }
 }
 
-/// Adds a byte in two hexadecimal digits.
-fn push_hex_byte(out: &mut Vec<u8>, byte: u8) -> Result<(), AllocError>
-    ensures { OnOk result (out.new.items ≡ out.old.items ++ hex_byte byte) }
+/// A space, and a byte in two hexadecimal digits.
+#[inline(always)]
+fn spaced_byte(byte: u8) -> [u8; 3]
+    ensures { result ≡ 32 ∷ hex_byte byte }
 {
-    push_hex(out, &[byte])
+    [b' ', hex_digit(byte / 16), hex_digit(byte % 16)]
 }
 
 /// Adds a number of 16 bits in four hexadecimal digits.
@@ -83,8 +84,7 @@ pub(crate) fn push_spaced_bytes(out: &mut Vec<u8>, bytes: &[u8]) -> Result<(), A
     ensures { OnOk result (out.new.items ≡ out.old.items ++ spaced hex_byte bytes.now) }
 {
     for byte in bytes {
-        out.push(b' ')?;
-        push_hex_byte(out, *byte)?;
+        out.extend_from_slice(&spaced_byte(*byte))?;
     }
     Ok(())
 }

@@ -19,3 +19,4 @@ pub mod FormedLine
 pub mod Lookup
 pub mod Misfit
 pub mod FaultSpan
+pub mod LongWords

@@ -118,11 +118,17 @@ pub fn name_atom<'a>(
     Ok(Some((Expr::Name(Bytes::new(bytes)), tokens)))
 }
 
+// No reserved word has more bytes, so that most names need no search.
+const LONGEST_RESERVED: usize = 7;
+
 /// Whether a word in upper case is reserved.
-#[tactic(auto, unfolding(crate::specs::Reserved::is_reserved))]
+#[tactic(auto, unfolding(crate::specs::Reserved::is_reserved), using(crate::proofs::LongWords::no_long_word))]
 pub fn is_reserved(word: &[u8]) -> bool
     ensures { result ≡ is_reserved word.now }
 {
+    if word.len() > LONGEST_RESERVED {
+        return false;
+    }
     is_mnemonic(word)
         || directive_of(word).is_some()
         || special_of(word).is_some()

@@ -11,7 +11,7 @@ ghost use Rattle.chip_lang.specs.Token.{tokens_of};
 ghost use Rattle.chip_lang.specs.Scan.{AreTokens};
 ghost use Rattle.chip_lang.specs.Line.{Reading, reading_of, read, code};
 ghost use Rattle.chip_lang.specs.Examples.{Examples};
-ghost use Rattle.std.specs.Prelude.{true, ◌≢◌, ◌≤◌, ◌*◌, length, map, Option, Ok};
+ghost use Rattle.std.specs.Prelude.{true, ◌≢◌, ◌<◌, ◌≤◌, ◌*◌, length, map, All, Option, Ok};
 ghost use Rattle.std.specs.List.{list_all, filter};
 ghost use Rattle.chip_lang.specs.Operand.{Operand};
 ghost use Rattle.chip_lang.specs.Decoding.{decode_of};
@@ -40,6 +40,11 @@ pub fn worked_examples()
 pub fn one_token_list()
     ensures is { (line : List ℕ) → AreTokens line 0 (tokens_of line) }
     ensures only { (line : List ℕ) (ts : List Token) → AreTokens line 0 ts → ts ≡ tokens_of line }
+{}
+
+/// Each token has a byte at least, and lies in its line.
+pub fn tokens_lie_in_line()
+    ensures { (line : List ℕ) → All (λ token. (token.start < token.end) × (token.end ≤ length line)) (tokens_of line) }
 {}
 
 /// Where two tables agree on the names of an expression, it has one value under both; where they agree on the names that a line uses, it has

@@ -28,7 +28,7 @@ pub fn lexemes(alloc: Global, line: &[u8]) -> Result<Vec<Lexeme>, AllocError>
     ensures { IfOk result (λ lexemes. lexemes.items ≡ lexemes_of line.now) }
 {
     let tokens = tokens(alloc, line)?;
-    let mut lexemes = Vec::new(alloc);
+    let mut lexemes = Vec::with_capacity(alloc, tokens.len())?;
     for token in &tokens {
         let lexeme = lexeme_of(alloc, line, *token)?;
         lexemes.push(lexeme)?;

@@ -1,6 +1,6 @@
 //! Tokens of a line.
 
-ghost use Rattle.std.specs.Prelude.{◌≡◌, ◌<◌, ◌≤◌, ◌+◌, ◌↔◌, ◌^◌, IfOk, IsTrue, length, take_while, fold, not, List, ◌∷◌, [], ◌++◌, drop, slice_index, vec_len, ℕ, ◌==◌};
+ghost use Rattle.std.specs.Prelude.{◌≡◌, ◌<◌, ◌≤◌, ◌+◌, ◌↔◌, ◌^◌, IfOk, IsTrue, length, take_while, fold, not, List, ◌∷◌, [], ◌++◌, drop, slice_index, vec_len, ℕ, ◌==◌, OnOk};
 ghost use Rattle.std.specs.List.{list_all, prefix_len};
 ghost use Rattle.chip_lang.specs.Token.{is_blank, is_digit, is_octal, is_hexadecimal, is_binary, is_name_byte, is_run_byte, is_name_start, is_sign, is_digit_of, digit_value, with_digit, number_of, kind_of_number, kind_of_digits, text_at, token_at, tokens_of};
 ghost use Rattle.chip_lang.specs.Scan.{AreTokens};
@@ -263,6 +263,19 @@ fn token_at(first: u8, bytes: &[u8]) -> (Kind, usize)
     }
 }
 
+// Room for the tokens of most lines, taken with the first one.
+const USUAL_TOKENS: usize = 12;
+
+fn push_token(tokens: &mut Vec<Token>, token: Token) -> Result<(), AllocError>
+    ensures { OnOk result (tokens.new.items ≡ tokens.old.items ++ token ∷ []) }
+{
+    if tokens.is_empty() {
+        tokens.reserve(USUAL_TOKENS)?;
+    }
+    tokens.push(token)?;
+    Ok(())
+}
+
 /// The tokens of a line: one list, each token at its place, in rising order.
 pub fn tokens(alloc: Global, line: &[u8]) -> Result<Vec<Token>, AllocError>
     ensures list { IfOk result (λ tokens. tokens.items ≡ tokens_of line.now) }
@@ -279,11 +292,12 @@ pub fn tokens(alloc: Global, line: &[u8]) -> Result<Vec<Token>, AllocError>
             place += 1;
         } else {
             let (kind, length) = token_at(first, &line[place + 1..]);
-            tokens.push(Token {
+            let token = Token {
                 kind,
                 start: place,
                 end: place + length,
-            })?;
+            };
+            push_token(&mut tokens, token)?;
             place += length;
         }
     }

@@ -56,12 +56,14 @@ impl Toy {
 }
 
 impl Traced for Toy {
-    ghost use Rattle.std.specs.Prelude.{refl};
+    ghost use Rattle.std.specs.Prelude.{false, refl};
     ghost use Rattle.chip_layer_tests.specs.Toy.{IsToy, toy_memory, toy_with_memory, toy_touches, toy_after, toy_framed};
 
     ghost step_of = { toy_after };
 
     ghost touches = { toy_touches };
+
+    ghost reads_keys = { λ s. false };
 
     ghost memory = { toy_memory };
 
@@ -80,6 +82,8 @@ impl Traced for Toy {
     ghost proper_changed = { λ s m proper size. size };
 
     ghost step_keeps = { λ s keys tick proper. proper };
+
+    ghost keyless_step = { λ s keys tick keyless. refl };
 
     ghost frame_law = { toy_framed };
 
@@ -123,12 +127,14 @@ impl Model for Counting {
 }
 
 impl Traced for Counting {
-    ghost use Rattle.std.specs.Prelude.{refl};
+    ghost use Rattle.std.specs.Prelude.{false, refl};
     ghost use Rattle.chip_layer_tests.specs.Toy.{IsToy, toy_memory, toy_with_memory, toy_touches, toy_after, toy_framed};
 
     ghost step_of = { toy_after };
 
     ghost touches = { toy_touches };
+
+    ghost reads_keys = { λ s. false };
 
     ghost memory = { toy_memory };
 
@@ -147,6 +153,8 @@ impl Traced for Counting {
     ghost proper_changed = { λ s m proper size. size };
 
     ghost step_keeps = { λ s keys tick proper. proper };
+
+    ghost keyless_step = { λ s keys tick keyless. refl };
 
     ghost frame_law = { toy_framed };
 

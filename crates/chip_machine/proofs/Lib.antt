@@ -1,8 +1,11 @@
 pub mod BitLemmas
+pub mod Blocks
 pub mod Examples
+pub mod KeptParts
+pub mod KeyRows
+pub mod NextStep
 pub mod PointLemmas
 pub mod RowLemmas
-pub mod SameProfile
 pub mod ScreenExamples
 pub mod Spans
 pub mod SpriteLemmas

@@ -8,6 +8,8 @@
 --   State     the state of the machine
 --   Start     the state before the first step
 --   Step      the table of the instructions, one step, and the addresses that it touches
+--   Touched   whether a step touches an address
+--   Keyless   which steps depend on the keys, and the law of those that don't
 --   Block     some steps that don't read the keys
 --   Frame     the frame law
 --   ImageLaw  what the image is in the memory at the start
@@ -17,12 +19,15 @@
 -- The rest are proofs, which a reader may skip. They stand here for a crate above whose trait asks for them as its laws:
 --   Overwritten   memory after bytes were written, address by address
 --   FrameTheorem  the frame law holds, and a step keeps a state proper
+--   KeylessTheorem  a step that doesn't read the keys doesn't depend on them
 pub mod Block
 pub mod Codes
 pub mod Digits
 pub mod Frame
 pub mod FrameTheorem
 pub mod ImageLaw
+pub mod Keyless
+pub mod KeylessTheorem
 pub mod Limits
 pub mod Numbers
 pub mod Overwritten
@@ -34,3 +39,4 @@ pub mod Start
 pub mod State
 pub mod Step
 pub mod Stored
+pub mod Touched

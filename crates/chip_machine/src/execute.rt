@@ -1,13 +1,15 @@
 //! The effect of one instruction.
 
 ghost use Rattle.std.specs.Prelude.{◌≡◌, ◌+◌, ◌<◌, ◌≤◌, ◌++◌, length, OnOk, OnErr, IfErr, Ok, Err};
-ghost use Rattle.chip_machine.specs.Step.{effect, perform, accessed};
+ghost use Rattle.chip_lang.specs.Decoding.{decode_of};
+ghost use Rattle.chip_machine.specs.Step.{effect, effect_of_word, perform, accessed};
+ghost use Rattle.chip_machine.specs.Touched.{IsNoted, is_among};
 
 use crate::limits::{LAST_WORD, MEMORY_BYTES};
 use crate::processor::Processor;
 use crate::stop::Stop;
 use crate::touch::Touch;
-use chip_lang::instr::Instr;
+use chip_lang::instr::{Instr, decode};
 
 /// Carries out an instruction, or says why the machine stops.
 pub(crate) fn execute(
@@ -71,4 +73,33 @@ pub(crate) fn execute(
         Instr::LoadFlags(x) => processor.row_load_flags(x)?,
     }
     Ok(())
+}
+
+/// Carries out the instruction of a word with no key down, and notes the bytes that it accesses at I under a number. What `touch`
+/// holds is lost.
+#[inline(always)]
+pub(crate) fn execute_noted(
+    processor: &mut Processor,
+    memory: &mut [u8],
+    word: u16,
+    number: u32,
+    first_touch: &mut [u32],
+    touch: &mut Touch,
+) -> Result<(), Stop>
+    requires size { length memory.old ≡ MEMORY_BYTES }
+    requires pc { processor.old.pc ≤ LAST_WORD }
+    requires table { length first_touch.old ≡ MEMORY_BYTES }
+    ensures ok { OnOk result (perform 0 (record { core = processor.old; memory = memory.old }) (effect_of_word (decode_of word) processor.old)
+        ≡ Ok (record { core = processor.new; memory = memory.new })) }
+    ensures why { IfErr result (λ why. perform 0 (record { core = processor.old; memory = memory.old }) (effect_of_word (decode_of word) processor.old) ≡ Err why) }
+    ensures same { OnErr result ((processor.new ≡ processor.old) × (memory.new ≡ memory.old)) }
+    ensures noted { IsNoted (is_among (accessed processor.old.index (effect_of_word (decode_of word) processor.old))) number first_touch.old first_touch.new }
+{
+    touch.clear();
+    let done = match decode(word) {
+        Some(instr) => execute(processor, memory, instr, 0, touch),
+        None => Err(Stop::NoInstruction),
+    };
+    touch.note(first_touch, number);
+    done
 }

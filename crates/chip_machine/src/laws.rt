@@ -2,6 +2,7 @@
 
 ghost use Rattle.chip_machine.specs.Frame.{FrameLaw, StepKeepsProfile, StepKeepsProper};
 ghost use Rattle.chip_machine.specs.ImageLaw.{ImageAndZeros, SameBelowTheImage};
+ghost use Rattle.chip_machine.specs.Keyless.{KeylessStep};
 
 /// A step neither depends on the bytes that it doesn't touch nor changes them.
 pub fn frame_law()
@@ -16,6 +17,11 @@ pub fn step_keeps_proper()
 /// A step keeps the profile.
 pub fn step_keeps_profile()
     ensures { StepKeepsProfile }
+{}
+
+/// A step that doesn't read the keys is the same whatever keys are down.
+pub fn keyless_step()
+    ensures { KeylessStep }
 {}
 
 /// What the image is in the memory at the start: it stands from its place on, with zeros after it, and nothing below depends on it.

@@ -1,8 +1,9 @@
 //! What a step touched.
 
-ghost use Rattle.std.specs.Prelude.{◌≡◌, ◌+◌, ◌<◌, ◌≤◌, ◌↔◌, [], ◌∷◌, ◌++◌, length, IsTrue, IfSome, slice_get};
+ghost use Rattle.std.specs.Prelude.{◌≡◌, ◌+◌, ◌<◌, ◌≤◌, ◌↔◌, [], ◌∷◌, ◌++◌, length, min, IsTrue, IfSome, slice_get, slice_index, slice_set};
 ghost use Rattle.std.specs.Bool.{OnTrue, OnFalse};
 ghost use Rattle.std.specs.List.{range_with_len};
+ghost use Rattle.chip_machine.specs.Touched.{IsNoted, is_among};
 
 use crate::limits::{MEMORY_BYTES, TOUCHES};
 use std::marker::Model;
@@ -85,6 +86,17 @@ impl Touch {
         true
     }
 
+    /// Notes a step at the addresses: in the table each address keeps the least number of a step that was noted there.
+    #[inline(always)]
+    pub fn note(&self, first_touch: &mut [u32], number: u32)
+        requires { length first_touch.old ≡ MEMORY_BYTES }
+        ensures { IsNoted (is_among self.now) number first_touch.old first_touch.new }
+    {
+        for place in 0..self.count {
+            note_at(first_touch, self.addresses[place] as usize, number);
+        }
+    }
+
     /// Adds the addresses of so many bytes.
     pub(crate) fn add_span(&mut self, at: u16, bytes: usize)
         requires in_memory { at + bytes ≤ MEMORY_BYTES }
@@ -104,5 +116,16 @@ fn count_up(numbers: &mut [u16], start: u16)
 {
     for (place, number) in numbers.iter_mut().enumerate() {
         *number = start + place as u16;
+    }
+}
+
+/// Notes a step at an address.
+#[inline(always)]
+pub(crate) fn note_at(first_touch: &mut [u32], at: usize, number: u32)
+    requires { at < length first_touch.old }
+    ensures { first_touch.new ≡ slice_set first_touch.old at (min (slice_index first_touch.old at) number) }
+{
+    if number < first_touch[at] {
+        first_touch[at] = number;
     }
 }

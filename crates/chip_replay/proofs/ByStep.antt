@@ -6,12 +6,13 @@ use Rattle.std.specs.BTreeMap.{is_at}
 use Rattle.std.specs.Map.{lookup}
 use Rattle.std.specs.Prelude.{IsSome, IfSome, min}
 use Rattle.std.specs.Ordering.{nat_cmp, is_eq, is_gt}
-use Rattle.chip_replay.proofs.LastEvent.{not_after, is_not_after}
+use Rattle.chip_replay.proofs.LastEvent.{not_after, is_not_after, is_down-stays}
 use Rattle.std.specs.Cmp.{ranked}
 use Rattle.std.specs.declared.cmp.Ordering.TheVariants.{Less, Equal, Greater}
 use Rattle.chip_replay.specs.Changes.{change_at, was_down, KnowsKeys, HoldsKeys}
 use Rattle.chip_replay.specs.History.{IsHolding}
 use Rattle.chip_replay.specs.declared.keys.Holding.{Holding}
+use Rattle.chip_replay.specs.Mask.{mask}
 use Rattle.chip_replay.proofs.KeyFacts.{mask-same}
 use Rattle.chip_replay.specs.Keys.{Events, event_at, is_down, held}
 
@@ -89,19 +90,60 @@ pub is_down-was : (events : Events) (key step : ℕ) → is_down events key step
 is_down-was events key zero = refl
 is_down-was events key (suc step) = refl
 
+-- what is known when a step begins is known when a later one begins
+pub knows_later : (events : Events) (s t : ℕ) (h : Holding) → KnowsKeys events s h → s ≤ t → KnowsKeys events t h
+knows_later events s t h knows l =
+    record {
+      size = knows.size;
+      as_mask = knows.as_mask;
+      before = λ r k lr lu lk. knows.before r k (omega arith) lu lk;
+    }
+
 -- what holds in a step is known when the next one begins
 pub knows_next : (events : Events) (s : ℕ) (h : Holding) → HoldsKeys events s h → KnowsKeys events (s + 1) h
 knows_next events s h holds =
     record {
       size = holds.size;
       as_mask = holds.as_mask;
-      before = λ k l. sym (ap (was_down events k) (add-one s) ∙ holds.stays s k (omega arith) holds.within l);
-      stays = λ r k lr lu l. holds.stays r k (omega arith) lu l;
+      before = λ r k lr lu lk.
+          was_down-above events k r (λ e. omega (arith, e, holds.within)) ∙ holds.stays (r - 1) k (omega (arith, holds.within)) (omega (arith, holds.within)) lk;
+    }
+
+-- what is known when a step begins holds in it, where no event is passed
+pub knows_holds : (events : Events) (s : ℕ) (h : Holding) → KnowsKeys events s h → s < h.until → HoldsKeys events s h
+knows_holds events s h knows within =
+    record {
+      within = within;
+      size = knows.size;
+      as_mask = knows.as_mask;
+      stays = λ r k lr lu lk. ap (was_down events k) (sym (add-one r)) ∙ knows.before (r + 1) k (omega arith) (omega arith) lk;
+    }
+
+-- no key is down before the first events
+pub knows_none : (events : Events) (s : ℕ) (h : Holding) → h.until ≡ 0 → length h.down ≡ 16 → h.keys ≡ mask (λ k. slice_index_or h.down k false) 16 → ((k : ℕ) → k < 16 → slice_index_or h.down k false ≡ false) → KnowsKeys events s h
+knows_none events s h none size as_mask up =
+    record {
+      size = size;
+      as_mask = as_mask;
+      before = λ r k lr lu lk. (let first : r ≡ 0 = omega arith in ap (was_down events k) first ∙ sym (up k lk));
     }
 
 pub holds_held : (events : Events) (s : ℕ) (h : Holding) → HoldsKeys events s h → h.keys ≡ held events s
 unfolding held
 holds_held events s h holds = holds.as_mask ∙ mask-same _ _ 16 (λ k l. sym (holds.stays s k (omega arith) holds.within l))
+
+-- from the events of a step to those of the next one that has some
+module _ (events : Events) (at next : ℕ) (ahead : at < next) (says : ℕ → ℕ → Option Bool) (same : (s k : ℕ) → k < 16 → says s k ≡ event_at events s k) (none : (s k : ℕ) → at < s → s < next → says s k ≡ None) (down down' : List Bool) (before : (k : ℕ) → k < 16 → was_down events k at ≡ slice_index_or down k false) (changed : (k : ℕ) → k < 16 → slice_index_or down' k false ≡ unwrap_or (says at k) (slice_index_or down k false)) where
+  pub changed_stays : (s k : ℕ) → at ≤ s → s < next → k < 16 → is_down events k s ≡ slice_index_or down' k false
+  changed_stays s k ls lu lk =
+      is_down-stays events k at s ls (λ r lf lr. sym (same r k lk) ∙ none r k lf (omega arith))
+      ∙ is_down-was events k at
+      ∙ ap (λ o. unwrap_or o (was_down events k at)) (sym (same at k lk))
+      ∙ ap (unwrap_or (says at k)) (before k lk)
+      ∙ sym (changed k lk)
+
+  pub changed_before : (k : ℕ) → k < 16 → was_down events k next ≡ slice_index_or down' k false
+  changed_before k lk = was_down-above events k next (λ e. omega (arith, e)) ∙ changed_stays (next - 1) k (omega arith) (omega arith) lk
 
 was_down-same : (events later : Events) (from t k : ℕ) → t ≤ from → ((s : ℕ) → s < from → (k : ℕ) → is_down later k s ≡ is_down events k s) → was_down later k t ≡ was_down events k t
 was_down-same events later from zero k l same = refl
@@ -115,6 +157,5 @@ holding_cut events later m from h step (Some t) within known same kept =
     record {
       size = before.size;
       as_mask = before.as_mask;
-      before = λ k l. before.before k l ∙ sym (was_down-same events later from t k (omega (arith, kept.0)) same);
-      stays = λ s k ls lu l. same s (omega arith) k ∙ before.stays s k ls (omega arith) l;
+      before = λ s k ls lu l. was_down-same events later from s k (omega arith) same ∙ before.before s k (omega (arith, kept.0)) (omega arith) l;
     }

@@ -7,7 +7,7 @@ use Rattle.std.specs.Prelude.{IfSome}
 use Rattle.std.specs.List.{range_with_len}
 use Rattle.std.proofs.lemmas.List.FromFn.{get_or-range_with_len, length-range_with_len}
 use Rattle.std.proofs.lemmas.List.Folds.{list_any_at}
-use Rattle.chip_replay.specs.Machine.{touched}
+use Rattle.chip_machine.specs.Touched.{touched}
 use Rattle.chip_replay.proofs.OneByte.{ByteLaw, KeepsProper, IsTraced, byte_law, keeps_proper}
 use Rattle.chip_replay.proofs.Spaced.{multiple_within, div_mono}
 use Rattle.chip_replay.specs.Run.{run, ticks, first_below}

@@ -1,9 +1,8 @@
 pub mod Spaced
 pub mod OneByte
 pub mod Patched
-pub mod Noted
+pub mod Blocks
 pub mod Sound
-pub mod Steps
 pub mod Changed
 pub mod Bytes
 pub mod KeyFacts

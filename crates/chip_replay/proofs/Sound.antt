@@ -1,92 +1,95 @@
--- The kept run, one step longer.
-use Rattle.std.proofs.Common.{◌≡◌, ◌≢◌, ℕ, zero, suc, ◌+◌, ◌*◌, ◌/◌, ◌%◌, ◌<◌, ◌≤◌, min, Bool, true, false, cond, eqb, List, [], ◌∷◌, ◌++◌, length, slice_index, slice_index_or, refl, sym, ap, ◌∙◌, subst, arith, add-one, inl, inr}
-use Rattle.std.proofs.lemmas.List.{length_push, get_or_append_left, get_or_push}
-use Rattle.std.proofs.lemmas.Bool.{cases_lt, false≢true}
+-- The kept run, some steps longer.
+use Rattle.std.proofs.Common.{◌≡◌, ◌≢◌, ℕ, zero, suc, ◌+◌, ◌-◌, ◌*◌, ◌/◌, ◌%◌, ◌<◌, ◌≤◌, max, Bool, true, false, cond, eqb, ltb, List, [], ◌∷◌, ◌++◌, length, map, slice_index, slice_index_or, refl, sym, ap, ◌∙◌, subst, arith, add-one, inl, inr}
+use Rattle.std.proofs.lemmas.List.{length_push, get_or_append_left, get_or_push, length-map, get_or-map}
+use Rattle.std.proofs.lemmas.Bool.{cases_lt}
 use Rattle.std.proofs.lemmas.Bool.Decides.{nat_tests}
-use Rattle.chip_replay.specs.Machine.{is_among}
 use Rattle.std.proofs.Math.Nat.{div-eq_of_lt}
-use Rattle.chip_replay.proofs.Spaced.{div_due, due_at, div_between}
+use Rattle.chip_replay.proofs.Spaced.{div_after, div_left, multiple_left}
+use Rattle.chip_replay.proofs.Changed.{first_cut}
 use Rattle.chip_replay.specs.Limits.{last_step, memory_size, never}
-use Rattle.chip_replay.specs.History.{IsFirst, IsSound}
-
-touched_now : (p : ℕ → Bool) (n v w : ℕ) → IsFirst p n v → w ≡ min v n → p n ≡ true → n < never → IsFirst p (n + 1) w
-touched_now p n v w f e t small =
-    record {
-      none_before = λ s l h. elim (cases_lt s n) [ inl a ↦ omega (arith, f.none_before s a h) | inr a ↦ omega arith ];
-      passes = λ l. elim (cases_lt v n) [
-        | inl a ↦ (let same : w ≡ v = omega arith in (omega arith, subst (λ x. p x ≡ true) (sym same) (f.passes (omega arith)).1))
-        | inr a ↦ (let same : w ≡ n = omega arith in (omega arith, subst (λ x. p x ≡ true) (sym same) t))
-      ];
-    }
-
-missed_now : (p : ℕ → Bool) (n v w : ℕ) → IsFirst p n v → w ≡ v → p n ≡ false → IsFirst p (n + 1) w
-missed_now p n v w f e t =
-    record {
-      none_before = λ s l h. elim (cases_lt s n) [
-        | inl a ↦ omega (arith, f.none_before s a h)
-        | inr a ↦ (let same : s ≡ n = omega arith in absurd (false≢true (sym t ∙ ap p (sym same) ∙ h)))
-      ];
-      passes = λ l. let before = f.passes (omega arith) in (omega (arith, before.0), subst (λ x. p x ≡ true) (sym e) before.1);
-    }
-
-first_more : (p : ℕ → Bool) (b : Bool) (n v w : ℕ) → IsFirst p n v → p n ≡ b → w ≡ cond b (min v n) v → n < never → IsFirst p (n + 1) w
-first_more p true n v w f t e small = touched_now p n v w f e t small
-first_more p false n v w f t e small = missed_now p n v w f e t
+use Rattle.chip_replay.specs.History.{IsFirst, AreFirst, IsSound}
 
 pub IsFirst-none : (p : ℕ → Bool) → IsFirst p 0 never
 IsFirst-none p = record { none_before = λ s l h. absurd (omega arith); passes = λ l. absurd (omega arith) }
 
 module _ {M : Type 0} (p : ℕ) (above : 0 < p) (proper : M → Type 0) (touches : M → ℕ → Bool) (state : ℕ → M) (cs : List M) (first : List ℕ) (reach : ℕ) (sound : IsSound p proper touches state cs first reach) where
-  -- the table after the step was noted
-  abbrev pub Noted : List ℕ → Type 0
-  Noted later = (at : ℕ) → at < memory_size → slice_index later at ≡ cond (touches (state reach) at) (min (slice_index first at) reach) (slice_index first at)
-
-  firsts_more : (later : List ℕ) → Noted later → reach < never → (at : ℕ) → at < memory_size → IsFirst (λ s. touches (state s) at) (reach + 1) (slice_index later at)
-  firsts_more later noted small at l = first_more _ (touches (state reach) at) reach (slice_index first at) (slice_index later at) (sound.first at l) refl (noted at l) small
-
-  -- no checkpoint is due
-  pub sound_between : (later : List ℕ) → length later ≡ memory_size → Noted later → reach < last_step → ((reach + 1) % p ≢ 0) → IsSound p proper touches state cs later (reach + 1)
-  sound_between later table noted small off =
+  -- the table is that of some steps more
+  pub sound_noted : (later : List ℕ) (s : ℕ) → s ≤ reach → length later ≡ memory_size → AreFirst touches state (max reach s) later → IsSound p proper touches state cs later reach
+  sound_noted later s l table firsts =
+      let same : max reach s ≡ reach = omega arith in
       record {
         proper_start = sound.proper_start;
-        in_range = omega arith;
-        each_spacing = sound.each_spacing ∙ sym (div_between reach p above off);
+        in_range = sound.in_range;
+        each_spacing = sound.each_spacing;
         checkpoint = sound.checkpoint;
         each_address = table;
-        first = firsts_more later noted (omega arith);
+        first = subst (λ n. AreFirst touches state n later) same firsts;
       }
 
-  -- a checkpoint is due, and kept
-  pub sound_kept : (later : List ℕ) (c : M) → c ≡ state (reach + 1) → length later ≡ memory_size → Noted later → reach < last_step → (reach + 1) % p ≡ 0 → IsSound p proper touches state (cs ++ c ∷ []) later (reach + 1)
-  sound_kept later c is table noted small due =
+  -- and is cut off again
+  pub sound_cut_back : (later back : List ℕ) (s : ℕ) → length later ≡ memory_size → AreFirst touches state (max reach s) later → back ≡ map (λ v. cond (ltb v reach) v never) later → IsSound p proper touches state cs back reach
+  sound_cut_back later back s table firsts cut =
       record {
         proper_start = sound.proper_start;
-        in_range = omega arith;
-        each_spacing = length_push cs c ∙ ap (λ n. n + 1) sound.each_spacing ∙ sym (div_due reach p above due);
-        checkpoint = λ i d l. elim (cases_lt i (length cs)) [
-          | inl a ↦ get_or_append_left cs (c ∷ []) d i a ∙ sound.checkpoint i d a
-          | inr a ↦ (
-              let last : length cs ≡ i = omega (arith, length_push cs c) in
-              let place : (reach + 1) / p ≡ i + 1 = div_due reach p above due ∙ ap (λ n. n + 1) (sym sound.each_spacing ∙ last) in
-              let multiple : reach + 1 ≡ (i + 1) * p = due_at reach p due ∙ ap (λ n. n * p) place in
-              get_or_push cs c d i last ∙ is ∙ ap state multiple)
-        ];
-        each_address = table;
-        first = firsts_more later noted (omega arith);
+        in_range = sound.in_range;
+        each_spacing = sound.each_spacing;
+        checkpoint = sound.checkpoint;
+        each_address = ap length cut ∙ length-map _ _ ∙ table;
+        first = λ at la.
+            subst (λ v. IsFirst (λ r. touches (state r) at) reach v) (sym (ap (λ xs. slice_index xs at) cut ∙ get_or-map _ later at 0 0 (omega (arith, table))))
+            (first_cut _ _ (max reach s) reach _ (firsts at la) (omega arith) (λ r lr. refl));
       }
 
-  -- one step more is known: a checkpoint is kept if one is due
-  due_or_not : (b : Bool) (cs' : List M) (c : M) (later : List ℕ) → eqb ((reach + 1) % p) 0 ≡ b → c ≡ state (reach + 1) → cs' ≡ cond b (cs ++ c ∷ []) cs → length later ≡ memory_size → Noted later → reach < last_step → IsSound p proper touches state cs' later (reach + 1)
-  due_or_not true cs' c later test is kept table noted small =
-      subst (λ xs. IsSound p proper touches state xs later (reach + 1)) (sym kept) (sound_kept later c is table noted small (grind (arith, nat_tests)))
-  due_or_not false cs' c later test is kept table noted small =
-      subst (λ xs. IsSound p proper touches state xs later (reach + 1)) (sym kept) (sound_between later table noted small (grind (arith, nat_tests)))
+  -- the steps from at on, n of them, with which no checkpoint is due or one is kept
+  module _ (at n left : ℕ) (is : left ≡ p - at % p) (within : n ≤ left) (low : at ≤ reach) (high : reach < at + n) (small : at + n ≤ last_step) (later : List ℕ) (table : length later ≡ memory_size) (firsts : AreFirst touches state (max reach (at + n)) later) where
+    known : AreFirst touches state (at + n) later
+    known = let same : max reach (at + n) ≡ at + n = omega arith in subst (λ m. AreFirst touches state m later) same firsts
 
-  pub sound_more : (s : ℕ) → reach ≡ s → (cs' : List M) (c : M) (later touch : List ℕ) → c ≡ state (s + 1) → cs' ≡ cond (eqb ((s + 1) % p) 0) (cs ++ c ∷ []) cs → length later ≡ memory_size → ((at : ℕ) → is_among touch at ≡ touches (state s) at) → ((at : ℕ) → at < memory_size → slice_index later at ≡ cond (is_among touch at) (min (slice_index first at) s) (slice_index first at)) → s < last_step → IsSound p proper touches state cs' later (s + 1)
-  sound_more s e cs' c later touch is kept table touched noted small =
-      let R : ℕ → Type 0 = λ s. c ≡ state (s + 1) → cs' ≡ cond (eqb ((s + 1) % p) 0) (cs ++ c ∷ []) cs → ((at : ℕ) → is_among touch at ≡ touches (state s) at) → ((at : ℕ) → at < memory_size → slice_index later at ≡ cond (is_among touch at) (min (slice_index first at) s) (slice_index first at)) → s < last_step → IsSound p proper touches state cs' later (s + 1) in
-      let here : R reach = λ is kept touched noted small. due_or_not _ cs' c later refl is kept table (λ at l. noted at l ∙ ap (λ b. cond b (min (slice_index first at) reach) (slice_index first at)) (touched at)) small in
-      subst R e here is kept touched noted small
+    place : reach / p ≡ at / p
+    place =
+        let below : reach - at < left = omega arith in
+        let there : at + (reach - at) ≡ reach = omega arith in
+        sym (ap (λ m. m / p) there) ∙ div_after at p left above is (reach - at) below
+
+    sound_between : n < left → IsSound p proper touches state cs later (at + n)
+    sound_between off =
+        record {
+          proper_start = sound.proper_start;
+          in_range = small;
+          each_spacing = sound.each_spacing ∙ place ∙ sym (div_after at p left above is n off);
+          checkpoint = sound.checkpoint;
+          each_address = table;
+          first = known;
+        }
+
+    sound_kept : (c : M) → c ≡ state (at + n) → n ≡ left → IsSound p proper touches state (cs ++ c ∷ []) later (at + n)
+    sound_kept c here due =
+        let quotient : (at + n) / p ≡ reach / p + 1 = ap (λ m. (at + m) / p) due ∙ div_left at p left above is ∙ ap (λ q. q + 1) (sym place) in
+        record {
+          proper_start = sound.proper_start;
+          in_range = small;
+          each_spacing = length_push cs c ∙ ap (λ q. q + 1) sound.each_spacing ∙ sym quotient;
+          checkpoint = λ i d l. elim (cases_lt i (length cs)) [
+            | inl a ↦ get_or_append_left cs (c ∷ []) d i a ∙ sound.checkpoint i d a
+            | inr a ↦ (
+                let last : length cs ≡ i = omega (arith, length_push cs c) in
+                let multiple : at + n ≡ (i + 1) * p = ap (λ m. at + m) due ∙ multiple_left at p left above is ∙ ap (λ q. (q + 1) * p) (sym place ∙ sym sound.each_spacing ∙ last) in
+                get_or_push cs c d i last ∙ here ∙ ap state multiple)
+          ];
+          each_address = table;
+          first = known;
+        }
+
+    due_or_not : (b : Bool) (cs' : List M) (c : M) → eqb n left ≡ b → c ≡ state (at + n) → cs' ≡ cond b (cs ++ c ∷ []) cs → IsSound p proper touches state cs' later (at + n)
+    due_or_not true cs' c test here kept =
+        let due : n ≡ left = grind (arith, nat_tests) in
+        subst (λ xs. IsSound p proper touches state xs later (at + n)) (sym kept) (sound_kept c here due)
+    due_or_not false cs' c test here kept =
+        let off : n ≢ left = grind (arith, nat_tests) in
+        subst (λ xs. IsSound p proper touches state xs later (at + n)) (sym kept) (sound_between (omega arith))
+
+    pub sound_more : (cs' : List M) (c : M) → c ≡ state (at + n) → cs' ≡ cond (eqb n left) (cs ++ c ∷ []) cs → IsSound p proper touches state cs' later (at + n)
+    sound_more cs' c here kept = due_or_not (eqb n left) cs' c refl here kept
 
   -- the start state, or the checkpoint at a place that is counted from 1
   pub nearest_is : (place : ℕ) (r : M) → place ≤ length cs → (place ≡ 0 → r ≡ state 0) → ((i : ℕ) → place ≡ i + 1 → r ≡ slice_index_or cs i r) → r ≡ state (place * p)

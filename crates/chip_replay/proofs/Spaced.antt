@@ -1,67 +1,73 @@
 -- Numbers by their quotient and rest at a divisor p.
-use Rattle.std.proofs.Common.{◌≡◌, ◌≢◌, ℕ, zero, suc, ◌+◌, ◌-◌, ◌*◌, ◌/◌, ◌%◌, ◌<◌, ◌≤◌, Bool, true, false, cond, eqb, refl, sym, ap, ◌∙◌, add-one, arith}
+use Rattle.std.proofs.Common.{◌≡◌, ◌≢◌, ℕ, ◌+◌, ◌-◌, ◌*◌, ◌/◌, ◌%◌, ◌<◌, ◌≤◌, Bool, true, false, cond, eqb, refl, sym, ap, ◌∙◌, inl, inr, arith}
 use Rattle.std.proofs.lemmas.Bool.Decides.{nat_tests}
-use Rattle.std.proofs.Math.Nat.{suc-mul, mod-lt, mul-le-mul_right, div-mul-le_self}
-use Rattle.std.proofs.lemmas.Nat.{div-add-mod', div-mul-add, le-div}
+use Rattle.std.proofs.lemmas.Bool.{cases_eq}
+use Rattle.std.proofs.Math.Nat.{suc-mul, mod-lt, mul-mod_left, mul-le-mul_right, div-mul-le_self}
+use Rattle.std.proofs.lemmas.Nat.{div-add-mod', div-mul-add, mod-mul-add, le-div}
 
-div_by : (n p q : ℕ) → 0 < p → q * p ≡ n + 1 → q ≡ n / p + 1
-div_by n p zero above e = absurd (omega (arith, e))
-div_by n p (suc q) above e =
-    let whole : n ≡ q * p + (p - 1) = omega (arith, suc-mul q p) in
-    let quotient : n / p ≡ q = ap (λ x. x / p) whole ∙ div-mul-add q p (p - 1) (omega arith) in
-    omega (arith, quotient)
+-- a count of the steps that are left from s to the next multiple of p
+module _ (s p left : ℕ) (above : 0 < p) (is : left ≡ p - s % p) where
+  pub left_above : 0 < left
+  left_above = omega (arith, mod-lt s above)
 
--- the number after n is a multiple of p
-pub div_due : (n p : ℕ) → 0 < p → (n + 1) % p ≡ 0 → (n + 1) / p ≡ n / p + 1
-div_due n p above due = div_by n p ((n + 1) / p) above (omega (arith, div-add-mod' (n + 1) p))
+  rest_after : (n : ℕ) → n < left → (s + n) % p ≡ s % p + n
+  rest_after n l =
+      let whole : s + n ≡ s / p * p + (s % p + n) = omega (arith, div-add-mod' s p) in
+      ap (λ x. x % p) whole ∙ mod-mul-add (s / p) p (s % p + n) (omega arith)
 
-pub due_at : (n p : ℕ) → (n + 1) % p ≡ 0 → n + 1 ≡ (n + 1) / p * p
-due_at n p due = omega (arith, div-add-mod' (n + 1) p)
+  pub div_after : (n : ℕ) → n < left → (s + n) / p ≡ s / p
+  div_after n l =
+      let whole : s + n ≡ s / p * p + (s % p + n) = omega (arith, div-add-mod' s p) in
+      ap (λ x. x / p) whole ∙ div-mul-add (s / p) p (s % p + n) (omega arith)
 
--- the number after n is none
-pub div_between : (n p : ℕ) → 0 < p → (n + 1) % p ≢ 0 → (n + 1) / p ≡ n / p
-div_between n p above off =
-    let q = (n + 1) / p in
-    let r = (n + 1) % p in
-    let below : r < p = mod-lt (n + 1) above in
-    let rest : 0 < r = omega arith in
-    let whole : n ≡ q * p + (r - 1) = omega (arith, div-add-mod' (n + 1) p) in
-    sym (ap (λ x. x / p) whole ∙ div-mul-add q p (r - 1) (omega arith))
+  pub multiple_left : s + left ≡ (s / p + 1) * p
+  multiple_left =
+      let below : s % p < p = mod-lt s above in
+      omega (arith, div-add-mod' s p, suc-mul (s / p) p, below)
 
--- the rests of a number and of the next
-rest_next : (n p : ℕ) → 0 < p → ((n + 1) % p ≡ 0 → n % p + 1 ≡ p) × ((n + 1) % p ≢ 0 → (n + 1) % p ≡ n % p + 1)
-rest_next n p above =
-    let here = div-add-mod' n p in
-    let there = div-add-mod' (n + 1) p in (
-      (λ due.
-          let more : (n + 1) / p * p ≡ n / p * p + p = ap (λ q. q * p) (div_due n p above due ∙ add-one (n / p)) ∙ suc-mul (n / p) p in
-          omega (arith, here, there, more)),
-      (λ off.
-          let same : (n + 1) / p * p ≡ n / p * p = ap (λ q. q * p) (div_between n p above off) in
-          omega (arith, here, there, same)),
-    )
+  rest_left : (s + left) % p ≡ 0
+  rest_left = ap (λ x. x % p) multiple_left ∙ mul-mod_left (s / p + 1) p
 
-left_when : (b : Bool) (n p left : ℕ) → 0 < p → left ≡ p - n % p → eqb ((n + 1) % p) 0 ≡ b → (eqb left 1 ≡ b) × (cond b p (left - 1) ≡ p - (n + 1) % p)
-left_when true n p left above e test =
-    let due : (n + 1) % p ≡ 0 = grind (arith, nat_tests) in
-    let last : left ≡ 1 = omega (arith, (rest_next n p above).0 due, e) in
-    (grind (arith, nat_tests), omega (arith, due))
-left_when false n p left above e test =
-    let off : (n + 1) % p ≢ 0 = grind (arith, nat_tests) in
-    let next : (n + 1) % p ≡ n % p + 1 = (rest_next n p above).1 off in
-    let below : (n + 1) % p < p = mod-lt (n + 1) above in
-    let more : left ≢ 1 = λ one. omega (arith, next, below, e, one) in
-    (grind (arith, nat_tests), omega (arith, next, below, e))
+  pub div_left : (s + left) / p ≡ s / p + 1
+  div_left =
+      let whole : s + left ≡ (s / p + 1) * p + 0 = omega (arith, multiple_left) in
+      ap (λ x. x / p) whole ∙ div-mul-add (s / p + 1) p 0 above
 
--- a count of the steps that are left to the next multiple of p: whether it ends with this step, and the count after it
-pub left_ends : (n p left : ℕ) → 0 < p → left ≡ p - n % p → eqb left 1 ≡ eqb ((n + 1) % p) 0
-left_ends n p left above e = (left_when _ n p left above e refl).0
+  left_by : (b : Bool) (n : ℕ) → n ≤ left → eqb n left ≡ b → cond b p (left - n) ≡ p - (s + n) % p
+  left_by true n l e =
+      let same : n ≡ left = grind (arith, nat_tests) in
+      let rest : (s + n) % p ≡ 0 = ap (λ m. (s + m) % p) same ∙ rest_left in
+      omega (arith, rest)
+  left_by false n l e =
+      let apart : n ≢ left = grind (arith, nat_tests) in
+      omega (arith, rest_after n (omega arith))
 
-pub left_next : (n p left : ℕ) → 0 < p → left ≡ p - n % p → cond (eqb left 1) p (left - 1) ≡ p - (n + 1) % p
-left_next n p left above e = ap (λ b. cond b p (left - 1)) (left_ends n p left above e) ∙ (left_when _ n p left above e refl).1
+  -- the count after n steps, with which the next one begins where this one ends
+  pub left_next : (n : ℕ) → n ≤ left → cond (eqb n left) p (left - n) ≡ p - (s + n) % p
+  left_next n l = left_by (eqb n left) n l refl
 
-pub left_above : (n p left : ℕ) → 0 < p → left ≡ p - n % p → 0 < left
-left_above n p left above e = omega (arith, mod-lt n above)
+  ends_by : (b : Bool) (n : ℕ) → n ≤ left → 0 < n → eqb n left ≡ b → eqb ((s + n) % p) 0 ≡ b
+  ends_by true n l some e =
+      let same : n ≡ left = grind (arith, nat_tests) in
+      ap (λ m. eqb ((s + m) % p) 0) same ∙ ap (λ r. eqb r 0) rest_left
+  ends_by false n l some e =
+      let apart : n ≢ left = grind (arith, nat_tests) in
+      let rest : (s + n) % p ≡ s % p + n = rest_after n (omega arith) in
+      let more : (s + n) % p ≢ 0 = λ z. omega (arith, rest, z) in
+      grind (arith, nat_tests)
+
+  same_ends : (t n : ℕ) → t + 1 ≡ s + n → eqb (t + 1) (s + left) ≡ eqb n left
+  same_ends t n e = elim (cases_eq n left) [
+    | inl same ↦ (let there : t + 1 ≡ s + left = omega arith in grind (arith, nat_tests))
+    | inr apart ↦ (let other : t + 1 ≢ s + left = λ h. apart (omega (arith, h)) in grind (arith, nat_tests))
+  ]
+
+  -- the multiples of p among the next numbers
+  pub ends_left : (t : ℕ) → s ≤ t → t < s + left → eqb ((t + 1) % p) 0 ≡ eqb (t + 1) (s + left)
+  ends_left t low high =
+      let n = t + 1 - s in
+      let place : t + 1 ≡ s + n = omega arith in
+      ap (λ x. eqb (x % p) 0) place ∙ ends_by (eqb n left) n (omega arith) (omega arith) refl ∙ sym (same_ends t n place)
 
 -- the multiples up to m
 pub multiple_within : (i m p : ℕ) → i < m / p → (i + 1) * p ≤ m

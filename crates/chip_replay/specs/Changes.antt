@@ -5,7 +5,7 @@
 --     KnowsKeys      what is known of the keys when a step begins
 --     SaysTheSame    events and entries say the same
 --     HoldsKeys      what is known of the keys in a step, and in the steps up to the next event
-use Rattle.std.specs.Prelude.{◌≡◌, ℕ, ◌<◌, ◌≤◌, zero, suc, Bool, false, List, [], length, Option, None, unwrap_or, slice_index_or}
+use Rattle.std.specs.Prelude.{◌≡◌, ℕ, ◌<◌, ◌≤◌, zero, suc, Bool, false, List, [], length, Option, None, unwrap_or, slice_index_or, min}
 use Rattle.std.specs.BTreeMap.{is_at}
 use Rattle.std.specs.Map.{lookup}
 use Rattle.std.specs.Ordering.{nat_cmp}
@@ -21,12 +21,12 @@ abbrev pub was_down : Events → ℕ → ℕ → Bool
 was_down events key zero = false
 was_down events key (suc step) = is_down events key step
 
--- which keys were down before the step's events, their mask, and that no event comes before another step
+-- which keys were down before the events of the steps from this one up to another, or of the other alone where it is
+-- no later, and their mask
 pub record KnowsKeys (events : Events) (step : ℕ) (h : Holding) : Type 0 where
   pub size : length h.down ≡ 16
   pub as_mask : h.keys ≡ mask (λ k. slice_index_or h.down k false) 16
-  pub before : (k : ℕ) → k < 16 → slice_index_or h.down k false ≡ was_down events k step
-  pub stays : (s k : ℕ) → step ≤ s → s < h.until → k < 16 → is_down events k s ≡ slice_index_or h.down k false
+  pub before : (s k : ℕ) → min step h.until ≤ s → s ≤ h.until → k < 16 → was_down events k s ≡ slice_index_or h.down k false
 
 pub record HoldsKeys (events : Events) (step : ℕ) (h : Holding) : Type 0 where
   pub within : step < h.until

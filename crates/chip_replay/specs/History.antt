@@ -3,6 +3,7 @@
 --     History          the start state, the rate, the spacing, the events, how many checkpoints are kept, up to which step the kept run is sound, and how many steps were made
 --     state_at         the state at a step, by the start state and the events
 --     IsFirst          the first step below n that passes a test, or a number that is no step
+--     AreFirst         for each address the first step below n that touches it, or no step
 --     IsSound          the checkpoints and the first touches are those of a run
 --     IsLent           the state that was lent is that of its step
 --     IsCutBack        a step stays if it is no later than the steps that are still known
@@ -45,6 +46,10 @@ pub record IsFirst (p : ℕ → Bool) (n v : ℕ) : Type 0 where
   pub none_before : (s : ℕ) → s < n → p s ≡ true → v ≤ s
   pub passes : v < never → (v < n) × (p v ≡ true)
 
+-- a table has for each address the least step below n that touches it, or no step if none does
+abbrev pub AreFirst : {M : Type 0} → (M → ℕ → Bool) → (ℕ → M) → ℕ → List ℕ → Type 0
+AreFirst touched state n first_touch = (at : ℕ) → at < memory_size → IsFirst (λ s. touched (state s) at) n (slice_index first_touch at)
+
 -- the checkpoints, one each p steps, and the step that first touched each address, of the steps of a run below reach
 pub record IsSound {M : Type 0} (p : ℕ) (proper : M → Type 0) (touched : M → ℕ → Bool) (state : ℕ → M) (checkpoints : List M) (first_touch : List ℕ) (reach : ℕ) : Type 0 where
   pub proper_start : proper (state 0)
@@ -52,7 +57,7 @@ pub record IsSound {M : Type 0} (p : ℕ) (proper : M → Type 0) (touched : M �
   pub each_spacing : length checkpoints ≡ reach / p
   pub checkpoint : (i : ℕ) (d : M) → i < length checkpoints → slice_index_or checkpoints i d ≡ state ((i + 1) * p)
   pub each_address : length first_touch ≡ memory_size
-  pub first : (at : ℕ) → at < memory_size → IsFirst (λ s. touched (state s) at) reach (slice_index first_touch at)
+  pub first : AreFirst touched state reach first_touch
 
 -- the lent state is that of its step, if it has one
 abbrev pub IsLent : {M : Type 0} → (ℕ → M) → ℕ → M → Option ℕ → Type 0

@@ -9,7 +9,7 @@ use Rattle.std.specs.Prelude.{◌≡◌, ℕ, ◌<◌, ◌≤◌, ◌+◌, ◌-�
 use Rattle.std.specs.List.{list_any, range_with_len}
 use Rattle.chip_replay.specs.Limits.{image_start, image_room}
 use Rattle.chip_replay.specs.Run.{run, first_below}
-use Rattle.chip_replay.specs.Machine.{touched}
+use Rattle.chip_machine.specs.Touched.{touched}
 
 -- an image, and zeros up to the end of the memory
 abbrev pub padded : List ℕ → List ℕ

@@ -2,7 +2,7 @@
 -- Source: own, but for the key events and the run, which follow the COSMAC VIP manual's keys and timers.
 --     Limits       the last step, the spacing of the checkpoints, the most events
 --     Frame        two states that agree but for some bytes, and what the same step makes of them
---     Machine      which bytes a step touches, and a state with one byte changed
+--     Machine      a state with one byte changed
 --     Run          the state after some steps
 --     Image        an image in the memory, and the first step that a change of it affects
 --     Patch        the exchange of one image for another, byte by byte

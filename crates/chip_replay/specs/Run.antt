@@ -2,8 +2,9 @@
 -- Source: COSMAC VIP manual for timers that count down in step with the display; own for the rate in steps.
 --     ticks          whether the timers tick in a step
 --     run            the state after t steps
+--     GoesOn         some states follow one another, up to the next tick
 --     first_below    the least step below f that passes a test, or f
-use Rattle.std.specs.Prelude.{ℕ, zero, suc, ◌+◌, ◌%◌, Bool, ◌==◌, nat_lt, if◌then◌else◌}
+use Rattle.std.specs.Prelude.{◌≡◌, ℕ, zero, suc, ◌+◌, ◌%◌, ◌<◌, ◌≤◌, Bool, ◌==◌, nat_lt, if◌then◌else◌}
 
 -- where s + 1 is a multiple of the rate
 abbrev pub ticks : ℕ → ℕ → Bool
@@ -14,6 +15,11 @@ module _ {S : Type 0} (after : S → ℕ → Bool → S) (rate : ℕ) (held : �
   abbrev pub run : S → ℕ → S
   run start zero = start
   run start (suc t) = after (run start t) (held t) (ticks rate t)
+
+-- each of `most` states from step `at` on is followed by the one after its step; the last of `to_tick` steps ticks
+abbrev pub GoesOn : {S : Type 0} → (S → ℕ → Bool → S) → (ℕ → ℕ) → ℕ → ℕ → ℕ → (ℕ → S) → Type 0
+GoesOn after held at most to_tick state =
+    (t : ℕ) → at ≤ t → t < at + most → state (t + 1) ≡ after (state t) (held t) (t + 1 == at + to_tick)
 
 -- the least s below f with p s, or f
 abbrev pub first_below : (ℕ → Bool) → ℕ → ℕ

@@ -1,14 +1,14 @@
 //! What is kept of a machine's run.
 
-ghost use Rattle.std.specs.Prelude.{◌≡◌, ℕ, ◌+◌, ◌-◌, ◌*◌, ◌/◌, ◌%◌, ◌<◌, ◌≤◌, ◌==◌, List, [], ◌∷◌, ◌++◌, length, min, None, IfOk, IfSome, OnOk, OnErr, if◌then◌else◌, slice_index, slice_index_or, slice_set, take, map, nat_lt, true, ◌⊎◌};
+ghost use Rattle.std.specs.Prelude.{◌≡◌, ℕ, ◌+◌, ◌-◌, ◌*◌, ◌/◌, ◌<◌, ◌≤◌, ◌==◌, List, [], ◌∷◌, ◌++◌, length, min, max, IfOk, IfSome, OnOk, OnErr, if◌then◌else◌, slice_index, slice_index_or, slice_set, take, map, nat_lt, true, ◌⊎◌};
 ghost use Rattle.chip_replay.specs.Limits.{image_start, image_room};
-ghost use Rattle.chip_replay.specs.Machine.{is_among, touched};
-ghost use Rattle.chip_replay.specs.Run.{run};
+ghost use Rattle.chip_machine.specs.Touched.{touched, IsNoted};
+ghost use Rattle.chip_replay.specs.Run.{run, GoesOn};
 ghost use Rattle.chip_replay.specs.Keys.{Events, held};
 ghost use Rattle.chip_replay.specs.Changes.{KnowsKeys};
 ghost use Rattle.chip_replay.specs.Image.{differs, AgreeOutside};
 ghost use Rattle.chip_replay.specs.Patch.{patched};
-ghost use Rattle.chip_replay.specs.History.{IsSound, IsLent, IsCutBack, IsHolding};
+ghost use Rattle.chip_replay.specs.History.{AreFirst, IsSound, IsLent, IsCutBack, IsHolding};
 
 use crate::keys::{Holding, Keys};
 use crate::limits::{IMAGE_BYTES, IMAGE_START, LAST_STEP, MEMORY_BYTES, NEVER};
@@ -86,30 +86,88 @@ impl<M: Traced> Kept<M> {
         ensures steps { OnOk result (self.new.ran
             ≤ self.old.ran + (step - self.old.spacing * (min self.old.reach step / self.old.spacing))) }
     {
-        let from = self.set_out(start, keys, step)?;
+        let mut at = self.set_out(start, keys, step)?;
         self.lent_step = None;
-        let mut touch = Touch::new();
-        let mut to_tick = rate - from % rate;
-        let mut to_checkpoint = self.spacing - self.reach % self.spacing;
-        for s in from..step {
-            keys.hold(&mut self.holding, s);
-            let tick = count_down(&mut to_tick, rate);
-            self.lent.step(self.holding.keys, tick, &mut touch);
-            self.ran = self.ran.saturating_add(1);
-            if s >= self.reach {
-                let due = count_down(&mut to_checkpoint, self.spacing);
-                extend(
-                    &mut self.checkpoints,
-                    &mut self.first_touch,
-                    &self.lent,
-                    &touch,
-                    due,
-                    s,
-                )?;
-                self.reach = s + 1;
+        let mut to_tick = rate - at % rate;
+        let mut to_checkpoint = self.spacing - at % self.spacing;
+        while at < step {
+            let most = (step - at).min(to_tick).min(to_checkpoint);
+            let made = self.go_on(keys, at, most, to_tick);
+            self.ran = self.ran.saturating_add(u64::from(made));
+            let next = at + made;
+            let due = made == to_checkpoint;
+            to_tick = left_after(to_tick, made, rate);
+            to_checkpoint = left_after(to_checkpoint, made, self.spacing);
+            if next > self.reach {
+                self.extend(next, due)?;
             }
+            at = next;
         }
         self.lent_step = Some(step);
+        Ok(())
+    }
+
+    /// Makes some of the steps from one on, at least one and at most `most`, and answers how many. The
+    /// next tick comes with the last of `to_tick` steps.
+    #[inline(always)]
+    fn go_on(&mut self, keys: &Keys, at: u32, most: u32, to_tick: u32) -> u32
+        requires some { 0 < most }
+        requires up_to_tick { most ≤ to_tick }
+        requires in_range { at + most ≤ LAST_STEP }
+        requires table { length self.old.first_touch.items ≡ MEMORY_BYTES }
+        requires holding { KnowsKeys keys.now at self.old.holding }
+        ensures some { 0 < result }
+        ensures at_most { result ≤ most }
+        ensures state { (state : ℕ → M)
+            → GoesOn M.step_of (held keys.now) at most to_tick state
+            → self.old.lent ≡ state at
+            → self.new.lent ≡ state (at + result) }
+        ensures first { (state : ℕ → M) (reach : ℕ)
+            → GoesOn M.step_of (held keys.now) at most to_tick state
+            → self.old.lent ≡ state at
+            → at ≤ reach
+            → AreFirst (touched M.touches) state reach self.old.first_touch.items
+            → AreFirst (touched M.touches) state (max reach (at + result)) self.new.first_touch.items }
+        ensures table { length self.new.first_touch.items ≡ MEMORY_BYTES }
+        ensures holding { KnowsKeys keys.now (at + result) self.new.holding }
+        ensures others { self.new ≡ record self.old { lent = self.new.lent; holding = self.new.holding; first_touch = self.new.first_touch } }
+    {
+        let made = self
+            .lent
+            .steps(most == to_tick, at, most, &mut self.first_touch);
+        if made == most {
+            return made;
+        }
+        let now = at + made;
+        keys.hold(&mut self.holding, now);
+        let tick = made + 1 == to_tick;
+        make_step(
+            &mut self.lent,
+            self.holding.keys,
+            tick,
+            &mut self.first_touch,
+            now,
+        );
+        made + 1
+    }
+
+    /// The run is known up to a later step, that of the lent state, whose first touches are noted: a
+    /// checkpoint is kept if one is due. After an error it is known as far as before.
+    #[inline(always)]
+    fn extend(&mut self, reach: u32, due: bool) -> Result<(), AllocError>
+        ensures kept { OnOk result (self.new.checkpoints.items
+            ≡ (if due then self.old.checkpoints.items ++ self.old.lent ∷ [] else self.old.checkpoints.items)) }
+        ensures others { OnOk result (self.new ≡ record self.old { checkpoints = self.new.checkpoints; reach = reach }) }
+        ensures checkpoints_stay { OnErr result (self.new.checkpoints.items ≡ self.old.checkpoints.items) }
+        ensures table_cut { OnErr result (self.new.first_touch.items
+            ≡ map (λ first. if nat_lt first self.old.reach then first else NEVER) self.old.first_touch.items) }
+        ensures others_stay { OnErr result (self.new ≡ record self.old { checkpoints = self.new.checkpoints; first_touch = self.new.first_touch }) }
+    {
+        if due && let Err(error) = keep(&mut self.checkpoints, &self.lent) {
+            cut(&mut self.first_touch, self.reach);
+            return Err(error);
+        }
+        self.reach = reach;
         Ok(())
     }
 
@@ -296,16 +354,13 @@ fn nearest<'a, M: Traced>(start: &'a M, checkpoints: &'a [M], place: usize) -> &
     }
 }
 
-/// One step less to the end of a period; whether it is reached, and the next one begins.
+/// How many steps are left to the end of a period, or of the next one, after some of those that were.
 #[inline(always)]
-fn count_down(left: &mut u32, period: u32) -> bool
-    requires { 0 < left.old }
-    ensures ends { result ≡ (left.old == 1) }
-    ensures left { left.new ≡ (if left.old == 1 then period else left.old - 1) }
+fn left_after(left: u32, made: u32, period: u32) -> u32
+    requires { made ≤ left }
+    ensures { result ≡ (if made == left then period else left - made) }
 {
-    let ends = *left == 1;
-    *left = if ends { period } else { *left - 1 };
-    ends
+    if made == left { period } else { left - made }
 }
 
 /// Keeps a checkpoint.
@@ -320,56 +375,14 @@ fn keep<M: Traced>(checkpoints: &mut Vec<M>, state: &M) -> Result<(), AllocError
     Ok(())
 }
 
-/// Keeps what a new step left: its checkpoint, if one is due after it, and the addresses that it
-/// is the first to touch.
-#[inline(always)]
-fn extend<M: Traced>(
-    checkpoints: &mut Vec<M>,
-    first_touch: &mut Vec<u32>,
-    state: &M,
-    touch: &Touch,
-    due: bool,
-    step: u32,
-) -> Result<(), AllocError>
-    requires table { length first_touch.old.items ≡ MEMORY_BYTES }
-    requires in_range { step < LAST_STEP }
-    ensures length { length first_touch.new.items ≡ MEMORY_BYTES }
-    ensures kept { OnOk result (checkpoints.new.items
-        ≡ (if due then checkpoints.old.items ++ state.now ∷ [] else checkpoints.old.items)) }
-    ensures noted { OnOk result ((at : ℕ) → at < MEMORY_BYTES → slice_index first_touch.new.items at
-        ≡ (if is_among touch.now at then min (slice_index first_touch.old.items at) step else slice_index first_touch.old.items at)) }
-    ensures checkpoints_stay { OnErr result (checkpoints.new.items ≡ checkpoints.old.items) }
-    ensures table_stays { OnErr result (first_touch.new.items ≡ first_touch.old.items) }
-{
-    if due {
-        keep(checkpoints, state)?;
-    }
-    note(first_touch, touch, step);
-    Ok(())
-}
-
-/// Notes a step at the addresses that it is the first to touch.
-#[inline(always)]
-fn note(first_touch: &mut [u32], touch: &Touch, step: u32)
+/// Makes one step with these keys down, and notes it.
+fn make_step<M: Traced>(state: &mut M, keys: u16, tick: bool, first_touch: &mut [u32], number: u32)
     requires table { length first_touch.old ≡ MEMORY_BYTES }
+    ensures state { state.new ≡ M.step_of state.old keys tick }
     ensures length { length first_touch.new ≡ MEMORY_BYTES }
-    ensures noted { (at : ℕ) → at < MEMORY_BYTES → slice_index first_touch.new at
-        ≡ (if is_among touch.now at then min (slice_index first_touch.old at) step else slice_index first_touch.old at) }
+    ensures noted { IsNoted (touched M.touches state.old) number first_touch.old first_touch.new }
 {
-    for i in 0..touch.len() {
-        if let Some(at) = touch.get(i) {
-            note_at(first_touch, at as usize, step);
-        }
-    }
-}
-
-/// Notes a step at an address, where it is the first to touch it.
-#[inline(always)]
-fn note_at(first_touch: &mut [u32], at: usize, step: u32)
-    requires { at < length first_touch.old }
-    ensures { first_touch.new ≡ slice_set first_touch.old at (min (slice_index first_touch.old at) step) }
-{
-    if step < first_touch[at] {
-        first_touch[at] = step;
-    }
+    let mut touch = Touch::new();
+    state.step(keys, tick, &mut touch);
+    touch.note(first_touch, number);
 }

@@ -1,6 +1,6 @@
 //! The events of the keys.
 
-ghost use Rattle.std.specs.Prelude.{◌≡◌, ℕ, ◌<◌, ◌≤◌, false, MatchOption, IsOkUnless, OnOk, OnErr, slice_index_or};
+ghost use Rattle.std.specs.Prelude.{◌≡◌, ℕ, ◌<◌, ◌≤◌, false, None, unwrap_or, length, MatchOption, IsOkUnless, OnOk, OnErr, slice_index_or};
 ghost use Rattle.chip_replay.specs.Mask.{mask};
 
 use crate::by_step::Steps;
@@ -49,7 +49,7 @@ pub(crate) struct Holding {
     pub(crate) keys: u16,
     /// The same, a key at a place.
     pub(crate) down: [bool; KEY_COUNT],
-    /// The first step for which this says nothing.
+    /// The first step whose events this says nothing of.
     pub(crate) until: u32,
 }
 
@@ -90,7 +90,7 @@ impl Model for Keys {
 impl Keys {
     ghost use Rattle.std.specs.FinMap as map;
     ghost use Rattle.chip_replay.specs.Keys.{event_at, is_down, held, insert_fault, edit_fault};
-    ghost use Rattle.chip_replay.specs.Changes.{was_down, KnowsKeys, HoldsKeys};
+    ghost use Rattle.chip_replay.specs.Changes.{KnowsKeys, HoldsKeys};
 
     /// No events: every key is up.
     pub fn new(alloc: Global) -> Self
@@ -144,7 +144,7 @@ impl Keys {
         Holding {
             keys: mask_of(&down),
             down,
-            until: 0,
+            until: step,
         }
     }
 
@@ -156,27 +156,29 @@ impl Keys {
         ensures { HoldsKeys self.now step known.new }
     {
         if step >= known.until {
-            *known = self.after(known.down, step);
+            *known = self.after(*known, step);
         }
     }
 
-    /// The keys that are down in a step and from there on, by those that were down before its events.
-    #[cold]
+    /// The keys that are down in a step and from there on, by those that were down before the events of an
+    /// earlier one, or of this one.
     #[inline(never)]
-    fn after(&self, before: [bool; KEY_COUNT], step: u32) -> Holding
+    fn after(&self, known: Holding, step: u32) -> Holding
         requires in_range { step < LAST_STEP }
-        requires before { (k : ℕ) → k < 16 → slice_index_or before k false ≡ was_down self.now k step }
+        requires passed { known.until ≤ step }
+        requires known { KnowsKeys self.now step known }
         ensures { HoldsKeys self.now step result }
     {
-        let change = self.steps.at(step);
-        let mut down = before;
-        for key in 0..KEY_COUNT {
-            down[key] = change[key].unwrap_or(before[key]);
+        let mut down = known.down;
+        let mut until = known.until;
+        while until <= step {
+            change(&mut down, &self.steps.at(until));
+            until = self.steps.next(until);
         }
         Holding {
             keys: mask_of(&down),
             down,
-            until: self.steps.next(step),
+            until,
         }
     }
 
@@ -277,6 +279,17 @@ impl Keys {
         } else {
             Some(KeyFault::NoEvent)
         }
+    }
+}
+
+/// Changes the keys that have an event.
+fn change(down: &mut [bool; KEY_COUNT], events: &[Option<bool>; KEY_COUNT])
+    ensures set { (k : ℕ) → k < KEY_COUNT → slice_index_or down.new k false
+        ≡ unwrap_or (slice_index_or events.now k None) (slice_index_or down.old k false) }
+    ensures size { length down.new ≡ KEY_COUNT }
+{
+    for key in 0..KEY_COUNT {
+        down[key] = events[key].unwrap_or(down[key]);
     }
 }
 

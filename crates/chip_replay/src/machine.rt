@@ -9,11 +9,15 @@ impl Traced for Machine {
     ghost use Rattle.std.specs.Prelude.{refl};
     ghost use Rattle.chip_machine.specs.State.{IsProper, with_memory as machine_with_memory};
     ghost use Rattle.chip_machine.specs.Step.{step_of as machine_step, touches as machine_touches};
+    ghost use Rattle.chip_machine.specs.Keyless.{reads_keys as machine_reads_keys};
+    ghost use Rattle.chip_machine.specs.KeylessTheorem.{keyless_step as machine_keyless_step};
     ghost use Rattle.chip_replay.specs.MachineFrame.{memory_of, machine_framed, machine_step_keeps};
 
     ghost step_of = { machine_step };
 
     ghost touches = { machine_touches };
+
+    ghost reads_keys = { machine_reads_keys };
 
     ghost memory = { memory_of };
 
@@ -23,6 +27,10 @@ impl Traced for Machine {
 
     fn step(&mut self, keys: u16, tick: bool, touch: &mut Touch) {
         self.step(keys, tick, touch);
+    }
+
+    fn steps(&mut self, tick: bool, from: u32, count: u32, first_touch: &mut [u32]) -> u32 {
+        self.steps(tick, from, count, first_touch)
     }
 
     fn poke(&mut self, at: u16, byte: u8) {
@@ -44,6 +52,8 @@ impl Traced for Machine {
     ghost proper_changed = { λ s m proper size. record { memory_size = size } };
 
     ghost step_keeps = { machine_step_keeps };
+
+    ghost keyless_step = { machine_keyless_step };
 
     ghost frame_law = { machine_framed };
 }

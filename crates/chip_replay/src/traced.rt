@@ -1,8 +1,10 @@
 //! What a replay asks of a machine.
 
-ghost use Rattle.std.specs.Prelude.{◌≡◌, ℕ, ◌<◌, ◌↔◌, Bool, List, All, Contains, IfOk, IsFalse, length, slice_set};
+ghost use Rattle.std.specs.Prelude.{◌≡◌, ◌==◌, ℕ, ◌+◌, ◌^◌, ◌<◌, ◌≤◌, ◌↔◌, Bool, false, ◌&&◌, List, All, Contains, IfOk, IsFalse, length, slice_index, slice_set};
+ghost use Rattle.chip_machine.specs.Block.{quiet, block, first_noted};
 ghost use Rattle.chip_replay.specs.Frame.{AgreeOff, IsFramed};
 ghost use Rattle.chip_replay.specs.Limits.{memory_size};
+ghost use Rattle.chip_machine.specs.Touched.{touched};
 
 use chip_machine::touch::Touch;
 use std::alloc::AllocError;
@@ -14,6 +16,9 @@ pub trait Traced: Drop + Sized {
 
     /// The addresses that the next step reads or writes.
     ghost touches: { Self → List ℕ };
+
+    /// Whether the next step depends on the keys.
+    ghost reads_keys: { Self → Bool };
 
     /// The bytes of the memory.
     ghost memory: { Self → List ℕ };
@@ -30,6 +35,22 @@ pub trait Traced: Drop + Sized {
         ensures state { self.new ≡ step_of self.old keys tick }
         ensures touched { (at : ℕ) → Contains touch.new at ↔ Contains (touches self.old) at }
         ensures proper { is_proper self.new };
+
+    /// Makes some of the next `count` steps, or none, and answers how many: none that reads the keys.
+    /// The first has the number `from`, and the last of all `count` ticks if `tick` says so. Each
+    /// address keeps in `first_touch` the least number of a step that touched it.
+    fn steps(&mut self, tick: bool, from: u32, count: u32, first_touch: &mut [u32]) -> u32
+        requires table { length first_touch.old ≡ memory_size }
+        requires in_range { from + count < 2 ^ 32 }
+        ensures at_most { result ≤ count }
+        ensures state { self.new ≡ block step_of self.old (tick && result == count) result }
+        ensures keyless { (n : ℕ) → n < result → reads_keys (quiet step_of self.old n) ≡ false }
+        ensures size { length first_touch.new ≡ memory_size }
+        ensures noted { (at : ℕ) → at < memory_size → slice_index first_touch.new at
+            ≡ first_noted step_of self.old (touched touches) from at (slice_index first_touch.old at) result }
+    {
+        0
+    }
 
     /// Changes the byte at an address.
     fn poke(&mut self, at: u16, byte: u8)
@@ -56,6 +77,9 @@ pub trait Traced: Drop + Sized {
 
     /// A step keeps a state proper.
     ghost step_keeps: { (s : Self) (keys : ℕ) (tick : Bool) → is_proper s → is_proper (step_of s keys tick) };
+
+    /// A step that doesn't read the keys is the same whichever are down.
+    ghost keyless_step: { (s : Self) (keys : ℕ) (tick : Bool) → reads_keys s ≡ false → step_of s keys tick ≡ step_of s 0 tick };
 
     /// A step neither depends on the bytes that it doesn't touch nor changes them.
     ghost frame_law: { (set : ℕ → Bool) (keys : ℕ) (tick : Bool) (a b : Self) → is_proper a → is_proper b → AgreeOff memory with_memory set a b → All (λ at. IsFalse (set at)) (touches a) → IsFramed memory with_memory (λ s. step_of s keys tick) touches set a b };

@@ -1,10 +1,10 @@
-use Rattle.std.proofs.Common.{◌≡◌, vec_len, take}
-use Rattle.chip_asm.proofs.KeptWrites.{Written}
+use Rattle.std.proofs.Common.{◌≡◌, vec_len, take, drop}
+use Rattle.chip_asm.specs.Kept.{IsMerged}
 use Rattle.chip_asm.proofs.recode.write_codes.Given as goal
 
-abbrev pub invariant-loop-code : goal.invariant-loop-code
-invariant-loop-code l =
-    (l.place ≡ vec_len l.fresh) × (l.fresh.items ≡ take l.place l.initial.fresh.items) × Written l.initial.lines l.lines l.initial.fresh.items l.place
+abbrev pub invariant-loop-place : goal.invariant-loop-place
+invariant-loop-place l =
+    (l.fresh.items ≡ take (vec_len l.fresh) l.initial.fresh.items) × IsMerged l.initial.lines (drop (vec_len l.fresh) l.initial.fresh.items) l.lines
 
-abbrev pub decreases-loop-code : goal.decreases-loop-code
-decreases-loop-code l = vec_len l.fresh
+abbrev pub decreases-loop-place : goal.decreases-loop-place
+decreases-loop-place l = vec_len l.fresh

@@ -10,7 +10,7 @@ loop-place-preserved c =
     token_step c.args.line.now c.loop-place.place c.token_at-kind.result c.loop-place-test.true
     (c.token_at-kind.ensures.value ∙ ap (token_at (get_or c.args.line.now c.loop-place.place 0)) (to_end c.args.line.now (c.loop-place.place + 1)))
     (search rules) (search rules) c.token_at-kind.ensures.low in
-    (omega arith, rw (c.in_ok-push.ensures.items, append_assoc) (ap (λ ts. c.loop-place.tokens.items ++ ts) (sym step) ∙ c.loop-place.invariant.1))
+    (omega arith, rw (c.in_ok-push_token.ensures, append_assoc) (ap (λ ts. c.loop-place.tokens.items ++ ts) (sym step) ∙ c.loop-place.invariant.1))
 
 pub returns-then-first-eq59-clause-placed : goal.returns-then-first-eq59-clause-placed
 returns-then-first-eq59-clause-placed c =

@@ -1,4 +1,4 @@
-use Rattle.chip_machine.proofs.SameProfile.{step_keeps_profile}
+use Rattle.chip_machine.proofs.KeptParts.{step_keeps_profile}
 use Rattle.chip_machine.proofs.laws.step_keeps_profile.Goals as goal
 
 pub returns : goal.returns

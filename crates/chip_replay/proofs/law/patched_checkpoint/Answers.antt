@@ -1,7 +1,7 @@
 use Rattle.chip_replay.proofs.OneByte.{IsTraced, byte_law, keeps_proper}
 use Rattle.chip_replay.proofs.Bytes.{patched-with_image}
 use Rattle.chip_replay.proofs.Patched.{run-patched}
-use Rattle.chip_replay.specs.Machine.{touched}
+use Rattle.chip_machine.specs.Touched.{touched}
 use Rattle.chip_replay.proofs.law.patched_checkpoint.Goals as goal
 
 pub returns-clause-start : goal.returns-clause-start

@@ -1,16 +1,16 @@
 use Rattle.std.proofs.Common.{◌≡◌, ◌∙◌, length, ap, sym, subst}
 use Rattle.chip_asm.specs.Records.{readings_in, lines_after, place_before, IsPlaceWithin}
-use Rattle.chip_asm.proofs.KeptAfter.{currents, length-codes, had-codes}
+use Rattle.chip_asm.proofs.KeptAfter.{currents, within-codes, had-codes}
 use Rattle.chip_asm.proofs.KeptSteps.{kept-same}
 use Rattle.chip_asm.proofs.ChangedBytes.{all-places}
 use Rattle.chip_asm.proofs.kept.Kept.remake.Goals as goal
 
-pub settle-requires-clause-count : goal.settle-requires-clause-count
-settle-requires-clause-count c =
+pub settle-requires-clause-within : goal.settle-requires-clause-within
+settle-requires-clause-within c =
     let made : c.make_edit.new.lines.items ≡ lines_after c.args.self.now.lines.items c.args.edit = c.make_edit.ensures ∙ ap (λ lines. lines_after lines c.args.edit) c.in_ok-prepared.ensures.lines in
-    length-codes (readings_in c.args.self.now.lines.items) (lines_after c.args.self.now.lines.items c.args.edit) c.in_ok-prepared.prepared.codes.items (place_before c.args.edit)
-    (c.in_ok-prepared.ensures.codes (readings_in c.args.self.now.lines.items) c.requires.kept.laid_out)
-    ∙ sym (ap length made)
+    rw made
+    (within-codes (readings_in c.args.self.now.lines.items) (lines_after c.args.self.now.lines.items c.args.edit) c.in_ok-prepared.prepared.codes.items (place_before c.args.edit)
+    (c.in_ok-prepared.ensures.codes (readings_in c.args.self.now.lines.items) c.requires.kept.laid_out))
 
 pub settle-requires-clause-current : goal.settle-requires-clause-current
 settle-requires-clause-current c =

@@ -16,8 +16,16 @@ returns-clause-kept c =
     let rest = refilled c.args.self.now.lines.len c.write_codes.new.lines c.args.self.now.lines.items (merged.long ∙ sym c.args.self.now.lines.ok.0) in
     let full : c.deref.result.now ≡ c.write_codes.new.lines = c.deref.ensures.value ∙ rest in
     let written = refilled c.args.self.now.image.len c.write_lines-self.new.image _ (omega (arith, c.write_lines-self.auto.image, c.deref_mut-3.ensures.len, c.args.self.now.image.ok.0)) in
-    kept-by _ c.write_codes.new.lines rest (omega (arith, merged.long, c.requires.few)) (merged.readings ∙ c.requires.are_read ∙ ap (map reading_of) (sym merged.texts)) (rw merged.readings c.requires.laid_out)
+    kept-by _ c.write_codes.new.lines rest (omega (arith, merged.long, c.requires.few)) (merged.readings ∙ c.requires.are_read ∙ ap (map reading_of) (sym merged.texts)) (rw (merged.readings, c.replace.ensures.after) c.requires.laid_out)
     (c.requires.current c.write_codes.new.lines merged)
     (λ k h.
     ap (λ xs. get_or xs k 0) written ∙ c.write_lines-self.ensures.bytes k h ∙ ap (λ lines. byte_at (placed (readings_in lines)) (IMAGE_START + k)) full)
     c.requires.image (c.write_lines-self.ensures.counted ∙ ap (λ lines. length (faults_of_lines (readings_in lines))) full)
+
+pub write_lines-self-requires-clause-current : goal.write_lines-self-requires-clause-current
+write_lines-self-requires-clause-current c =
+    let seen : c.deref_mut.result.now ≡ c.args.self.now.lines.items = c.deref_mut.ensures.value in
+    let merged : IsMerged c.args.self.now.lines.items c.args.prepared.codes.items c.write_codes.new.lines = rw (← seen) c.write_codes.ensures in
+    let rest = refilled c.args.self.now.lines.len c.write_codes.new.lines c.args.self.now.lines.items (merged.long ∙ sym c.args.self.now.lines.ok.0) in
+    let full : c.deref.result.now ≡ c.write_codes.new.lines = c.deref.ensures.value ∙ rest in
+    rw full (c.requires.current c.write_codes.new.lines merged)

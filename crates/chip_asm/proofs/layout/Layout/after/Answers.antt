@@ -11,7 +11,7 @@ use Rattle.chip_asm.proofs.MarkSteps.{marked-placements}
 use Rattle.chip_asm.proofs.layout.Layout.after.Goals as goal
 
 pub loop-place-init : goal.loop-place-init
-loop-place-init c = (rw placed-empty c.new-pass.ensures, c.in_ok-placements.ensures.items ∙ sym placements-empty)
+loop-place-init c = (rw placed-empty c.new-pass.ensures, c.in_ok-reserve.ensures.items ∙ c.clear.ensures.items ∙ sym placements-empty)
 
 pub loop-place-preserved : goal.loop-place-preserved
 loop-place-preserved c =
@@ -30,7 +30,7 @@ returns c =
     let whole : take c.loop-place.place all ≡ all = take_all c.loop-place.place all (omega (arith, length-readings_after c.args.lines.now c.args.edit.now c.requires.within, c.count_after-count.ensures)) in
     let follows : Follows c.loop-place.pass (placed all) = subst (λ (xs : List Reading). Follows c.loop-place.pass (placed xs)) whole c.loop-place.invariant.0 in
     record {
-      placements = c.in_ok-placements-2.ensures ∙ (rw (c.deref.ensures.value, c.loop-place.invariant.1, whole) (marked-placements all c.loop-place.pass.ended c.loop-place.pass.blocks.items follows.ended follows.open_blocks));
+      placements = c.in_ok-placements.ensures ∙ (rw (c.deref.ensures.value, c.loop-place.invariant.1, whole) (marked-placements all c.loop-place.pass.ended c.loop-place.pass.blocks.items follows.ended follows.open_blocks));
       names = c.into_names.ensures ∙ follows.names;
       end_address = follows.at_address;
     }

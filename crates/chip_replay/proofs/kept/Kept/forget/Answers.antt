@@ -1,5 +1,5 @@
 use Rattle.std.proofs.Common.{arith}
-use Rattle.chip_replay.specs.Machine.{touched}
+use Rattle.chip_machine.specs.Touched.{touched}
 use Rattle.chip_replay.proofs.Changed.{sound_cut_to}
 use Rattle.chip_replay.proofs.kept.Kept.forget.Goals as goal
 use Rattle.chip_replay.proofs.kept.Kept.forget.Goals.{then-from-self, else-from-self}

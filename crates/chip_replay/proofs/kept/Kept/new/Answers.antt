@@ -1,6 +1,7 @@
-use Rattle.std.proofs.Common.{◌≡◌, ◌∙◌, ap, replicate, slice_index, refl, false, arith, rules}
+use Rattle.std.proofs.Common.{◌≡◌, ◌∙◌, ap, replicate, slice_index, refl, false, rules}
 use Rattle.std.proofs.lemmas.List.{get_or-replicate}
 use Rattle.chip_replay.specs.Limits.{memory_size, never}
+use Rattle.chip_replay.proofs.ByStep.{knows_none}
 use Rattle.chip_replay.proofs.kept.Kept.new.Goals as goal
 
 pub returns-clause-never : goal.returns-clause-never
@@ -10,9 +11,4 @@ returns-clause-never g c = λ at l.
 
 pub returns-clause-holding : goal.returns-clause-holding
 returns-clause-holding g c = λ events.
-    record {
-      size = refl;
-      as_mask = refl;
-      before = λ k l. get_or-replicate 16 k false false l;
-      stays = λ s k ls lu l. absurd (omega arith);
-    }
+    knows_none events 0 _ refl refl refl (λ k l. get_or-replicate 16 k false false l)

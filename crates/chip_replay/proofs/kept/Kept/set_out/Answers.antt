@@ -1,6 +1,6 @@
 use Rattle.std.proofs.Common.{◌*◌, ◌/◌, ◌≤◌, length, slice_index_or, arith, ap, ◌∙◌}
 use Rattle.std.proofs.Math.Nat.{div-mul-le_self}
-use Rattle.chip_replay.specs.Machine.{touched}
+use Rattle.chip_machine.specs.Touched.{touched}
 use Rattle.chip_replay.proofs.Spaced.{div_mono}
 use Rattle.chip_replay.proofs.Sound.{nearest_is}
 use Rattle.chip_replay.proofs.kept.Kept.set_out.Goals as goal

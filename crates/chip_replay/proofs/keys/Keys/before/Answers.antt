@@ -1,4 +1,5 @@
-use Rattle.std.proofs.Common.{◌-◌, ◌∙◌, length-set, sym, arith}
+use Rattle.std.proofs.Common.{◌≡◌, ◌-◌, ◌∙◌, length-set, sym, ap, arith}
+use Rattle.chip_replay.specs.Changes.{was_down}
 use Rattle.chip_replay.specs.Keys.{is_down}
 use Rattle.chip_replay.proofs.ByStep.{set_more, was_down-above}
 use Rattle.chip_replay.proofs.keys.Keys.before.Goals as goal
@@ -15,6 +16,8 @@ returns c =
     record {
       size = c.loop-key.invariant.size;
       as_mask = c.mask_of.ensures;
-      before = λ k l. c.loop-key.invariant.set k (omega arith) ∙ sym (was_down-above c.args.self.now k c.args.step (λ e. omega (arith, e)));
-      stays = λ s k ls lu lk. absurd (omega arith);
+      before = λ s k ls lu l. (
+          let here : s ≡ c.args.step = omega arith in
+          ap (was_down c.args.self.now k) here
+          ∙ was_down-above c.args.self.now k c.args.step (λ e. omega (arith, e)) ∙ sym (c.loop-key.invariant.set k (omega arith)));
     }

@@ -1,6 +1,6 @@
 use Rattle.std.proofs.Common.{ℕ, ◌<◌, min, ap, ◌∙◌, subst, arith}
 use Rattle.chip_replay.specs.Keys.{held, is_down, Events}
-use Rattle.chip_replay.specs.Machine.{touched}
+use Rattle.chip_machine.specs.Touched.{touched}
 use Rattle.chip_replay.specs.Run.{run}
 use Rattle.chip_replay.specs.History.{IsSound, IsCutBack}
 use Rattle.chip_replay.proofs.KeyFacts.{held-remove, is_down-remove}

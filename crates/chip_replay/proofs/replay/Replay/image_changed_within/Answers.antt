@@ -2,7 +2,7 @@ use Rattle.std.proofs.Common.{◌≡◌, ℕ, ◌+◌, ◌<◌, ◌≤◌, min, 
 use Rattle.chip_replay.specs.Keys.{held}
 use Rattle.chip_replay.specs.Image.{differs, with_image, affected}
 use Rattle.chip_replay.specs.History.{History, IsSound, IsCutBack}
-use Rattle.chip_replay.specs.Machine.{touched}
+use Rattle.chip_machine.specs.Touched.{touched}
 use Rattle.chip_replay.specs.Run.{run}
 use Rattle.chip_replay.proofs.OneByte.{IsTraced}
 use Rattle.chip_replay.proofs.ByStep.{holding_cut}

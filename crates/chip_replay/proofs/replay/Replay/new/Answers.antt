@@ -1,5 +1,5 @@
 use Rattle.std.proofs.Common.{◌∙◌, arith}
-use Rattle.chip_replay.specs.Machine.{touched}
+use Rattle.chip_machine.specs.Touched.{touched}
 use Rattle.chip_replay.proofs.Sound.{sound_start}
 use Rattle.chip_replay.proofs.replay.Replay.new.Goals as goal
 

@@ -1,0 +1,125 @@
+-- What the first pass finds of a line of which it asks only the size.
+use Rattle.std.proofs.Common.{◌≡◌, ℕ, ◌+◌, ◌≤◌, ◌<◌, ℤ, pos, Bool, true, false, cond, ◌&&◌, ◌||◌, is_none, if◌then◌else◌, List, [], ◌∷◌, ◌++◌, reverse, refl, ap, sym, ◌∙◌, arith, Option, None, Some, Ok, nat_lt, nat_eq, ◌%◌, option_to_list, length, unsigned_abs}
+use Rattle.chip_lang.specs.declared.fault.Fault.{Fault}
+use Rattle.chip_lang.specs.declared.fault.Fault.TheVariants.{PastMemory}
+use Rattle.chip_lang.specs.declared.limits.TheConstants.{MEMORY_BYTES}
+use Rattle.chip_lang.specs.Line.{Body, empty, code, Reading, read}
+use Rattle.chip_asm.specs.declared.block.Block.{Block}
+use Rattle.chip_asm.specs.declared.pass.Pass.{Pass}
+use Rattle.chip_asm.specs.declared.placement.Placement.{Placement}
+use Rattle.chip_asm.specs.Bare.{is_bare, IsBare, fault_of_bare, size_of_bare}
+use Rattle.chip_asm.specs.Layout.{Placed, place, placed, body_of, is_live, first_fault, fault_of_value, full_size, own_size, padding, is_padded, symbols, is_aligning, address, value_at, value_or_zero, is_if_body, is_side_or_end, symbol_given}
+use Rattle.chip_asm.specs.Follows.{Follows, placement_of}
+use Rattle.chip_asm.specs.Placements.{is_placed}
+use Rattle.chip_asm.specs.Turns.{moved}
+use Rattle.chip_asm.proofs.Placing.{length-placed}
+use Rattle.chip_asm.proofs.NextLine.{placement-at, follows-push, Advances}
+
+-- such a line isn't padded
+bare-size : (aligning : Bool) (here : ℕ) (body : Body) → is_bare body ≡ true → full_size aligning here body (pos 0) ≡ own_size body (pos 0)
+bare-size true here empty b = refl
+bare-size false here empty b = refl
+bare-size true here (code form operands) b = refl
+bare-size false here (code form operands) b = refl
+bare-size aligning here _ b = cc
+
+past : (aligning : Bool) (here : ℕ) (body : Body) (b : is_bare body ≡ true) → nat_lt MEMORY_BYTES (here + full_size aligning here body (pos 0)) ≡ nat_lt MEMORY_BYTES (here + own_size body (pos 0))
+past aligning here body b = ap (λ n. nat_lt MEMORY_BYTES (here + n)) (bare-size aligning here body b)
+
+-- the fault of such a line
+bare-fault : (before : List Placed) (body : Body) → is_bare body ≡ true
+    → first_fault before (read None body) ≡ cond (nat_lt MEMORY_BYTES (address before + own_size body (pos 0))) (Some PastMemory) None
+unfolding first_fault fault_of_value value_at
+bare-fault before empty b = ap (λ t. cond t (Some PastMemory) None) (past (is_aligning before) (address before) empty b)
+bare-fault before (code form operands) b = ap (λ t. cond t (Some PastMemory) None) (past (is_aligning before) (address before) (code form operands) b)
+bare-fault before _ b = cc
+
+no-value : (before : List Placed) (body : Body) → is_bare body ≡ true → pos 0 ≡ value_or_zero (value_at (symbols before) body)
+unfolding value_at
+no-value before empty b = refl
+no-value before (code form operands) b = refl
+no-value before _ b = cc
+
+no-if : (body : Body) → is_bare body ≡ true → false ≡ is_if_body body
+no-if empty b = refl
+no-if (code form operands) b = refl
+no-if _ b = cc
+
+pub no-side : (body : Body) → is_bare body ≡ true → is_side_or_end body ≡ false
+no-side empty b = refl
+no-side (code form operands) b = refl
+no-side _ b = cc
+
+live-elsewhere : (before : List Placed) (body : Body) → is_bare body ≡ true → is_live before empty ≡ is_live before body
+unfolding is_live
+live-elsewhere before empty b = refl
+live-elsewhere before (code form operands) b = refl
+live-elsewhere before _ b = cc
+
+-- the placement of such a line
+pub bare-placed : (pass : Pass) (lines : List Reading) (line : Reading) (number size : ℕ) (live : Bool) → IsBare line size → number ≡ length lines + 1 → Follows pass (placed lines)
+    → live ≡ is_live (placed lines) empty
+    → (let made : Placement = record { number = number; is_if = false; live = live; here = pass.here; fault = fault_of_bare live pass.here size; value = pos 0; size = size_of_bare live pass.here size } in made ≡ placement_of (place (placed lines) line))
+bare-placed pass lines line number size live b n f l =
+    placement-at before line number false live pass.here (fault_of_bare live pass.here size) (pos 0) (size_of_bare live pass.here size)
+    (n ∙ ap (λ k. k + 1) (sym (length-placed lines))) (no-if (body_of line) b.bare) (l ∙ live-elsewhere before (body_of line) b.bare) f.at_address (no-value before (body_of line) b.bare)
+    (faults live) (sizes live (nat_lt MEMORY_BYTES (pass.here + size)))
+  where
+    before : List Placed
+    before = placed lines
+
+    found : first_fault before line ≡ cond (nat_lt MEMORY_BYTES (pass.here + size)) (Some PastMemory) None
+    found = ap (first_fault before) b.nameless ∙ bare-fault before (body_of line) b.bare ∙ (rw (← b.sized, ← f.at_address) refl)
+
+    faults : (live : Bool) → fault_of_bare live pass.here size ≡ (if live then first_fault before line else None)
+    faults true = sym found
+    faults false = refl
+
+    full : full_size (is_aligning before) pass.here (body_of line) (pos 0) ≡ size
+    full = bare-size (is_aligning before) pass.here (body_of line) b.bare ∙ sym b.sized
+
+    sizes : (live past : Bool) → cond (live && past) 0 (cond live size 0) ≡ (if live && is_none (cond (live && past) (Some PastMemory) None) then full_size (is_aligning before) pass.here (body_of line) (pos 0) else 0)
+    sizes true true = refl
+    sizes true false = sym full
+    sizes false past = refl
+
+none-given : (a : Bool) (number here : ℕ) (value : ℤ) (line : Reading) → line ≡ read None (body_of line) → None ≡ (if a then symbol_given number here value line else None)
+none-given true number here value line e = rw e refl
+none-given false number here value line e = refl
+
+none-appended : {X : Type 0} (xs : List X) → xs ++ [] ≡ xs
+none-appended [] = refl
+none-appended (x ∷ xs) = ap (λ l. x ∷ l) (none-appended xs)
+
+-- the state after such a line: only the address moves
+pub bare-next : (pass next : Pass) (lines : List Reading) (line : Reading) (number size : ℕ) (q : Placement) → IsBare line size → number ≡ length lines + 1
+    → Follows pass (placed lines) → q ≡ placement_of (place (placed lines) line) → next.here ≡ pass.here + q.size
+    → next.aligning ≡ pass.aligning → next.ended ≡ pass.ended → next.blocks ≡ pass.blocks → next.names ≡ pass.names
+    → Follows next (placed (lines ++ line ∷ []))
+bare-next pass next lines line number size q b n f e here aligning ended blocks names =
+    follows-push pass next lines line number q n f e (advances (body_of line) b.bare refl)
+  where
+    address_same : (a : Bool) → pass.here + q.size ≡ cond (a && false) (unsigned_abs q.value) (pass.here + q.size)
+    address_same true = refl
+    address_same false = refl
+
+    live_same : (l : Bool) → pass.ended ≡ ((l && false) || pass.ended)
+    live_same true = refl
+    live_same false = refl
+
+    advances : (body : Body) → is_bare body ≡ true → body_of line ≡ body → Advances pass next line q number
+    advances empty h is = record {
+      at_address = rw is (here ∙ address_same (is_placed q));
+      aligning = rw is aligning;
+      ended = rw is (ended ∙ live_same q.live);
+      names = names ∙ sym (none-appended pass.names) ∙ ap (λ l. pass.names ++ option_to_list l) (none-given (is_placed q) number pass.here q.value line b.nameless);
+      open_blocks = λ nearest e. rw is (ap (λ v. v.items) blocks ∙ e);
+    }
+    advances (code form operands) h is = record {
+      at_address = rw is (here ∙ address_same (is_placed q));
+      aligning = rw is aligning;
+      ended = rw is (ended ∙ live_same q.live);
+      names = names ∙ sym (none-appended pass.names) ∙ ap (λ l. pass.names ++ option_to_list l) (none-given (is_placed q) number pass.here q.value line b.nameless);
+      open_blocks = λ nearest e. rw is (ap (λ v. v.items) blocks ∙ e);
+    }
+    advances _ h is = cc
