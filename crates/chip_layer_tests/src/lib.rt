@@ -10,3 +10,5 @@ mod language;
 mod machine;
 #[cfg(test)]
 mod replay;
+#[cfg(test)]
+mod runs;

@@ -304,3 +304,27 @@ fn refused_starts(rt: HostRuntime) -> Result<(), Fail> {
     assert_eq!(rt; text.as_str(), "M2: the tape has not 1 to 4096 bytes");
     Ok(())
 }
+
+/// So many steps at once, of which the last may tick, with what each address had in the table.
+fn steps(machine: &mut Machine, from: u32, count: u32, table: &mut [u32; 4096]) -> u32 {
+    machine.steps(true, from, count, table)
+}
+
+#[test]
+fn many_steps_end_where_the_keys_are_read(rt: HostRuntime) -> Result<(), Fail> {
+    let words = [0x6003, 0xf015, 0xa300, 0xf155, 0xe09e];
+    let mut machine = loaded(rt.alloc(), &words)?;
+    let mut table = [u32::MAX; 4096];
+    assert_eq!(rt; steps(&mut machine, 7, 3, &mut table), 3);
+    assert_eq!(rt; machine.delay(), 2);
+    assert_eq!(rt; steps(&mut machine, 10, 5, &mut table), 1);
+    assert_eq!(rt; machine.delay(), 2);
+    assert_eq!(rt; machine.pc(), 0x208);
+    assert_eq!(rt;
+        [table[0x200], table[0x201], table[0x206], table[0x207]],
+        [7, 7, 10, 10]
+    );
+    assert_eq!(rt; [table[0x300], table[0x301]], [10, 10]);
+    assert_eq!(rt; [table[0x302], table[0x208]], [u32::MAX, u32::MAX]);
+    Ok(())
+}

@@ -4,6 +4,7 @@ pub mod Examples
 pub mod KeptParts
 pub mod KeyRows
 pub mod NextStep
+pub mod Notes
 pub mod PointLemmas
 pub mod RowLemmas
 pub mod ScreenExamples

@@ -75,8 +75,8 @@ pub(crate) fn execute(
     Ok(())
 }
 
-/// Carries out the instruction of a word with no key down, and notes the bytes that it accesses at I under a number. What `touch`
-/// holds is lost.
+/// Carries out the instruction of a word with no key down, and notes the bytes that it accesses at I
+/// under a number. What `touch` holds is lost.
 #[inline(always)]
 pub(crate) fn execute_noted(
     processor: &mut Processor,
@@ -89,11 +89,17 @@ pub(crate) fn execute_noted(
     requires size { length memory.old ≡ MEMORY_BYTES }
     requires pc { processor.old.pc ≤ LAST_WORD }
     requires table { length first_touch.old ≡ MEMORY_BYTES }
-    ensures ok { OnOk result (perform 0 (record { core = processor.old; memory = memory.old }) (effect_of_word (decode_of word) processor.old)
+    ensures ok { OnOk result (
+        perform 0 (record { core = processor.old; memory = memory.old })
+        (effect_of_word (decode_of word) processor.old)
         ≡ Ok (record { core = processor.new; memory = memory.new })) }
-    ensures why { IfErr result (λ why. perform 0 (record { core = processor.old; memory = memory.old }) (effect_of_word (decode_of word) processor.old) ≡ Err why) }
+    ensures why { IfErr result (λ why.
+        perform 0 (record { core = processor.old; memory = memory.old })
+        (effect_of_word (decode_of word) processor.old)
+        ≡ Err why) }
     ensures same { OnErr result ((processor.new ≡ processor.old) × (memory.new ≡ memory.old)) }
-    ensures noted { IsNoted (is_among (accessed processor.old.index (effect_of_word (decode_of word) processor.old))) number first_touch.old first_touch.new }
+    ensures noted { IsNoted (is_among (accessed processor.old.index (effect_of_word (decode_of word) processor.old)))
+        number first_touch.old first_touch.new }
 {
     touch.clear();
     let done = match decode(word) {

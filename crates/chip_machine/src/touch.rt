@@ -1,6 +1,6 @@
 //! What a step touched.
 
-ghost use Rattle.std.specs.Prelude.{◌≡◌, ◌+◌, ◌<◌, ◌≤◌, ◌↔◌, [], ◌∷◌, ◌++◌, length, min, IsTrue, IfSome, slice_get, slice_index, slice_set};
+ghost use Rattle.std.specs.Prelude.{◌≡◌, ℕ, ◌+◌, ◌<◌, ◌≤◌, ◌↔◌, [], ◌∷◌, ◌++◌, All, length, min, IsTrue, IfSome, slice_get, slice_index, slice_set};
 ghost use Rattle.std.specs.Bool.{OnTrue, OnFalse};
 ghost use Rattle.std.specs.List.{range_with_len};
 ghost use Rattle.chip_machine.specs.Touched.{IsNoted, is_among};
@@ -13,18 +13,23 @@ use std::marker::Model;
 pub struct Touch {
     addresses: [u16; TOUCHES],
     count: usize,
+    /// Where the newest addresses begin, which stand in a row and aren't written out before others
+    /// follow.
+    row_start: u16,
+    row_len: usize,
 }
 
 impl Model for Touch {
-    ghost use Rattle.std.specs.Prelude.{ℕ, List, ◌<◌, ◌≤◌, take, All};
+    ghost use Rattle.std.specs.Prelude.{ℕ, List, ◌<◌, ◌≤◌, ◌+◌, ◌++◌, take, All};
+    ghost use Rattle.std.specs.List.{range_with_len};
     ghost use Rattle.chip_lang.specs.declared.limits.TheConstants.{MEMORY_BYTES};
     ghost use Rattle.chip_machine.specs.declared.limits.TheConstants.{TOUCHES};
 
     ghost Value = { List ℕ };
 
-    ghost view = { λ t. take t.count t.addresses };
+    ghost view = { λ t. take t.count t.addresses ++ range_with_len t.row_start t.row_len };
 
-    ghost invariant = { λ t. (t.count ≤ TOUCHES) × All (λ at. at < MEMORY_BYTES) (take t.count t.addresses) };
+    ghost invariant = { λ t. (t.count + t.row_len ≤ TOUCHES) × (t.row_start + t.row_len ≤ MEMORY_BYTES) × All (λ at. at < MEMORY_BYTES) (take t.count t.addresses) };
 }
 
 impl Touch {
@@ -35,6 +40,8 @@ impl Touch {
         Touch {
             addresses: [0; TOUCHES],
             count: 0,
+            row_start: 0,
+            row_len: 0,
         }
     }
 
@@ -43,6 +50,7 @@ impl Touch {
         ensures { self.new ≡ [] }
     {
         self.count = 0;
+        self.row_len = 0;
     }
 
     /// How many addresses are held, 0 to `TOUCHES`.
@@ -50,14 +58,14 @@ impl Touch {
         ensures value { result ≡ length self.now }
         ensures at_most { result ≤ TOUCHES }
     {
-        self.count
+        self.count + self.row_len
     }
 
     /// Whether no address is held.
     pub fn is_empty(&self) -> bool
         ensures { IsTrue result ↔ (self.now ≡ []) }
     {
-        self.count == 0
+        self.len() == 0
     }
 
     /// The address at a place, in the order in which they were added, and `None` from the length on.
@@ -67,6 +75,8 @@ impl Touch {
     {
         if place < self.count {
             Some(self.addresses[place])
+        } else if place - self.count < self.row_len {
+            Some(self.row_start + (place - self.count) as u16)
         } else {
             None
         }
@@ -78,23 +88,22 @@ impl Touch {
         ensures added { OnTrue result (self.new ≡ self.old ++ at ∷ []) }
         ensures unchanged { OnFalse result (self.new ≡ self.old) }
     {
-        if self.count == TOUCHES || at as usize >= MEMORY_BYTES {
+        if self.len() == TOUCHES || at as usize >= MEMORY_BYTES {
             return false;
         }
-        self.addresses[self.count] = at;
-        self.count += 1;
+        self.add_span(at, 1);
         true
     }
 
-    /// Notes a step at the addresses: in the table each address keeps the least number of a step that was noted there.
+    /// Notes a step at the addresses: in the table each address keeps the least number of a step that
+    /// was noted there.
     #[inline(always)]
     pub fn note(&self, first_touch: &mut [u32], number: u32)
         requires { length first_touch.old ≡ MEMORY_BYTES }
         ensures { IsNoted (is_among self.now) number first_touch.old first_touch.new }
     {
-        for place in 0..self.count {
-            note_at(first_touch, self.addresses[place] as usize, number);
-        }
+        note_list(first_touch, &self.addresses[..self.count], number);
+        note_row(first_touch, self.row_start as usize, self.row_len, number);
     }
 
     /// Adds the addresses of so many bytes.
@@ -103,9 +112,11 @@ impl Touch {
         requires room { length self.old + bytes ≤ TOUCHES }
         ensures { self.new ≡ self.old ++ range_with_len at bytes }
     {
-        let end = self.count + bytes;
-        count_up(&mut self.addresses[self.count..end], at);
+        let end = self.count + self.row_len;
+        count_up(&mut self.addresses[self.count..end], self.row_start);
         self.count = end;
+        self.row_start = at;
+        self.row_len = bytes;
     }
 }
 
@@ -123,9 +134,43 @@ fn count_up(numbers: &mut [u16], start: u16)
 #[inline(always)]
 pub(crate) fn note_at(first_touch: &mut [u32], at: usize, number: u32)
     requires { at < length first_touch.old }
-    ensures { first_touch.new ≡ slice_set first_touch.old at (min (slice_index first_touch.old at) number) }
+    ensures { first_touch.new
+        ≡ slice_set first_touch.old at (min (slice_index first_touch.old at) number) }
 {
     if number < first_touch[at] {
         first_touch[at] = number;
+    }
+}
+
+/// Notes a step at addresses of a list.
+#[inline(always)]
+fn note_list(first_touch: &mut [u32], addresses: &[u16], number: u32)
+    requires table { length first_touch.old ≡ MEMORY_BYTES }
+    requires in_memory { All (λ at. at < MEMORY_BYTES) addresses.now }
+    ensures { IsNoted (is_among addresses.now) number first_touch.old first_touch.new }
+{
+    for at in addresses {
+        note_at(first_touch, *at as usize, number);
+    }
+}
+
+/// Notes a step at addresses in a row.
+#[inline(always)]
+fn note_row(first_touch: &mut [u32], start: usize, len: usize, number: u32)
+    requires table { length first_touch.old ≡ MEMORY_BYTES }
+    requires in_memory { start + len ≤ MEMORY_BYTES }
+    ensures { IsNoted (is_among (range_with_len start len)) number first_touch.old first_touch.new }
+{
+    note_all(&mut first_touch[start..start + len], number);
+}
+
+/// Notes a step at each place of a part of the table.
+#[inline(always)]
+fn note_all(part: &mut [u32], number: u32)
+    ensures { (k : ℕ) → k < length part.old
+        → slice_index part.new k ≡ min (slice_index part.old k) number }
+{
+    for known in part.iter_mut() {
+        *known = (*known).min(number);
     }
 }

@@ -1,77 +1,16 @@
 -- The key events in the order of their steps, entry by entry.
-use Rattle.std.proofs.Common.{◌≡◌, ◌≢◌, ℕ, zero, suc, ◌+◌, ◌-◌, ◌<◌, ◌≤◌, Bool, true, false, cond, add-one, eqb, ◌&&◌, List, [], length, set, slice_index_or, Option, Some, None, unwrap_or, refl, sym, ap, ◌∙◌, subst, arith, inl, inr, get_or-set_same, get_or-set_other}
-use Rattle.std.proofs.lemmas.Bool.{cases_eq}
-use Rattle.std.proofs.lemmas.Bool.Decides.{nat_tests}
-use Rattle.std.specs.BTreeMap.{is_at}
-use Rattle.std.specs.Map.{lookup}
-use Rattle.std.specs.Prelude.{IsSome, IfSome, min}
-use Rattle.std.specs.Ordering.{nat_cmp, is_eq, is_gt}
-use Rattle.chip_replay.proofs.LastEvent.{not_after, is_not_after, is_down-stays}
-use Rattle.std.specs.Cmp.{ranked}
-use Rattle.std.specs.declared.cmp.Ordering.TheVariants.{Less, Equal, Greater}
-use Rattle.chip_replay.specs.Changes.{change_at, was_down, KnowsKeys, HoldsKeys}
+use Rattle.std.proofs.Common.{◌≡◌, ◌≢◌, ℕ, zero, suc, ◌+◌, ◌-◌, ◌<◌, ◌≤◌, Bool, false, add-one, List, length, set, get_or, slice_index_or, Option, Some, None, unwrap_or, refl, sym, ap, ◌∙◌, subst, arith, inl, inr, get_or-set_same, get_or-set_other}
+use Rattle.std.proofs.lemmas.Bool.{cases_eq, cases_lt}
+use Rattle.std.specs.Prelude.{IfSome, min}
+use Rattle.chip_replay.proofs.LastEvent.{is_down-stays, is_down-none, is_down-last}
+use Rattle.chip_replay.proofs.InOrder.{change_none, change_there, steps_rise}
+use Rattle.chip_replay.specs.Changes.{IsInOrder, IsFirstFrom, SaysTheSame, change_at, was_down, KnowsKeys, HoldsKeys}
 use Rattle.chip_replay.specs.History.{IsHolding}
+use Rattle.chip_replay.specs.declared.by_step.Event.{Event}
 use Rattle.chip_replay.specs.declared.keys.Holding.{Holding}
 use Rattle.chip_replay.specs.Mask.{mask}
 use Rattle.chip_replay.proofs.KeyFacts.{mask-same}
 use Rattle.chip_replay.specs.Keys.{Events, event_at, is_down, held}
-
--- whether an entry is that of a step
-pub at_step : (a b : ℕ) → is_at (nat_cmp a) b ≡ eqb b a
-at_step a b =
-    elim (nat_cmp a b) as (λ r. nat_cmp a b ≡ r → is_eq r ≡ eqb b a) [
-      | Less ↦ λ p. (let l : a < b = ranked a b Less (sym p) in let n : b ≢ a = λ e. omega (arith, e) in grind (arith, nat_tests))
-      | Equal ↦ λ p. (let e : a ≡ b = ranked a b Equal (sym p) in grind (arith, nat_tests))
-      | Greater ↦ λ p. (let l : b < a = ranked a b Greater (sym p) in let n : b ≢ a = λ e. omega (arith, e) in grind (arith, nat_tests))
-    ] refl
-
-module _ (es fs : List (ℕ × List (Option Bool))) (step key : ℕ) (event : Option Bool) (change : List (Option Bool)) (was : (k : ℕ) → slice_index_or change k None ≡ change_at es step k) (size : length change ≡ 16) (in_range : key < 16) where
-  -- one event of the step's is set
-  set_there : (b : Bool) (k : ℕ) → eqb k key ≡ b → slice_index_or (set change key event) k None ≡ cond b event (change_at es step k)
-  set_there true k e =
-      let same : key ≡ k = grind (arith, nat_tests) in
-      subst (λ j. slice_index_or (set change key event) j None ≡ event) same (get_or-set_same change key event None (omega (arith, size)))
-  set_there false k e =
-      let apart : k ≢ key = grind (arith, nat_tests) in
-      get_or-set_other change key k event None apart ∙ was k
-
-  abbrev pub IsSet : Type 0
-  IsSet = (s k : ℕ) → change_at fs s k ≡ cond (eqb s step && eqb k key) event (change_at es s k)
-
-  by_step : (kept : Option (List (Option Bool))) → ((k : ℕ) → slice_index_or (unwrap_or kept []) k None ≡ slice_index_or (set change key event) k None) → ((s : ℕ) → lookup (is_at (nat_cmp s)) fs ≡ cond (is_at (nat_cmp step) s) kept (lookup (is_at (nat_cmp s)) es)) → (b : Bool) (s k : ℕ) → eqb s step ≡ b → change_at fs s k ≡ cond (b && eqb k key) event (change_at es s k)
-  by_step kept there updates true s k e =
-      let same : s ≡ step = grind (arith, nat_tests) in
-      ap (λ o. slice_index_or (unwrap_or o []) k None) (updates s ∙ ap (λ b. cond b kept (lookup (is_at (nat_cmp s)) es)) (at_step step s ∙ e))
-      ∙ there k ∙ set_there _ k refl ∙ ap (λ t. cond (eqb k key) event (change_at es t k)) (sym same)
-  by_step kept there updates false s k e =
-      ap (λ o. slice_index_or (unwrap_or o []) k None) (updates s ∙ ap (λ b. cond b kept (lookup (is_at (nat_cmp s)) es)) (at_step step s ∙ e))
-
-  -- the entry of the step is written, or taken out where it says nothing
-  pub entry_set : ((s : ℕ) → lookup (is_at (nat_cmp s)) fs ≡ cond (is_at (nat_cmp step) s) (Some (set change key event)) (lookup (is_at (nat_cmp s)) es)) → IsSet
-  entry_set updates s k = by_step (Some (set change key event)) (λ j. refl) updates _ s k refl
-
-  pub entry_removed : ((k : ℕ) → slice_index_or (set change key event) k None ≡ None) → ((s : ℕ) → lookup (is_at (nat_cmp s)) fs ≡ cond (is_at (nat_cmp step) s) None (lookup (is_at (nat_cmp s)) es)) → IsSet
-  entry_removed nothing updates s k = by_step None (λ j. sym (nothing j)) updates _ s k refl
-
--- the first entry in a span of steps: none is before it
-pub none_before_first : (es : List (ℕ × List (Option Bool))) (from to m : ℕ) → is_gt (nat_cmp m to) ≡ false
-    → ((q : ℕ) → is_gt (nat_cmp from q) ≡ false → is_gt (nat_cmp q to) ≡ false → IsSome (lookup (is_at (nat_cmp q)) es) → is_gt (nat_cmp m q) ≡ false)
-    → (s k : ℕ) → from ≤ s → s < m → change_at es s k ≡ None
-none_before_first es from to m high first s k lf lm =
-    elim (lookup (is_at (nat_cmp s)) es) as (λ o. lookup (is_at (nat_cmp s)) es ≡ o → slice_index_or (unwrap_or o []) k None ≡ None) [
-      | None ↦ λ p. refl
-      | Some x ↦ λ p. (
-          let last : m ≤ to = not_after m to high in
-          let within : m ≤ s = not_after m s (first s (is_not_after from s lf) (is_not_after s to (omega arith)) (subst (λ o. IsSome o) (sym p) refl)) in
-          absurd (omega arith))
-    ] refl
-
--- no entry in a span of steps
-pub none_in_span : (es : List (ℕ × List (Option Bool))) (from to : ℕ)
-    → ((q : ℕ) → is_gt (nat_cmp from q) ≡ false → is_gt (nat_cmp q to) ≡ false → lookup (is_at (nat_cmp q)) es ≡ None)
-    → (s k : ℕ) → from ≤ s → s ≤ to → change_at es s k ≡ None
-none_in_span es from to none s k lf lt =
-    ap (λ o. slice_index_or (unwrap_or o []) k None) (none s (is_not_after from s lf) (is_not_after s to lt))
 
 -- one place more of a table is filled
 pub set_more : (xs : List Bool) (i : ℕ) (x : Bool) (f : ℕ → Bool) → i < length xs → ((k : ℕ) → k < i → slice_index_or xs k false ≡ f k) → x ≡ f i → (k : ℕ) → k < i + 1 → slice_index_or (set xs i x) k false ≡ f k
@@ -132,18 +71,61 @@ pub holds_held : (events : Events) (s : ℕ) (h : Holding) → HoldsKeys events 
 unfolding held
 holds_held events s h holds = holds.as_mask ∙ mask-same _ _ 16 (λ k l. sym (holds.stays s k (omega arith) holds.within l))
 
--- from the events of a step to those of the next one that has some
-module _ (events : Events) (at next : ℕ) (ahead : at < next) (says : ℕ → ℕ → Option Bool) (same : (s k : ℕ) → k < 16 → says s k ≡ event_at events s k) (none : (s k : ℕ) → at < s → s < next → says s k ≡ None) (down down' : List Bool) (before : (k : ℕ) → k < 16 → was_down events k at ≡ slice_index_or down k false) (changed : (k : ℕ) → k < 16 → slice_index_or down' k false ≡ unwrap_or (says at k) (slice_index_or down k false)) where
-  pub changed_stays : (s k : ℕ) → at ≤ s → s < next → k < 16 → is_down events k s ≡ slice_index_or down' k false
-  changed_stays s k ls lu lk =
-      is_down-stays events k at s ls (λ r lf lr. sym (same r k lk) ∙ none r k lf (omega arith))
-      ∙ is_down-was events k at
-      ∙ ap (λ o. unwrap_or o (was_down events k at)) (sym (same at k lk))
-      ∙ ap (unwrap_or (says at k)) (before k lk)
-      ∙ sym (changed k lk)
+-- no event from one step on up to another: the key is as it was before them
+is_down-was_down : (events : Events) (k from s : ℕ) → from ≤ s + 1 → ((r : ℕ) → from ≤ r → r ≤ s → event_at events r k ≡ None) → is_down events k s ≡ was_down events k from
+is_down-was_down events k zero s l none = is_down-none events k s (λ r lr. none r (omega arith) lr)
+is_down-was_down events k (suc from) s l none = is_down-stays events k from s (omega arith) (λ r lf lr. none r (omega arith) lr)
 
-  pub changed_before : (k : ℕ) → k < 16 → was_down events k next ≡ slice_index_or down' k false
-  changed_before k lk = was_down-above events k next (λ e. omega (arith, e)) ∙ changed_stays (next - 1) k (omega arith) (omega arith) lk
+-- what a table says after the events in order up to a place: each key is so in a step up to which those are, and none of its later ones
+abbrev pub IsUpTo : Events → List Event → ℕ → ℕ → List Bool → Type 0
+IsUpTo events es from place down =
+    (k s : ℕ) → k < 16 → from ≤ s + 1
+    → ((i : ℕ) (d : Event) → i < place → (get_or es i d).step ≤ s)
+    → ((i : ℕ) (d : Event) → place ≤ i → i < length es → (get_or es i d).step ≤ s → k ≢ (get_or es i d).key)
+    → is_down events k s ≡ slice_index_or down k false
+
+module _ (events : Events) (es : List Event) (order : IsInOrder es) (same : SaysTheSame events es) where
+  no_event : (s k : ℕ) → k < 16 → ((i : ℕ) (d : Event) → i < length es → s ≡ (get_or es i d).step → k ≢ (get_or es i d).key) → event_at events s k ≡ None
+  no_event s k l other = sym (same s k l) ∙ change_none es s k other
+
+  pub up_to_first : (from place : ℕ) (down : List Bool) → IsFirstFrom es from place → ((k : ℕ) → k < 16 → was_down events k from ≡ slice_index_or down k false) → IsUpTo events es from place down
+  up_to_first from place down first before k s lk lf early late =
+      is_down-was_down events k from s lf (λ r low high. no_event r k lk (λ i d li p q. elim (cases_lt i place) [
+        | inl a ↦ omega (arith, first.before i d a, p)
+        | inr a ↦ late i d a li (omega (arith, p)) q
+      ])) ∙ before k lk
+
+  -- the event at the place is passed
+  pub up_to_more : (from place : ℕ) (down : List Bool) (e : Event) → place < length es → ((d : Event) → get_or es place d ≡ e) → length down ≡ 16 → IsUpTo events es from place down → IsUpTo events es from (place + 1) (set down e.key e.down)
+  up_to_more from place down e inside there size before k s lk lf early late = elim (cases_eq k e.key) [
+    | inl is ↦ (
+        let at : (get_or es place e).step ≤ s = early place e (omega arith) in
+        let says : event_at events e.step k ≡ Some e.down =
+        ap (event_at events e.step) is
+        ∙ sym (same e.step e.key (omega (arith, is)))
+        ∙ ap (λ (x : Event). change_at es x.step x.key) (sym (there e))
+        ∙ change_there es order place e inside ∙ ap (λ (x : Event). Some x.down) (there e) in
+        is_down-last events k e.step s e.down (omega (arith, at, ap (λ (x : Event). x.step) (there e))) says
+        (λ r low high. no_event r k lk (λ i d li p q. elim (cases_lt i place) [
+          | inl a ↦ omega (arith, steps_rise es order i place d a inside, ap (λ (x : Event). x.step) (there d), p)
+          | inr a ↦ elim (cases_eq i place) [
+            | inl f ↦ omega (arith, ap (λ n. (get_or es n d).step) f, ap (λ (x : Event). x.step) (there d), p)
+            | inr n ↦ late i d (omega (arith, n)) li (omega (arith, p)) q
+          ]
+        ]))
+        ∙ sym (ap (λ n. slice_index_or (set down e.key e.down) n false) is ∙ get_or-set_same down e.key e.down false (omega (arith, size, is))))
+    | inr other ↦ (
+        before k s lk lf (λ i d l. early i d (omega arith)) (λ i d l li ls q. elim (cases_eq i place) [
+          | inl f ↦ other (q ∙ ap (λ n. (get_or es n d).key) f ∙ ap (λ (x : Event). x.key) (there d))
+          | inr n ↦ late i d (omega (arith, n)) li ls q
+        ])
+        ∙ sym (get_or-set_other down e.key k e.down false other))
+  ]
+
+  -- no event that isn't passed is in the steps up to the next one's
+  pub up_to_holds : (from place step until : ℕ) (down : List Bool) → from ≤ step → IsUpTo events es from place down → ((i : ℕ) (d : Event) → i < place → (get_or es i d).step ≤ step) → ((i : ℕ) (d : Event) → place ≤ i → i < length es → until ≤ (get_or es i d).step) → (s k : ℕ) → step ≤ s → s < until → k < 16 → is_down events k s ≡ slice_index_or down k false
+  up_to_holds from place step until down low before early late s k ls lu lk =
+      before k s lk (omega arith) (λ i d l. omega (arith, early i d l)) (λ i d l li under q. omega (arith, late i d l li, under))
 
 was_down-same : (events later : Events) (from t k : ℕ) → t ≤ from → ((s : ℕ) → s < from → (k : ℕ) → is_down later k s ≡ is_down events k s) → was_down later k t ≡ was_down events k t
 was_down-same events later from zero k l same = refl

@@ -8,6 +8,7 @@ use Rattle.std.specs.Ordering.{eq_by_cmp, is_eq}
 use Rattle.std.specs.Cmp.{eq_by_cmp_equiv}
 use Rattle.std.specs.declared.cmp.Ordering.TheVariants.{Less, Equal, Greater}
 use Rattle.chip_replay.specs.declared.keys.Moment.{Moment}
+use Rattle.chip_replay.specs.declared.by_step.Event.{Event}
 use Rattle.chip_replay.proofs.Moments.{exact_moments, moments_total}
 use Rattle.chip_replay.specs.Changes.{change_at, SaysTheSame}
 use Rattle.chip_replay.specs.Mask.{mask}
@@ -130,8 +131,8 @@ event_at-remove events step key s k =
     map.get-remove moments_total events (record { step = step; key = key }) (record { step = s; key = k })
     ∙ ap (λ b. cond b None (event_at events s k)) (same_moment step key s k)
 
--- the entries by step follow an edit of the events
-pub says_set : (events later : Events) (es fs : List (ℕ × List (Option Bool))) (step key : ℕ) (event : Option Bool) → SaysTheSame events es → ((s k : ℕ) → change_at fs s k ≡ cond (eqb s step && eqb k key) event (change_at es s k)) → ((s k : ℕ) → event_at later s k ≡ cond (eqb s step && eqb k key) event (event_at events s k)) → SaysTheSame later fs
+-- the events in order follow an edit of the events by key
+pub says_set : (events later : Events) (es fs : List Event) (step key : ℕ) (event : Option Bool) → SaysTheSame events es → ((s k : ℕ) → change_at fs s k ≡ cond (eqb s step && eqb k key) event (change_at es s k)) → ((s k : ℕ) → event_at later s k ≡ cond (eqb s step && eqb k key) event (event_at events s k)) → SaysTheSame later fs
 says_set events later es fs step key event says set edited = λ s k l.
     set s k ∙ ap (cond (eqb s step && eqb k key) event) (says s k l) ∙ sym (edited s k)
 

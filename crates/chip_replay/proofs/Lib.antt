@@ -8,4 +8,5 @@ pub mod Bytes
 pub mod KeyFacts
 pub mod Moments
 pub mod LastEvent
+pub mod InOrder
 pub mod ByStep

@@ -1,21 +1,37 @@
 -- What is kept of the key events in the order of their steps.
 -- Source: own.
---     change_at      what the entries say of a key at a step
+--     rank           the number of an event's step and key in that order
+--     IsInOrder      events are in that order, and each has one of the 16 keys
+--     IsFirstFrom    a place parts events into those before a step and the others
+--     change_at      what the events say of a key at a step
 --     was_down       whether a key was down before a step's events
 --     KnowsKeys      what is known of the keys when a step begins
---     SaysTheSame    events and entries say the same
+--     SaysTheSame    two lists of events say the same
 --     HoldsKeys      what is known of the keys in a step, and in the steps up to the next event
-use Rattle.std.specs.Prelude.{◌≡◌, ℕ, ◌<◌, ◌≤◌, zero, suc, Bool, false, List, [], length, Option, None, unwrap_or, slice_index_or, min}
-use Rattle.std.specs.BTreeMap.{is_at}
-use Rattle.std.specs.Map.{lookup}
-use Rattle.std.specs.Ordering.{nat_cmp}
+use Rattle.std.specs.Prelude.{◌≡◌, ℕ, ◌+◌, ◌*◌, ◌<◌, ◌≤◌, ◌==◌, ◌&&◌, zero, suc, Bool, false, List, [], ◌∷◌, length, Option, None, Some, slice_index_or, min, if◌then◌else◌}
 use Rattle.chip_replay.specs.Mask.{mask}
 use Rattle.chip_replay.specs.Keys.{Events, event_at, is_down}
+use Rattle.chip_replay.specs.declared.by_step.Event.{Event}
 use Rattle.chip_replay.specs.declared.keys.Holding.{Holding}
 
--- the entries have a list of 16 events, or none, for a step
-abbrev pub change_at : List (ℕ × List (Option Bool)) → ℕ → ℕ → Option Bool
-change_at entries step key = slice_index_or (unwrap_or (lookup (is_at (nat_cmp step)) entries) []) key None
+abbrev pub rank : Event → ℕ
+rank e = e.step * 16 + e.key
+
+-- by their steps, and in a step by their keys
+pub record IsInOrder (events : List Event) : Type 0 where
+  pub rising : (i j : ℕ) (d : Event) → i < j → j < length events → rank (slice_index_or events i d) < rank (slice_index_or events j d)
+  pub keys : (i : ℕ) (d : Event) → i < length events → (slice_index_or events i d).key < 16
+
+-- the events below a place are those of the steps before one
+pub record IsFirstFrom (events : List Event) (step place : ℕ) : Type 0 where
+  pub at_most : place ≤ length events
+  pub before : (i : ℕ) (d : Event) → i < place → (slice_index_or events i d).step < step
+  pub after : (i : ℕ) (d : Event) → place ≤ i → i < length events → step ≤ (slice_index_or events i d).step
+
+-- what the first event of the key's at the step says, if there is one
+abbrev pub change_at : List Event → ℕ → ℕ → Option Bool
+change_at [] step key = None
+change_at (e ∷ es) step key = if step == e.step && key == e.key then Some e.down else change_at es step key
 
 abbrev pub was_down : Events → ℕ → ℕ → Bool
 was_down events key zero = false
@@ -34,6 +50,6 @@ pub record HoldsKeys (events : Events) (step : ℕ) (h : Holding) : Type 0 where
   pub as_mask : h.keys ≡ mask (λ k. slice_index_or h.down k false) 16
   pub stays : (s k : ℕ) → step ≤ s → s < h.until → k < 16 → is_down events k s ≡ slice_index_or h.down k false
 
--- events and entries say the same of each key at each step
-abbrev pub SaysTheSame : Events → List (ℕ × List (Option Bool)) → Type 0
-SaysTheSame events entries = (s k : ℕ) → k < 16 → change_at entries s k ≡ event_at events s k
+-- the events by key and those in order say the same of each key at each step
+abbrev pub SaysTheSame : Events → List Event → Type 0
+SaysTheSame events in_order = (s k : ℕ) → k < 16 → change_at in_order s k ≡ event_at events s k

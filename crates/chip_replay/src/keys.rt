@@ -1,9 +1,9 @@
 //! The events of the keys.
 
-ghost use Rattle.std.specs.Prelude.{◌≡◌, ℕ, ◌<◌, ◌≤◌, false, None, unwrap_or, length, MatchOption, IsOkUnless, OnOk, OnErr, slice_index_or};
+ghost use Rattle.std.specs.Prelude.{◌≡◌, ℕ, ◌<◌, ◌≤◌, false, MatchOption, IsOkUnless, OnOk, OnErr, slice_index_or};
 ghost use Rattle.chip_replay.specs.Mask.{mask};
 
-use crate::by_step::Steps;
+use crate::by_step::{Event, Steps};
 use crate::limits::{KEY_COUNT, KEYS, LAST_STEP, MOST_EVENTS};
 use std::alloc::{AllocError, Global};
 use std::collections::BTreeMap;
@@ -51,6 +51,8 @@ pub(crate) struct Holding {
     pub(crate) down: [bool; KEY_COUNT],
     /// The first step whose events this says nothing of.
     pub(crate) until: u32,
+    /// Where its events begin among those in order, unless an event was added or taken out since.
+    pub(crate) place: usize,
 }
 
 impl Holding {
@@ -59,6 +61,7 @@ impl Holding {
         keys: 0,
         down: [false; KEY_COUNT],
         until: 0,
+        place: 0,
     };
 }
 
@@ -67,7 +70,7 @@ impl Holding {
 pub struct Keys {
     /// In the order of the keys, for the last event of a key up to a step.
     events: BTreeMap<Moment, bool>,
-    /// The same in the order of the steps, for the next event of any key.
+    /// The same in the order of the steps, for the next events of any key.
     steps: Steps,
 }
 
@@ -75,7 +78,7 @@ impl Model for Keys {
     ghost use Rattle.std.specs.Prelude.{◌≡◌, length};
     ghost use Rattle.std.specs.FinMap as map;
     ghost use Rattle.chip_replay.specs.Keys.{Events, coded_events, moment_cmp};
-    ghost use Rattle.chip_replay.specs.Changes.{SaysTheSame};
+    ghost use Rattle.chip_replay.specs.Changes.{SaysTheSame, IsInOrder};
 
     ghost Value = { Events };
 
@@ -84,7 +87,8 @@ impl Model for Keys {
     ghost view = { λ k. map.from_entries k.events.entries };
 
     ghost invariant = { λ k. (map.len (map.from_entries {R = moment_cmp} k.events.entries) ≡ length k.events.entries)
-        × SaysTheSame (map.from_entries k.events.entries) k.steps.changes.entries };
+        × SaysTheSame (map.from_entries k.events.entries) k.steps.events.items
+        × IsInOrder k.steps.events.items };
 }
 
 impl Keys {
@@ -145,6 +149,7 @@ impl Keys {
             keys: mask_of(&down),
             down,
             until: step,
+            place: 0,
         }
     }
 
@@ -169,16 +174,24 @@ impl Keys {
         requires known { KnowsKeys self.now step known }
         ensures { HoldsKeys self.now step result }
     {
+        let events = &self.steps.events;
         let mut down = known.down;
-        let mut until = known.until;
-        while until <= step {
-            change(&mut down, &self.steps.at(until));
-            until = self.steps.next(until);
+        let mut place = self.steps.first_from(known.until, known.place);
+        while place < events.len() && events[place].step <= step {
+            let event = events[place];
+            down[event.key as usize] = event.down;
+            place += 1;
         }
+        let until = if place < events.len() {
+            events[place].step
+        } else {
+            LAST_STEP + 1
+        };
         Holding {
             keys: mask_of(&down),
             down,
             until,
+            place,
         }
     }
 
@@ -199,7 +212,12 @@ impl Keys {
             Ok(_) => {}
             Err(_) => return Err(KeyFault::OutOfMemory),
         }
-        match self.steps.set(step, key, Some(down)) {
+        let event = Event {
+            step,
+            key: key as u8,
+            down,
+        };
+        match self.steps.insert(event) {
             Ok(()) => Ok(()),
             Err(_) => {
                 self.events.remove(&moment);
@@ -223,10 +241,12 @@ impl Keys {
             Ok(_) => {}
             Err(_) => return Err(KeyFault::OutOfMemory),
         }
-        match self.steps.set(step, key, Some(down)) {
-            Ok(()) => Ok(()),
-            Err(_) => Err(KeyFault::OutOfMemory),
-        }
+        self.steps.replace(Event {
+            step,
+            key: key as u8,
+            down,
+        });
+        Ok(())
     }
 
     /// Takes an event out, and takes no memory. Errors as `replace`.
@@ -239,10 +259,8 @@ impl Keys {
             return Err(fault);
         }
         self.events.remove(&Moment { key, step });
-        match self.steps.set(step, key, None) {
-            Ok(()) => Ok(()),
-            Err(_) => Err(KeyFault::OutOfMemory),
-        }
+        self.steps.remove(step, key as u8);
+        Ok(())
     }
 
     /// Why an event cannot be added.
@@ -279,17 +297,6 @@ impl Keys {
         } else {
             Some(KeyFault::NoEvent)
         }
-    }
-}
-
-/// Changes the keys that have an event.
-fn change(down: &mut [bool; KEY_COUNT], events: &[Option<bool>; KEY_COUNT])
-    ensures set { (k : ℕ) → k < KEY_COUNT → slice_index_or down.new k false
-        ≡ unwrap_or (slice_index_or events.now k None) (slice_index_or down.old k false) }
-    ensures size { length down.new ≡ KEY_COUNT }
-{
-    for key in 0..KEY_COUNT {
-        down[key] = events[key].unwrap_or(down[key]);
     }
 }
 

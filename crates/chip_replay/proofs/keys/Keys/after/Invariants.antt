@@ -1,15 +1,16 @@
-use Rattle.std.proofs.Common.{◌≡◌, ◌+◌, ◌-◌, ℕ, ◌<◌, ◌≤◌, false, slice_index_or, length}
-use Rattle.chip_replay.specs.Keys.{is_down}
-use Rattle.chip_replay.specs.Changes.{was_down}
+use Rattle.std.proofs.Common.{◌≡◌, ◌-◌, ℕ, ◌<◌, ◌≤◌, length, slice_index_or}
+use Rattle.chip_replay.specs.declared.by_step.Event.{Event}
+use Rattle.chip_replay.proofs.ByStep.{IsUpTo}
 use Rattle.chip_replay.proofs.keys.Keys.after.Given as goal
 
-abbrev pub invariant-loop-until : goal.invariant-loop-until
-invariant-loop-until l =
+abbrev pub invariant-loop-place : goal.invariant-loop-place
+invariant-loop-place l =
     record {
       size : length l.down ≡ 16;
-      before : (k : ℕ) → k < 16 → was_down l.self k l.until ≡ slice_index_or l.down k false;
-      stays : (s k : ℕ) → l.step ≤ s → s < l.until → k < 16 → is_down l.self k s ≡ slice_index_or l.down k false;
+      within : l.place ≤ length l.events.items;
+      early : (i : ℕ) (d : Event) → i < l.place → (slice_index_or l.events.items i d).step ≤ l.step;
+      up_to : IsUpTo l.self l.events.items l.fn.known.until l.place l.down;
     }
 
-abbrev pub decreases-loop-until : goal.decreases-loop-until
-decreases-loop-until l = l.step + 1 - l.until
+abbrev pub decreases-loop-place : goal.decreases-loop-place
+decreases-loop-place l = length l.events.items - l.place

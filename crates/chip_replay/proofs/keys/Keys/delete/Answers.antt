@@ -1,12 +1,17 @@
-use Rattle.std.proofs.Common.{◌≡◌, ◌+◌, ◌<◌, true, None, cond, length, is_some, sym, ap, ◌∙◌}
+use Rattle.std.proofs.Common.{◌≡◌, ◌+◌, ◌<◌, None, cond, length, is_some, sym, ap, ◌∙◌}
 use Rattle.std.specs.FinMap as map
-use Rattle.std.proofs.lemmas.Bool.{false≢true}
 use Rattle.chip_replay.specs.declared.keys.Moment.{Moment}
 use Rattle.chip_replay.specs.Keys.{Events, event_at, edit_fault}
 use Rattle.chip_replay.proofs.Moments.{one_removed, len_removed}
 use Rattle.chip_replay.proofs.KeyFacts.{says_set, event_at-remove, there_if_no_fault, key_if_no_fault}
 use Rattle.chip_replay.proofs.keys.Keys.delete.Goals as goal
-use Rattle.chip_replay.proofs.keys.Keys.delete.Goals.{in-Ok, in-Err}
+
+pub remove-requires-2-clause-there : goal.remove-requires-2-clause-there
+remove-requires-2-clause-there c =
+    let no_fault : edit_fault c.args.self.now c.args.step c.args.key ≡ None = sym c.edit_fault.ensures ∙ c.in_default.is in
+    let in_range : c.args.key < 16 = key_if_no_fault c.args.self.now c.args.step c.args.key no_fault in
+    ap is_some (c.self.invariant.1 c.args.step c.args.key in_range ∙ ap (λ (e : Events). event_at e c.args.step c.args.key) c.self.view_is)
+    ∙ there_if_no_fault c.args.self.now c.args.step c.args.key no_fault
 
 pub invariant_of-self : goal.invariant_of-self
 invariant_of-self c =
@@ -15,23 +20,14 @@ invariant_of-self c =
     let fs = c.remove.new.self.entries in
     let before : Events = map.from_entries es in
     let later : Events = map.from_entries fs in
-    let is : later ≡ map.remove before m = one_removed es fs m c.remove.ensures.updates.0 in
-    let no_fault : edit_fault c.args.self.now c.args.step c.args.key ≡ None = sym c.edit_fault.ensures ∙ c.in_default.is in
-    let there : is_some (event_at c.args.self.now c.args.step c.args.key) ≡ true = there_if_no_fault c.args.self.now c.args.step c.args.key no_fault in
-    let in_range : c.args.key < 16 = key_if_no_fault c.args.self.now c.args.step c.args.key no_fault in (
+    let is : later ≡ map.remove before m = one_removed es fs m c.remove.ensures.updates.0 in (
       len_removed es fs m is c.self.invariant.0 (ap (λ o. length fs + cond (is_some o) 1 0) (sym c.remove.ensures.value) ∙ c.remove.ensures.len),
-      elim c.match-set.branch [
-        | in-Ok w ↦ says_set before later c.self.inside.steps.changes.entries c.set.new.self.changes.entries c.args.step c.args.key _ c.self.invariant.1 w.in-Ok.ensures.ok
-            (λ s k. ap (λ (e : Events). event_at e s k) is ∙ event_at-remove before c.args.step c.args.key s k)
-        | in-Err w ↦ absurd (false≢true (
-            ap is_some (sym (w.in-Err.ensures.absent c.args.key) ∙ c.self.invariant.1 c.args.step c.args.key in_range ∙ ap (λ (e : Events). event_at e c.args.step c.args.key) c.self.view_is) ∙ there))
-      ],
+      says_set before later c.self.inside.steps.events.items c.remove-2.new.self.events.items c.args.step c.args.key _ c.self.invariant.1 c.remove-2.ensures.set
+          (λ s k. ap (λ (e : Events). event_at e s k) is ∙ event_at-remove before c.args.step c.args.key s k),
+      c.remove-2.ensures.in_order,
     )
 
 pub returns-clause-ok : goal.returns-clause-ok
 returns-clause-ok c =
     let m : Moment = record { step = c.args.step; key = c.args.key } in
-    elim c.match-set.branch [
-      | in-Ok w ↦ rw w.result-is (one_removed c.self.inside.events.entries c.remove.new.self.entries m c.remove.ensures.updates.0 ∙ ap (λ (e : Events). map.remove e m) c.self.view_is)
-      | in-Err w ↦ rw w.result-is tt
-    ]
+    one_removed c.self.inside.events.entries c.remove.new.self.entries m c.remove.ensures.updates.0 ∙ ap (λ (e : Events). map.remove e m) c.self.view_is
