@@ -173,6 +173,7 @@ fn with_registers(top: u16, x: Reg, y: Reg, n: u8) -> u16
 }
 
 /// The instruction of a word, if it is the word of one.
+#[inline(always)]
 #[tactic(auto, unfolding(crate::specs::Decoding::decode_of))]
 pub fn decode(w: u16) -> Option<Instr>
     ensures value { result ≡ decode_of w }
@@ -182,6 +183,7 @@ pub fn decode(w: u16) -> Option<Instr>
     instr_of(w)
 }
 
+#[inline(always)]
 fn instr_of(w: u16) -> Option<Instr>
     ensures found { IfSome result (λ i. Fits i × (word_of i ≡ w)) }
     ensures value { result ≡ instr_at w }
