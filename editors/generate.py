@@ -78,7 +78,7 @@ class Words:
             if name.endswith("_argument")
         }
         top = functions["chipbench"]
-        order = re.findall(r"(\w+_command)\(alloc\)", top)
+        order = re.findall(r"\.subcommand\((\w+_command)\(alloc\)", text)
         self.about = re.search(r'\.about\(\s*"(.*?)"', top).group(1)
         self.commands = [Command(functions[name], arguments) for name in order]
         debug = next(command for command in self.commands if command.name == "debug")
