@@ -1,8 +1,9 @@
 -- The table of names: what is found in it.
-use Rattle.std.proofs.Common.{◌≡◌, ◌+◌, ℕ, ℤ, Bool, true, false, cond, List, [], ◌∷◌, map, refl, ap, sym, ◌∙◌, Option, Some, None, option_map, option_to_list, drop, take, slice_get, zero, suc, ◌++◌, arith, length, unwrap_or, ◌<◌, ◌≤◌, IfSome, nat_lt}
+use Rattle.std.proofs.Common.{◌≡◌, ◌+◌, ℕ, ℤ, Bool, true, false, cond, List, [], ◌∷◌, map, refl, ap, sym, ◌∙◌, Option, Some, None, option_map, option_to_list, drop, take, slice_get, zero, suc, ◌++◌, arith, length, unwrap_or, ◌<◌, ◌≤◌, IfSome, nat_lt, subst}
 use Rattle.std.specs.Str.{bytes_eq}
 use Rattle.std.specs.Map.{lookup, keys_of}
-use Rattle.std.specs.List.{position_or_len, position}
+use Rattle.std.specs.List.{position_or_len, position, IsDistinct, AllByRecursion}
+use Rattle.std.proofs.lemmas.Slice.Eq.{bytes_eq-Decides}
 use Rattle.std.proofs.lemmas.Bool.Decides.{nat_tests}
 use Rattle.indexmap.specs.IndexMap.{set_value_at}
 use Rattle.std.specs.Ordering.{nat_cmp}
@@ -155,3 +156,71 @@ new-taken n m old made entry e long =
 pub lookup-first : (name : Name) (n : ℕ) (old cut : List (Vec ℕ × Symbol)) (names : List (Name × Symbol)) → map seen (take n old) ≡ names → cut ≡ take n old → lookup_name names name ≡ None
     → lookup (λ (k : Vec ℕ). bytes_eq name k.items) cut ≡ None
 lookup-first name n old cut names view is none = ap (lookup (λ (k : Vec ℕ). bytes_eq name k.items)) is ∙ lookup-seen name (take n old) ∙ ap (λ t. lookup_name t name) view ∙ none
+
+-- distinct keys
+
+all-at : {X : Type 0} (P : X → Type 0) (xs : List X) (i : ℕ) (x : X) → AllByRecursion P xs → slice_get xs i ≡ Some x → P x
+all-at P [] i x a e = cc
+all-at P (y ∷ ys) zero x a e = (let same : y ≡ x = cc in subst P same a.0)
+all-at P (y ∷ ys) (suc i) x a e = all-at P ys i x a.1 e
+
+-- whether two keys have the same bytes
+abbrev pub same_bytes : Vec ℕ → Vec ℕ → Bool
+same_bytes x y = bytes_eq x.items y.items
+
+other-way : (x y : Vec ℕ) (b : Bool) → same_bytes x y ≡ false → bytes_eq y.items x.items ≡ b → b ≡ false
+other-way x y false e h = refl
+other-way x y true e h =
+    let same : y.items ≡ x.items = (bytes_eq-Decides y.items x.items).0 h in
+    let back : same_bytes x y ≡ true = (bytes_eq-Decides x.items y.items).1 (sym same) in
+    sym back ∙ e
+
+before-other : (x : Vec ℕ × Symbol) (xs : List (Vec ℕ × Symbol)) (i : ℕ) (e : Vec ℕ × Symbol) → IsDistinct same_bytes (keys_of (x ∷ xs)) → slice_get xs i ≡ Some e → bytes_eq e.0.items x.0.items ≡ false
+unfolding IsDistinct
+before-other x xs i e d at =
+    let there : slice_get (keys_of xs) i ≡ Some e.0 = slice_get-map (λ (e : Vec ℕ × Symbol). e.0) xs i ∙ ap (option_map (λ (e : Vec ℕ × Symbol). e.0)) at in
+    other-way x.0 e.0 (bytes_eq e.0.items x.0.items) (all-at (λ y. same_bytes x.0 y ≡ false) (keys_of xs) i e.0 d.0 there) refl
+
+-- a key isn't among those before it
+pub none-before : (entries : List (Vec ℕ × Symbol)) (n : ℕ) (e : Vec ℕ × Symbol) → IsDistinct same_bytes (keys_of entries) → slice_get entries n ≡ Some e
+    → lookup (λ (k : Vec ℕ). bytes_eq e.0.items k.items) (take n entries) ≡ None
+unfolding IsDistinct
+none-before entries zero e d at = refl
+none-before [] (suc n) e d at = refl
+none-before (x ∷ xs) (suc n) e d at = rw (before-other x xs n e d at) (none-before xs n e d.1 at)
+
+past-end : {X : Type 0} (xs : List X) (i : ℕ) → slice_get xs i ≡ None → length xs ≤ i
+past-end [] i e = omega arith
+past-end (x ∷ xs) zero e = cc
+past-end (x ∷ xs) (suc i) e = (let rest = past-end xs i e in omega arith)
+
+-- the name of the entry after the first ones isn't among theirs
+pub next-missing : (entries : List (Vec ℕ × Symbol)) (names : List (Name × Symbol)) (n : ℕ) (name : Name) → n < length entries → map seen (take n entries) ≡ names
+    → IsDistinct same_bytes (keys_of entries) → IfSome (slice_get entries n) (λ e. e.0.items ≡ name) → lookup_name names name ≡ None
+next-missing entries names n name inside view distinct same = by (slice_get entries n) refl same
+  where
+    by : (o : Option (Vec ℕ × Symbol)) → slice_get entries n ≡ o → IfSome o (λ e. e.0.items ≡ name) → lookup_name names name ≡ None
+    by None e h = absurd (let k = past-end entries n e in omega arith)
+    by (Some e) is h =
+        ap (λ t. lookup_name t name) (sym view) ∙ sym (lookup-seen name (take n entries))
+        ∙ ap (λ m. lookup (λ (k : Vec ℕ). bytes_eq m k.items) (take n entries)) (sym h) ∙ none-before entries n e distinct is
+
+-- an entry among the first ones is found by its name
+found-at : (entries : List (Vec ℕ × Symbol)) (n i : ℕ) (e : Vec ℕ × Symbol) → i < n → IsDistinct same_bytes (keys_of entries) → slice_get entries i ≡ Some e
+    → lookup (λ (k : Vec ℕ). bytes_eq e.0.items k.items) (take n entries) ≡ Some e.1
+unfolding IsDistinct
+found-at entries zero i e h d at = absurd (omega arith)
+found-at [] (suc n) i e h d at = cc
+found-at (x ∷ xs) (suc n) zero e h d at =
+    let same : x ≡ e = cc in
+    let own : bytes_eq e.0.items e.0.items ≡ true = (bytes_eq-Decides e.0.items e.0.items).1 refl in
+    rw (same, own) refl
+found-at (x ∷ xs) (suc n) (suc i) e h d at = rw (before-other x xs i e d at) (found-at xs n i e (omega arith) d.1 at)
+
+pub value-at : (entries : List (Vec ℕ × Symbol)) (names : List (Name × Symbol)) (n i : ℕ) (e : Vec ℕ × Symbol) (name : Name) → i < n → map seen (take n entries) ≡ names
+    → IsDistinct same_bytes (keys_of entries) → Some e ≡ slice_get entries i → e.0.items ≡ name → Some e.1.value ≡ value_of_name (values_of names) name
+value-at entries names n i e name h view distinct at same =
+    let found : lookup_name names name ≡ Some e.1
+    = ap (λ t. lookup_name t name) (sym view) ∙ sym (lookup-seen name (take n entries))
+    ∙ ap (λ m. lookup (λ (k : Vec ℕ). bytes_eq m k.items) (take n entries)) (sym same) ∙ found-at entries n i e h distinct (sym at) in
+    sym (value-of-name names name ∙ ap (option_map (λ (s : Symbol). s.value)) found)

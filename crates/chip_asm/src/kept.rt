@@ -17,6 +17,7 @@ ghost use Rattle.chip_asm.specs.Kept.{AreCurrent, HasCodeAt, IsMerged, IsKept};
 use crate::changed::Changed;
 use crate::edit::{Edit, make_edit, replace_line};
 use crate::effect::has_same_effect;
+use crate::hints::{fill_hints, note_hints, shift_hints};
 use crate::image::{clear, count_of, fill_up, kept_bytes, kept_fault, write_line, write_lines};
 use crate::kept_line::{KeptLine, with_code};
 use crate::layout::Layout;
@@ -35,6 +36,9 @@ pub(crate) struct Kept {
     pub(crate) layout: Layout,
     /// The layout before the last edit, for its room.
     pub(crate) spare: Layout,
+    /// At the place of each line that uses one name: where the name stood in the table of names when it was looked for last. Nothing
+    /// but speed rests on it.
+    pub(crate) hints: Vec<usize>,
     /// The byte at each address from `IMAGE_START` on, also where a line has a fault. Empty until there is a line.
     pub(crate) image: Vec<u8>,
     /// How many lines have a fault.
@@ -58,6 +62,7 @@ impl Kept {
             lines: Vec::new(alloc),
             layout: Layout::new(alloc),
             spare: Layout::new(alloc),
+            hints: Vec::new(alloc),
             image: Vec::new(alloc),
             faults: 0,
         }
@@ -214,6 +219,7 @@ impl Kept {
     {
         let prepared = self.prepare(alloc, meter, &edit)?;
         same_code();
+        shift_hints(&mut self.hints, &edit);
         make_edit(&mut self.lines, edit);
         self.settle(prepared);
         Ok(Changed {
@@ -248,9 +254,18 @@ impl Kept {
     {
         self.lines.reserve(1)?;
         fill_up(&mut self.image)?;
+        fill_hints(&mut self.hints, self.lines.len())?;
         let spare = mem::replace(&mut self.spare, Layout::new(alloc));
         let layout = Layout::after(alloc, spare, &self.lines, edit)?;
-        let codes = recode(alloc, meter, &self.lines, edit, &self.layout, &layout)?;
+        let codes = recode(
+            alloc,
+            meter,
+            &self.lines,
+            &self.hints,
+            edit,
+            &self.layout,
+            &layout,
+        )?;
         Ok(Prepared { layout, codes })
     }
 
@@ -266,6 +281,7 @@ impl Kept {
         ensures kept { IsKept self.new }
     {
         let Prepared { layout, codes } = prepared;
+        note_hints(&mut self.hints, &self.lines, &codes, &layout.names);
         write_codes(&mut self.lines, codes);
         self.spare = mem::replace(&mut self.layout, layout);
         clear(&mut self.image);

@@ -6,6 +6,7 @@ mod changed;
 mod cut;
 mod edit;
 mod effect;
+mod hints;
 mod image;
 mod kept;
 mod kept_line;

@@ -155,7 +155,7 @@ impl Pass {
         ensures { result ≡ is_redefinition self.now.names (name_defined (seen_line line.now)) }
     {
         match defines(line) {
-            Some(name) => self.names.symbol(name).is_some(),
+            Some(name) => !self.names.is_next(name) && self.names.symbol(name).is_some(),
             None => false,
         }
     }

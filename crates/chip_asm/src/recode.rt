@@ -12,6 +12,7 @@ ghost use Rattle.chip_asm.specs.Names.{values_of};
 ghost use Rattle.chip_asm.specs.Kept.{IsMerged};
 
 use crate::edit::{Edit, count_after, line_after, place_before};
+use crate::hints::{Hinted, hint_at};
 use crate::kept_line::KeptLine;
 use crate::layout::Layout;
 use crate::limits::MOST_LINES;
@@ -42,12 +43,24 @@ fn is_placed_at(placements: &[Placement], place: usize) -> bool
     }
 }
 
-/// Whether each name of a line has one value, or none, under both layouts. The names need no search where none was moved.
-fn keeps_values(old: &Layout, new: &Layout, unmoved: bool, line: &Line) -> bool
+/// Whether each name of a line has one value, or none, under both layouts. The names need no search where none was moved, and hardly one
+/// where they stand at the hint.
+fn keeps_values(old: &Layout, new: &Layout, unmoved: bool, line: &Line, hint: usize) -> bool
     requires { unmoved ≡ true → values_of old.now.names ≡ values_of new.now.names }
     ensures { result ≡ agree_on (values_of old.now.names) (values_of new.now.names) (seen_line line.now) }
 {
-    unmoved || agree_on(line, &old.names, &new.names)
+    if unmoved {
+        return true;
+    }
+    let before = Hinted {
+        table: &old.names,
+        hint,
+    };
+    let after = Hinted {
+        table: &new.names,
+        hint,
+    };
+    agree_on(line, &before, &after)
 }
 
 /// Whether the line at a place of the new source has to be encoded again.
@@ -59,6 +72,7 @@ fn is_encoded_again(
     edit: &Edit,
     place: usize,
     line: &Line,
+    hints: &[usize],
 ) -> bool
     requires place { place ≤ MOST_LINES }
     requires unmoved { unmoved ≡ true → values_of old.now.names ≡ values_of new.now.names }
@@ -70,7 +84,8 @@ fn is_encoded_again(
     }
     match place_before(edit, place) {
         Some(before) => {
-            !(is_placed_at(&old.placements, before) && keeps_values(old, new, unmoved, line))
+            !(is_placed_at(&old.placements, before)
+                && keeps_values(old, new, unmoved, line, hint_at(hints, before)))
         }
         None => true,
     }
@@ -140,6 +155,7 @@ pub(crate) fn recode(
     alloc: Global,
     meter: &mut Meter,
     lines: &[KeptLine],
+    hints: &[usize],
     edit: &Edit,
     old: &Layout,
     new: &Layout,
@@ -157,7 +173,7 @@ pub(crate) fn recode(
     let mut codes = Vec::new(alloc);
     for place in 0..count {
         let line = line_after(&*lines, &*edit, place);
-        let again = is_encoded_again(old, new, unmoved, edit, place, line);
+        let again = is_encoded_again(old, new, unmoved, edit, place, line, hints);
         push_code_if(again, alloc, meter, &mut codes, place, line, &new.names)?;
     }
     Ok(codes)

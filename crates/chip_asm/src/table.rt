@@ -2,6 +2,7 @@
 ghost use Rattle.std.specs.Prelude.{◌≡◌, ◌≢◌, ◌++◌, [], ◌∷◌, OnOk, IfOk, IfSome, None, Some, true, false, length, map, slice_get, ◌<◌};
 ghost use Rattle.std.specs.Str.{bytes_eq};
 ghost use Rattle.chip_lang.specs.Line.{upper};
+ghost use Rattle.chip_lang.specs.Value.{value_of_name};
 ghost use Rattle.chip_asm.specs.Names.{lookup_name, valued, values_of};
 
 use chip_lang::{Bytes, Names};
@@ -101,6 +102,38 @@ impl Table {
                 }
             }
             None => None,
+        }
+    }
+
+    /// Whether a name is that of the next entry, which doesn't count yet: then it is no name of the table.
+    pub(crate) fn is_next(&self, name: &[u8]) -> bool
+        ensures { result ≡ true → lookup_name self.now name.now ≡ None }
+    {
+        self.count < self.symbols.len() && is_key_at(&self.symbols, self.count, name)
+    }
+
+    /// The value of a name, looked for first at an index where it may stand.
+    pub(crate) fn value_near(&self, hint: usize, name: &[u8]) -> Option<i32>
+        ensures { result ≡ value_of_name (values_of self.now) name.now }
+    {
+        if hint < self.symbols.len() && hint < self.count {
+            if let Some((key, symbol)) = self.symbols.get_index(hint) {
+                if key.as_slice() == name {
+                    return Some(symbol.value);
+                }
+            }
+        }
+        self.value(name)
+    }
+
+    /// An index at which `value_near` finds a name at once, if the name is there.
+    pub(crate) fn index_near(&self, hint: usize, name: &[u8]) -> usize {
+        if hint < self.symbols.len() && is_key_at(&self.symbols, hint, name) {
+            return hint;
+        }
+        match self.symbols.get_index_of(name) {
+            Some(index) => index,
+            None => hint,
         }
     }
 

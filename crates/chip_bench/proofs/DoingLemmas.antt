@@ -8,9 +8,11 @@ use Rattle.std.specs.declared.io.Error.{Error as IoError}
 use Rattle.chip_asm.specs.Lines.{open_fault}
 use Rattle.chip_lang.specs.declared.limits.TheConstants.{IMAGE_BYTES}
 use Rattle.chip_views.specs.Dis.{source_of_image}
-use Rattle.chip_bench.specs.Doing.{Assembles, AssemblesBy, Checks, Debugs, Declined, Disassembles, DisassemblesBytes, Does, Explains, FromKeys, FromSource, GivesSource, IfSettled, IsAsked, IsFileWritten, IsImageHindered, IsImageOrFaults, IsKeysUnread, IsShort, IsSourceUnread, IsUnasked, IsUnsettled, Lists, Outcome, Runs, WithAsked, image_in}
+use Rattle.chip_bench.specs.Doing.{Assembles, AssemblesBy, Checks, Debugs, Declined, Disassembles, DisassemblesBytes, Does, Explains, FromKeys, FromSource, GivesSource, IfSettled, IsAsked, IsFileWritten, IsImageHindered, IsImageOrFaults, IsKeysUnread, IsShort, IsSourceUnread, IsUnasked, IsUnsettled, Lists, Outcome, Pictures, PicturesBy, PrintsPicture, Runs, WithAsked, image_in}
 use Rattle.chip_bench.specs.Pages.{IsPageText}
-use Rattle.chip_bench.specs.Printing.{Prints, PrintsUnder, check_of_lines, listing_of_lines, printed, printed_of, run_of}
+use Rattle.chip_bench.specs.Printing.{Prints, PrintsUnder, check_of_lines, listing_of_lines, picture_at, printed, printed_of, run_of}
+use Rattle.chip_bench.specs.declared.command_line.PictureWords.{PictureWords}
+use Rattle.chip_bench.specs.declared.question.PictureForm.{PictureForm}
 use Rattle.chip_bench.specs.Running.{AnswersScript, IsUnread}
 use Rattle.chip_bench.specs.Settings.{SessionSettings}
 use Rattle.chip_bench.specs.SettingWords.{settings_asked}
@@ -113,7 +115,7 @@ module _ {R : Type 0} (remaining : R → Option (List ℕ)) (in_old in_new : Tal
   asked_then asked is did =
       asked_next remaining in_old in_new (Unit {0}) V (Ok Done) ended (λ Why h. absurd h) words
       (λ settings keys source done. (settings ≡ asked.settings) × (keys ≡ asked.keys.bytes.items) × (source ≡ asked.source.items)) Did
-      (λ settings keys source e. rw (e.0, e.1, e.2) did) is
+      (λ settings keys source e. rw (e.0, e.1, e.2) did) is.0
 
   -- they weren't
   pub asked_not : (quiet : V) (why : Failure) → ended ≡ Err why → IsUnasked remaining in_old in_new words why →
@@ -291,15 +293,17 @@ module _ {R : Type 0} (remaining : R → Option (List ℕ)) (in_old in_new : Tal
   -- what a run's words ask for was read
   pub asked_is : (asked : Asked) → settings_asked words.settings ≡ Some asked.settings → (words.keys ≡ None → asked.keys.bytes.items ≡ []) →
       GivesSource remaining in_old in_new words.source.now asked.source.items → IsAsked remaining in_old in_new words asked
-  asked_is asked settled keys gives =
-      settles remaining in_old in_new (Unit {0}) tt (settings_asked words.settings) asked.settings
-      (λ settings. FromKeys remaining in_old in_new (Unit {0}) words.keys (λ keys. FromSource remaining in_old in_new (Unit {0}) words.source
-      (λ source ended. (settings ≡ asked.settings) × (keys ≡ asked.keys.bytes.items) × (source ≡ asked.source.items))))
-      (Ok Done) settled
-      (keys_read remaining in_old in_new (Unit {0}) tt words.keys asked.keys.bytes.items
-      (λ keys. FromSource remaining in_old in_new (Unit {0}) words.source
-      (λ source ended. (asked.settings ≡ asked.settings) × (keys ≡ asked.keys.bytes.items) × (source ≡ asked.source.items))) (Ok Done) keys
-      (inl (asked.source.items, gives, (refl, refl, refl))))
+  asked_is asked settled keys gives = (
+    settles remaining in_old in_new (Unit {0}) tt (settings_asked words.settings) asked.settings
+        (λ settings. FromKeys remaining in_old in_new (Unit {0}) words.keys (λ keys. FromSource remaining in_old in_new (Unit {0}) words.source
+        (λ source ended. (settings ≡ asked.settings) × (keys ≡ asked.keys.bytes.items) × (source ≡ asked.source.items))))
+        (Ok Done) settled
+        (keys_read remaining in_old in_new (Unit {0}) tt words.keys asked.keys.bytes.items
+        (λ keys. FromSource remaining in_old in_new (Unit {0}) words.source
+        (λ source ended. (asked.settings ≡ asked.settings) × (keys ≡ asked.keys.bytes.items) × (source ≡ asked.source.items))) (Ok Done) keys
+        (inl (asked.source.items, gives, (refl, refl, refl)))),
+    settled,
+  )
 
   -- the source wasn't
   pub unasked_source : {T : Type 0} (settings : SessionSettings) (bytes : List ℕ) (result : Result T Failure) (why : Failure) → result ≡ Err why →
@@ -313,3 +317,40 @@ module _ {R : Type 0} (remaining : R → Option (List ℕ)) (in_old in_new : Tal
       (keys_read remaining in_old in_new (Unit {0}) tt words.keys bytes
       (λ keys. FromSource remaining in_old in_new (Unit {0}) words.source (λ source ended. ⊥)) (Err why) keys
       (source_unread remaining in_old in_new (Unit {0}) tt words.source (λ source ended. ⊥) (Err why) why refl w)))
+
+module _ {W : Type 0} (contents : W → Option (List ℕ)) (old new : Tally W) where
+  -- there are no settings for a picture
+  pub picture_unsettled : (asked : Option SessionSettings) (source keys : List ℕ) (step : ℕ) (form : PictureForm) (ended : Outcome) (why : Failure) →
+      ended ≡ Err why → Unsettles asked why → new ≡ old → PrintsPicture contents old new asked source keys step form ended
+  picture_unsettled None source keys step form ended why e (inl m) same = (fails IsUnsettled ended why e (inr m), same)
+  picture_unsettled None source keys step form ended why e (inr b) same = (fails IsUnsettled ended why e (inl b.0), same)
+  picture_unsettled (Some settings) source keys step form ended why e (inl m) same = inr (fails IsShort ended why e m, same)
+  picture_unsettled (Some settings) source keys step form ended why e (inr b) same = absurd (some_is_none b.1)
+    where
+      some_is_none : Some settings ≡ None → ⊥
+      some_is_none h = cc
+
+  pub picture_printed : (asked : Option SessionSettings) (settings : SessionSettings) (source keys text events : List ℕ) (step : ℕ) (form : PictureForm)
+      (ended : Outcome) → asked ≡ Some settings → text ≡ source → events ≡ keys →
+      PrintsUnder contents old new settings text events (λ session. picture_at session step form) ended →
+      PrintsPicture contents old new asked source keys step form ended
+  picture_printed asked settings source keys text events step form ended a s k did = rw (a, sym s, sym k) (inl did)
+
+module _ {R W : Type 0} (remaining : R → Option (List ℕ)) (contents : W → Option (List ℕ)) (in_old in_new : Tally R) (old new : Tally W)
+    (words : PictureWords) (ended : Outcome) where
+  -- a picture's words were read, and then this was done
+  pub pictures : (asked : Asked) (bitmap png : Option (Bor (List ℕ))) → IsAsked remaining in_old in_new words.run asked → words.bitmap ≡ bitmap →
+      words.png ≡ png →
+      PicturesBy contents old new (settings_asked words.run.settings) asked.source.items asked.keys.bytes.items words bitmap png ended →
+      Pictures remaining contents in_old in_new old new words ended
+  pictures asked bitmap png is b p did =
+      asked_then remaining in_old in_new (new ≡ old) words.run
+      (λ settings keys source. PicturesBy contents old new (Some settings) source keys words words.bitmap words.png) ended asked is
+      (rw (sym is.1, b, p) did)
+
+  -- they couldn't be
+  pub pictures_not : (why : Failure) → new ≡ old → ended ≡ Err why → IsUnasked remaining in_old in_new words.run why →
+      Pictures remaining contents in_old in_new old new words ended
+  pictures_not why same e is =
+      asked_not remaining in_old in_new (new ≡ old) words.run
+      (λ settings keys source. PicturesBy contents old new (Some settings) source keys words words.bitmap words.png) ended same why e is

@@ -2,7 +2,7 @@
 --     IsSourceUnread, IsUnwritten, IsFileWritten   what hinders reading a source or writing a file; that it was written
 --     GivesSource                    the bytes of a source of that name
 --     FromSource, FromFile, FromKeys, WithAsked    what a command did with the bytes that it read, or why it read none
---     Debugs, Assembles, Lists, Checks, Disassembles, Runs, Explains    what each command did
+--     Debugs, Assembles, Lists, Checks, Disassembles, Runs, Pictures, Explains    what each command did
 --     Does                           the same, by what was asked
 --     Performs, ShowsVersion         the same, for the words of the command line
 --     Ends                           how the program ended after that
@@ -18,14 +18,17 @@ use Rattle.chip_asm.specs.declared.refusal.OpenError.{OpenError}
 use Rattle.chip_lang.specs.declared.limits.TheConstants.{IMAGE_BYTES}
 use Rattle.chip_views.specs.Dis.{source_of_image}
 use Rattle.chip_bench.specs.CommandWords.{AsksFor}
+use Rattle.chip_bench.specs.KeyFile.{key_fault, session_under}
+use Rattle.chip_bench.specs.Session.{session_of}
 use Rattle.chip_bench.specs.Pages.{IsContents, IsPageText, version_text}
-use Rattle.chip_bench.specs.Printing.{PrintsUnder, Prints, check_of_lines, faults_of_lines, listing_of_lines, printed, printed_of, run_of}
+use Rattle.chip_bench.specs.Printing.{Printed, PrintsUnder, Prints, RefusesKeys, check_of_lines, fault_under, faults_of_lines, listing_of_lines, picture_at, printed, printed_of, run_of}
 use Rattle.chip_bench.specs.Running.{AnswersIfAsked, AnswersScript, IsUnread, source_bytes_read, status_of}
 use Rattle.chip_bench.specs.SettingWords.{settings_asked}
 use Rattle.chip_bench.specs.Settings.{SessionSettings}
 use Rattle.chip_bench.specs.Tally.{Tally}
 use Rattle.chip_bench.specs.declared.command_line.CommandLine.{CommandLine}
 use Rattle.chip_bench.specs.declared.command_line.CommandLine.TheVariants as line
+use Rattle.chip_bench.specs.declared.command_line.PictureWords.{PictureWords}
 use Rattle.chip_bench.specs.declared.command_line.RunWords.{RunWords}
 use Rattle.chip_bench.specs.declared.command_line.SettingWords.{SettingWords}
 use Rattle.chip_bench.specs.declared.ending.Ending.{Ending}
@@ -33,6 +36,8 @@ use Rattle.chip_bench.specs.declared.ending.Ending.TheVariants.{Done, Faulty}
 use Rattle.chip_bench.specs.declared.ending.Failure.{Failure}
 use Rattle.chip_bench.specs.declared.ending.Failure.TheVariants as failure
 use Rattle.chip_bench.specs.declared.entry.Asked.{Asked}
+use Rattle.chip_bench.specs.declared.question.PictureForm.{PictureForm}
+use Rattle.chip_bench.specs.declared.question.PictureForm.TheVariants as form
 
 abbrev pub Outcome : Type 0
 Outcome = Result Ending Failure
@@ -117,6 +122,7 @@ module _ {R : Type 0} (remaining : R → Option (List ℕ)) (in_old in_new : Tal
   IsAsked words asked =
       WithAsked remaining in_old in_new (Unit {0}) words (λ settings keys source ended.
       (settings ≡ asked.settings) × (keys ≡ asked.keys.bytes.items) × (source ≡ asked.source.items)) (Ok Done)
+      × (settings_asked words.settings ≡ Some asked.settings)
 
   -- for private contracts: it couldn't be read
   abbrev pub IsUnasked : RunWords → Failure → Type 0
@@ -152,6 +158,40 @@ module _ {W : Type 0} (contents : W → Option (List ℕ)) (out_old out_new : Ta
   pub record DisassemblesBytes (name : Bor (List ℕ)) (image : List ℕ) (ended : Outcome) : Type 0 where
     pub fits : length image ≤ IMAGE_BYTES → Prints contents out_old out_new (printed (source_of_image image) Done) ended
     pub too_long : IMAGE_BYTES < length image → Fails (IsUnread name) ended
+
+  -- `picture` without a file: the picture is printed
+  abbrev pub PrintsPicture : Option SessionSettings → List ℕ → List ℕ → ℕ → PictureForm → Outcome → Type 0
+  PrintsPicture None source keys step form ended = Fails IsUnsettled ended
+  PrintsPicture (Some settings) source keys step form ended =
+      PrintsUnder contents out_old out_new settings source keys (λ session. picture_at session step form) ended ⊎ Fails IsShort ended
+
+  -- with one: where there is a picture, its file was written, or couldn't be; else what there is in its place is printed
+  abbrev pub WritesBy : Ending → Printed → Bor (List ℕ) → Outcome → Type 0
+  WritesBy Done wanted name ended = IsFileWritten name ended × (out_new ≡ out_old)
+  WritesBy Faulty wanted name ended = Prints contents out_old out_new wanted ended
+
+  abbrev pub WritesUnless : Option (ℕ × List ℕ) → Printed → Bor (List ℕ) → Outcome → Type 0
+  WritesUnless None wanted name ended = WritesBy wanted.ending wanted name ended
+  WritesUnless (Some line) wanted name ended = RefusesKeys contents out_old out_new line ended
+
+  abbrev pub WritesPicture : Option SessionSettings → List ℕ → List ℕ → ℕ → PictureForm → Bor (List ℕ) → Outcome → Type 0
+  WritesPicture None source keys step form name ended = Fails IsUnsettled ended
+  WritesPicture (Some settings) source keys step form name ended =
+      WritesUnless (fault_under (open_fault source) (key_fault (session_of settings source) keys))
+      (printed_of (open_fault source) (picture_at (session_under (session_of settings source) keys) step form)) name ended
+      ⊎ Fails IsShort ended
+
+  -- both: the second where the first was written
+  abbrev pub PicturesBy : Option SessionSettings → List ℕ → List ℕ → PictureWords → Option (Bor (List ℕ)) → Option (Bor (List ℕ)) → Outcome → Type 0
+  PicturesBy settings source keys words None None ended =
+      PrintsPicture settings source keys words.run.steps (form.Text words.letters) ended
+  PicturesBy settings source keys words (Some bitmap) None ended =
+      WritesPicture settings source keys words.run.steps form.Bitmap bitmap ended
+  PicturesBy settings source keys words None (Some png) ended =
+      WritesPicture settings source keys words.run.steps form.Png png ended
+  PicturesBy settings source keys words (Some bitmap) (Some png) ended =
+      (WritesPicture settings source keys words.run.steps form.Bitmap bitmap ended × (ended ≢ Ok Done))
+      ⊎ WritesPicture settings source keys words.run.steps form.Png png ended
 
   -- `explain`: the page on the code, where there is one
   abbrev pub ExplainsCode : Bor (List ℕ) → Outcome → Type 0
@@ -204,6 +244,12 @@ module _ {R W : Type 0} (remaining : R → Option (List ℕ)) (contents : W → 
       WithAsked remaining in_old in_new (out_new ≡ out_old) words (λ settings keys source.
       PrintsUnder contents out_old out_new settings source keys (λ session. run_of session words.steps)) ended
 
+  -- `picture`
+  abbrev pub Pictures : PictureWords → Outcome → Type 0
+  Pictures words ended =
+      WithAsked remaining in_old in_new (out_new ≡ out_old) words.run (λ settings keys source.
+      PicturesBy contents out_old out_new (Some settings) source keys words words.bitmap words.png) ended
+
   -- what the program did for what it was asked
   abbrev pub Does : CommandLine → Outcome → Type 0
   Does (line.Debug source words) ended = Debugs source words ended
@@ -212,7 +258,7 @@ module _ {R W : Type 0} (remaining : R → Option (List ℕ)) (contents : W → 
   Does (line.Check source) ended = Checks source ended
   Does (line.Dis image) ended = Disassembles image ended
   Does (line.Run words) ended = Runs words ended
-  Does (line.Picture words) ended = Unit {0}
+  Does (line.Picture words) ended = Pictures words ended
   Does (line.Explain code) ended = Explains contents out_old out_new code ended × (in_new ≡ in_old)
 
   -- what it did for words without a fault: what they ask for, unless there was no memory to read them

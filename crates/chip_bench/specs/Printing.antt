@@ -49,14 +49,6 @@ printed_of None opened = opened
 abbrev pub faults_of_lines : List (List ℕ) → Printed
 faults_of_lines lines = printed (faults_text (faults_of lines)) Faulty
 
--- `asm`: nothing but the faults where there is no image
-abbrev pub unless_image : Option (List ℕ) → Printed → Printed
-unless_image (Some image) faults = printed [] Done
-unless_image None faults = faults
-
-abbrev pub faults_unless_image : List (List ℕ) → Printed
-faults_unless_image lines = unless_image (image_of lines) (faults_of_lines lines)
-
 -- a source without an image is faulty
 abbrev pub ending_with : Option (List ℕ) → Ending
 ending_with (Some image) = Done

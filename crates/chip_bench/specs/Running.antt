@@ -139,10 +139,10 @@ abbrev pub IsUsage : Result Ending Failure → Type 0
 IsUsage (Ok ending) = ⊥
 IsUsage (Err failure) = (failure_status failure ≡ 2) ⊎ (failure_status failure ≡ 4)
 
--- for private contracts: what hinders reading a file of that name
+-- what hinders reading a file of that name
 abbrev pub IsUnread : Bor (List ℕ) → Failure → Type 0
 IsUnread name hindrance = (hindrance ≡ failure.OutOfMemory) ⊎ ((why : IoError) × (hindrance ≡ failure.CannotRead name why))
 
--- for private contracts: how many bytes of a source are read; one of that length or more doesn't open
+-- how many bytes of a source are read; one of that length or more doesn't open
 abbrev pub source_bytes_read : ℕ
 source_bytes_read = SOURCE_BYTES + 1

@@ -7,7 +7,7 @@ ghost use Rattle.chip_bench.specs.Printing.{Prints, printed};
 ghost use Rattle.chip_bench.specs.Settings.{default_settings};
 ghost use Rattle.chip_bench.specs.SettingWords.{settings_asked, tape_asked};
 ghost use Rattle.chip_bench.specs.Running.{AnswersScript, RunsSession, status_of, failure_status, AreFaulty, IsUsage, IsWithoutWords, IsUnread, source_bytes_read};
-ghost use Rattle.chip_bench.specs.Doing.{Assembles, Checks, Debugs, Disassembles, Does, Ends, GivesSource, IsAsked, IsFileWritten, IsKeysUnread, IsSourceUnread, IsUnasked, Lists, Performs, Runs, ShowsVersion};
+ghost use Rattle.chip_bench.specs.Doing.{Assembles, Checks, Debugs, Disassembles, Does, Ends, GivesSource, IsAsked, IsFileWritten, IsKeysUnread, IsSourceUnread, IsUnasked, Lists, Performs, Pictures, PicturesBy, PrintsPicture, Runs, ShowsVersion, WritesPicture};
 ghost use Rattle.chip_bench.specs.CommandWords.{faults_of};
 ghost use Rattle.std.specs.Io.KnownBytes.{Keeps};
 ghost use Rattle.std.specs.IoError.{error_kind};
@@ -58,16 +58,22 @@ pub fn program<F: Files, S: AsStr, I: Read, O: Write, E: Write>(
     output: &mut Counted<O>,
     errors: &mut E,
 ) -> u8
-    ensures session { words.now ≡ [] → RunsSession I.remaining O.contents input.old input.new output.old output.new result }
+    ensures session { words.now ≡ [] → RunsSession I.remaining O.contents input.old input.new
+        output.old output.new result }
     // Words with a fault are refused, and nothing is read or written.
     ensures usage { AreFaulty (faults_of (map S.text words.now)) → ((result ≡ 2) ⊎ (result ≡ 4))
-        × (input.new ≡ input.old) × Keeps (O.contents output.old.inner) (O.contents output.new.inner) }
+        × (input.new ≡ input.old)
+        × Keeps (O.contents output.old.inner) (O.contents output.new.inner) }
     // Words without a fault ask for something, and that is done.
     ensures good { faults_of (map S.text words.now) ≡ [] → Ends O.contents (λ written ended.
-        Performs I.remaining O.contents input.old input.new output.old written (map S.text words.now) ended)
+        Performs I.remaining O.contents input.old input.new output.old written
+        (map S.text words.now) ended)
         output.new result }
-    ensures version { faults_of (map S.text words.now) ≡ ErrorKind.DisplayVersion ∷ [] → Ends O.contents (λ written ended.
-        ShowsVersion I.remaining O.contents input.old input.new output.old written ended) output.new result }
+    // The version's word has the version printed.
+    ensures version { faults_of (map S.text words.now) ≡ ErrorKind.DisplayVersion ∷ []
+        → Ends O.contents (λ written ended.
+        ShowsVersion I.remaining O.contents input.old input.new output.old written ended)
+        output.new result }
 {
     let ended = carry_out(alloc, files, words, input, output);
     let flushed = output.flush();
@@ -136,7 +142,8 @@ fn perform<'a, F: Files, I: Read, O: Write>(
     input: &mut Counted<I>,
     output: &mut Counted<O>,
 ) -> Result<Ending, Failure<'a>>
-    ensures { Does I.remaining O.contents input.old input.new output.old output.new line.entry result }
+    ensures { Does I.remaining O.contents input.old input.new output.old output.new
+        line.entry result }
 {
     match line {
         CommandLine::Debug { source, settings } => {
@@ -216,7 +223,8 @@ fn debug<'a, F: Files, I: Read, O: Write>(
     input: &mut Counted<I>,
     output: &mut Counted<O>,
 ) -> Result<Ending, Failure<'a>>
-    ensures { Debugs I.remaining O.contents input.old input.new output.old output.new source.entry words.now result }
+    ensures { Debugs I.remaining O.contents input.old input.new output.old output.new
+        source.entry words.now result }
 {
     let settings = settings_of(alloc, words)?;
     match source {
@@ -236,7 +244,8 @@ fn asm<'a, F: Files, I: Read, O: Write>(
     input: &mut Counted<I>,
     output: &mut Counted<O>,
 ) -> Result<Ending, Failure<'a>>
-    ensures { Assembles I.remaining O.contents input.old input.new output.old output.new source.entry image.entry result }
+    ensures { Assembles I.remaining O.contents input.old input.new output.old output.new
+        source.entry image.entry result }
 {
     let bytes = read_source(alloc, files, source, input)?;
     let Some(assembled) = image_or_faults(alloc, &bytes, output)? else {
@@ -252,7 +261,8 @@ fn list<'a, F: Files, I: Read, O: Write>(
     input: &mut Counted<I>,
     output: &mut Counted<O>,
 ) -> Result<Ending, Failure<'a>>
-    ensures { Lists I.remaining O.contents input.old input.new output.old output.new source.entry result }
+    ensures { Lists I.remaining O.contents input.old input.new output.old output.new
+        source.entry result }
 {
     let bytes = read_source(alloc, files, source, input)?;
     list_source(alloc, &bytes, output)
@@ -265,7 +275,8 @@ fn check<'a, F: Files, I: Read, O: Write>(
     input: &mut Counted<I>,
     output: &mut Counted<O>,
 ) -> Result<Ending, Failure<'a>>
-    ensures { Checks I.remaining O.contents input.old input.new output.old output.new source.entry result }
+    ensures { Checks I.remaining O.contents input.old input.new output.old output.new
+        source.entry result }
 {
     let bytes = read_source(alloc, files, source, input)?;
     check_source(alloc, source, &bytes, output)
@@ -296,7 +307,8 @@ fn dis<'a, F: Files, I: Read, O: Write>(
     input: &mut Counted<I>,
     output: &mut Counted<O>,
 ) -> Result<Ending, Failure<'a>>
-    ensures { Disassembles I.remaining O.contents input.old input.new output.old output.new image.entry result }
+    ensures { Disassembles I.remaining O.contents input.old input.new output.old output.new
+        image.entry result }
 {
     let bytes = read_source(alloc, files, image, input)?;
     if bytes.len() > IMAGE_BYTES {
@@ -313,7 +325,8 @@ fn run<'a, F: Files, I: Read, O: Write>(
     input: &mut Counted<I>,
     output: &mut Counted<O>,
 ) -> Result<Ending, Failure<'a>>
-    ensures { Runs I.remaining O.contents input.old input.new output.old output.new words.entry.now result }
+    ensures { Runs I.remaining O.contents input.old input.new output.old output.new
+        words.entry.now result }
 {
     let Asked {
         source,
@@ -330,22 +343,20 @@ fn picture<'a, F: Files, I: Read, O: Write>(
     words: &PictureWords<'a>,
     input: &mut Counted<I>,
     output: &mut Counted<O>,
-) -> Result<Ending, Failure<'a>> {
+) -> Result<Ending, Failure<'a>>
+    ensures { Pictures I.remaining O.contents input.old input.new output.old output.new
+        words.now result }
+{
     let asked = read_asked(alloc, files, &words.run, input)?;
     let shot = Shot {
         words: *words,
         asked,
     };
-    if words.bitmap.is_none() && words.png.is_none() {
-        return shot.print(alloc, PictureForm::Text(words.letters), output);
-    }
-    let mut ending = Ending::Done;
-    if let Some(name) = words.bitmap {
-        ending = shot.write(alloc, files, PictureForm::Bitmap, name, output)?;
-    }
-    match (ending, words.png) {
-        (Ending::Done, Some(name)) => shot.write(alloc, files, PictureForm::Png, name, output),
-        _ => Ok(ending),
+    match (words.bitmap, words.png) {
+        (None, None) => shot.print(alloc, PictureForm::Text(words.letters), output),
+        (Some(name), None) => shot.write(alloc, files, PictureForm::Bitmap, name, output),
+        (None, Some(name)) => shot.write(alloc, files, PictureForm::Png, name, output),
+        (Some(bitmap), Some(png)) => shot.write_both(alloc, files, bitmap, png, output),
     }
 }
 
@@ -362,7 +373,11 @@ impl<'a> Shot<'a> {
         alloc: Global,
         form: PictureForm,
         output: &mut Counted<O>,
-    ) -> Result<Ending, Failure<'a>> {
+    ) -> Result<Ending, Failure<'a>>
+        ensures { PrintsPicture O.contents output.old output.new
+            (settings_asked self.now.words.run.settings) self.now.asked.source.items
+            self.now.asked.keys.bytes.items self.now.words.run.steps form result }
+    {
         let settings = settings_of(alloc, &self.words.run.settings)?;
         let steps = self.words.run.steps;
         let asked = &self.asked;
@@ -385,7 +400,11 @@ impl<'a> Shot<'a> {
         form: PictureForm,
         name: &'a str,
         output: &mut Counted<O>,
-    ) -> Result<Ending, Failure<'a>> {
+    ) -> Result<Ending, Failure<'a>>
+        ensures { WritesPicture O.contents output.old output.new
+            (settings_asked self.now.words.run.settings) self.now.asked.source.items
+            self.now.asked.keys.bytes.items self.now.words.run.steps form name.entry result }
+    {
         let mut picture = Counted::new(Vec::new(alloc));
         match self.print(alloc, form, &mut picture) {
             Ok(Ending::Done) => write_image(
@@ -399,6 +418,26 @@ impl<'a> Shot<'a> {
             // A write to memory fails for want of it.
             Err(Failure::Output) => Err(Failure::OutOfMemory),
             Err(failure) => Err(failure),
+        }
+    }
+
+    // Writes a bitmap, and then a PNG picture.
+    fn write_both<F: Files, O: Write>(
+        &self,
+        alloc: Global,
+        files: &F,
+        bitmap: &'a str,
+        png: &'a str,
+        output: &mut Counted<O>,
+    ) -> Result<Ending, Failure<'a>>
+        ensures { PicturesBy O.contents output.old output.new
+            (settings_asked self.now.words.run.settings) self.now.asked.source.items
+            self.now.asked.keys.bytes.items self.now.words (Some bitmap.entry) (Some png.entry)
+            result }
+    {
+        match self.write(alloc, files, PictureForm::Bitmap, bitmap, output) {
+            Ok(Ending::Done) => self.write(alloc, files, PictureForm::Png, png, output),
+            ended => ended,
         }
     }
 }
@@ -418,8 +457,10 @@ fn read_asked<'a, F: Files, I: Read>(
     words: &RunWords<'a>,
     input: &mut Counted<I>,
 ) -> Result<Asked<'a>, Failure<'a>>
-    ensures ok { IfOk result (λ asked. IsAsked I.remaining input.old input.new words.entry.now asked) }
-    ensures err { IfErr result (λ why. IsUnasked I.remaining input.old input.new words.entry.now why) }
+    ensures ok { IfOk result (λ asked. IsAsked I.remaining input.old input.new words.entry.now
+        asked) }
+    ensures err { IfErr result (λ why. IsUnasked I.remaining input.old input.new words.entry.now
+        why) }
 {
     let settings = settings_of(alloc, &words.settings)?;
     let keys = read_keys(alloc, files, words.keys)?;
@@ -459,7 +500,8 @@ fn read_source<'a, F: Files, I: Read>(
     name: &'a str,
     input: &mut Counted<I>,
 ) -> Result<Vec<u8>, Failure<'a>>
-    ensures ok { IfOk result (λ bytes. GivesSource I.remaining input.old input.new name.entry.now bytes.items) }
+    ensures ok { IfOk result (λ bytes. GivesSource I.remaining input.old input.new
+        name.entry.now bytes.items) }
     ensures err { IfErr result (IsSourceUnread name.entry) }
 {
     if name == INPUT {

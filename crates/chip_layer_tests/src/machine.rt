@@ -305,9 +305,9 @@ fn refused_starts(rt: HostRuntime) -> Result<(), Fail> {
     Ok(())
 }
 
-/// So many steps at once, of which the last may tick, with what each address had in the table.
-fn steps(machine: &mut Machine, from: u32, count: u32, table: &mut [u32; 4096]) -> u32 {
-    machine.steps(true, from, count, table)
+/// So many steps at once, of which the last ticks.
+fn steps(machine: &mut Machine, from: u16, count: u16, table: &mut [u32; 4096]) -> u32 {
+    machine.steps(true, u32::from(from), u32::from(count), table)
 }
 
 #[test]

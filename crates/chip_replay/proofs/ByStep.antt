@@ -1,5 +1,5 @@
 -- The key events in the order of their steps, entry by entry.
-use Rattle.std.proofs.Common.{◌≡◌, ◌≢◌, ℕ, zero, suc, ◌+◌, ◌-◌, ◌<◌, ◌≤◌, Bool, false, add-one, List, length, set, get_or, slice_index_or, Option, Some, None, unwrap_or, refl, sym, ap, ◌∙◌, subst, arith, inl, inr, get_or-set_same, get_or-set_other}
+use Rattle.std.proofs.Common.{◌≡◌, ◌≢◌, ℕ, zero, suc, ◌+◌, ◌-◌, ◌<◌, ◌≤◌, Bool, false, add-one, List, length, set, get_or, slice_index_or, Option, Some, None, refl, sym, ap, ◌∙◌, subst, arith, inl, inr, get_or-set_same, get_or-set_other}
 use Rattle.std.proofs.lemmas.Bool.{cases_eq, cases_lt}
 use Rattle.std.specs.Prelude.{IfSome, min}
 use Rattle.chip_replay.proofs.LastEvent.{is_down-stays, is_down-none, is_down-last}
@@ -24,11 +24,6 @@ pub was_down-above : (events : Events) (key step : ℕ) → step ≢ 0 → was_d
 was_down-above events key zero n = absurd (n refl)
 was_down-above events key (suc step) n = let same : step ≡ suc step - 1 = omega arith in ap (is_down events key) same
 
--- a key in a step is as its event there says, or as it was
-pub is_down-was : (events : Events) (key step : ℕ) → is_down events key step ≡ unwrap_or (event_at events step key) (was_down events key step)
-is_down-was events key zero = refl
-is_down-was events key (suc step) = refl
-
 -- what is known when a step begins is known when a later one begins
 pub knows_later : (events : Events) (s t : ℕ) (h : Holding) → KnowsKeys events s h → s ≤ t → KnowsKeys events t h
 knows_later events s t h knows l =
@@ -36,16 +31,6 @@ knows_later events s t h knows l =
       size = knows.size;
       as_mask = knows.as_mask;
       before = λ r k lr lu lk. knows.before r k (omega arith) lu lk;
-    }
-
--- what holds in a step is known when the next one begins
-pub knows_next : (events : Events) (s : ℕ) (h : Holding) → HoldsKeys events s h → KnowsKeys events (s + 1) h
-knows_next events s h holds =
-    record {
-      size = holds.size;
-      as_mask = holds.as_mask;
-      before = λ r k lr lu lk.
-          was_down-above events k r (λ e. omega (arith, e, holds.within)) ∙ holds.stays (r - 1) k (omega (arith, holds.within)) (omega (arith, holds.within)) lk;
     }
 
 -- what is known when a step begins holds in it, where no event is passed

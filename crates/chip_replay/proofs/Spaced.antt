@@ -7,9 +7,6 @@ use Rattle.std.proofs.lemmas.Nat.{div-add-mod', div-mul-add, mod-mul-add, le-div
 
 -- a count of the steps that are left from s to the next multiple of p
 module _ (s p left : ℕ) (above : 0 < p) (is : left ≡ p - s % p) where
-  pub left_above : 0 < left
-  left_above = omega (arith, mod-lt s above)
-
   rest_after : (n : ℕ) → n < left → (s + n) % p ≡ s % p + n
   rest_after n l =
       let whole : s + n ≡ s / p * p + (s % p + n) = omega (arith, div-add-mod' s p) in

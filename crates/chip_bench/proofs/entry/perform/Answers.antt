@@ -35,7 +35,7 @@ returns-in-Run g c =
 pub returns-in-Picture : goal.returns-in-Picture
 returns-in-Picture g c =
     does_it g.I.Read.remaining g.O.Write.contents c.args.input.now c.picture.new.input c.args.output.now c.picture.new.output c.args.line _ c.picture.result
-    c.in-Picture.is tt
+    c.in-Picture.is c.picture.ensures
 
 pub returns-in-Explain : goal.returns-in-Explain
 returns-in-Explain g c =

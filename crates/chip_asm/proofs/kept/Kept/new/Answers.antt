@@ -20,8 +20,8 @@ returns-clause-kept c =
       are_read = rw c.new.ensures.items refl;
       laid_out = rw c.new.ensures.items c.new-2.ensures;
       current = record { each = λ place line inside c p. absurd (omega arith) };
-      imaged = λ k h. rw (c.new.ensures.items, c.new-4.ensures.items) (no_bytes k);
-      short = omega (arith, c.new-4.ensures.len);
+      imaged = λ k h. rw (c.new.ensures.items, c.new-5.ensures.items) (no_bytes k);
+      short = omega (arith, c.new-5.ensures.len);
       long = λ some. absurd (omega arith);
       counted = rw c.new.ensures.items no_faults;
     }

@@ -13,3 +13,7 @@ pub settle-requires-clause-current : goal.settle-requires-clause-current
 settle-requires-clause-current c =
     rw c.in_ok-prepared.ensures.lines
     (currents c.same_code.ensures.code [] c.args.lines.items c.in_ok-prepared.prepared.codes.items Some (had-none c.args.lines.items Some) (c.in_ok-prepared.ensures.codes [] (subst (λ lines. IsLayoutOf c.new-kept.result.layout (readings_in lines)) c.new-kept.ensures.none c.new-kept.ensures.kept.laid_out)))
+
+pub returns-in_err-prepared-clause-encoded : goal.returns-in_err-prepared-clause-encoded
+returns-in_err-prepared-clause-encoded c =
+    c.prepare.ensures.encoded [] (subst (λ lines. IsLayoutOf c.new-kept.result.layout (readings_in lines)) c.new-kept.ensures.none c.new-kept.ensures.kept.laid_out)

@@ -11,11 +11,11 @@ use Rattle.chip_asm.proofs.kept.Kept.settle.Goals as goal
 
 pub returns-clause-kept : goal.returns-clause-kept
 returns-clause-kept c =
-    let seen : c.deref_mut.result.now ≡ c.args.self.now.lines.items = c.deref_mut.ensures.value in
+    let seen : c.deref_mut-2.result.now ≡ c.args.self.now.lines.items = c.deref_mut-2.ensures.value in
     let merged : IsMerged c.args.self.now.lines.items c.args.prepared.codes.items c.write_codes.new.lines = rw (← seen) c.write_codes.ensures in
     let rest = refilled c.args.self.now.lines.len c.write_codes.new.lines c.args.self.now.lines.items (merged.long ∙ sym c.args.self.now.lines.ok.0) in
-    let full : c.deref.result.now ≡ c.write_codes.new.lines = c.deref.ensures.value ∙ rest in
-    let written = refilled c.args.self.now.image.len c.write_lines-self.new.image _ (omega (arith, c.write_lines-self.auto.image, c.deref_mut-3.ensures.len, c.args.self.now.image.ok.0)) in
+    let full : c.deref-3.result.now ≡ c.write_codes.new.lines = c.deref-3.ensures.value ∙ rest in
+    let written = refilled c.args.self.now.image.len c.write_lines-self.new.image _ (omega (arith, c.write_lines-self.auto.image, c.deref_mut-4.ensures.len, c.args.self.now.image.ok.0)) in
     kept-by _ c.write_codes.new.lines rest (omega (arith, merged.long, c.requires.few)) (merged.readings ∙ c.requires.are_read ∙ ap (map reading_of) (sym merged.texts)) (rw (merged.readings, c.replace.ensures.after) c.requires.laid_out)
     (c.requires.current c.write_codes.new.lines merged)
     (λ k h.
@@ -24,8 +24,8 @@ returns-clause-kept c =
 
 pub write_lines-self-requires-clause-current : goal.write_lines-self-requires-clause-current
 write_lines-self-requires-clause-current c =
-    let seen : c.deref_mut.result.now ≡ c.args.self.now.lines.items = c.deref_mut.ensures.value in
+    let seen : c.deref_mut-2.result.now ≡ c.args.self.now.lines.items = c.deref_mut-2.ensures.value in
     let merged : IsMerged c.args.self.now.lines.items c.args.prepared.codes.items c.write_codes.new.lines = rw (← seen) c.write_codes.ensures in
     let rest = refilled c.args.self.now.lines.len c.write_codes.new.lines c.args.self.now.lines.items (merged.long ∙ sym c.args.self.now.lines.ok.0) in
-    let full : c.deref.result.now ≡ c.write_codes.new.lines = c.deref.ensures.value ∙ rest in
+    let full : c.deref-3.result.now ≡ c.write_codes.new.lines = c.deref-3.ensures.value ∙ rest in
     rw full (c.requires.current c.write_codes.new.lines merged)
