@@ -6,6 +6,14 @@ use Rattle.chip_asm.proofs.CutSteps.{lines-next}
 use Rattle.chip_bench.specs.KeyFile.{first_refusal, key_command, key_commands, key_fault, refusal_to, refused_or_later, session_under}
 use Rattle.chip_bench.specs.Session.{Session, Text}
 use Rattle.chip_bench.specs.Transcript.{after, session_after}
+use Rattle.std.proofs.Common.{Result, subst}
+use Rattle.chip_asm.specs.Lines.{open_fault}
+use Rattle.chip_bench.specs.Printing.{Printed, PrintsUnder, PrintsUnless}
+use Rattle.chip_bench.specs.Session.{session_of}
+use Rattle.chip_bench.specs.Settings.{SessionSettings}
+use Rattle.chip_bench.specs.Tally.{Tally}
+use Rattle.chip_bench.specs.declared.ending.Ending.{Ending}
+use Rattle.chip_bench.specs.declared.ending.Failure.{Failure}
 
 module _ (s : Session) (n : ℕ) (bytes : List ℕ) (some : 0 < length bytes) where
   -- a first line that is refused
@@ -40,3 +48,12 @@ fault_is s file fault e = e
 pub session_is : (s t : Session) (file : List ℕ) → session_after s (key_commands file) ≡ t → t ≡ session_under s file
 unfolding session_under
 session_is s t file e = sym e
+
+module _ {W : Type 0} (contents : W → Option (List ℕ)) (old new : Tally W) where
+  -- what is printed of a bench that was opened on a source
+  pub prints_under : (settings : SessionSettings) (source keys : List ℕ) (s : Session) (printed_by : Session → Printed)
+      (result : Result Ending Failure) → open_fault source ≡ None → s ≡ session_of settings source →
+      PrintsUnless contents old new (key_fault s keys) (printed_by (session_under s keys)) result →
+      PrintsUnder contents old new settings source keys printed_by result
+  prints_under settings source keys s printed_by result opens same printed =
+      rw opens (subst (λ (t : Session). PrintsUnless contents old new (key_fault t keys) (printed_by (session_under t keys)) result) same printed)
