@@ -12,6 +12,7 @@ use crate::touch::Touch;
 use chip_lang::instr::{Instr, decode};
 
 /// Carries out an instruction, or says why the machine stops.
+#[inline(always)]
 pub(crate) fn execute(
     processor: &mut Processor,
     memory: &mut [u8],
