@@ -51,7 +51,7 @@ fn some_machine(alloc: Global, state: &mut u32) -> Result<Machine, Fail> {
     let mut words = Vec::new(alloc);
     for _ in 0..24u32 {
         let kind = next(state);
-        words.push(word_of(kind, next(state)) as u16)?;
+        words.push((word_of(kind, next(state)) % 65_536) as u16)?;
     }
     loaded(alloc, &words)
 }
