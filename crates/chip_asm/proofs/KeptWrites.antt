@@ -11,9 +11,6 @@ use Rattle.chip_asm.specs.Records.{reading_in, readings_in, texts_in}
 use Rattle.chip_asm.specs.Recode.{code_at}
 use Rattle.chip_asm.specs.Kept.{IsMerged}
 
-pub merged-none : (was : List KeptLine) → IsMerged was [] was
-merged-none was = record { long = refl; texts = refl; readings = refl; each = λ place line inside. refl }
-
 new-by : (was lines : List KeptLine) (fresh : List (ℕ × Coded)) (e : ℕ × Coded) (k : ℕ) (d x : KeptLine) (here : Bool) → eqb k e.0 ≡ here → IsMerged was fresh lines
     → e.0 < length lines → k < length was
     → (get_or (set lines e.0 (record x { code = e.1 })) k d).code ≡ unwrap_or (cond here (Some e.1) (code_at fresh k)) (get_or was k d).code

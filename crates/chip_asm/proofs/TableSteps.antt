@@ -62,12 +62,6 @@ valued-at entries names i entry view is =
     let there : slice_get names i ≡ Some (seen entry) = ap (λ t. slice_get t i) (sym view) ∙ slice_get-map seen entries i ∙ ap (option_map seen) (sym is) in
     slice_get-map (λ e. (e.0, e.1.value)) names i ∙ ap (option_map (λ (e : Name × Symbol). (e.0, e.1.value))) there
 
--- none past the last entry
-pub valued-past : (entries : List (Vec ℕ × Symbol)) (names : List (Name × Symbol)) (i : ℕ) → map seen entries ≡ names → None ≡ slice_get entries i → slice_get (valued names) i ≡ None
-valued-past entries names i view is =
-    let there : slice_get names i ≡ None = ap (λ t. slice_get t i) (sym view) ∙ slice_get-map seen entries i ∙ ap (option_map seen) (sym is) in
-    slice_get-map (λ e. (e.0, e.1.value)) names i ∙ ap (option_map (λ (e : Name × Symbol). (e.0, e.1.value))) there
-
 -- lists that agree on their first elements, and on the next one, agree on one more
 pub take-same : {A : Type 0} (i : ℕ) (xs ys : List A) → take i xs ≡ take i ys → slice_get xs i ≡ slice_get ys i → take (i + 1) xs ≡ take (i + 1) ys
 take-same i xs ys h e =
