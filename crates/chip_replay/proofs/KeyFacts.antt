@@ -25,10 +25,6 @@ pub mask-lt : (p : ℕ → Bool) (n : ℕ) → mask p n < 2 ^ n
 mask-lt p zero = omega arith
 mask-lt p (suc n) = omega (arith, mask-lt p n, digit-le (p n) (2 ^ n), pow-suc 2 n)
 
-pub held-lt : (events : Events) (s : ℕ) → held events s < 2 ^ 16
-unfolding held
-held-lt events s = mask-lt (λ key. is_down events key s) 16
-
 not_above : (a b : ℕ) → b ≤ a → ltb a b ≡ false
 not_above a b l = grind (arith, nat_tests)
 
