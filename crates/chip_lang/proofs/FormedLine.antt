@@ -1,11 +1,10 @@
 -- The instruction of a line: its form is that of its name and operands, and its registers are V0 to VF.
-use Rattle.std.proofs.Common.{◌≡◌, ◌≢◌, ℕ, Bool, true, false, ◌==◌, ◌&&◌, ◌||◌, not, ltb, arith, if◌then◌else◌, is_some, List, [], ◌∷◌, map, codes, Option, Some, None, Result, Ok, Err, refl, subst}
-use Rattle.std.specs.Prelude.{option_and_then}
-use Rattle.std.specs.List.{list_all, list_any}
+use Rattle.std.proofs.Common.{◌≡◌, ◌≢◌, ℕ, Bool, true, false, ◌==◌, ◌&&◌, ◌||◌, not, ltb, arith, if◌then◌else◌, is_some, List, [], ◌∷◌, map, codes, Option, Some, None, Ok, refl, subst}
+use Rattle.std.specs.Prelude.{option_and_then, option_map}
+use Rattle.std.specs.List.{list_all}
 use Rattle.std.proofs.lemmas.Bool.{and_parts, and_from}
 use Rattle.std.proofs.lemmas.Bool.Decides.{nat_tests}
 use Rattle.chip_lang.specs.declared.fault.Fault.{Fault}
-use Rattle.chip_lang.specs.declared.fault.Fault.TheVariants.{UnknownWord, WrongOperands, TooDeep, BadName, NotInProfile}
 use Rattle.chip_lang.specs.declared.directive.Directive.{Directive}
 use Rattle.chip_lang.specs.declared.directive.Directive.TheVariants.{Equ, Org, Ds, Db, Dw, Da, Align, Ifdef, Ifund, Define, Else, Endif, End, Options, Used, Xref, Include, Undef}
 use Rattle.chip_lang.specs.declared.form.Special.{Special}
@@ -16,10 +15,9 @@ use Rattle.chip_lang.specs.Encoding.{word_of_form}
 use Rattle.chip_lang.specs.Form.{Row, form_of}
 use Rattle.chip_lang.specs.InstrForm.{DecodesTo}
 use Rattle.chip_lang.specs.Keyword.{directive_of, special_of, register_of}
-use Rattle.chip_lang.specs.Line.{lexemes_of, Shape, definition, statement, shape_of, bad_token, too_deep, names_of, is_bad_name, Body, org, ds, db, dw, da, equ, code, align, ifdef, ifund, define, else_line, endif, end_line, pieces, all_some, fitting, named, is_at_index, part_of_machine, or_expression, operand_of_tokens, operands_of, values_of, one_text, one_name, one_switch, nothing, directive_body, takes_label, is_outside, is_skipped, instruction_body, unless, word_body, statement_body, shape_body, Reading, bad, read, reading_of_body, reading_of_tokens, reading_of}
+use Rattle.chip_lang.specs.Line.{lexemes_of, Shape, definition, statement, shape_of, names_of, Body, org, ds, db, dw, da, equ, code, align, ifdef, ifund, define, else_line, endif, end_line, pieces, all_some, named, is_at_index, part_of_machine, or_expression, operand_of_tokens, operands_of, values_of, one_text, one_name, one_switch, nothing, directive_body, takes_label, word_body, statement_body, Reading, bad, read, reading_of, body_of_shape, fault_or_body, first_fault, faults_in_order, first_name}
 use Rattle.chip_lang.specs.Operand.{Operand, special, is_of_machine}
 use Rattle.chip_lang.specs.Parse.{expression_of}
-use Rattle.chip_lang.specs.Reserved.{is_mnemonic}
 use Rattle.chip_lang.specs.Tree.{Tree}
 use Rattle.chip_lang.specs.Value.{Symbols}
 use Rattle.chip_lang.specs.Token.{is_between, digit_value}
@@ -108,29 +106,29 @@ abbrev Formed : Body → Type 0
 Formed (code form operands) = IsFormed form operands
 Formed body = Unit {0}
 
-abbrev FormedIfOk : Result Body Fault → Type 0
-FormedIfOk (Err fault) = Unit {0}
-FormedIfOk (Ok body) = Formed body
+abbrev FormedIfSome : Option Body → Type 0
+FormedIfSome None = Unit {0}
+FormedIfSome (Some body) = Formed body
 
-fitting_formed : {A : Type 0} (o : Option A) (body : A → Body) → ((x : A) → Formed (body x)) → FormedIfOk (fitting o body)
-fitting_formed None body h = tt
-fitting_formed (Some x) body h = h x
+mapped_formed : {A : Type 0} (o : Option A) (body : A → Body) → ((x : A) → Formed (body x)) → FormedIfSome (option_map body o)
+mapped_formed None body h = tt
+mapped_formed (Some x) body h = h x
 
-nothing_formed : (ts : List Lexeme) (body : Body) → Formed body → FormedIfOk (nothing ts body)
+nothing_formed : (ts : List Lexeme) (body : Body) → Formed body → FormedIfSome (nothing ts body)
 nothing_formed [] body h = h
 nothing_formed (t ∷ ts) body h = tt
 
-directive_formed : (d : Directive) (ts : List Lexeme) → FormedIfOk (directive_body d ts)
+directive_formed : (d : Directive) (ts : List Lexeme) → FormedIfSome (directive_body d ts)
 directive_formed Equ ts = tt
-directive_formed Org ts = fitting_formed (expression_of ts) org (λ e. tt)
-directive_formed Ds ts = fitting_formed (expression_of ts) ds (λ e. tt)
-directive_formed Db ts = fitting_formed (values_of ts) db (λ es. tt)
-directive_formed Dw ts = fitting_formed (values_of ts) dw (λ es. tt)
-directive_formed Da ts = fitting_formed (one_text ts) da (λ b. tt)
-directive_formed Align ts = fitting_formed (one_switch ts) align (λ b. tt)
-directive_formed Ifdef ts = fitting_formed (one_name ts) ifdef (λ n. tt)
-directive_formed Ifund ts = fitting_formed (one_name ts) ifund (λ n. tt)
-directive_formed Define ts = fitting_formed (one_name ts) (λ n. define) (λ n. tt)
+directive_formed Org ts = mapped_formed (expression_of ts) org (λ e. tt)
+directive_formed Ds ts = mapped_formed (expression_of ts) ds (λ e. tt)
+directive_formed Db ts = mapped_formed (values_of ts) db (λ es. tt)
+directive_formed Dw ts = mapped_formed (values_of ts) dw (λ es. tt)
+directive_formed Da ts = mapped_formed (one_text ts) da (λ b. tt)
+directive_formed Align ts = mapped_formed (one_switch ts) align (λ b. tt)
+directive_formed Ifdef ts = mapped_formed (one_name ts) ifdef (λ n. tt)
+directive_formed Ifund ts = mapped_formed (one_name ts) ifund (λ n. tt)
+directive_formed Define ts = mapped_formed (one_name ts) (λ n. define) (λ n. tt)
 directive_formed Else ts = nothing_formed ts else_line tt
 directive_formed Endif ts = nothing_formed ts endif tt
 directive_formed End ts = nothing_formed ts end_line tt
@@ -140,40 +138,32 @@ directive_formed Xref ts = tt
 directive_formed Include ts = tt
 directive_formed Undef ts = tt
 
-form_step : (w : List ℕ) (ts : List Lexeme) (os : List Operand) (r : Option Row) → operands_of ts ≡ Some os → form_of w os ≡ r → list_all is_of_machine os ≡ true →
-    FormedIfOk (instruction_body w ts)
-form_step w ts os None e f h = rw (e, f) tt
-form_step w ts os (Some r) e f h =
-    let formed : IsFormed r os = record { name = w; fits = f; registers = h } in
-    rw (e, f) formed
+form_formed : (w : List ℕ) (os : List Operand) (form : Option Row) → form_of w os ≡ form → list_all is_of_machine os ≡ true →
+    FormedIfSome (option_map (λ r. code r os) form)
+form_formed w os None f h = tt
+form_formed w os (Some r) f h = record { name = w; fits = f; registers = h }
 
-instruction_step : (w : List ℕ) (ts : List Lexeme) (o : Option (List Operand)) → operands_of ts ≡ o → AllOfMachine o → FormedIfOk (instruction_body w ts)
-instruction_step w ts None e h = rw e tt
-instruction_step w ts (Some os) e h = form_step w ts os (form_of w os) e refl h
+instruction_formed : (w : List ℕ) (os : Option (List Operand)) → AllOfMachine os →
+    FormedIfSome (option_and_then (λ os. option_map (λ r. code r os) (form_of w os)) os)
+instruction_formed w None h = tt
+instruction_formed w (Some os) h = form_formed w os (form_of w os) refl h
 
-unless_formed : (b : Bool) (fault : Fault) (r : Result Body Fault) → FormedIfOk r → FormedIfOk (unless b fault r)
-unless_formed true fault r h = tt
-unless_formed false fault r h = h
+unless_formed : (b : Bool) (body : Option Body) → FormedIfSome body → FormedIfSome (if b then None else body)
+unless_formed true body h = tt
+unless_formed false body h = h
 
-word_formed : (deep labelled : Bool) (w : List ℕ) (d : Option Directive) (ts : List Lexeme) → FormedIfOk (word_body deep labelled w d ts)
-word_formed deep labelled w (Some d) ts =
-    let body = directive_body d ts in
-    let placed = unless (labelled && not (takes_label d)) WrongOperands body in
-    let shallow = unless (deep && not (is_skipped d)) TooDeep placed in
-    unless_formed (is_outside d ts) NotInProfile shallow
-    (unless_formed (deep && not (is_skipped d)) TooDeep placed (unless_formed (labelled && not (takes_label d)) WrongOperands body (directive_formed d ts)))
-word_formed deep labelled w None ts =
-    let body = instruction_body w ts in
-    unless_formed (not (is_mnemonic w)) UnknownWord (unless deep TooDeep body) (unless_formed deep TooDeep body (instruction_step w ts (operands_of ts) refl (operands_all ts)))
+word_formed : (labelled : Bool) (w : List ℕ) (d : Option Directive) (ts : List Lexeme) → FormedIfSome (word_body labelled w d ts)
+word_formed labelled w (Some d) ts = unless_formed (labelled && not (takes_label d)) (directive_body d ts) (directive_formed d ts)
+word_formed labelled w None ts = instruction_formed w (operands_of ts) (operands_all ts)
 
-statement_formed : (deep labelled : Bool) (ts : List Lexeme) → FormedIfOk (statement_body deep labelled ts)
-statement_formed deep labelled [] = tt
-statement_formed deep labelled (Word w ∷ ts) = word_formed deep labelled w (directive_of w) ts
-statement_formed deep labelled (t ∷ ts) = tt
+statement_formed : (labelled : Bool) (ts : List Lexeme) → FormedIfSome (statement_body labelled ts)
+statement_formed labelled [] = tt
+statement_formed labelled (Word w ∷ ts) = word_formed labelled w (directive_of w) ts
+statement_formed labelled (t ∷ ts) = tt
 
-shape_formed : (deep : Bool) (shape : Shape) → FormedIfOk (shape_body deep shape)
-shape_formed deep (definition w ts) = unless_formed deep TooDeep (fitting (expression_of ts) equ) (fitting_formed (expression_of ts) equ (λ e. tt))
-shape_formed deep (statement label ts) = statement_formed deep (is_some label) ts
+shape_formed : (shape : Shape) → FormedIfSome (body_of_shape shape)
+shape_formed (definition w ts) = mapped_formed (expression_of ts) equ (λ e. tt)
+shape_formed (statement label ts) = statement_formed (is_some label) ts
 
 -- ---- lines
 
@@ -181,24 +171,17 @@ abbrev FormedReading : Reading → Type 0
 FormedReading (bad fault) = Unit {0}
 FormedReading (read label body) = Formed body
 
-body_formed : (names : List (List ℕ)) (r : Result Body Fault) → FormedIfOk r → FormedReading (reading_of_body names r)
-body_formed names (Err fault) h = tt
-body_formed names (Ok body) h = h
-
-either_formed : (b : Bool) (fault : Fault) (r : Reading) → FormedReading r → FormedReading (if b then bad fault else r)
-either_formed true fault r h = tt
-either_formed false fault r h = h
-
-tokens_formed : (fault : Option Fault) (ts : List Lexeme) → FormedReading (reading_of_tokens fault ts)
-tokens_formed (Some fault) ts = tt
-tokens_formed None ts =
-    let names = names_of (shape_of ts) in
-    let body = shape_body (too_deep 0 0 ts) (shape_of ts) in
-    either_formed (list_any is_bad_name names) BadName (reading_of_body names body) (body_formed names body (shape_formed (too_deep 0 0 ts) (shape_of ts)))
+read_formed : (fault : Option Fault) (name : Option (List ℕ)) (body : Option Body) → FormedIfSome body → FormedReading (fault_or_body fault name body)
+read_formed (Some fault) name body h = tt
+read_formed None name None h = tt
+read_formed None name (Some body) h = h
 
 formed_line : (line : List ℕ) → FormedReading (reading_of line)
 unfolding reading_of
-formed_line line = tokens_formed (bad_token (lexemes_of line)) (lexemes_of line)
+formed_line line =
+    let ts = lexemes_of line in
+    let shape = shape_of ts in
+    read_formed (first_fault (faults_in_order ts shape)) (first_name (names_of shape)) (body_of_shape shape) (shape_formed shape)
 
 pub said_line : (line : List ℕ) (label : Option (List ℕ)) (form : Row) (operands : List Operand) (symbols : Symbols) (w : ℕ) → reading_of line ≡ read label (code form operands) →
     word_of_form form operands symbols ≡ Ok w → form.name ≢ codes "SYS" → DecodesTo form w

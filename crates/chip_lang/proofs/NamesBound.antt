@@ -1,10 +1,9 @@
 -- How many names a line uses: they are parted by tokens that are no names.
-use Rattle.std.proofs.Common.{◌≡◌, ℕ, zero, suc, ◌+◌, ◌*◌, ◌-◌, ◌≤◌, ◌==◌, Bool, true, false, not, ◌&&◌, if◌then◌else◌, is_some, List, [], ◌∷◌, length, map, Option, Some, None, Result, Ok, Err, refl, subst, arith}
-use Rattle.std.specs.Prelude.{option_and_then}
-use Rattle.std.specs.List.{flat_map, list_any}
+use Rattle.std.proofs.Common.{◌≡◌, ℕ, zero, suc, ◌+◌, ◌*◌, ◌-◌, ◌≤◌, ◌==◌, Bool, true, false, not, ◌&&◌, if◌then◌else◌, is_some, List, [], ◌∷◌, length, map, Option, Some, None, refl, subst, arith}
+use Rattle.std.specs.Prelude.{option_and_then, option_map}
+use Rattle.std.specs.List.{flat_map}
 use Rattle.std.proofs.lemmas.List.{length-append, length-map}
 use Rattle.chip_lang.specs.declared.fault.Fault.{Fault}
-use Rattle.chip_lang.specs.declared.fault.Fault.TheVariants.{UnknownWord, WrongOperands, TooDeep, BadName, NotInProfile}
 use Rattle.chip_lang.specs.declared.directive.Directive.{Directive}
 use Rattle.chip_lang.specs.declared.directive.Directive.TheVariants.{Equ, Org, Ds, Db, Dw, Da, Align, Ifdef, Ifund, Define, Else, Endif, End, Options, Used, Xref, Include, Undef}
 use Rattle.chip_lang.specs.declared.form.Special.{Special}
@@ -19,8 +18,7 @@ use Rattle.chip_lang.specs.Operand.{Operand, special}
 use Rattle.chip_lang.specs.Form.{Row, form_of}
 use Rattle.chip_lang.specs.Grammar.{Parses, a_number, a_name, a_text, in_parentheses, with_prefix, with_operator, stronger}
 use Rattle.chip_lang.specs.Parse.{expression_of}
-use Rattle.chip_lang.specs.Reserved.{is_mnemonic}
-use Rattle.chip_lang.specs.Line.{lexeme_of, lexemes_of, is_sign_of, is_equ, Shape, definition, statement, after_label, after_word, shape_of, bad_token, too_deep, names_of, is_bad_name, Body, org, ds, db, dw, da, equ, align, ifdef, ifund, define, else_line, endif, end_line, pieces, all_some, fitting, named, is_at_index, part_of_machine, or_expression, operand_of_tokens, operands_of, values_of, one_text, one_name, one_switch, nothing, directive_body, takes_label, is_outside, is_skipped, instruction_body, unless, word_body, statement_body, shape_body, Reading, bad, reading_of_body, reading_of_tokens, reading_of}
+use Rattle.chip_lang.specs.Line.{lexeme_of, lexemes_of, is_sign_of, is_equ, Shape, definition, statement, after_label, after_word, shape_of, names_of, Body, org, ds, db, dw, da, equ, align, ifdef, ifund, define, else_line, endif, end_line, pieces, all_some, named, is_at_index, part_of_machine, or_expression, operand_of_tokens, operands_of, values_of, one_text, one_name, one_switch, nothing, directive_body, takes_label, word_body, statement_body, Reading, reading_of_tokens, reading_of, body_of_shape, fault_or_body, first_fault, faults_in_order, first_name, code}
 use Rattle.chip_lang.specs.Uses.{names_in, names_in_operand, names_in_body, names_used}
 use Rattle.chip_lang.proofs.Sound.{only_expressions}
 
@@ -139,18 +137,17 @@ values_few ts = pieces_few names_in expression_of expression_few ts
 -- ---- statements
 
 -- a statement, if it is one, has so few names
-abbrev Few : (room : ℕ) → Result Body Fault → Type 0
-Few room (Err fault) = Unit {0}
-Few room (Ok body) = 2 * length (names_in_body body) ≤ room
+abbrev Few : (room : ℕ) → Option Body → Type 0
+Few room = FewIn names_in_body room
 
-fitting_few : {A : Type 0} (names : A → List (List ℕ)) (room : ℕ) (o : Option A) (body : A → Body) → ((x : A) → names_in_body (body x) ≡ names x) → FewIn names room o →
-    Few room (fitting o body)
-fitting_few names room None body same h = tt
-fitting_few names room (Some x) body same h = rw (same x) h
+mapped_few : {A : Type 0} (names : A → List (List ℕ)) (room : ℕ) (o : Option A) (body : A → Body) → ((x : A) → names_in_body (body x) ≡ names x) → FewIn names room o →
+    Few room (option_map body o)
+mapped_few names room None body same h = tt
+mapped_few names room (Some x) body same h = rw (same x) h
 
-fitting_none : {A : Type 0} (room : ℕ) (o : Option A) (body : A → Body) → ((x : A) → names_in_body (body x) ≡ []) → Few room (fitting o body)
-fitting_none room None body same = tt
-fitting_none room (Some x) body same = rw (same x) (omega arith)
+mapped_none : {A : Type 0} (room : ℕ) (o : Option A) (body : A → Body) → ((x : A) → names_in_body (body x) ≡ []) → Few room (option_map body o)
+mapped_none room None body same = tt
+mapped_none room (Some x) body same = rw (same x) (omega arith)
 
 nothing_few : (room : ℕ) (ts : List Lexeme) (body : Body) → names_in_body body ≡ [] → Few room (nothing ts body)
 nothing_few room [] body same = rw same (omega arith)
@@ -158,15 +155,15 @@ nothing_few room (t ∷ ts) body same = tt
 
 directive_few : (d : Directive) (ts : List Lexeme) → Few (suc (length ts)) (directive_body d ts)
 directive_few Equ ts = tt
-directive_few Org ts = fitting_few names_in (suc (length ts)) (expression_of ts) org (λ e. refl) (expression_few ts)
-directive_few Ds ts = fitting_few names_in (suc (length ts)) (expression_of ts) ds (λ e. refl) (expression_few ts)
-directive_few Db ts = fitting_few (flat_map names_in) (suc (length ts)) (values_of ts) db (λ es. refl) (values_few ts)
-directive_few Dw ts = fitting_few (flat_map names_in) (suc (length ts)) (values_of ts) dw (λ es. refl) (values_few ts)
-directive_few Da ts = fitting_none (suc (length ts)) (one_text ts) da (λ b. refl)
-directive_few Align ts = fitting_none (suc (length ts)) (one_switch ts) align (λ b. refl)
-directive_few Ifdef ts = fitting_none (suc (length ts)) (one_name ts) ifdef (λ n. refl)
-directive_few Ifund ts = fitting_none (suc (length ts)) (one_name ts) ifund (λ n. refl)
-directive_few Define ts = fitting_none (suc (length ts)) (one_name ts) (λ n. define) (λ n. refl)
+directive_few Org ts = mapped_few names_in (suc (length ts)) (expression_of ts) org (λ e. refl) (expression_few ts)
+directive_few Ds ts = mapped_few names_in (suc (length ts)) (expression_of ts) ds (λ e. refl) (expression_few ts)
+directive_few Db ts = mapped_few (flat_map names_in) (suc (length ts)) (values_of ts) db (λ es. refl) (values_few ts)
+directive_few Dw ts = mapped_few (flat_map names_in) (suc (length ts)) (values_of ts) dw (λ es. refl) (values_few ts)
+directive_few Da ts = mapped_none (suc (length ts)) (one_text ts) da (λ b. refl)
+directive_few Align ts = mapped_none (suc (length ts)) (one_switch ts) align (λ b. refl)
+directive_few Ifdef ts = mapped_none (suc (length ts)) (one_name ts) ifdef (λ n. refl)
+directive_few Ifund ts = mapped_none (suc (length ts)) (one_name ts) ifund (λ n. refl)
+directive_few Define ts = mapped_none (suc (length ts)) (one_name ts) (λ n. define) (λ n. refl)
 directive_few Else ts = nothing_few (suc (length ts)) ts else_line refl
 directive_few Endif ts = nothing_few (suc (length ts)) ts endif refl
 directive_few End ts = nothing_few (suc (length ts)) ts end_line refl
@@ -176,90 +173,77 @@ directive_few Xref ts = omega arith
 directive_few Include ts = tt
 directive_few Undef ts = tt
 
-form_step : (room : ℕ) (w : List ℕ) (ts : List Lexeme) (os : List Operand) (r : Option Row) → operands_of ts ≡ Some os → form_of w os ≡ r → 2 * length (flat_map names_in_operand os) ≤ room →
-    Few room (instruction_body w ts)
-form_step room w ts os None e f h = rw (e, f) tt
-form_step room w ts os (Some r) e f h = rw (e, f) h
+form_few : (room : ℕ) (os : List Operand) (form : Option Row) → FewIn (flat_map names_in_operand) room (Some os) →
+    Few room (option_map (λ r. code r os) form)
+form_few room os None h = tt
+form_few room os (Some r) h = h
 
-instruction_step : (room : ℕ) (w : List ℕ) (ts : List Lexeme) (o : Option (List Operand)) → operands_of ts ≡ o → FewIn (flat_map names_in_operand) room o → Few room (instruction_body w ts)
-instruction_step room w ts None e h = rw e tt
-instruction_step room w ts (Some os) e h = form_step room w ts os (form_of w os) e refl h
+instruction_few : (room : ℕ) (w : List ℕ) (os : Option (List Operand)) → FewIn (flat_map names_in_operand) room os →
+    Few room (option_and_then (λ os. option_map (λ r. code r os) (form_of w os)) os)
+instruction_few room w None h = tt
+instruction_few room w (Some os) h = form_few room os (form_of w os) h
 
-unless_few : (room : ℕ) (b : Bool) (fault : Fault) (r : Result Body Fault) → Few room r → Few room (unless b fault r)
-unless_few room true fault r h = tt
-unless_few room false fault r h = h
+unless_few : (room : ℕ) (b : Bool) (body : Option Body) → Few room body → Few room (if b then None else body)
+unless_few room true body h = tt
+unless_few room false body h = h
 
-word_few : (deep labelled : Bool) (w : List ℕ) (d : Option Directive) (ts : List Lexeme) → Few (suc (length ts)) (word_body deep labelled w d ts)
-word_few deep labelled w (Some d) ts =
-    let body = directive_body d ts in
-    let placed = unless (labelled && not (takes_label d)) WrongOperands body in
-    let shallow = unless (deep && not (is_skipped d)) TooDeep placed in
-    unless_few (suc (length ts)) (is_outside d ts) NotInProfile shallow
-    (unless_few (suc (length ts)) (deep && not (is_skipped d)) TooDeep placed
-    (unless_few (suc (length ts)) (labelled && not (takes_label d)) WrongOperands body (directive_few d ts)))
-word_few deep labelled w None ts =
-    let body = instruction_body w ts in
-    unless_few (suc (length ts)) (not (is_mnemonic w)) UnknownWord (unless deep TooDeep body)
-    (unless_few (suc (length ts)) deep TooDeep body (instruction_step (suc (length ts)) w ts (operands_of ts) refl (operands_few ts)))
+word_few : (labelled : Bool) (w : List ℕ) (d : Option Directive) (ts : List Lexeme) → Few (suc (length ts)) (word_body labelled w d ts)
+word_few labelled w (Some d) ts = unless_few (suc (length ts)) (labelled && not (takes_label d)) (directive_body d ts) (directive_few d ts)
+word_few labelled w None ts = instruction_few (suc (length ts)) w (operands_of ts) (operands_few ts)
 
-statement_few : (deep labelled : Bool) (ts : List Lexeme) → Few (length ts) (statement_body deep labelled ts)
-statement_few deep labelled [] = omega arith
-statement_few deep labelled (Word w ∷ ts) = word_few deep labelled w (directive_of w) ts
-statement_few deep labelled (t ∷ ts) = tt
+statement_few : (labelled : Bool) (ts : List Lexeme) → Few (length ts) (statement_body labelled ts)
+statement_few labelled [] = omega arith
+statement_few labelled (Word w ∷ ts) = word_few labelled w (directive_of w) ts
+statement_few labelled (t ∷ ts) = tt
 
 -- ---- lines
 
-more_room : (m n : ℕ) (r : Result Body Fault) → m ≤ n → Few m r → Few n r
-more_room m n (Err fault) p h = tt
-more_room m n (Ok body) p h = omega arith
+more_room : (m n : ℕ) (body : Option Body) → m ≤ n → Few m body → Few n body
+more_room m n None p h = tt
+more_room m n (Some body) p h = omega arith
 
-definition_few : (n : ℕ) (deep : Bool) (w : List ℕ) (ts : List Lexeme) → suc (length ts) ≤ n → Few n (shape_body deep (definition w ts))
-definition_few n deep w ts p =
-    let body = fitting (expression_of ts) equ in
-    unless_few n deep TooDeep body (more_room (suc (length ts)) n body p (fitting_few names_in (suc (length ts)) (expression_of ts) equ (λ e. refl) (expression_few ts)))
+definition_few : (n : ℕ) (w : List ℕ) (ts : List Lexeme) → suc (length ts) ≤ n → Few n (body_of_shape (definition w ts))
+definition_few n w ts p =
+    let body = option_map equ (expression_of ts) in
+    more_room (suc (length ts)) n body p (mapped_few names_in (suc (length ts)) (expression_of ts) equ (λ e. refl) (expression_few ts))
 
-labelled_few : (n : ℕ) (deep : Bool) (label : Option (List ℕ)) (ts : List Lexeme) → length ts ≤ n → Few n (shape_body deep (statement label ts))
-labelled_few n deep label ts p = more_room (length ts) n (statement_body deep (is_some label) ts) p (statement_few deep (is_some label) ts)
+labelled_few : (n : ℕ) (label : Option (List ℕ)) (ts : List Lexeme) → length ts ≤ n → Few n (body_of_shape (statement label ts))
+labelled_few n label ts p = more_room (length ts) n (statement_body (is_some label) ts) p (statement_few (is_some label) ts)
 
-either_shape : (n : ℕ) (deep b : Bool) (x y : Shape) → Few n (shape_body deep x) → Few n (shape_body deep y) → Few n (shape_body deep (if b then x else y))
-either_shape n deep true x y p q = p
-either_shape n deep false x y p q = q
+either_shape : (n : ℕ) (b : Bool) (x y : Shape) → Few n (body_of_shape x) → Few n (body_of_shape y) → Few n (body_of_shape (if b then x else y))
+either_shape n true x y p q = p
+either_shape n false x y p q = q
 
-after_label_few : (n : ℕ) (deep : Bool) (w : List ℕ) (ts : List Lexeme) → length ts ≤ n → Few n (shape_body deep (after_label w ts))
-after_label_few n deep w [] p = labelled_few n deep (Some w) [] p
-after_label_few n deep w (t ∷ ts) p =
-    either_shape n deep (is_equ t) (definition w ts) (statement (Some w) (t ∷ ts)) (definition_few n deep w ts p) (labelled_few n deep (Some w) (t ∷ ts) p)
+after_label_few : (n : ℕ) (w : List ℕ) (ts : List Lexeme) → length ts ≤ n → Few n (body_of_shape (after_label w ts))
+after_label_few n w [] p = labelled_few n (Some w) [] p
+after_label_few n w (t ∷ ts) p =
+    either_shape n (is_equ t) (definition w ts) (statement (Some w) (t ∷ ts)) (definition_few n w ts p) (labelled_few n (Some w) (t ∷ ts) p)
 
-after_word_few : (n : ℕ) (deep : Bool) (w : List ℕ) (ts : List Lexeme) → suc (length ts) ≤ n → Few n (shape_body deep (after_word w ts))
-after_word_few n deep w [] p = labelled_few n deep None (Word w ∷ []) p
-after_word_few n deep w (t ∷ ts) p =
+after_word_few : (n : ℕ) (w : List ℕ) (ts : List Lexeme) → suc (length ts) ≤ n → Few n (body_of_shape (after_word w ts))
+after_word_few n w [] p = labelled_few n None (Word w ∷ []) p
+after_word_few n w (t ∷ ts) p =
     let whole = statement None (Word w ∷ t ∷ ts) in
-    either_shape n deep (is_equ t) (definition w ts) (if is_sign_of 58 t then after_label w ts else whole) (definition_few n deep w ts (omega arith))
-    (either_shape n deep (is_sign_of 58 t) (after_label w ts) whole (after_label_few n deep w ts (omega arith)) (labelled_few n deep None (Word w ∷ t ∷ ts) p))
+    either_shape n (is_equ t) (definition w ts) (if is_sign_of 58 t then after_label w ts else whole) (definition_few n w ts (omega arith))
+    (either_shape n (is_sign_of 58 t) (after_label w ts) whole (after_label_few n w ts (omega arith)) (labelled_few n None (Word w ∷ t ∷ ts) p))
 
-shape_few : (deep : Bool) (ts : List Lexeme) → Few (length ts) (shape_body deep (shape_of ts))
-shape_few deep [] = labelled_few 0 deep None [] (omega arith)
-shape_few deep (Word w ∷ ts) = after_word_few (suc (length ts)) deep w ts (omega arith)
-shape_few deep (t ∷ ts) = labelled_few (suc (length ts)) deep None (t ∷ ts) (omega arith)
+shape_few : (ts : List Lexeme) → Few (length ts) (body_of_shape (shape_of ts))
+shape_few [] = labelled_few 0 None [] (omega arith)
+shape_few (Word w ∷ ts) = after_word_few (suc (length ts)) w ts (omega arith)
+shape_few (t ∷ ts) = labelled_few (suc (length ts)) None (t ∷ ts) (omega arith)
 
-body_few : (room : ℕ) (names : List (List ℕ)) (r : Result Body Fault) → Few room r → 2 * length (names_used (reading_of_body names r)) ≤ room
-body_few room names (Err fault) h = omega arith
-body_few room names (Ok body) h = h
+read_few : (room : ℕ) (fault : Option Fault) (name : Option (List ℕ)) (body : Option Body) → Few room body → 2 * length (names_used (fault_or_body fault name body)) ≤ room
+read_few room (Some fault) name body h = omega arith
+read_few room None name None h = omega arith
+read_few room None name (Some body) h = h
 
-either_reading : (room : ℕ) (b : Bool) (fault : Fault) (r : Reading) → 2 * length (names_used r) ≤ room → 2 * length (names_used (if b then bad fault else r)) ≤ room
-either_reading room true fault r h = omega arith
-either_reading room false fault r h = h
-
-tokens_used_few : (fault : Option Fault) (ts : List Lexeme) → 2 * length (names_used (reading_of_tokens fault ts)) ≤ length ts
-tokens_used_few (Some fault) ts = omega arith
-tokens_used_few None ts =
-    let names = names_of (shape_of ts) in
-    let body = shape_body (too_deep 0 0 ts) (shape_of ts) in
-    either_reading (length ts) (list_any is_bad_name names) BadName (reading_of_body names body) (body_few (length ts) names body (shape_few (too_deep 0 0 ts) ts))
+tokens_used_few : (ts : List Lexeme) → 2 * length (names_used (reading_of_tokens ts)) ≤ length ts
+tokens_used_few ts =
+    let shape = shape_of ts in
+    read_few (length ts) (first_fault (faults_in_order ts shape)) (first_name (names_of shape)) (body_of_shape shape) (shape_few ts)
 
 pub names_bound : (line : List ℕ) → 2 * length (names_used (reading_of line)) ≤ length line
 unfolding reading_of
-names_bound line = omega (arith, lexemes_few line, tokens_used_few (bad_token (lexemes_of line)) (lexemes_of line))
+names_bound line = omega (arith, lexemes_few line, tokens_used_few (lexemes_of line))
 
 pub names_bound_of : (line : List ℕ) (r : Reading) → r ≡ reading_of line → 2 * length (names_used r) ≤ length line
 names_bound_of line r e = rw e (names_bound line)

@@ -1,5 +1,5 @@
 -- The reading of a line: its label and its statement, or its first fault (Chipper manual; own for the order of faults).
-use Rattle.std.specs.Prelude.{ℕ, ◌+◌, ◌-◌, ◌==◌, ◌&&◌, ◌||◌, not, Bool, true, false, if◌then◌else◌, nat_lt, is_some, List, [], ◌∷◌, ◌++◌, length, map, Option, Some, None, Result, Ok, Err, option_and_then, codes, slice_range}
+use Rattle.std.specs.Prelude.{ℕ, ◌+◌, ◌-◌, ◌==◌, ◌&&◌, ◌||◌, not, Bool, true, false, if◌then◌else◌, nat_lt, is_some, is_none, List, [], ◌∷◌, ◌++◌, length, map, drop, Option, Some, None, option_map, option_and_then, codes, slice_range}
 use Rattle.std.specs.List.{list_any}
 use Rattle.std.specs.Str.{bytes_eq}
 use Rattle.chip_lang.specs.declared.limits.TheConstants.{NAME_BYTES, OPEN_PARENTHESES}
@@ -81,25 +81,16 @@ shape_of [] = statement None []
 shape_of (Word w ∷ rest) = after_word w rest
 shape_of (t ∷ rest) = statement None (t ∷ rest)
 
--- ---- the faults of a reading, in their order
-
--- the fault of the leftmost bad token
-abbrev pub bad_token : List Lexeme → Option Fault
-bad_token [] = None
-bad_token (Bad f ∷ ts) = Some f
-bad_token (t ∷ ts) = bad_token ts
-
--- more parentheses are open at some token than can be; closing ones count below 0 too
-abbrev pub too_deep : (opened closed : ℕ) → List Lexeme → Bool
-too_deep opened closed [] = false
-too_deep opened closed (t ∷ ts) =
-    let opened_now = if is_sign_of 40 t then opened + 1 else opened in
-    let closed_now = if is_sign_of 41 t then closed + 1 else closed in
-    nat_lt (closed_now + OPEN_PARENTHESES) opened_now || too_deep opened_now closed_now ts
+-- ---- names that a line gives a value
 
 -- a name that can't be defined
 abbrev pub is_bad_name : List ℕ → Bool
 is_bad_name w = is_reserved w || nat_lt NAME_BYTES (length w)
+
+-- the tokens of a line's statement; a definition has none
+abbrev pub statement_of : Shape → List Lexeme
+statement_of (definition w value) = []
+statement_of (statement label ts) = ts
 
 -- the directive at the front
 abbrev pub front_directive : List Lexeme → Option Directive
@@ -165,10 +156,6 @@ all_some [] = Some []
 all_some (None ∷ os) = None
 all_some (Some x ∷ os) = option_and_then (λ xs. Some (x ∷ xs)) (all_some os)
 
-abbrev pub fitting : {A : Type 0} → Option A → (A → Body) → Result Body Fault
-fitting None body = Err WrongOperands
-fitting (Some x) body = Ok (body x)
-
 -- the pieces in what is left after a comma, or of a whole without one
 abbrev pub pieces_in : Option (List Lexeme) → List (List Lexeme)
 pieces_in None = []
@@ -219,9 +206,9 @@ abbrev pub one_switch : List Lexeme → Option Bool
 one_switch (t ∷ []) = if is_the (codes "ON") t then Some true else (if is_the (codes "OFF") t then Some false else None)
 one_switch ts = None
 
-abbrev pub nothing : List Lexeme → Body → Result Body Fault
-nothing [] body = Ok body
-nothing (t ∷ ts) body = Err WrongOperands
+abbrev pub nothing : List Lexeme → Body → Option Body
+nothing [] body = Some body
+nothing (t ∷ ts) body = None
 
 -- BINARY, CHIP8, CHIP48, SCHIP10 or SCHIP11 alone
 abbrev pub is_known_option : List Lexeme → Bool
@@ -229,25 +216,25 @@ is_known_option (t ∷ []) =
     is_the (codes "BINARY") t || is_the (codes "CHIP8") t || is_the (codes "CHIP48") t || is_the (codes "SCHIP10") t || is_the (codes "SCHIP11") t
 is_known_option ts = false
 
-abbrev pub directive_body : Directive → List Lexeme → Result Body Fault
-directive_body Equ ts = Err WrongOperands
-directive_body Org ts = fitting (expression_of ts) org
-directive_body Ds ts = fitting (expression_of ts) ds
-directive_body Db ts = fitting (values_of ts) db
-directive_body Dw ts = fitting (values_of ts) dw
-directive_body Da ts = fitting (one_text ts) da
-directive_body Align ts = fitting (one_switch ts) align
-directive_body Ifdef ts = fitting (one_name ts) ifdef
-directive_body Ifund ts = fitting (one_name ts) ifund
-directive_body Define ts = fitting (one_name ts) (λ n. define)
+abbrev pub directive_body : Directive → List Lexeme → Option Body
+directive_body Equ ts = None
+directive_body Org ts = option_map org (expression_of ts)
+directive_body Ds ts = option_map ds (expression_of ts)
+directive_body Db ts = option_map db (values_of ts)
+directive_body Dw ts = option_map dw (values_of ts)
+directive_body Da ts = option_map da (one_text ts)
+directive_body Align ts = option_map align (one_switch ts)
+directive_body Ifdef ts = option_map ifdef (one_name ts)
+directive_body Ifund ts = option_map ifund (one_name ts)
+directive_body Define ts = option_map (λ n. define) (one_name ts)
 directive_body Else ts = nothing ts else_line
 directive_body Endif ts = nothing ts endif
 directive_body End ts = nothing ts end_line
-directive_body Options ts = Ok options
-directive_body Used ts = Ok used
-directive_body Xref ts = Ok xref
-directive_body Include ts = Err NotInProfile
-directive_body Undef ts = Err NotInProfile
+directive_body Options ts = Some options
+directive_body Used ts = Some used
+directive_body Xref ts = Some xref
+directive_body Include ts = None
+directive_body Undef ts = None
 
 -- a label may stand before it
 abbrev pub takes_label : Directive → Bool
@@ -262,60 +249,86 @@ takes_label Used = false
 takes_label Xref = false
 takes_label d = true
 
--- INCLUDE, UNDEF, and OPTION with other words
-abbrev pub is_outside : Directive → List Lexeme → Bool
-is_outside Include ts = true
-is_outside Undef ts = true
-is_outside Options ts = not (is_known_option ts)
+-- an instruction of the source form that its name and operands have
+abbrev pub instruction_body : List ℕ → List Lexeme → Option Body
+instruction_body w ts =
+    option_and_then (λ operands. option_map (λ form. code form operands) (form_of w operands)) (operands_of ts)
+
+abbrev pub word_body : (labelled : Bool) → List ℕ → Option Directive → List Lexeme → Option Body
+word_body labelled w (Some d) ts = if labelled && not (takes_label d) then None else directive_body d ts
+word_body labelled w None ts = instruction_body w ts
+
+abbrev pub statement_body : (labelled : Bool) → List Lexeme → Option Body
+statement_body labelled [] = Some empty
+statement_body labelled (Word w ∷ ts) = word_body labelled w (directive_of w) ts
+statement_body labelled (t ∷ ts) = None
+
+-- what a line says, if all that follows its first word fits
+abbrev pub body_of_shape : Shape → Option Body
+body_of_shape (definition w ts) = option_map equ (expression_of ts)
+body_of_shape (statement label ts) = statement_body (is_some label) ts
+
+-- ---- what is at fault
+
+-- the fault of the leftmost bad token
+abbrev pub bad_token : List Lexeme → Option Fault
+bad_token [] = None
+bad_token (Bad f ∷ ts) = Some f
+bad_token (t ∷ ts) = bad_token ts
+
+-- a statement that doesn't begin with a word
+abbrev pub begins_with_no_word : List Lexeme → Bool
+begins_with_no_word [] = false
+begins_with_no_word (t ∷ ts) = not (is_a_word t)
+
+-- a statement that begins with a word which is neither a directive nor an instruction
+abbrev pub begins_with_unknown_word : List Lexeme → Bool
+begins_with_unknown_word (Word w ∷ ts) = is_none (directive_of w) && not (is_mnemonic w)
+begins_with_unknown_word ts = false
+
+-- INCLUDE, UNDEF, and OPTION without exactly one of its words
+abbrev pub is_outside : Option Directive → List Lexeme → Bool
+is_outside (Some Include) ts = true
+is_outside (Some Undef) ts = true
+is_outside (Some Options) ts = not (is_known_option (drop 1 ts))
 is_outside d ts = false
 
--- what follows isn't looked at
-abbrev pub is_skipped : Directive → Bool
-is_skipped Used = true
-is_skipped Xref = true
+-- USED and XREF: what follows isn't looked at
+abbrev pub is_skipped : Option Directive → Bool
+is_skipped (Some Used) = true
+is_skipped (Some Xref) = true
 is_skipped d = false
+
+-- more parentheses are open at some token than can be; closing ones count below 0 too
+abbrev pub too_deep : (opened closed : ℕ) → List Lexeme → Bool
+too_deep opened closed [] = false
+too_deep opened closed (t ∷ ts) =
+    let opened_now = if is_sign_of 40 t then opened + 1 else opened in
+    let closed_now = if is_sign_of 41 t then closed + 1 else closed in
+    nat_lt (closed_now + OPEN_PARENTHESES) opened_now || too_deep opened_now closed_now ts
 
 -- ---- the reading
 
-abbrev pub instruction_body : List ℕ → List Lexeme → Result Body Fault
-instruction_body w ts = by_operands (operands_of ts)
-  where
-    by_form : List Operand → Option Row → Result Body Fault
-    by_form os None = Err WrongOperands
-    by_form os (Some r) = Ok (code r os)
+-- a fault, where it holds
+abbrev pub fault_if : Bool → Fault → Option Fault
+fault_if holds fault = if holds then Some fault else None
 
-    by_operands : Option (List Operand) → Result Body Fault
-    by_operands None = Err WrongOperands
-    by_operands (Some os) = by_form os (form_of w os)
+-- The faults of a reading in their order, each where it holds. WrongOperands comes once more after them: where nothing fits.
+abbrev pub faults_in_order : List Lexeme → Shape → List (Option Fault)
+faults_in_order ts shape =
+    bad_token ts
+    ∷ fault_if (list_any is_bad_name (names_of shape)) BadName
+    ∷ fault_if (begins_with_no_word (statement_of shape)) WrongOperands
+    ∷ fault_if (begins_with_unknown_word (statement_of shape)) UnknownWord
+    ∷ fault_if (is_outside (front_directive (statement_of shape)) (statement_of shape)) NotInProfile
+    ∷ fault_if (too_deep 0 0 ts && not (is_skipped (front_directive (statement_of shape)))) TooDeep
+    ∷ []
 
--- a fault that holds, or else an outcome
-abbrev pub unless : Bool → Fault → Result Body Fault → Result Body Fault
-unless b f r = if b then Err f else r
-
--- deep says that the line's parentheses are too deep, labelled that a label stands before the statement
-
--- a statement that begins with a directive
-abbrev pub by_directive : (deep labelled : Bool) → Directive → List Lexeme → Result Body Fault
-by_directive deep labelled d ts =
-    unless (is_outside d ts) NotInProfile (unless (deep && not (is_skipped d)) TooDeep
-    (unless (labelled && not (takes_label d)) WrongOperands (directive_body d ts)))
-
--- a statement that begins with another word
-abbrev pub by_mnemonic : (deep : Bool) → List ℕ → List Lexeme → Result Body Fault
-by_mnemonic deep w ts = unless (not (is_mnemonic w)) UnknownWord (unless deep TooDeep (instruction_body w ts))
-
-abbrev pub word_body : (deep labelled : Bool) → List ℕ → Option Directive → List Lexeme → Result Body Fault
-word_body deep labelled w (Some d) ts = by_directive deep labelled d ts
-word_body deep labelled w None ts = by_mnemonic deep w ts
-
-abbrev pub statement_body : (deep labelled : Bool) → List Lexeme → Result Body Fault
-statement_body deep labelled [] = Ok empty
-statement_body deep labelled (Word w ∷ ts) = word_body deep labelled w (directive_of w) ts
-statement_body deep labelled (t ∷ ts) = Err WrongOperands
-
-abbrev pub shape_body : (deep : Bool) → Shape → Result Body Fault
-shape_body deep (definition w ts) = unless deep TooDeep (fitting (expression_of ts) equ)
-shape_body deep (statement label ts) = statement_body deep (is_some label) ts
+-- the first of these that holds
+abbrev pub first_fault : List (Option Fault) → Option Fault
+first_fault [] = None
+first_fault (None ∷ faults) = first_fault faults
+first_fault (Some fault ∷ faults) = Some fault
 
 -- what a line says: the name that it gives a value, and its statement; or its first fault
 pub data Reading : Type 0 where
@@ -326,19 +339,19 @@ abbrev pub first_name : List (List ℕ) → Option (List ℕ)
 first_name [] = None
 first_name (n ∷ ns) = Some n
 
-abbrev pub reading_of_body : List (List ℕ) → Result Body Fault → Reading
-reading_of_body names (Err f) = bad f
-reading_of_body names (Ok body) = read (first_name names) body
+-- the first fault, or else what the line says, or else that nothing fits
+abbrev pub fault_or_body : Option Fault → (name : Option (List ℕ)) → Option Body → Reading
+fault_or_body (Some fault) name body = bad fault
+fault_or_body None name (Some body) = read name body
+fault_or_body None name None = bad WrongOperands
 
 abbrev pub reading_of_shape : List Lexeme → Shape → Reading
 reading_of_shape ts shape =
-    if list_any is_bad_name (names_of shape) then bad BadName
-    else reading_of_body (names_of shape) (shape_body (too_deep 0 0 ts) shape)
+    fault_or_body (first_fault (faults_in_order ts shape)) (first_name (names_of shape)) (body_of_shape shape)
 
-abbrev pub reading_of_tokens : Option Fault → List Lexeme → Reading
-reading_of_tokens (Some f) ts = bad f
-reading_of_tokens None ts = reading_of_shape ts (shape_of ts)
+abbrev pub reading_of_tokens : List Lexeme → Reading
+reading_of_tokens ts = reading_of_shape ts (shape_of ts)
 
 -- the one reading of a line
 unfoldable pub reading_of : List ℕ → Reading
-reading_of line = reading_of_tokens (bad_token (lexemes_of line)) (lexemes_of line)
+reading_of line = reading_of_tokens (lexemes_of line)

@@ -1,10 +1,9 @@
 -- A line without where its parts lie in memory (own).
-use Rattle.std.specs.Prelude.{map, Result, Ok, Err}
+use Rattle.std.specs.Prelude.{map, Option, option_map}
 use Rattle.chip_lang.specs.declared.line.Body.{Body as Line_body}
 use Rattle.chip_lang.specs.declared.line.Body.TheVariants.{Empty, Equ, Org, Ds, Db, Dw, Da, Code, Define, Ifdef, Ifund, Else, Endif, End, Align, Options, Used, Xref}
 use Rattle.chip_lang.specs.declared.line.Line.{Line}
 use Rattle.chip_lang.specs.declared.line.Line.TheVariants.{Bad, Read}
-use Rattle.chip_lang.specs.declared.fault.Fault.{Fault}
 use Rattle.chip_lang.specs.Tree.{tree_of}
 use Rattle.chip_lang.specs.Operand.{operand_of}
 use Rattle.chip_lang.specs.Form.{row_of_form}
@@ -36,7 +35,6 @@ abbrev pub seen_line : Line → Reading
 seen_line (Bad fault) = bad fault
 seen_line (Read label body) = read label (seen_body body)
 
--- the outcome of a statement that a value of the program stands for
-abbrev pub seen_outcome : Result Line_body Fault → Result Body Fault
-seen_outcome (Ok body) = Ok (seen_body body)
-seen_outcome (Err fault) = Err fault
+-- what a value of the program says, if it says something
+abbrev pub seen_statement : Option Line_body → Option Body
+seen_statement body = option_map seen_body body

@@ -2,20 +2,22 @@
 
 ghost use Rattle.std.specs.Prelude.{◌≡◌, ◌≤◌, ◌*◌, IfOk, length};
 ghost use Rattle.std.specs.Option.{option_copied};
-ghost use Rattle.chip_lang.specs.Line.{bad_token, too_deep, shape_of, reading_of_shape, reading_of};
+ghost use Rattle.chip_lang.specs.Line.{bad_token, too_deep, front_directive, statement_of, begins_with_no_word, begins_with_unknown_word, faults_in_order, first_fault, reading_of_tokens, reading_of};
 ghost use Rattle.chip_lang.specs.SeenLine.{seen_line};
+ghost use Rattle.chip_lang.specs.SeenShape.{seen_shape};
 ghost use Rattle.chip_lang.specs.Uses.{names_used};
 ghost use Rattle.chip_lang.specs.Meter.{one_more};
 
 use crate::bytes::Bytes;
+use crate::directive::Directive;
 use crate::expr::Expr;
 use crate::fault::Fault;
-use crate::form::{Form, Operand};
+use crate::form::{Form, Operand, is_mnemonic};
 use crate::lexeme::{Lexeme, is_sign_of, lexemes};
 use crate::limits::OPEN_PARENTHESES;
 use crate::meter::Meter;
-use crate::shape::{defines_bad_name, first_name, shape_of};
-use crate::statement::shape_body;
+use crate::shape::{Shape, defines_bad_name, first_name, front_directive, shape_of, statement_of};
+use crate::statement::{body_of_shape, is_outside, is_skipped};
 use std::alloc::{AllocError, Global};
 
 /// What the statement of a line says. Names are in upper case.
@@ -83,26 +85,71 @@ pub fn read_line(alloc: Global, meter: &mut Meter, text: &[u8]) -> Result<Line, 
 {
     meter.parsed = meter.parsed.saturating_add(1);
     let tokens = lexemes(alloc, text)?;
-    match bad_token(&tokens) {
-        Some(fault) => Ok(Line::Bad(fault)),
-        None => reading_of_tokens(alloc, &tokens),
+    reading_of_tokens(alloc, &tokens)
+}
+
+/// The reading of a line's tokens.
+fn reading_of_tokens(alloc: Global, tokens: &[Lexeme]) -> Result<Line, AllocError>
+    ensures { IfOk result (λ line. seen_line line ≡ reading_of_tokens tokens.now) }
+{
+    let shape = shape_of(tokens);
+    let front = front_directive(&shape);
+    if let Some(fault) = first_fault(tokens, &shape, front) {
+        return Ok(Line::Bad(fault));
+    }
+    match body_of_shape(alloc, &shape, front)? {
+        Some(body) => {
+            let label = owned(alloc, first_name(&shape, front))?;
+            Ok(Line::Read { label, body })
+        }
+        None => Ok(Line::Bad(Fault::WrongOperands)),
     }
 }
 
-/// The reading of tokens none of which is bad.
-fn reading_of_tokens(alloc: Global, tokens: &[Lexeme]) -> Result<Line, AllocError>
-    ensures { IfOk result (λ line. seen_line line ≡ reading_of_shape tokens.now (shape_of tokens.now)) }
+/// The first fault of a reading, but for one of operands that fit nothing. `front` is the directive at
+/// the front of the statement.
+fn first_fault(tokens: &[Lexeme], shape: &Shape, front: Option<Directive>) -> Option<Fault>
+    requires front { front ≡ front_directive (statement_of (seen_shape shape.now)) }
+    ensures { result ≡ first_fault (faults_in_order tokens.now (seen_shape shape.now)) }
 {
-    let shape = shape_of(tokens);
-    if defines_bad_name(&shape) {
-        return Ok(Line::Bad(Fault::BadName));
+    if let Some(fault) = bad_token(tokens) {
+        return Some(fault);
     }
-    match shape_body(alloc, is_too_deep(tokens), &shape)? {
-        Ok(body) => Ok(Line::Read {
-            label: owned(alloc, first_name(&shape))?,
-            body,
-        }),
-        Err(fault) => Ok(Line::Bad(fault)),
+    if defines_bad_name(shape, front) {
+        return Some(Fault::BadName);
+    }
+    let statement = statement_of(shape);
+    if begins_with_no_word(statement) {
+        return Some(Fault::WrongOperands);
+    }
+    if begins_with_unknown_word(front, statement) {
+        return Some(Fault::UnknownWord);
+    }
+    if is_outside(front, statement) {
+        return Some(Fault::NotInProfile);
+    }
+    if !is_skipped(front) && is_too_deep(tokens) {
+        return Some(Fault::TooDeep);
+    }
+    None
+}
+
+/// Whether a statement doesn't begin with a word.
+fn begins_with_no_word(statement: &[Lexeme]) -> bool
+    ensures { result ≡ begins_with_no_word statement.now }
+{
+    !matches!(statement, [] | [Lexeme::Word(_), ..])
+}
+
+/// Whether a statement begins with a word that is no directive, of which `front` tells, nor an
+/// instruction.
+fn begins_with_unknown_word(front: Option<Directive>, statement: &[Lexeme]) -> bool
+    requires { front ≡ front_directive statement.now }
+    ensures { result ≡ begins_with_unknown_word statement.now }
+{
+    match statement {
+        [Lexeme::Word(word), ..] => front.is_none() && !is_mnemonic(word.get()),
+        _ => false,
     }
 }
 

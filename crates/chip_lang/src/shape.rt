@@ -3,7 +3,7 @@
 ghost use Rattle.std.specs.Prelude.{◌≡◌, length, option_to_list};
 ghost use Rattle.std.specs.List.{list_any};
 ghost use Rattle.std.specs.Option.{option_copied};
-ghost use Rattle.chip_lang.specs.Line.{is_equ, after_label, shape_of, is_bad_name, front_directive, by_define, names_of, first_name};
+ghost use Rattle.chip_lang.specs.Line.{is_equ, after_label, shape_of, is_bad_name, statement_of, front_directive, by_define, names_of, first_name};
 ghost use Rattle.chip_lang.specs.SeenShape.{seen_shape};
 
 use crate::bytes::Bytes;
@@ -71,27 +71,49 @@ pub(crate) fn is_bad_name(word: &[u8]) -> bool
     is_reserved(word) || word.len() > NAME_BYTES
 }
 
-/// The word after a DEFINE that begins a statement.
-fn name_after_define(tokens: &[Lexeme]) -> Option<&Bytes>
-    ensures { option_to_list (option_copied result) ≡ by_define (front_directive tokens.now) tokens.now }
+/// The directive at the front of a line's statement.
+pub(crate) fn front_directive(shape: &Shape) -> Option<Directive>
+    ensures { result ≡ front_directive (statement_of (seen_shape shape.now)) }
 {
-    match tokens {
-        [Lexeme::Word(define), Lexeme::Word(name), ..] => match directive_of(define.get()) {
-            Some(Directive::Define) => Some(name),
+    match shape {
+        Shape::Statement { tokens, .. } => match tokens {
+            [Lexeme::Word(word), ..] => directive_of(word.get()),
             _ => None,
         },
+        Shape::Definition { .. } => None,
+    }
+}
+
+/// The tokens of a line's statement.
+pub(crate) fn statement_of<'a>(shape: &Shape<'a>) -> &'a [Lexeme]
+    ensures { result.now ≡ statement_of (seen_shape shape.now) }
+{
+    match shape {
+        Shape::Statement { tokens, .. } => tokens,
+        Shape::Definition { .. } => &[],
+    }
+}
+
+/// The word after a DEFINE that begins a statement.
+fn name_after_define(front: Option<Directive>, tokens: &[Lexeme]) -> Option<&Bytes>
+    ensures { option_to_list (option_copied result) ≡ by_define front tokens.now }
+{
+    match (front, tokens) {
+        (Some(Directive::Define), [_, Lexeme::Word(name), ..]) => Some(name),
         _ => None,
     }
 }
 
-/// Whether a line defines a word that can't be defined.
-pub(crate) fn defines_bad_name(shape: &Shape) -> bool
+/// Whether a line defines a word that can't be defined. `front` is the directive at the front of its
+/// statement.
+pub(crate) fn defines_bad_name(shape: &Shape, front: Option<Directive>) -> bool
+    requires front { front ≡ front_directive (statement_of (seen_shape shape.now)) }
     ensures { result ≡ list_any is_bad_name (names_of (seen_shape shape.now)) }
 {
     match shape {
         Shape::Definition { name, .. } => is_bad_name(name.get()),
         Shape::Statement { label, tokens } => {
-            is_bad_option(*label) || is_bad_option(name_after_define(tokens))
+            is_bad_option(*label) || is_bad_option(name_after_define(front, tokens))
         }
     }
 }
@@ -105,12 +127,13 @@ fn is_bad_option(name: Option<&Bytes>) -> bool
     }
 }
 
-/// The name that a line defines.
-pub(crate) fn first_name<'a>(shape: &Shape<'a>) -> Option<&'a Bytes>
+/// The name that a line defines. `front` is the directive at the front of its statement.
+pub(crate) fn first_name<'a>(shape: &Shape<'a>, front: Option<Directive>) -> Option<&'a Bytes>
+    requires front { front ≡ front_directive (statement_of (seen_shape shape.now)) }
     ensures { option_copied result ≡ first_name (names_of (seen_shape shape.now)) }
 {
     match shape {
         Shape::Definition { name, .. } => Some(name),
-        Shape::Statement { label, tokens } => label.or(name_after_define(tokens)),
+        Shape::Statement { label, tokens } => label.or(name_after_define(front, tokens)),
     }
 }

@@ -2,18 +2,14 @@
 
 ghost use Rattle.std.specs.Prelude.{◌≡◌, ℕ, Bool, List, Some, None, IfOk, option_map};
 ghost use Rattle.std.specs.Option.{option_copied};
-ghost use Rattle.chip_lang.specs.Tree.{tree_of};
-ghost use Rattle.chip_lang.specs.Keyword.{directive_of};
-ghost use Rattle.chip_lang.specs.Line.{Body, one_text, one_name, one_switch, is_known_option, directive_body, takes_label, is_outside, is_skipped, instruction_body, by_mnemonic, by_directive, statement_body, shape_body};
-ghost use Rattle.chip_lang.specs.SeenLine.{seen_outcome};
+ghost use Rattle.chip_lang.specs.Line.{one_text, one_name, one_switch, is_known_option, directive_body, takes_label, is_outside, is_skipped, instruction_body, statement_of, front_directive, statement_body, body_of_shape};
+ghost use Rattle.chip_lang.specs.SeenLine.{seen_statement};
 ghost use Rattle.chip_lang.specs.SeenShape.{seen_shape};
 
 use crate::bytes::Bytes;
 use crate::directive::Directive;
-use crate::fault::Fault;
-use crate::form::{find_form, is_mnemonic};
+use crate::form::find_form;
 use crate::front::is_reserved;
-use crate::keyword::directive_of;
 use crate::lexeme::{Lexeme, is_the};
 use crate::line::Body;
 use crate::operands::{operands_of, values_of};
@@ -21,110 +17,67 @@ use crate::parse::parse_expression;
 use crate::shape::Shape;
 use std::alloc::{AllocError, Global};
 
-/// What a statement says, or its fault.
-type Outcome = Result<Body, Fault>;
-
-/// What a line says. `deep` is whether its parentheses go too deep.
-pub(crate) fn shape_body(alloc: Global, deep: bool, shape: &Shape) -> Result<Outcome, AllocError>
-    ensures { IfOk result (λ outcome. seen_outcome outcome ≡ shape_body deep (seen_shape shape.now)) }
+/// What a line says, if all that follows its first word fits. `front` is the directive at the front
+/// of its statement. Errors: memory ran out.
+pub(crate) fn body_of_shape(
+    alloc: Global,
+    shape: &Shape,
+    front: Option<Directive>,
+) -> Result<Option<Body>, AllocError>
+    requires front { front ≡ front_directive (statement_of (seen_shape shape.now)) }
+    ensures { IfOk result (λ body. seen_statement body ≡ body_of_shape (seen_shape shape.now)) }
 {
     match shape {
-        Shape::Definition { value, .. } => {
-            if deep {
-                Ok(Err(Fault::TooDeep))
-            } else {
-                Ok(
-                    parse_expression(alloc, value)?
-                        .map(Body::Equ)
-                        .ok_or(Fault::WrongOperands),
-                )
-            }
-        }
-        Shape::Statement { label, tokens } => {
-            statement_body(alloc, deep, label.is_some(), tokens)
-        }
+        Shape::Definition { value, .. } => Ok(parse_expression(alloc, value)?.map(Body::Equ)),
+        Shape::Statement { label, tokens } => statement_body(alloc, label.is_some(), front, tokens),
     }
 }
 
 /// What a statement says, after a label if `labelled`.
 fn statement_body(
     alloc: Global,
-    deep: bool,
     labelled: bool,
+    front: Option<Directive>,
     tokens: &[Lexeme],
-) -> Result<Outcome, AllocError>
-    ensures { IfOk result (λ outcome. seen_outcome outcome ≡ statement_body deep labelled tokens.now) }
+) -> Result<Option<Body>, AllocError>
+    requires front { front ≡ front_directive tokens.now }
+    ensures { IfOk result (λ body. seen_statement body ≡ statement_body labelled tokens.now) }
 {
     match tokens {
-        [] => Ok(Ok(Body::Empty)),
-        [Lexeme::Word(word), rest @ ..] => match directive_of(word.get()) {
-            Some(directive) => by_directive(alloc, deep, labelled, directive, rest),
-            None => by_mnemonic(alloc, deep, word.get(), rest),
+        [] => Ok(Some(Body::Empty)),
+        [Lexeme::Word(word), operands @ ..] => match front {
+            Some(directive) if labelled && !takes_label(directive) => Ok(None),
+            Some(directive) => directive_body(alloc, directive, operands),
+            None => instruction_body(alloc, word.get(), operands),
         },
-        _ => Ok(Err(Fault::WrongOperands)),
+        _ => Ok(None),
     }
-}
-
-/// What an instruction and its operands say.
-fn by_mnemonic(
-    alloc: Global,
-    deep: bool,
-    word: &[u8],
-    operands: &[Lexeme],
-) -> Result<Outcome, AllocError>
-    ensures { IfOk result (λ outcome. seen_outcome outcome ≡ by_mnemonic deep word.now operands.now) }
-{
-    if !is_mnemonic(word) {
-        return Ok(Err(Fault::UnknownWord));
-    }
-    if deep {
-        return Ok(Err(Fault::TooDeep));
-    }
-    instruction_body(alloc, word, operands)
-}
-
-/// What a directive and its operands say.
-fn by_directive(
-    alloc: Global,
-    deep: bool,
-    labelled: bool,
-    directive: Directive,
-    operands: &[Lexeme],
-) -> Result<Outcome, AllocError>
-    ensures { IfOk result (λ outcome. seen_outcome outcome ≡ by_directive deep labelled directive operands.now) }
-{
-    if is_outside(directive, operands) {
-        return Ok(Err(Fault::NotInProfile));
-    }
-    if deep && !is_skipped(directive) {
-        return Ok(Err(Fault::TooDeep));
-    }
-    if labelled && !takes_label(directive) {
-        return Ok(Err(Fault::WrongOperands));
-    }
-    directive_body(alloc, directive, operands)
 }
 
 /// The source form of an instruction, and its operands.
-fn instruction_body(alloc: Global, name: &[u8], tokens: &[Lexeme]) -> Result<Outcome, AllocError>
-    ensures { IfOk result (λ outcome. seen_outcome outcome ≡ instruction_body name.now tokens.now) }
+fn instruction_body(
+    alloc: Global,
+    name: &[u8],
+    tokens: &[Lexeme],
+) -> Result<Option<Body>, AllocError>
+    ensures { IfOk result (λ body. seen_statement body ≡ instruction_body name.now tokens.now) }
 {
     let Some(operands) = operands_of(alloc, tokens)? else {
-        return Ok(Err(Fault::WrongOperands));
+        return Ok(None);
     };
     match find_form(name, &operands) {
-        Some(form) => Ok(Ok(Body::Code(form, operands))),
-        None => Ok(Err(Fault::WrongOperands)),
+        Some(form) => Ok(Some(Body::Code(form, operands))),
+        None => Ok(None),
     }
 }
 
-/// What a directive in the profile says.
+/// What a directive and its operands say.
 fn directive_body(
     alloc: Global,
     directive: Directive,
     tokens: &[Lexeme],
-) -> Result<Outcome, AllocError>
-    ensures { IfOk result (λ outcome. seen_outcome outcome ≡ directive_body directive tokens.now) }
+) -> Result<Option<Body>, AllocError>
+    ensures { IfOk result (λ body. seen_statement body ≡ directive_body directive tokens.now) }
 {
     let body = match directive {
         Directive::Org => parse_expression(alloc, tokens)?.map(Body::Org),
@@ -142,10 +95,9 @@ fn directive_body(
         Directive::Options => Some(Body::Options),
         Directive::Used => Some(Body::Used),
         Directive::Xref => Some(Body::Xref),
-        Directive::Equ => None,
-        Directive::Include | Directive::Undef => return Ok(Err(Fault::NotInProfile)),
+        Directive::Equ | Directive::Include | Directive::Undef => None,
     };
-    Ok(body.ok_or(Fault::WrongOperands))
+    Ok(body)
 }
 
 /// The bytes of one text.
@@ -215,20 +167,22 @@ pub(crate) fn takes_label(directive: Directive) -> bool
     )
 }
 
-/// Whether a directive is outside the profile: INCLUDE, UNDEF, and OPTION with other words.
-fn is_outside(directive: Directive, tokens: &[Lexeme]) -> bool
-    ensures { result ≡ is_outside directive tokens.now }
+/// Whether a statement is outside the profile: INCLUDE, UNDEF, and OPTION without exactly one of its
+/// words.
+pub(crate) fn is_outside(front: Option<Directive>, tokens: &[Lexeme]) -> bool
+    ensures { result ≡ is_outside front tokens.now }
 {
-    match directive {
-        Directive::Include | Directive::Undef => true,
-        Directive::Options => !is_known_option(tokens),
+    match (front, tokens) {
+        (Some(Directive::Include | Directive::Undef), _) => true,
+        (Some(Directive::Options), [_, operands @ ..]) => !is_known_option(operands),
+        (Some(Directive::Options), []) => true,
         _ => false,
     }
 }
 
-/// Whether what follows a directive isn't looked at.
-fn is_skipped(directive: Directive) -> bool
-    ensures { result ≡ is_skipped directive }
+/// Whether what follows the directive isn't looked at.
+pub(crate) fn is_skipped(front: Option<Directive>) -> bool
+    ensures { result ≡ is_skipped front }
 {
-    matches!(directive, Directive::Used | Directive::Xref)
+    matches!(front, Some(Directive::Used | Directive::Xref))
 }

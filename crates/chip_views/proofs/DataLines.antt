@@ -13,7 +13,7 @@ use Rattle.chip_lang.specs.Keyword.{directive_of}
 use Rattle.chip_lang.specs.Parse.{expression_of}
 use Rattle.chip_lang.specs.Tree.{number}
 use Rattle.chip_views.specs.Dis.{is_visible}
-use Rattle.chip_lang.specs.Line.{Reading, reading_of, reading_of_tokens, bad_token, lexeme_of, read, dw, db}
+use Rattle.chip_lang.specs.Line.{Reading, reading_of, reading_of_tokens, lexeme_of, read, dw, db}
 
 -- ---- digits
 
@@ -89,9 +89,9 @@ number_token place d ds names digits =
 
 -- the reading of a word and a hexadecimal number up to the end, by its tokens
 reading_by : (line : List ℕ) (t u : Token) → tokens_of line ≡ t ∷ u ∷ [] → (r : Reading) →
-    reading_of_tokens (bad_token (map (lexeme_of line) (t ∷ u ∷ []))) (map (lexeme_of line) (t ∷ u ∷ [])) ≡ r → reading_of line ≡ r
+    reading_of_tokens (map (lexeme_of line) (t ∷ u ∷ [])) ≡ r → reading_of line ≡ r
 unfolding reading_of
-reading_by line t u e r h = ap (λ ts. reading_of_tokens (bad_token (map (lexeme_of line) ts)) (map (lexeme_of line) ts)) e ∙ h
+reading_by line t u e r h = ap (λ ts. reading_of_tokens (map (lexeme_of line) ts)) e ∙ h
 
 -- the number of digits, as a token
 number_kind : (n : ℕ) → n < 65536 → (digits : List ℕ) → number_of 16 digits ≡ n → kind_of_number (number_of 16 digits) ≡ Number (pos n)
