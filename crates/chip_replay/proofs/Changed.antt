@@ -1,10 +1,10 @@
 -- What is kept after a change of the image is sound for the new run.
-use Rattle.std.proofs.Common.{◌≡◌, ℕ, zero, suc, ◌+◌, ◌*◌, ◌/◌, ◌<◌, ◌≤◌, Bool, true, false, cond, ltb, List, map, take, length, get_or, slice_index, Option, Some, None, refl, sym, ap, ◌∙◌, subst, arith, ◌⊎◌, inl, inr, get_or-take, length-take, ◌&&◌}
+use Rattle.std.proofs.Common.{◌≡◌, ℕ, zero, suc, ◌+◌, ◌*◌, ◌/◌, ◌<◌, ◌≤◌, Bool, true, false, cond, ltb, List, [], ◌∷◌, map, take, length, get_or, slice_index, Option, Some, None, refl, sym, ap, ◌∙◌, subst, arith, ◌⊎◌, inl, inr, get_or-take, length-take, ◌&&◌}
 use Rattle.std.proofs.lemmas.List.{length-map, map-id, get_or-map}
 use Rattle.std.proofs.lemmas.Bool.{cases_lt, false≢true}
 use Rattle.std.proofs.lemmas.Bool.Decides.{nat_tests}
 use Rattle.std.specs.Prelude.{IfSome}
-use Rattle.std.specs.List.{range_with_len}
+use Rattle.std.specs.List.{position_or_len, range_with_len}
 use Rattle.std.proofs.lemmas.List.FromFn.{get_or-range_with_len, length-range_with_len}
 use Rattle.std.proofs.lemmas.List.Folds.{list_any_at}
 use Rattle.chip_machine.specs.Touched.{touched}
@@ -35,29 +35,26 @@ first_cut_by false p q n m v e f l same =
 pub first_cut : (p q : ℕ → Bool) (n m v : ℕ) → IsFirst p n v → m ≤ n → ((s : ℕ) → s < m → q s ≡ p s) → IsFirst q m (cond (ltb v m) v never)
 first_cut p q n m v f l same = first_cut_by (ltb v m) p q n m v refl f l same
 
-below_by : (b c : Bool) (x f : ℕ) → ltb x f ≡ b → cond b x (cond c f (suc f)) ≤ suc f
-below_by true c x f e = let l : x < f = grind (arith, nat_tests) in omega arith
-below_by false true x f e = omega arith
-below_by false false x f e = omega arith
+place_within : (b : Bool) (place len : ℕ) → place ≤ len → cond b 0 (suc place) ≤ suc len
+place_within true place len l = omega arith
+place_within false place len l = omega arith
+
+first-le : {X : Type 0} (p : X → Bool) (xs : List X) → position_or_len p xs ≤ length xs
+first-le p [] = omega arith
+first-le p (x ∷ xs) = place_within (p x) (position_or_len p xs) (length xs) (first-le p xs)
+
+-- the first place that passes is no later than one that does
+first-hit : {X : Type 0} (p : X → Bool) (xs : List X) (i : ℕ) (d : X) → i < length xs → p (get_or xs i d) ≡ true → position_or_len p xs ≤ i
+first-hit p [] i d l h = absurd (omega arith)
+first-hit p (x ∷ xs) zero d l h = rw h (omega arith)
+first-hit p (x ∷ xs) (suc i) d l h = place_within (p x) (position_or_len p xs) i (first-hit p xs i d (omega arith) h)
 
 pub first_below-le : (p : ℕ → Bool) (f : ℕ) → first_below p f ≤ f
-first_below-le p zero = omega arith
-first_below-le p (suc f) = below_by _ (p f) (first_below p f) f refl
-
-hit_by : (b c : Bool) (x f r : ℕ) → ltb x f ≡ b → (r < f → x ≤ r) → (r ≡ f → c ≡ true) → r < suc f → cond b x (cond c f (suc f)) ≤ r
-hit_by true c x f r e before here l =
-    let lt : x < f = grind (arith, nat_tests) in
-    elim (cases_lt r f) [ inl a ↦ omega (arith, before a) | inr a ↦ omega arith ]
-hit_by false true x f r e before here l =
-    let ge : f ≤ x = grind (arith, nat_tests) in
-    elim (cases_lt r f) [ inl a ↦ omega (arith, before a) | inr a ↦ omega arith ]
-hit_by false false x f r e before here l =
-    let ge : f ≤ x = grind (arith, nat_tests) in
-    elim (cases_lt r f) [ inl a ↦ omega (arith, before a) | inr a ↦ absurd (false≢true (here (omega arith))) ]
+first_below-le p f = omega (arith, first-le p (range_with_len 0 f), length-range_with_len 0 f)
 
 pub first_below-hit : (p : ℕ → Bool) (f r : ℕ) → r < f → p r ≡ true → first_below p f ≤ r
-first_below-hit p zero r l h = absurd (omega arith)
-first_below-hit p (suc f) r l h = hit_by _ (p f) (first_below p f) f r refl (λ a. first_below-hit p f r a h) (λ e. ap p (sym e) ∙ h) l
+first_below-hit p f r l h =
+    first-hit p (range_with_len 0 f) r 0 (omega (arith, length-range_with_len 0 f)) (ap p (get_or-range_with_len 0 f r 0 l) ∙ h)
 
 both : (a b : Bool) → a ≡ true → b ≡ true → (a && b) ≡ true
 both true true p q = refl

@@ -3,8 +3,9 @@
 --     ticks          whether the timers tick in a step
 --     run            the state after t steps
 --     GoesOn         some states follow one another, up to the next tick
---     first_below    the least step below f that passes a test, or f
-use Rattle.std.specs.Prelude.{◌≡◌, ℕ, zero, suc, ◌+◌, ◌%◌, ◌<◌, ◌≤◌, Bool, ◌==◌, nat_lt, if◌then◌else◌}
+--     first_below    the first step below f that passes a test, or f
+use Rattle.std.specs.Prelude.{◌≡◌, ℕ, zero, suc, ◌+◌, ◌%◌, ◌<◌, ◌≤◌, Bool, ◌==◌}
+use Rattle.std.specs.List.{position_or_len, range_with_len}
 
 -- where s + 1 is a multiple of the rate
 abbrev pub ticks : ℕ → ℕ → Bool
@@ -21,7 +22,6 @@ abbrev pub GoesOn : {S : Type 0} → (S → ℕ → Bool → S) → (ℕ → ℕ
 GoesOn after held at most to_tick state =
     (t : ℕ) → at ≤ t → t < at + most → state (t + 1) ≡ after (state t) (held t) (t + 1 == at + to_tick)
 
--- the least s below f with p s, or f
+-- the first of the steps 0, 1, .. below f that passes, or f
 abbrev pub first_below : (ℕ → Bool) → ℕ → ℕ
-first_below p zero = 0
-first_below p (suc f) = if nat_lt (first_below p f) f then first_below p f else if p f then f else suc f
+first_below p f = position_or_len p (range_with_len 0 f)
