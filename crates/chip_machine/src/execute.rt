@@ -1,6 +1,6 @@
 //! The effect of one instruction.
 
-ghost use Rattle.std.specs.Prelude.{◌≡◌, ◌+◌, ◌<◌, ◌≤◌, ◌++◌, length, OnOk, OnErr, IfErr, Ok, Err};
+ghost use Rattle.std.specs.Prelude.{◌≡◌, ◌+◌, ◌<◌, ◌≤◌, [], length, OnOk, OnErr, IfOk, IfErr, Ok, Err};
 ghost use Rattle.chip_lang.specs.Decoding.{decode_of};
 ghost use Rattle.chip_machine.specs.Step.{effect, effect_of_word, perform, accessed};
 ghost use Rattle.chip_machine.specs.Touched.{IsNoted, is_among};
@@ -8,25 +8,24 @@ ghost use Rattle.chip_machine.specs.Touched.{IsNoted, is_among};
 use crate::limits::{LAST_WORD, MEMORY_BYTES};
 use crate::processor::Processor;
 use crate::stop::Stop;
-use crate::touch::Touch;
+use crate::touch::Span;
 use chip_lang::instr::{Instr, decode};
 
-/// Carries out an instruction, or says why the machine stops.
+/// Carries out an instruction, and says which bytes it accesses at I, or why the machine stops.
 #[inline(always)]
 pub(crate) fn execute(
     processor: &mut Processor,
     memory: &mut [u8],
     instr: Instr,
     keys: u16,
-    touch: &mut Touch,
-) -> Result<(), Stop>
+) -> Result<Span, Stop>
     requires size { length memory.old ≡ MEMORY_BYTES }
     requires pc { processor.old.pc ≤ LAST_WORD }
-    requires room { length touch.old ≤ 2 }
     ensures ok { OnOk result (perform keys (record { core = processor.old; memory = memory.old }) (effect instr processor.old) ≡ Ok (record { core = processor.new; memory = memory.new })) }
     ensures why { IfErr result (λ why. perform keys (record { core = processor.old; memory = memory.old }) (effect instr processor.old) ≡ Err why) }
     ensures same { OnErr result ((processor.new ≡ processor.old) × (memory.new ≡ memory.old)) }
-    ensures touched { touch.new ≡ touch.old ++ accessed processor.old.index (effect instr processor.old) }
+    ensures touched { IfOk result (λ span. span ≡ accessed processor.old.index (effect instr processor.old)) }
+    ensures untouched { OnErr result (accessed processor.old.index (effect instr processor.old) ≡ []) }
 {
     match instr {
         Instr::ScrollDown(n) => processor.row_scroll_down(n)?,
@@ -57,7 +56,7 @@ pub(crate) fn execute(
         Instr::LoadIndex(address) => processor.row_load_index(address),
         Instr::JumpOffset(address) => processor.row_jump_offset(address),
         Instr::Random(x, byte) => processor.row_random(x, byte),
-        Instr::Draw(x, y, n) => processor.row_draw(x, y, n, memory, touch)?,
+        Instr::Draw(x, y, n) => return processor.row_draw(x, y, n, memory),
         Instr::SkipIfKey(x) => processor.row_skip_if_key(x, keys),
         Instr::SkipUnlessKey(x) => processor.row_skip_unless_key(x, keys),
         Instr::ReadDelay(x) => processor.row_read_delay(x),
@@ -67,17 +66,17 @@ pub(crate) fn execute(
         Instr::AddIndex(x) => processor.row_add_index(x),
         Instr::SmallDigit(x) => processor.row_small_digit(x),
         Instr::BigDigit(x) => processor.row_big_digit(x)?,
-        Instr::StoreDecimal(x) => processor.row_store_decimal(x, memory, touch)?,
-        Instr::StoreRegisters(x) => processor.row_store_registers(x, memory, touch)?,
-        Instr::LoadRegisters(x) => processor.row_load_registers(x, memory, touch)?,
+        Instr::StoreDecimal(x) => return processor.row_store_decimal(x, memory),
+        Instr::StoreRegisters(x) => return processor.row_store_registers(x, memory),
+        Instr::LoadRegisters(x) => return processor.row_load_registers(x, memory),
         Instr::StoreFlags(x) => processor.row_store_flags(x)?,
         Instr::LoadFlags(x) => processor.row_load_flags(x)?,
     }
-    Ok(())
+    Ok(Span::none())
 }
 
 /// Carries out the instruction of a word with no key down, and notes the bytes that it accesses at I
-/// under a number. What `touch` holds is lost.
+/// under a number.
 #[inline(always)]
 pub(crate) fn execute_noted(
     processor: &mut Processor,
@@ -85,7 +84,6 @@ pub(crate) fn execute_noted(
     word: u16,
     number: u32,
     first_touch: &mut [u32],
-    touch: &mut Touch,
 ) -> Result<(), Stop>
     requires size { length memory.old ≡ MEMORY_BYTES }
     requires pc { processor.old.pc ≤ LAST_WORD }
@@ -102,11 +100,10 @@ pub(crate) fn execute_noted(
     ensures noted { IsNoted (is_among (accessed processor.old.index (effect_of_word (decode_of word) processor.old)))
         number first_touch.old first_touch.new }
 {
-    touch.clear();
-    let done = match decode(word) {
-        Some(instr) => execute(processor, memory, instr, 0, touch),
-        None => Err(Stop::NoInstruction),
+    let Some(instr) = decode(word) else {
+        return Err(Stop::NoInstruction);
     };
-    touch.note(first_touch, number);
-    done
+    let span = execute(processor, memory, instr, 0)?;
+    span.note(first_touch, number);
+    Ok(())
 }

@@ -1,6 +1,6 @@
 //! What a replay asks of a machine.
 
-ghost use Rattle.std.specs.Prelude.{◌≡◌, ◌==◌, ℕ, ◌+◌, ◌^◌, ◌<◌, ◌≤◌, ◌↔◌, Bool, false, ◌&&◌, List, All, Contains, IfOk, IsFalse, length, slice_index, slice_set};
+ghost use Rattle.std.specs.Prelude.{◌≡◌, ◌==◌, ℕ, ◌+◌, ◌^◌, ◌<◌, ◌≤◌, ◌↔◌, Bool, false, ◌&&◌, List, All, Contains, IfOk, OnOk, OnErr, IsFalse, length, slice_index, slice_set};
 ghost use Rattle.chip_machine.specs.Block.{quiet, block, first_noted};
 ghost use Rattle.chip_replay.specs.Frame.{AgreeOff, IsFramed};
 ghost use Rattle.chip_replay.specs.Limits.{memory_size};
@@ -62,6 +62,15 @@ pub trait Traced: Drop + Sized {
     fn copy_of(&self) -> Result<Self, AllocError>
         ensures same { IfOk result (λ copy. copy ≡ self.now) }
         ensures proper { is_proper self.now };
+
+    /// Takes the state of another machine. Errors: memory ran out, and nothing is changed.
+    fn copy_from(&mut self, other: &Self) -> Result<(), AllocError>
+        ensures ok { OnOk result (self.new ≡ other.now) }
+        ensures err { OnErr result (self.new ≡ self.old) }
+    {
+        *self = other.copy_of()?;
+        Ok(())
+    }
 
     /// The memory is a part of the state.
     ghost memory_of_changed: { (s : Self) (m : List ℕ) → memory (with_memory s m) ≡ m };
