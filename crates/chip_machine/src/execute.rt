@@ -27,6 +27,7 @@ pub(crate) fn execute(
     ensures touched { IfOk result (λ span. span ≡ accessed processor.old.index (effect instr processor.old)) }
     ensures untouched { OnErr result (accessed processor.old.index (effect instr processor.old) ≡ []) }
 {
+    // `Ok(..?)` in place of the result itself, which stays in registers so.
     match instr {
         Instr::ScrollDown(n) => processor.row_scroll_down(n)?,
         Instr::ClearScreen => processor.row_clear_screen(),
@@ -56,7 +57,7 @@ pub(crate) fn execute(
         Instr::LoadIndex(address) => processor.row_load_index(address),
         Instr::JumpOffset(address) => processor.row_jump_offset(address),
         Instr::Random(x, byte) => processor.row_random(x, byte),
-        Instr::Draw(x, y, n) => return processor.row_draw(x, y, n, memory),
+        Instr::Draw(x, y, n) => return Ok(processor.row_draw(x, y, n, memory)?),
         Instr::SkipIfKey(x) => processor.row_skip_if_key(x, keys),
         Instr::SkipUnlessKey(x) => processor.row_skip_unless_key(x, keys),
         Instr::ReadDelay(x) => processor.row_read_delay(x),
@@ -66,22 +67,23 @@ pub(crate) fn execute(
         Instr::AddIndex(x) => processor.row_add_index(x),
         Instr::SmallDigit(x) => processor.row_small_digit(x),
         Instr::BigDigit(x) => processor.row_big_digit(x)?,
-        Instr::StoreDecimal(x) => return processor.row_store_decimal(x, memory),
-        Instr::StoreRegisters(x) => return processor.row_store_registers(x, memory),
-        Instr::LoadRegisters(x) => return processor.row_load_registers(x, memory),
+        Instr::StoreDecimal(x) => return Ok(processor.row_store_decimal(x, memory)?),
+        Instr::StoreRegisters(x) => return Ok(processor.row_store_registers(x, memory)?),
+        Instr::LoadRegisters(x) => return Ok(processor.row_load_registers(x, memory)?),
         Instr::StoreFlags(x) => processor.row_store_flags(x)?,
         Instr::LoadFlags(x) => processor.row_load_flags(x)?,
     }
     Ok(Span::none())
 }
 
-/// Carries out the instruction of a word with no key down, and notes the bytes that it accesses at I
-/// under a number.
+/// Carries out the instruction of a word with these keys down, and notes the bytes that it accesses
+/// at I under a number.
 #[inline(always)]
 pub(crate) fn execute_noted(
     processor: &mut Processor,
     memory: &mut [u8],
     word: u16,
+    keys: u16,
     number: u32,
     first_touch: &mut [u32],
 ) -> Result<(), Stop>
@@ -89,11 +91,11 @@ pub(crate) fn execute_noted(
     requires pc { processor.old.pc ≤ LAST_WORD }
     requires table { length first_touch.old ≡ MEMORY_BYTES }
     ensures ok { OnOk result (
-        perform 0 (record { core = processor.old; memory = memory.old })
+        perform keys (record { core = processor.old; memory = memory.old })
         (effect_of_word (decode_of word) processor.old)
         ≡ Ok (record { core = processor.new; memory = memory.new })) }
     ensures why { IfErr result (λ why.
-        perform 0 (record { core = processor.old; memory = memory.old })
+        perform keys (record { core = processor.old; memory = memory.old })
         (effect_of_word (decode_of word) processor.old)
         ≡ Err why) }
     ensures same { OnErr result ((processor.new ≡ processor.old) × (memory.new ≡ memory.old)) }
@@ -103,7 +105,7 @@ pub(crate) fn execute_noted(
     let Some(instr) = decode(word) else {
         return Err(Stop::NoInstruction);
     };
-    let span = execute(processor, memory, instr, 0)?;
+    let span = execute(processor, memory, instr, keys)?;
     span.note(first_touch, number);
     Ok(())
 }

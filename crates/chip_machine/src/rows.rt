@@ -527,6 +527,7 @@ impl Processor {
     }
 
     /// `FX55`, `LD [I], Vx`: stores V0 to Vx at I, which stays or moves past them.
+    #[inline(always)]
     #[tactic(auto, unfolding(crate::specs::Step::effect))]
     pub(crate) fn row_store_registers(&mut self, x: Reg, memory: &mut [u8]) -> Result<Span, Stop>
         requires size { length memory.old ≡ MEMORY_BYTES }
@@ -547,6 +548,7 @@ impl Processor {
     }
 
     /// `FX65`, `LD Vx, [I]`: loads V0 to Vx from I, which stays or moves past them.
+    #[inline(always)]
     #[tactic(auto, unfolding(crate::specs::Step::effect))]
     pub(crate) fn row_load_registers(&mut self, x: Reg, memory: &[u8]) -> Result<Span, Stop>
         requires size { length memory.now ≡ MEMORY_BYTES }

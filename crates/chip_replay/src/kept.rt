@@ -2,7 +2,7 @@
 
 ghost use Rattle.std.specs.Prelude.{◌≡◌, ℕ, ◌+◌, ◌-◌, ◌*◌, ◌/◌, ◌<◌, ◌≤◌, ◌==◌, List, [], ◌∷◌, ◌++◌, length, min, max, IfOk, IfSome, OnOk, OnErr, if◌then◌else◌, slice_index, slice_index_or, slice_set, take, map, nat_lt, true, ◌⊎◌};
 ghost use Rattle.chip_replay.specs.Limits.{image_start, image_room};
-ghost use Rattle.chip_machine.specs.Touched.{touched, IsNoted};
+ghost use Rattle.chip_machine.specs.Touched.{touched};
 ghost use Rattle.chip_replay.specs.Run.{run, GoesOn};
 ghost use Rattle.chip_replay.specs.Keys.{Events, held};
 ghost use Rattle.chip_replay.specs.Changes.{KnowsKeys};
@@ -13,7 +13,6 @@ ghost use Rattle.chip_replay.specs.History.{AreFirst, IsSound, IsLent, IsCutBack
 use crate::keys::{Holding, Keys};
 use crate::limits::{IMAGE_BYTES, IMAGE_START, LAST_STEP, MEMORY_BYTES, NEVER};
 use crate::traced::Traced;
-use chip_machine::touch::Touch;
 use std::alloc::{AllocError, Global};
 
 /// What is kept of a run.
@@ -144,13 +143,8 @@ impl<M: Traced> Kept<M> {
         let now = at + made;
         keys.hold(&mut self.holding, now);
         let tick = made + 1 == to_tick;
-        make_step(
-            &mut self.lent,
-            self.holding.keys,
-            tick,
-            &mut self.first_touch,
-            now,
-        );
+        let table = &mut self.first_touch;
+        self.lent.step_noted(self.holding.keys, tick, now, table);
         made + 1
     }
 
@@ -409,16 +403,4 @@ fn left_after(left: u32, made: u32, period: u32) -> u32
     ensures { result ≡ (if made == left then period else left - made) }
 {
     if made == left { period } else { left - made }
-}
-
-/// Makes one step with these keys down, and notes it.
-fn make_step<M: Traced>(state: &mut M, keys: u16, tick: bool, first_touch: &mut [u32], number: u32)
-    requires table { length first_touch.old ≡ MEMORY_BYTES }
-    ensures state { state.new ≡ M.step_of state.old keys tick }
-    ensures length { length first_touch.new ≡ MEMORY_BYTES }
-    ensures noted { IsNoted (touched M.touches state.old) number first_touch.old first_touch.new }
-{
-    let mut touch = Touch::new();
-    state.step(keys, tick, &mut touch);
-    touch.note(first_touch, number);
 }

@@ -29,6 +29,10 @@ impl Traced for Machine {
         self.step(keys, tick, touch);
     }
 
+    fn step_noted(&mut self, keys: u16, tick: bool, number: u32, first_touch: &mut [u32]) {
+        self.step_noted(keys, tick, number, first_touch);
+    }
+
     #[inline(always)]
     fn steps(&mut self, tick: bool, from: u32, count: u32, first_touch: &mut [u32]) -> u32 {
         self.steps(tick, from, count, first_touch)

@@ -4,7 +4,7 @@ ghost use Rattle.std.specs.Prelude.{◌≡◌, ◌==◌, ℕ, ◌+◌, ◌^◌, 
 ghost use Rattle.chip_machine.specs.Block.{quiet, block, first_noted};
 ghost use Rattle.chip_replay.specs.Frame.{AgreeOff, IsFramed};
 ghost use Rattle.chip_replay.specs.Limits.{memory_size};
-ghost use Rattle.chip_machine.specs.Touched.{touched};
+ghost use Rattle.chip_machine.specs.Touched.{touched, IsNoted};
 
 use chip_machine::touch::Touch;
 use std::alloc::AllocError;
@@ -35,6 +35,19 @@ pub trait Traced: Drop + Sized {
         ensures state { self.new ≡ step_of self.old keys tick }
         ensures touched { (at : ℕ) → Contains touch.new at ↔ Contains (touches self.old) at }
         ensures proper { is_proper self.new };
+
+    /// Makes a step as `step` does, and notes it: each address keeps in `first_touch` the lesser of
+    /// its number and the step's, if the step touched it.
+    fn step_noted(&mut self, keys: u16, tick: bool, number: u32, first_touch: &mut [u32])
+        requires { length first_touch.old ≡ memory_size }
+        ensures state { self.new ≡ step_of self.old keys tick }
+        ensures size { length first_touch.new ≡ memory_size }
+        ensures noted { IsNoted (touched touches self.old) number first_touch.old first_touch.new }
+    {
+        let mut touch = Touch::new();
+        self.step(keys, tick, &mut touch);
+        touch.note(first_touch, number);
+    }
 
     /// Makes some of the next `count` steps, or none, and answers how many: none that reads the keys.
     /// The first has the number `from`, and the last of all `count` ticks if `tick` says so. Each
