@@ -16,6 +16,7 @@
 --     FaultNumber      the numbers of faults
 --     FaultPlace       at which tokens a fault lies
 --     Seen, SeenLine, SeenShape     values of the program without where they lie in memory
+--     Place      the bytes of a list of bytes
 --     Examples   worked examples
 pub mod Code
 pub mod Decoding
@@ -33,6 +34,7 @@ pub mod Named
 pub mod NamedRow
 pub mod Operand
 pub mod Parse
+pub mod Place
 pub mod Reserved
 pub mod Scan
 pub mod Seen
