@@ -3,7 +3,7 @@ use Rattle.std.proofs.Common.{◌≡◌, ℕ, ◌+◌, ◌≤◌, ◌<◌, ℤ, 
 use Rattle.chip_lang.specs.declared.fault.Fault.{Fault}
 use Rattle.chip_lang.specs.declared.fault.Fault.TheVariants.{PastMemory}
 use Rattle.chip_lang.specs.declared.limits.TheConstants.{MEMORY_BYTES}
-use Rattle.chip_lang.specs.Line.{Body, empty, code, Reading, read}
+use Rattle.chip_lang.specs.Line.{Body, empty, code, Reading, bad, read}
 use Rattle.chip_asm.specs.declared.block.Block.{Block}
 use Rattle.chip_asm.specs.declared.pass.Pass.{Pass}
 use Rattle.chip_asm.specs.declared.placement.Placement.{Placement}
@@ -11,9 +11,26 @@ use Rattle.chip_asm.specs.Bare.{is_bare, IsBare, fault_of_bare, size_of_bare}
 use Rattle.chip_asm.specs.Layout.{Placed, place, placed, body_of, is_live, first_fault, fault_of_value, full_size, own_size, padding, is_padded, symbols, is_aligning, address, value_at, value_or_zero, is_if_body, is_side_or_end, symbol_given}
 use Rattle.chip_asm.specs.Follows.{Follows, placement_of}
 use Rattle.chip_asm.specs.Placements.{is_placed}
+use Rattle.chip_asm.specs.Recode.{has_code}
+use Rattle.chip_asm.specs.Traits.{is_bare_line}
 use Rattle.chip_asm.specs.Turns.{moved}
 use Rattle.chip_asm.proofs.Placing.{length-placed}
 use Rattle.chip_asm.proofs.NextLine.{placement-at, follows-push, Advances}
+
+-- such a line is an instruction where it has bytes, and else empty
+pub bare-coded : (line : Reading) → is_bare_line line ≡ true → has_code (body_of line) ≡ true → IsBare line 2
+bare-coded (bad fault) b c = cc
+bare-coded (read None (code form operands)) b c = record { nameless = refl; bare = refl; sized = refl; small = omega arith }
+bare-coded (read None empty) b c = cc
+bare-coded (read None _) b c = cc
+bare-coded (read (Some name) body) b c = cc
+
+pub bare-empty : (line : Reading) → is_bare_line line ≡ true → has_code (body_of line) ≡ false → IsBare line 0
+bare-empty (bad fault) b c = cc
+bare-empty (read None empty) b c = record { nameless = refl; bare = refl; sized = refl; small = omega arith }
+bare-empty (read None (code form operands)) b c = cc
+bare-empty (read None _) b c = cc
+bare-empty (read (Some name) body) b c = cc
 
 -- such a line isn't padded
 bare-size : (aligning : Bool) (here : ℕ) (body : Body) → is_bare body ≡ true → full_size aligning here body (pos 0) ≡ own_size body (pos 0)

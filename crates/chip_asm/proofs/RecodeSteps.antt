@@ -1,5 +1,5 @@
 -- Counting and collecting the lines that are encoded again.
-use Rattle.std.proofs.Common.{◌≡◌, ℕ, ℤ, suc, zero, ◌+◌, ◌<◌, ◌≤◌, Bool, true, false, ◌&&◌, cond, List, [], ◌∷◌, ◌++◌, length, take, get_or, count_by, slice_get, refl, ap, sym, ◌∙◌, arith, Option, Some, None, option_map, option_to_list}
+use Rattle.std.proofs.Common.{◌≡◌, ℕ, ℤ, suc, zero, ◌+◌, ◌<◌, ◌≤◌, Bool, true, false, ◌&&◌, cond, List, [], ◌∷◌, ◌++◌, length, take, get_or, count_by, slice_get, refl, ap, sym, ◌∙◌, arith, Option, Some, None, option_map, option_to_list, is_some}
 use Rattle.std.specs.List.{enumerate_from, list_all, cons_option}
 use Rattle.chip_lang.specs.declared.code.Coded.{Coded}
 use Rattle.std.proofs.lemmas.List.Elements.{filter_map-append}
@@ -17,6 +17,7 @@ use Rattle.chip_lang.specs.Value.{Symbols, value_of_name}
 use Rattle.chip_lang.specs.Uses.{names_used, has_same_value, agree_on}
 use Rattle.chip_lang.specs.Code.{own_bytes, coded, code_of}
 use Rattle.chip_asm.specs.Names.{values_of}
+use Rattle.chip_asm.specs.Traits.{uses_name}
 use Rattle.chip_asm.specs.Layout.{body_of}
 use Rattle.chip_asm.specs.Program.{names_of_lines}
 use Rattle.chip_asm.specs.Recode.{has_code, is_encoded_again, code_among, new_code, codes_placed}
@@ -94,3 +95,11 @@ code-pushed old new origin xs i r b e =
 -- where two tables are one, they agree on each line
 pub agree-same : (S T : Symbols) (line : Reading) → S ≡ T → agree_on S T line ≡ true
 agree-same S T line same = ap (λ U. agree_on S U line) (sym same) ∙ all_same S (names_used line)
+
+-- two tables agree on a line without names
+pub agree-nameless : (S T : Symbols) (line : Reading) → uses_name line ≡ false → agree_on S T line ≡ true
+agree-nameless S T line e = by (names_used line) e
+  where
+    by : (names : List (List ℕ)) → is_some (slice_get names 0) ≡ false → list_all (has_same_value S T) names ≡ true
+    by [] e = refl
+    by (name ∷ names) e = cc

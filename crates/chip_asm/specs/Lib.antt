@@ -10,7 +10,7 @@
 --     Sources      what contracts see of a source
 --   What the functions inside say of what they keep:
 --     Turns, Follows, Bare, Placements, Marks, Layouts      the first pass
---     Records, Recode, Effect, Kept                   kept lines and their codes
+--     Records, Traits, Recode, Effect, Kept           kept lines and their codes
 pub mod Bare
 pub mod Changes
 pub mod Edits
@@ -29,5 +29,6 @@ pub mod Program
 pub mod Recode
 pub mod Records
 pub mod Sources
+pub mod Traits
 pub mod Turns
 pub mod Work

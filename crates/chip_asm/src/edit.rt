@@ -1,11 +1,9 @@
 //! A change of one line, seen before it is made.
 ghost use Rattle.std.specs.Prelude.{◌≡◌, ◌<◌, ◌≤◌, length, slice_get, slice_set, Some, vec_len, vec_capacity};
-ghost use Rattle.chip_asm.specs.Records.{IsPlaceWithin, lines_after, readings_in, count_after, place_before};
-ghost use Rattle.chip_lang.specs.SeenLine.{seen_line};
+ghost use Rattle.chip_asm.specs.Records.{IsPlaceWithin, lines_after, reading_in, readings_in, count_after, place_before};
 
 use crate::kept_line::KeptLine;
 use crate::limits::MOST_LINES;
-use chip_lang::Line;
 
 /// A change of one line; places count from 0.
 #[derive(Drop)]
@@ -20,37 +18,31 @@ pub(crate) enum Edit {
     Keep,
 }
 
-/// The reading of the line at a place after the edit.
-pub(crate) fn line_after<'a>(lines: &'a [KeptLine], edit: &'a Edit, place: usize) -> &'a Line
+/// The line at a place after the edit.
+pub(crate) fn line_after<'a>(lines: &'a [KeptLine], edit: &'a Edit, place: usize) -> &'a KeptLine
     requires within { IsPlaceWithin (length lines.now) edit.now }
     requires place { place < count_after (length lines.now) edit.now }
-    ensures { slice_get (readings_in (lines_after lines.now edit.now)) place ≡ Some (seen_line result.now) }
+    ensures { slice_get (readings_in (lines_after lines.now edit.now)) place ≡ Some (reading_in result.now) }
 {
     match edit {
         Edit::Insert(at, added) => {
             if place < *at {
-                &lines[place].line
+                &lines[place]
             } else if place == *at {
-                &added.line
+                added
             } else {
-                &lines[place - 1].line
+                &lines[place - 1]
             }
         }
-        Edit::Replace(at, added) => {
-            if place == *at {
-                &added.line
-            } else {
-                &lines[place].line
-            }
-        }
+        Edit::Replace(at, added) => { if place == *at { added } else { &lines[place] } }
         Edit::Delete(at) => {
             if place < *at {
-                &lines[place].line
+                &lines[place]
             } else {
-                &lines[place + 1].line
+                &lines[place + 1]
             }
         }
-        Edit::Keep => &lines[place].line,
+        Edit::Keep => &lines[place],
     }
 }
 

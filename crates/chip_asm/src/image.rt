@@ -10,7 +10,6 @@ ghost use Rattle.chip_asm.specs.KeptCodes.{kept_fault, kept_bytes, count_of};
 use crate::kept_line::KeptLine;
 use crate::layout::Layout;
 use crate::placement::Placement;
-use crate::recode::has_code;
 use chip_lang::limits::{IMAGE_BYTES, IMAGE_START, MEMORY_BYTES};
 use chip_lang::{Coded, Fault};
 use std::alloc::{AllocError, Global};
@@ -25,7 +24,7 @@ pub(crate) fn kept_fault(placement: &Placement, kept: &KeptLine) -> Option<Fault
     if placement.fault.is_some() {
         return placement.fault;
     }
-    if !has_code(&kept.line) {
+    if !kept.is_coded {
         return None;
     }
     match &kept.code {
@@ -48,7 +47,7 @@ pub(crate) fn count_of(fault: Option<Fault>) -> usize
 pub(crate) fn kept_bytes(kept: &KeptLine) -> &[u8]
     ensures { result.now ≡ kept_bytes kept.now }
 {
-    if !has_code(&kept.line) {
+    if !kept.is_coded {
         return &[];
     }
     match &kept.code {

@@ -104,8 +104,8 @@ impl Layout {
         let count = count_after(lines.len(), edit);
         placements.reserve(count)?;
         for place in 0..count {
-            let line = line_after(lines, edit, place);
-            placements.push(pass.step(alloc, place + 1, line)?)?;
+            let kept = line_after(lines, edit, place);
+            placements.push(pass.step(alloc, place + 1, kept)?)?;
         }
         let placements = mark_unclosed(alloc, placements, pass.ended, &pass.blocks)?;
         let end = pass.here;

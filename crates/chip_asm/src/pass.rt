@@ -8,6 +8,7 @@ ghost use Rattle.chip_lang.specs.Uses.{name_defined};
 ghost use Rattle.chip_lang.specs.declared.limits.TheConstants.{MEMORY_BYTES};
 
 use crate::block::{Block, all_hold, move_blocks};
+use crate::kept_line::KeptLine;
 use crate::placement::{Placement, is_passed};
 use crate::table::{Symbol, Table};
 use chip_lang::limits::{IMAGE_START, MEMORY_BYTES};
@@ -67,23 +68,6 @@ fn is_if(body: &Body) -> bool
     matches!(body, Body::Ifdef(_) | Body::Ifund(_))
 }
 
-/// The size of a line of which the pass asks nothing else: one that gives no name, and is an instruction or has no statement.
-fn bare_size(line: &Line) -> Option<usize>
-    ensures { IfSome result (λ size. IsBare (seen_line line.now) size) }
-{
-    match line {
-        Line::Read {
-            label: None,
-            body: Body::Empty,
-        } => Some(0),
-        Line::Read {
-            label: None,
-            body: Body::Code(_, _),
-        } => Some(2),
-        _ => None,
-    }
-}
-
 pub(crate) fn is_data(body: &Body) -> bool
     ensures { result ≡ is_padded (seen_body body.now) }
 {
@@ -93,6 +77,7 @@ pub(crate) fn is_data(body: &Body) -> bool
 impl Pass {
     ghost use Rattle.chip_asm.specs.Layout.{Placed, is_live, is_misplaced, first_fault, symbols, place, placed};
     ghost use Rattle.chip_asm.specs.Placements.{is_placed};
+    ghost use Rattle.chip_asm.specs.Records.{reading_in};
     ghost use Rattle.chip_asm.specs.Follows.{Follows, placement_of, next_address, next_aligning};
 
     /// Before the first line, with a table without names.
@@ -287,6 +272,24 @@ impl Pass {
         &mut self,
         alloc: Global,
         number: usize,
+        kept: &KeptLine,
+    ) -> Result<Placement, AllocError>
+        ensures found { (lines : List Reading) → Follows self.old (placed lines) → number ≡ length lines + 1
+            → IfOk result (λ placement. placement ≡ placement_of (place (placed lines) (reading_in kept.now))) }
+        ensures follows { (lines : List Reading) → Follows self.old (placed lines) → number ≡ length lines + 1
+            → OnOk result (Follows self.new (placed (lines ++ reading_in kept.now ∷ []))) }
+    {
+        match kept.bare_size() {
+            Some(size) => Ok(self.step_bare(number, size)),
+            None => self.step_line(alloc, number, &kept.line),
+        }
+    }
+
+    /// Goes on by any line.
+    fn step_line(
+        &mut self,
+        alloc: Global,
+        number: usize,
         line: &Line,
     ) -> Result<Placement, AllocError>
         ensures found { (lines : List Reading) → Follows self.old (placed lines) → number ≡ length lines + 1
@@ -294,9 +297,6 @@ impl Pass {
         ensures follows { (lines : List Reading) → Follows self.old (placed lines) → number ≡ length lines + 1
             → OnOk result (Follows self.new (placed (lines ++ seen_line line.now ∷ []))) }
     {
-        if let Some(size) = bare_size(line) {
-            return Ok(self.step_bare(number, size));
-        }
         let empty = Body::Empty;
         let body = body_or(line, &empty);
         let placement = self.place(number, line);

@@ -5,7 +5,7 @@ ghost use Rattle.chip_lang.specs.SeenLine.{seen_line};
 ghost use Rattle.chip_lang.specs.Uses.{agree_on};
 ghost use Rattle.chip_lang.specs.Code.{code_of};
 ghost use Rattle.chip_asm.specs.Recode.{has_code, is_placed_at, is_encoded_again, new_codes, count_again};
-ghost use Rattle.chip_asm.specs.Records.{IsPlaceWithin, lines_after, readings_in, place_before};
+ghost use Rattle.chip_asm.specs.Records.{IsPlaceWithin, lines_after, reading_in, readings_in, place_before};
 ghost use Rattle.chip_asm.specs.Layout.{body_of};
 ghost use Rattle.chip_asm.specs.Layouts.{IsLayoutOf};
 ghost use Rattle.chip_asm.specs.Names.{values_of};
@@ -18,21 +18,8 @@ use crate::layout::Layout;
 use crate::limits::MOST_LINES;
 use crate::placement::Placement;
 use crate::table::Table;
-use chip_lang::{Body, Coded, Line, Meter, agree_on, encode};
+use chip_lang::{Coded, Line, Meter, agree_on, encode};
 use std::alloc::{AllocError, Global};
-
-/// Whether the line has bytes of its own.
-pub(crate) fn has_code(line: &Line) -> bool
-    ensures { result ≡ has_code (body_of (seen_line line.now)) }
-{
-    matches!(
-        line,
-        Line::Read {
-            body: Body::Db(_) | Body::Dw(_) | Body::Da(_) | Body::Code(_, _),
-            ..
-        }
-    )
-}
 
 fn is_placed_at(placements: &[Placement], place: usize) -> bool
     ensures { result ≡ is_placed_at placements.now place }
@@ -45,11 +32,14 @@ fn is_placed_at(placements: &[Placement], place: usize) -> bool
 
 /// Whether each name of a line has one value, or none, under both layouts. The names need no search where none was moved, and hardly one
 /// where they stand at the hint.
-fn keeps_values(old: &Layout, new: &Layout, unmoved: bool, line: &Line, hint: usize) -> bool
+fn keeps_values(old: &Layout, new: &Layout, unmoved: bool, kept: &KeptLine, hint: usize) -> bool
     requires { unmoved ≡ true → values_of old.now.names ≡ values_of new.now.names }
-    ensures { result ≡ agree_on (values_of old.now.names) (values_of new.now.names) (seen_line line.now) }
+    ensures { result ≡ agree_on (values_of old.now.names) (values_of new.now.names) (reading_in kept.now) }
 {
     if unmoved {
+        return true;
+    }
+    if !kept.has_names {
         return true;
     }
     let before = Hinted {
@@ -60,7 +50,7 @@ fn keeps_values(old: &Layout, new: &Layout, unmoved: bool, line: &Line, hint: us
         table: &new.names,
         hint,
     };
-    agree_on(line, &before, &after)
+    agree_on(&kept.line, &before, &after)
 }
 
 /// Whether the line at a place of the new source has to be encoded again.
@@ -71,21 +61,21 @@ fn is_encoded_again(
     unmoved: bool,
     edit: &Edit,
     place: usize,
-    line: &Line,
+    kept: &KeptLine,
     hints: &[usize],
 ) -> bool
     requires place { place ≤ MOST_LINES }
     requires unmoved { unmoved ≡ true → values_of old.now.names ≡ values_of new.now.names }
     ensures { (before after : List Reading) → IsLayoutOf old.now before → IsLayoutOf new.now after
-        → result ≡ is_encoded_again before after (place_before edit.now) (place, seen_line line.now) }
+        → result ≡ is_encoded_again before after (place_before edit.now) (place, reading_in kept.now) }
 {
-    if !has_code(line) || !is_placed_at(&new.placements, place) {
+    if !kept.is_coded || !is_placed_at(&new.placements, place) {
         return false;
     }
     match place_before(edit, place) {
         Some(before) => {
             !(is_placed_at(&old.placements, before)
-                && keeps_values(old, new, unmoved, line, hint_at(hints, before)))
+                && keeps_values(old, new, unmoved, kept, hint_at(hints, before)))
         }
         None => true,
     }
@@ -138,16 +128,16 @@ pub(crate) fn code_if_accepted(
     accepted: bool,
     alloc: Global,
     meter: &mut Meter,
-    line: &Line,
+    kept: &KeptLine,
     names: &Table,
 ) -> Result<Option<Coded>, AllocError>
-    ensures code { IfOk result (λ code. code ≡ (if accepted && has_code (body_of (seen_line line.now)) then Some (code_of (seen_line line.now) (values_of names.now)) else None)) }
-    ensures encoded { meter.new.encoded ≤ meter.old.encoded + (if accepted && has_code (body_of (seen_line line.now)) then 1 else 0) }
+    ensures code { IfOk result (λ code. code ≡ (if accepted && has_code (body_of (reading_in kept.now)) then Some (code_of (reading_in kept.now) (values_of names.now)) else None)) }
+    ensures encoded { meter.new.encoded ≤ meter.old.encoded + (if accepted && has_code (body_of (reading_in kept.now)) then 1 else 0) }
     ensures not_lowered { meter.old.encoded ≤ meter.new.encoded }
     ensures parsed { meter.new.parsed ≡ meter.old.parsed }
 {
-    let wanted = accepted && has_code(line);
-    encode_if(wanted, alloc, meter, line, names)
+    let wanted = accepted && kept.is_coded;
+    encode_if(wanted, alloc, meter, &kept.line, names)
 }
 
 /// The new codes, each with the place of its line.
@@ -172,9 +162,11 @@ pub(crate) fn recode(
     let count = count_after(lines.len(), edit);
     let mut codes = Vec::new(alloc);
     for place in 0..count {
-        let line = line_after(&*lines, &*edit, place);
-        let again = is_encoded_again(old, new, unmoved, edit, place, line, hints);
-        push_code_if(again, alloc, meter, &mut codes, place, line, &new.names)?;
+        let kept = line_after(&*lines, &*edit, place);
+        let again = is_encoded_again(old, new, unmoved, edit, place, kept, hints);
+        push_code_if(
+            again, alloc, meter, &mut codes, place, &kept.line, &new.names,
+        )?;
     }
     Ok(codes)
 }

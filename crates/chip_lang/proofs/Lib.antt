@@ -4,6 +4,7 @@ pub mod Decoding
 pub mod Digits
 pub mod Numbers
 pub mod OneForm
+pub mod OneToken
 pub mod Pieces
 pub mod SameCode
 pub mod Scan
@@ -13,6 +14,7 @@ pub mod ShownForm
 pub mod Sound
 pub mod Steps
 pub mod TokenList
+pub mod TopDigit
 pub mod NamesUsed
 pub mod NamesBound
 pub mod FormedLine

@@ -8,12 +8,13 @@ use Rattle.std.proofs.lemmas.Slice.Eq.{bytes_eq-Decides}
 use Rattle.chip_lang.specs.declared.form.Pattern.{Pattern}
 use Rattle.chip_lang.specs.declared.instr.Instr.{Instr}
 use Rattle.chip_lang.specs.Operand.{Operand}
-use Rattle.chip_lang.specs.Decoding.{system_byte_at, system_at, arithmetic_at, key_at, transfer_at, digits_at, instr_at, decode_of}
+use Rattle.chip_lang.specs.Decoding.{decode_of}
+use Rattle.chip_lang.specs.ByDigits.{system_byte_at, system_at, arithmetic_at, key_at, transfer_at, digits_at, instr_at}
 use Rattle.chip_lang.specs.Form.{Row, forms, fits, find_form}
 use Rattle.chip_lang.specs.InstrForm.{row_of_instr, HasWord, DecodesTo}
 use Rattle.chip_lang.specs.Value.{Symbols}
 use Rattle.chip_lang.specs.Show.{gives, form_shown}
-use Rattle.chip_lang.proofs.Decoding.{of_digits}
+use Rattle.chip_lang.proofs.Decoding.{of_digits, decode_by_digits}
 use Rattle.chip_lang.proofs.Digits.{digit, takes_top, takes_x, takes_y, takes_n, has_digit, HasDigits, is_proper, gives_digits, gives_small, word_digits}
 use Rattle.chip_lang.proofs.ShownForm.{is_sys, same_head, same_tail, shown_form}
 use Rattle.chip_lang.proofs.Shown.{found_passes}
@@ -46,12 +47,11 @@ decoded_at w top x y n h p q r s =
     of_digits w top x y n (16 * y + n) (256 * x + 16 * y + n) (omega arith) (omega arith) (omega arith) (omega arith) (omega arith) (omega arith)
 
 decoded : (r : Row) (w : ℕ) → w < 65536 → HasDigits r w → decode_of w ≡ instr_of_form r w
-unfolding decode_of
 decoded r w h digits =
     let d = and_parts _ _ digits in
     let d1 = and_parts _ _ d.1 in
     let d2 = and_parts _ _ d1.1 in
-    decoded_at w (own_digit takes_top 12 r w) (own_digit takes_x 8 r w) (own_digit takes_y 4 r w) (own_digit takes_n 0 r w) h
+    decode_by_digits w ∙ decoded_at w (own_digit takes_top 12 r w) (own_digit takes_x 8 r w) (own_digit takes_y 4 r w) (own_digit takes_n 0 r w) h
     (is_own takes_top 12 r w d.0) (is_own takes_x 8 r w d1.0) (is_own takes_y 4 r w d2.0) (is_own takes_n 0 r w d2.1)
 
 -- ---- each form

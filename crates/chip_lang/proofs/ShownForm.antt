@@ -1,11 +1,13 @@
 -- The form that an instruction is shown in is its own.
-use Rattle.std.proofs.Common.{◌≡◌, ℕ, ◌<◌, ◌/◌, ◌%◌, ◌==◌, Bool, true, false, not, ◌&&◌, if◌then◌else◌, List, [], ◌∷◌, map, codes, Option, Some, None, refl, subst, ◌∙◌, arith}
+use Rattle.std.proofs.Common.{◌≡◌, ℕ, ◌<◌, ◌/◌, ◌%◌, ◌==◌, Bool, true, false, not, ◌&&◌, if◌then◌else◌, List, [], ◌∷◌, map, codes, Option, Some, None, IfSome, refl, sym, subst, ◌∙◌, arith}
 use Rattle.std.specs.List.{list_all, find}
 use Rattle.std.specs.Str.{bytes_eq}
 use Rattle.std.proofs.lemmas.Bool.{and_parts}
 use Rattle.chip_lang.specs.declared.instr.Instr.{Instr}
-use Rattle.chip_lang.specs.declared.instr.Instr.TheVariants.{ScrollDown, ClearScreen, Return, ScrollRight, ScrollLeft, Exit, LowSize, HighSize, Jump, Call, SkipIfByte, SkipUnlessByte, SkipIfEqual, LoadByte, AddByte, Copy, Or, And, Xor, Add, Subtract, ShiftRight, SubtractFrom, ShiftLeft, SkipUnlessEqual, LoadIndex, JumpOffset, Random, Draw, SkipIfKey, SkipUnlessKey, ReadDelay, WaitKey, SetDelay, SetSound, AddIndex, SmallDigit, BigDigit, StoreDecimal, StoreRegisters, LoadRegisters, StoreFlags, LoadFlags}
-use Rattle.chip_lang.specs.Decoding.{system_byte_at, system_at, arithmetic_at, key_at, transfer_at, instr_at, decode_of}
+use Rattle.chip_lang.specs.declared.instr.Instr.TheVariants.{ScrollDown, ClearScreen, Return, ScrollRight, ScrollLeft, Exit, LowSize, HighSize, SkipIfEqual, Copy, Or, And, Xor, Add, Subtract, ShiftRight, SubtractFrom, ShiftLeft, SkipUnlessEqual, SkipIfKey, SkipUnlessKey, ReadDelay, WaitKey, SetDelay, SetSound, AddIndex, SmallDigit, BigDigit, StoreDecimal, StoreRegisters, LoadRegisters, StoreFlags, LoadFlags}
+use Rattle.chip_lang.specs.Decoding.{decode_of}
+use Rattle.chip_lang.specs.ByDigits.{system_byte_at, system_at, arithmetic_at, key_at, transfer_at, instr_at}
+use Rattle.chip_lang.proofs.Decoding.{decode_by_digits, ◌&◌, top_rows, if_holds, chosen_holds, EachHolds}
 use Rattle.chip_lang.specs.Form.{Row, forms}
 use Rattle.chip_lang.specs.InstrForm.{row_of_instr}
 use Rattle.chip_lang.specs.Show.{gives, form_shown}
@@ -40,14 +42,16 @@ shown_at w top x y n h p q r s =
 
 -- ---- the instructions, one table after another
 
--- the word is shown in the instruction's form, if there is one
+-- the word is shown in the instruction's form
+abbrev IsShown : ℕ → Instr → Type 0
+IsShown w i = form_shown w ≡ Some (row_of_instr i)
+
+-- so it is, if there is an instruction
 abbrev Shown : ℕ → Option Instr → Type 0
-Shown w None = Unit {0}
-Shown w (Some i) = form_shown w ≡ Some (row_of_instr i)
+Shown w o = IfSome o (IsShown w)
 
 either : (w : ℕ) (b : Bool) (o p : Option Instr) → (b ≡ true → Shown w o) → Shown w p → Shown w (if b then o else p)
-either w true o p h g = h refl
-either w false o p h g = g
+either w b o p h g = if_holds (IsShown w) b o p h g
 
 -- the instruction beside a number in a table
 abbrev chain : List (ℕ × Instr) → ℕ → Option Instr
@@ -130,30 +134,7 @@ compare_shown w top x y n i h t p q r e = either w (n == 0) (Some i) None (λ f.
 
 -- ---- by the first digit
 
-abbrev choose : List (ℕ × Option Instr) → ℕ → Option Instr
-choose [] v = None
-choose (r ∷ rows) v = if v == r.0 then r.1 else choose rows v
-
-abbrev EachShown : ℕ → (v : ℕ) → List (ℕ × Option Instr) → Type 0
-EachShown w v [] = Unit {0}
-EachShown w v (r ∷ rows) = (v ≡ r.0 → Shown w r.1) × EachShown w v rows
-
-choose_shown : (w v : ℕ) (rows : List (ℕ × Option Instr)) → EachShown w v rows → Shown w (choose rows v)
-choose_shown w v [] h = tt
-choose_shown w v (r ∷ rows) h = either w (v == r.0) r.1 (choose rows v) (λ e. h.0 (equal v r.0 e)) (choose_shown w v rows h.1)
-
-abbrev top_rows : (x y n byte a : ℕ) → List (ℕ × Option Instr)
-top_rows x y n byte a =
-    (0, system_at x y n byte) ∷ (1, Some (Jump a)) ∷ (2, Some (Call a)) ∷ (3, Some (SkipIfByte x byte)) ∷ (4, Some (SkipUnlessByte x byte))
-    ∷ (5, if n == 0 then Some (SkipIfEqual x y) else None) ∷ (6, Some (LoadByte x byte)) ∷ (7, Some (AddByte x byte)) ∷ (8, arithmetic_at x y n)
-    ∷ (9, if n == 0 then Some (SkipUnlessEqual x y) else None) ∷ (10, Some (LoadIndex a)) ∷ (11, Some (JumpOffset a)) ∷ (12, Some (Random x byte))
-    ∷ (13, Some (Draw x y n)) ∷ (14, key_at x byte) ∷ (15, transfer_at x byte) ∷ []
-
-infixr 4 ◌&◌
-◌&◌ : {A B : Type 0} → A → B → A × B
-a & b = (a, b)
-
-each_shown : (w x y n : ℕ) → w / 256 % 16 ≡ x → w / 16 % 16 ≡ y → w % 16 ≡ n → EachShown w (w / 4096) (top_rows x y n (w % 256) (w % 4096))
+each_shown : (w x y n : ℕ) → w / 256 % 16 ≡ x → w / 16 % 16 ≡ y → w % 16 ≡ n → EachHolds (IsShown w) (w / 4096) (top_rows x y n (w % 256) (w % 4096))
 each_shown w x y n p q r =
     let plain : (top : ℕ) → top < 16 → w / 4096 ≡ top → form_shown w ≡ form_at top x y n forms = λ top h t. shown_at w top x y n h t p q r in
     (λ t. system_shown w x y n t p q r)
@@ -178,8 +159,7 @@ all_shown : (w : ℕ) → Shown w (instr_at w)
 all_shown w =
     let x = w / 256 % 16 in
     let y = w / 16 % 16 in
-    choose_shown w (w / 4096) (top_rows x y (w % 16) (w % 256) (w % 4096)) (each_shown w x y (w % 16) refl refl refl)
+    chosen_holds (IsShown w) (w / 4096) (top_rows x y (w % 16) (w % 256) (w % 4096)) (each_shown w x y (w % 16) refl refl refl)
 
 pub shown_form : (w : ℕ) (i : Instr) → decode_of w ≡ Some i → form_shown w ≡ Some (row_of_instr i)
-unfolding decode_of
-shown_form w i h = subst (Shown w) h (all_shown w)
+shown_form w i h = subst (Shown w) (sym (decode_by_digits w) ∙ h) (all_shown w)

@@ -1,6 +1,7 @@
 -- What the language of the assembler is: a reader believes these files.
 --     Word       the words of the instructions
---     Decoding   a working definition of decoding
+--     Decoding   the instruction of a word
+--     ByDigits   what the functions inside `decode` find; no public clause cites it
 --     Token      the tokens of a line
 --     Scan       what makes a list the tokens of a line
 --     Named, Keyword, Reserved      words of the language
@@ -16,7 +17,9 @@
 --     FaultNumber      the numbers of faults
 --     FaultPlace       at which tokens a fault lies
 --     Seen, SeenLine, SeenShape     values of the program without where they lie in memory
+--     Place      the bytes of a list of bytes
 --     Examples   worked examples
+pub mod ByDigits
 pub mod Code
 pub mod Decoding
 pub mod Encoding
@@ -33,6 +36,7 @@ pub mod Named
 pub mod NamedRow
 pub mod Operand
 pub mod Parse
+pub mod Place
 pub mod Reserved
 pub mod Scan
 pub mod Seen

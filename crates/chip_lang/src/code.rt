@@ -55,8 +55,8 @@ fn code_of_body<N: Names>(alloc: Global, body: &Body, names: &N) -> Result<Coded
         Body::Db(exprs) => code_of_bytes(alloc, exprs, names),
         Body::Dw(exprs) => code_of_words(alloc, exprs, names),
         Body::Da(text) => {
-            let bytes = text.get().to_vec(alloc)?;
-            Ok(Coded::Bytes(Bytes::new(bytes)))
+            let bytes = Bytes::from_slice(alloc, text.get())?;
+            Ok(Coded::Bytes(bytes))
         }
         Body::Code(form, operands) => match word_of_form(form, operands, names) {
             Ok(word) => code_of_word(alloc, word),
@@ -70,17 +70,15 @@ fn code_of_body<N: Names>(alloc: Global, body: &Body, names: &N) -> Result<Coded
 fn code_of_word(alloc: Global, word: u16) -> Result<Coded, AllocError>
     ensures { IfOk result (λ code. code ≡ coded (Ok (word_bytes word))) }
 {
-    let mut bytes = Vec::with_capacity(alloc, 2)?;
-    push_word(&mut bytes, word)?;
-    Ok(Coded::Bytes(Bytes::new(bytes)))
+    let bytes = Bytes::from_slice(alloc, &bytes_of_word(word))?;
+    Ok(Coded::Bytes(bytes))
 }
 
-fn push_word(bytes: &mut Vec<u8>, word: u16) -> Result<(), AllocError>
-    ensures { IfOk result (λ _. bytes.new.items ≡ bytes.old.items ++ word_bytes word) }
+/// A word, the high byte first.
+fn bytes_of_word(word: u16) -> [u8; 2]
+    ensures { result ≡ word_bytes word }
 {
-    bytes.push((word / 256) as u8)?;
-    bytes.push((word % 256) as u8)?;
-    Ok(())
+    [(word / 256) as u8, (word % 256) as u8]
 }
 
 /// The code of DB: a byte for each value, or the first fault from the left.
@@ -106,7 +104,7 @@ fn code_of_words<N: Names>(alloc: Global, exprs: &[Expr], names: &N) -> Result<C
     let mut bytes = Vec::new(alloc);
     for expr in exprs {
         match datum(65536, expr, names) {
-            Ok(word) => push_word(&mut bytes, word)?,
+            Ok(word) => bytes.extend_from_slice(&bytes_of_word(word))?,
             Err(fault) => return Ok(Coded::Faulty(fault)),
         }
     }

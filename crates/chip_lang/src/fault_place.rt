@@ -93,7 +93,7 @@ fn mnemonic_at(alloc: Global, tokens: &[Lexeme]) -> Result<Option<Bytes>, AllocE
 {
     match tokens {
         [Lexeme::Word(word), ..] if is_mnemonic(word.get()) => {
-            Ok(Some(Bytes::new(word.get().to_vec(alloc)?)))
+            Ok(Some(Bytes::from_slice(alloc, word.get())?))
         }
         _ => Ok(None),
     }
@@ -396,7 +396,7 @@ fn name_in(alloc: Global, lexeme: &Lexeme) -> Result<Option<Bytes>, AllocError>
 {
     match lexeme {
         Lexeme::Word(word) if !is_reserved(word.get()) => {
-            Ok(Some(Bytes::new(word.get().to_vec(alloc)?)))
+            Ok(Some(Bytes::from_slice(alloc, word.get())?))
         }
         _ => Ok(None),
     }

@@ -1,9 +1,9 @@
 //! What stands in front of tokens.
 
-ghost use Rattle.std.specs.Prelude.{◌≡◌, ◌<◌, ◌≤◌, ◌+◌, length, IfSome, IfOk, if◌then◌else◌};
+ghost use Rattle.std.specs.Prelude.{[], ◌≡◌, ◌<◌, ◌≤◌, ◌+◌, length, IfSome, IfOk, if◌then◌else◌};
 ghost use Rattle.chip_lang.specs.Grammar.{prefix_of, operator_of, level_of};
-ghost use Rattle.chip_lang.specs.Parse.{Parsed, front_prefix, front_operator, closed, one_byte};
-ghost use Rattle.chip_lang.specs.Seen.{seen};
+ghost use Rattle.chip_lang.specs.Parse.{Parsed, front_prefix, front_operator, closed, one_byte, whole};
+ghost use Rattle.chip_lang.specs.Seen.{seen, seen_whole};
 ghost use Rattle.chip_lang.specs.Tree.{tree_of, name};
 ghost use Rattle.chip_lang.specs.Reserved.{is_reserved};
 
@@ -96,8 +96,18 @@ pub fn text_atom<'a>(text: &Bytes, tokens: &'a [Lexeme]) -> Option<(Expr, &'a [L
     ensures value { seen result ≡ one_byte text.now tokens.now }
     ensures shorter { IfSome result (λ x. length x.1.now ≤ length tokens.now) }
 {
-    match text.get() {
-        [byte] => Some((Expr::Number(i32::from(*byte)), tokens)),
+    match text_number(text.get()) {
+        Some(number) => Some((number, tokens)),
+        None => None,
+    }
+}
+
+/// The number of a text of one byte.
+pub fn text_number(text: &[u8]) -> Option<Expr>
+    ensures { seen_whole result ≡ whole (one_byte text.now []) }
+{
+    match text {
+        [byte] => Some(Expr::Number(i32::from(*byte))),
         _ => None,
     }
 }
@@ -111,11 +121,20 @@ pub fn name_atom<'a>(
     ensures value { IfOk result (λ found. seen found ≡ (if is_reserved word.now then None else Some (name word.now, tokens.now))) }
     ensures shorter { IfOk result (λ found. IfSome found (λ x. length x.1.now ≤ length tokens.now)) }
 {
-    if is_reserved(word.get()) {
+    match free_name(alloc, word.get())? {
+        Some(name) => Ok(Some((Expr::Name(name), tokens))),
+        None => Ok(None),
+    }
+}
+
+/// A copy of a word in upper case, if it isn't reserved.
+pub fn free_name(alloc: Global, word: &[u8]) -> Result<Option<Bytes>, AllocError>
+    ensures { IfOk result (λ name. name ≡ (if is_reserved word.now then None else Some word.now)) }
+{
+    if is_reserved(word) {
         return Ok(None);
     }
-    let bytes = word.get().to_vec(alloc)?;
-    Ok(Some((Expr::Name(Bytes::new(bytes)), tokens)))
+    Ok(Some(Bytes::from_slice(alloc, word)?))
 }
 
 // No reserved word has more bytes, so that most names need no search.

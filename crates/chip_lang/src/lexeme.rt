@@ -3,7 +3,7 @@
 ghost use Rattle.std.specs.Prelude.{◌≡◌, IfOk, map, length, ◌-◌, ◌≤◌, slice_range};
 ghost use Rattle.chip_lang.specs.Line.{upper, lexeme_of, lexemes_of, is_the, is_sign_of};
 
-use crate::bytes::Bytes;
+use crate::bytes::{Bytes, FEW};
 use crate::fault::Fault;
 use crate::token::{Kind, Token, tokens};
 use std::alloc::{AllocError, Global};
@@ -47,8 +47,8 @@ pub(crate) fn lexeme_of(alloc: Global, line: &[u8], token: Token) -> Result<Lexe
         Kind::Word => Ok(Lexeme::Word(in_upper_case(alloc, bytes)?)),
         Kind::Number(number) => Ok(Lexeme::Number(number)),
         Kind::Text => {
-            let text = between_quotes(bytes).to_vec(alloc)?;
-            Ok(Lexeme::Text(Bytes::new(text)))
+            let text = Bytes::from_slice(alloc, between_quotes(bytes))?;
+            Ok(Lexeme::Text(text))
         }
         Kind::Sign(sign) => Ok(Lexeme::Sign(sign)),
         Kind::Bad(fault) => Ok(Lexeme::Bad(fault)),
@@ -68,8 +68,15 @@ fn upper(byte: u8) -> u8
 fn in_upper_case(alloc: Global, word: &[u8]) -> Result<Bytes, AllocError>
     ensures { IfOk result (λ bytes. bytes ≡ map upper word.now) }
 {
-    let bytes = word.iter().map(|byte| upper(*byte)).collect(alloc)?;
-    Ok(Bytes::new(bytes))
+    if word.len() > FEW {
+        let bytes = word.iter().map(|byte| upper(*byte)).collect(alloc)?;
+        return Ok(Bytes::new(bytes));
+    }
+    let mut array = [0; FEW];
+    for (index, byte) in word.iter().enumerate() {
+        array[index] = upper(*byte);
+    }
+    Ok(Bytes::inline(word.len(), array))
 }
 
 /// The bytes of a text without its quotes.

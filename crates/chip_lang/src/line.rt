@@ -157,7 +157,7 @@ fn owned(alloc: Global, name: Option<&Bytes>) -> Result<Option<Bytes>, AllocErro
     ensures { IfOk result (λ copy. copy ≡ option_copied name.entry) }
 {
     match name {
-        Some(name) => Ok(Some(Bytes::new(name.get().to_vec(alloc)?))),
+        Some(name) => Ok(Some(Bytes::from_slice(alloc, name.get())?)),
         None => Ok(None),
     }
 }

@@ -28,6 +28,15 @@ fn piece_length(tokens: &[Lexeme]) -> usize
     tokens.len()
 }
 
+/// How many pieces stand between commas.
+fn most_pieces(tokens: &[Lexeme]) -> usize {
+    let commas = tokens
+        .iter()
+        .filter(|token| is_sign_of(b',', *token))
+        .count();
+    commas.saturating_add(1)
+}
+
 /// The tokens before the first comma, and those after it if there is one.
 #[tactic(auto, using(crate::proofs::Pieces::piece_steps))]
 pub(crate) fn first_piece(tokens: &[Lexeme]) -> (&[Lexeme], Option<&[Lexeme]>)
@@ -67,10 +76,10 @@ pub(crate) fn operands_of(
 ) -> Result<Option<Vec<Operand>>, AllocError>
     ensures { IfOk result (λ found. option_map (λ operands. map operand_of operands.items) found ≡ operands_of tokens.now) }
 {
-    let mut operands = Vec::new(alloc);
     if tokens.is_empty() {
-        return Ok(Some(operands));
+        return Ok(Some(Vec::new(alloc)));
     }
+    let mut operands = Vec::with_capacity(alloc, most_pieces(tokens))?;
     let mut rest = Some(tokens);
     while let Some(tokens) = rest {
         let (piece, more) = first_piece(tokens);

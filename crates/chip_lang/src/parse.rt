@@ -1,6 +1,6 @@
 //! The parser of expressions.
 
-ghost use Rattle.std.specs.Prelude.{◌≡◌, ◌<◌, ◌≤◌, ◌+◌, ◌*◌, ℕ, length, IfOk, IfSome, IfNone, Option, Some, None, OnOk};
+ghost use Rattle.std.specs.Prelude.{[], ◌∷◌, ◌≡◌, ◌<◌, ◌≤◌, ◌+◌, ◌*◌, ℕ, length, IfOk, IfSome, IfNone, Option, Some, None, OnOk};
 ghost use Rattle.chip_lang.specs.Grammar.{IsExpression, prefix_of, operator_of, level_of};
 ghost use Rattle.chip_lang.specs.Parse.{Parsed, front_prefix, front_operator, after, expression_of, parse, further, prefixes, after_prefixes, signed};
 ghost use Rattle.chip_lang.specs.Seen.{seen, seen_whole};
@@ -8,7 +8,9 @@ ghost use Rattle.chip_lang.specs.Tree.{Tree, tree_of, binary};
 ghost use Rattle.chip_lang.specs.Reserved.{is_reserved};
 
 use crate::expr::{Expr, Operator, Prefix};
-use crate::front::{closed, name_atom, operator_in_front, prefix_in_front, text_atom};
+use crate::front::{
+    closed, free_name, name_atom, operator_in_front, prefix_in_front, text_atom, text_number,
+};
 use crate::lexeme::Lexeme;
 use std::alloc::{AllocError, Global};
 
@@ -21,6 +23,9 @@ pub fn parse_expression(alloc: Global, tokens: &[Lexeme]) -> Result<Option<Expr>
     ensures found { IfOk result (λ found. IfSome found (λ e. IsExpression tokens.now (tree_of e))) }
     ensures none { IfOk result (λ found. IfNone found ((e : Tree) → IsExpression tokens.now e → ⊥)) }
 {
+    if let [token] = tokens {
+        return expression_of_token(alloc, token);
+    }
     let Some((expr, rest)) = parse_level(alloc, tokens, 7)? else {
         return Ok(None);
     };
@@ -28,6 +33,19 @@ pub fn parse_expression(alloc: Global, tokens: &[Lexeme]) -> Result<Option<Expr>
         Ok(Some(expr))
     } else {
         Ok(None)
+    }
+}
+
+/// The expression that one token is, if it is one: most expressions have no more.
+#[tactic(auto, using(crate::proofs::OneToken::expression_of_one))]
+fn expression_of_token(alloc: Global, token: &Lexeme) -> Result<Option<Expr>, AllocError>
+    ensures { IfOk result (λ found. seen_whole found ≡ expression_of (token.now ∷ [])) }
+{
+    match token {
+        Lexeme::Word(word) => Ok(free_name(alloc, word.get())?.map(Expr::Name)),
+        Lexeme::Number(number) => Ok(Some(Expr::Number(*number))),
+        Lexeme::Text(text) => Ok(text_number(text.get())),
+        Lexeme::Sign(_) | Lexeme::Bad(_) => Ok(None),
     }
 }
 

@@ -46,18 +46,18 @@ fn first_giving(forms: &[Form], word: u16) -> Option<Form>
     ensures { option_row result ≡ find (λ r. not (bytes_eq r.name (codes "SYS")) && gives r word) (map row_of_form forms.now) }
 {
     for form in forms {
-        if form.name != "SYS" && gives(form, word) {
+        if gives(form, word) && form.name != "SYS" {
             return Some(*form);
         }
     }
     None
 }
 
-/// Whether a form, with the operands that stand in a word, gives that word.
+/// Whether a form, with the operands that stand in a word, gives that word. No operand takes the first digit.
 fn gives(form: &Form, word: u16) -> bool
     ensures { result ≡ gives (row_of_form form.now) word }
 {
-    form.base | parts_in(form.patterns, word) == word
+    form.base / 4096 == word / 4096 && form.base | parts_in(form.patterns, word) == word
 }
 
 fn parts_in(patterns: &[Pattern], word: u16) -> u16

@@ -9,7 +9,7 @@ ghost use Rattle.chip_lang.specs.SeenShape.{seen_shape};
 use crate::bytes::Bytes;
 use crate::directive::Directive;
 use crate::form::find_form;
-use crate::front::is_reserved;
+use crate::front::free_name;
 use crate::lexeme::{Lexeme, is_the};
 use crate::line::Body;
 use crate::operands::{operands_of, values_of};
@@ -105,7 +105,7 @@ fn one_text(alloc: Global, tokens: &[Lexeme]) -> Result<Option<Bytes>, AllocErro
     ensures { IfOk result (λ text. text ≡ one_text tokens.now) }
 {
     match tokens {
-        [Lexeme::Text(text)] => Ok(Some(Bytes::new(text.get().to_vec(alloc)?))),
+        [Lexeme::Text(text)] => Ok(Some(Bytes::from_slice(alloc, text.get())?)),
         _ => Ok(None),
     }
 }
@@ -115,9 +115,7 @@ fn one_name(alloc: Global, tokens: &[Lexeme]) -> Result<Option<Bytes>, AllocErro
     ensures { IfOk result (λ name. name ≡ one_name tokens.now) }
 {
     match tokens {
-        [Lexeme::Word(word)] if !is_reserved(word.get()) => {
-            Ok(Some(Bytes::new(word.get().to_vec(alloc)?)))
-        }
+        [Lexeme::Word(word)] => free_name(alloc, word.get()),
         _ => Ok(None),
     }
 }

@@ -4,7 +4,7 @@ use Rattle.std.specs.Int.{bit_at}
 use Rattle.std.proofs.lemmas.Bool.{cond_both, cond-true, cond-false, cases_eq, eq-eqb, ne_eqb, le-ltb, lt-ltb, le-leb, lt-leb, and_left, and_right}
 use Rattle.std.proofs.lemmas.Nat.Bits.{bit_at-zero}
 use Rattle.std.proofs.lemmas.List.{get_or_past}
-use Rattle.std.proofs.Math.Nat.{mul-le-mul_right}
+use Rattle.std.proofs.Math.Nat.{mul-le-mul_right, mul_comm}
 use Rattle.chip_machine.specs.Sprite.{covers_by_length, covers, is_set, row_bytes, row_bytes_by_length, scale, sprite_bytes}
 
 pub is_set-inside : (w : ℕ) (sprite : List ℕ) (i j : ℕ) → i < 8 * w → is_set w sprite i j ≡ (bit_at (get_or sprite (w * j + i / 8) 0) (7 - i % 8) == 1)
@@ -23,11 +23,11 @@ is_set_past w sprite i j h =
     ∙ ap (λ bit. nat_lt i (8 * w) && (bit == 1)) (bit_at-zero (7 - i % 8))
     ∙ and_right (nat_lt i (8 * w)) false refl
 
--- nor in a row past its last
-pub is_set_below : (w : ℕ) (sprite : List ℕ) (i j : ℕ) → 1 ≤ w → length sprite ≤ j → is_set w sprite i j ≡ false
-is_set_below w sprite i j some h =
-    let along : 1 * j ≤ w * j = mul-le-mul_right j some in
-    is_set_past w sprite i j (omega (arith, along))
+-- nor in a row past its last of n
+pub is_set_below : (w n : ℕ) (sprite : List ℕ) (i j : ℕ) → length sprite ≤ w * n → n ≤ j → is_set w sprite i j ≡ false
+is_set_below w n sprite i j few h =
+    let along : n * w ≤ j * w = mul-le-mul_right w h in
+    is_set_past w sprite i j (omega (arith, along, few, mul_comm w n, mul_comm w j))
 
 -- a test of three parts, of which two are known
 three_tests : (a b c : Bool) → a ≡ true → b ≡ true → (a && b && c) ≡ c
@@ -48,11 +48,11 @@ module _ (high : Bool) (x y : ℕ) (sprite : List ℕ) (column row : ℕ) where
       ∙ and_left _ _ (and_left _ _ (lt-leb (x % (128 / s)) (column / s) out))
 
   -- below the last row of the sprite
-  pub covers_below : (s : ℕ) → s ≡ scale high → 1 ≤ row_bytes_by_length high sprite → length sprite ≤ row / s - y % (64 / s) → covers_by_length high x y sprite column row ≡ false
+  pub covers_below : (s n : ℕ) → s ≡ scale high → length sprite ≤ row_bytes_by_length high sprite * n → n ≤ row / s - y % (64 / s) → covers_by_length high x y sprite column row ≡ false
   unfolding covers
-  covers_below s e some past =
+  covers_below s n e few past =
       ap (λ s. nat_le (x % (128 / s)) (column / s) && nat_le (y % (64 / s)) (row / s) && is_set (row_bytes_by_length high sprite) sprite (column / s - x % (128 / s)) (row / s - y % (64 / s))) (sym e)
-      ∙ and_right (nat_le (x % (128 / s)) (column / s) && nat_le (y % (64 / s)) (row / s)) _ (is_set_below (row_bytes_by_length high sprite) sprite (column / s - x % (128 / s)) (row / s - y % (64 / s)) some past)
+      ∙ and_right (nat_le (x % (128 / s)) (column / s) && nat_le (y % (64 / s)) (row / s)) _ (is_set_below (row_bytes_by_length high sprite) n sprite (column / s - x % (128 / s)) (row / s - y % (64 / s)) few past)
 
   pub covers_above : (s : ℕ) → s ≡ scale high → row / s < y % (64 / s) → covers_by_length high x y sprite column row ≡ false
   unfolding covers
@@ -60,22 +60,17 @@ module _ (high : Bool) (x y : ℕ) (sprite : List ℕ) (column row : ℕ) where
       ap (λ s. nat_le (x % (128 / s)) (column / s) && nat_le (y % (64 / s)) (row / s) && is_set (row_bytes_by_length high sprite) sprite (column / s - x % (128 / s)) (row / s - y % (64 / s))) (sym e)
       ∙ and_left _ _ (and_right (nat_le (x % (128 / s)) (column / s)) _ (lt-leb (y % (64 / s)) (row / s) out))
 
-row_bytes_some : (high : Bool) (sprite : List ℕ) → 1 ≤ row_bytes_by_length high sprite
-unfolding row_bytes_by_length
-row_bytes_some true sprite = cond_both (nat_eq (length sprite) 32) 2 1 (λ n. 1 ≤ n) (λ _. omega arith) (λ _. omega arith)
-row_bytes_some false sprite = omega arith
-
 -- above the first line of a sprite nothing is covered
 pub covers_before : (high : Bool) (x y : ℕ) (sprite : List ℕ) (column row : ℕ) → row < scale high * (y % (64 / scale high)) → covers_by_length high x y sprite column row ≡ false
 covers_before true x y sprite column row before = covers_above true x y sprite column row 1 refl (omega arith)
 covers_before false x y sprite column row before = covers_above false x y sprite column row 2 refl (omega arith)
 
--- nor from the line on where its bytes or the screen end
-pub covers_after : (high : Bool) (x y : ℕ) (sprite : List ℕ) (column row end : ℕ) → row < 64 → end ≡ min (y % (64 / scale high) + min (length sprite) 64) (64 / scale high) → scale high * end ≤ row → covers_by_length high x y sprite column row ≡ false
-covers_after true x y sprite column row end on_screen e after =
-    covers_below true x y sprite column row 1 refl (row_bytes_some true sprite) (omega arith)
-covers_after false x y sprite column row end on_screen e after =
-    covers_below false x y sprite column row 2 refl (row_bytes_some false sprite) (omega arith)
+-- nor from the line on where its n rows or the screen end
+pub covers_after : (high : Bool) (x y : ℕ) (sprite : List ℕ) (column row end n : ℕ) → row < 64 → length sprite ≤ row_bytes_by_length high sprite * n → end ≡ min (y % (64 / scale high) + min n 64) (64 / scale high) → scale high * end ≤ row → covers_by_length high x y sprite column row ≡ false
+covers_after true x y sprite column row end n on_screen few e after =
+    covers_below true x y sprite column row 1 n refl few (omega arith)
+covers_after false x y sprite column row end n on_screen few e after =
+    covers_below false x y sprite column row 2 n refl few (omega arith)
 
 pub lines_on_screen : (high : Bool) (end n : ℕ) → end ≡ min n (64 / scale high) → scale high * end ≤ 64
 lines_on_screen true end n e = omega arith

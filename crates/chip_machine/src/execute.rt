@@ -1,6 +1,6 @@
 //! The effect of one instruction.
 
-ghost use Rattle.std.specs.Prelude.{◌≡◌, ◌+◌, ◌<◌, ◌≤◌, ◌++◌, length, OnOk, OnErr, IfErr, Ok, Err};
+ghost use Rattle.std.specs.Prelude.{◌≡◌, ◌+◌, ◌<◌, ◌≤◌, [], length, OnOk, OnErr, IfOk, IfErr, Ok, Err};
 ghost use Rattle.chip_lang.specs.Decoding.{decode_of};
 ghost use Rattle.chip_machine.specs.Step.{effect, effect_of_word, perform, accessed};
 ghost use Rattle.chip_machine.specs.Touched.{IsNoted, is_among};
@@ -8,26 +8,26 @@ ghost use Rattle.chip_machine.specs.Touched.{IsNoted, is_among};
 use crate::limits::{LAST_WORD, MEMORY_BYTES};
 use crate::processor::Processor;
 use crate::stop::Stop;
-use crate::touch::Touch;
+use crate::touch::Span;
 use chip_lang::instr::{Instr, decode};
 
-/// Carries out an instruction, or says why the machine stops.
+/// Carries out an instruction, and says which bytes it accesses at I, or why the machine stops.
 #[inline(always)]
 pub(crate) fn execute(
     processor: &mut Processor,
     memory: &mut [u8],
     instr: Instr,
     keys: u16,
-    touch: &mut Touch,
-) -> Result<(), Stop>
+) -> Result<Span, Stop>
     requires size { length memory.old ≡ MEMORY_BYTES }
     requires pc { processor.old.pc ≤ LAST_WORD }
-    requires room { length touch.old ≤ 2 }
     ensures ok { OnOk result (perform keys (record { core = processor.old; memory = memory.old }) (effect instr processor.old) ≡ Ok (record { core = processor.new; memory = memory.new })) }
     ensures why { IfErr result (λ why. perform keys (record { core = processor.old; memory = memory.old }) (effect instr processor.old) ≡ Err why) }
     ensures same { OnErr result ((processor.new ≡ processor.old) × (memory.new ≡ memory.old)) }
-    ensures touched { touch.new ≡ touch.old ++ accessed processor.old.index (effect instr processor.old) }
+    ensures touched { IfOk result (λ span. span ≡ accessed processor.old.index (effect instr processor.old)) }
+    ensures untouched { OnErr result (accessed processor.old.index (effect instr processor.old) ≡ []) }
 {
+    // `Ok(..?)` in place of the result itself, which stays in registers so.
     match instr {
         Instr::ScrollDown(n) => processor.row_scroll_down(n)?,
         Instr::ClearScreen => processor.row_clear_screen(),
@@ -57,7 +57,7 @@ pub(crate) fn execute(
         Instr::LoadIndex(address) => processor.row_load_index(address),
         Instr::JumpOffset(address) => processor.row_jump_offset(address),
         Instr::Random(x, byte) => processor.row_random(x, byte),
-        Instr::Draw(x, y, n) => processor.row_draw(x, y, n, memory, touch)?,
+        Instr::Draw(x, y, n) => return Ok(processor.row_draw(x, y, n, memory)?),
         Instr::SkipIfKey(x) => processor.row_skip_if_key(x, keys),
         Instr::SkipUnlessKey(x) => processor.row_skip_unless_key(x, keys),
         Instr::ReadDelay(x) => processor.row_read_delay(x),
@@ -67,46 +67,45 @@ pub(crate) fn execute(
         Instr::AddIndex(x) => processor.row_add_index(x),
         Instr::SmallDigit(x) => processor.row_small_digit(x),
         Instr::BigDigit(x) => processor.row_big_digit(x)?,
-        Instr::StoreDecimal(x) => processor.row_store_decimal(x, memory, touch)?,
-        Instr::StoreRegisters(x) => processor.row_store_registers(x, memory, touch)?,
-        Instr::LoadRegisters(x) => processor.row_load_registers(x, memory, touch)?,
+        Instr::StoreDecimal(x) => return Ok(processor.row_store_decimal(x, memory)?),
+        Instr::StoreRegisters(x) => return Ok(processor.row_store_registers(x, memory)?),
+        Instr::LoadRegisters(x) => return Ok(processor.row_load_registers(x, memory)?),
         Instr::StoreFlags(x) => processor.row_store_flags(x)?,
         Instr::LoadFlags(x) => processor.row_load_flags(x)?,
     }
-    Ok(())
+    Ok(Span::none())
 }
 
-/// Carries out the instruction of a word with no key down, and notes the bytes that it accesses at I
-/// under a number. What `touch` holds is lost.
+/// Carries out the instruction of a word with these keys down, and notes the bytes that it accesses
+/// at I under a number.
 #[inline(always)]
 pub(crate) fn execute_noted(
     processor: &mut Processor,
     memory: &mut [u8],
     word: u16,
+    keys: u16,
     number: u32,
     first_touch: &mut [u32],
-    touch: &mut Touch,
 ) -> Result<(), Stop>
     requires size { length memory.old ≡ MEMORY_BYTES }
     requires pc { processor.old.pc ≤ LAST_WORD }
     requires table { length first_touch.old ≡ MEMORY_BYTES }
     ensures ok { OnOk result (
-        perform 0 (record { core = processor.old; memory = memory.old })
+        perform keys (record { core = processor.old; memory = memory.old })
         (effect_of_word (decode_of word) processor.old)
         ≡ Ok (record { core = processor.new; memory = memory.new })) }
     ensures why { IfErr result (λ why.
-        perform 0 (record { core = processor.old; memory = memory.old })
+        perform keys (record { core = processor.old; memory = memory.old })
         (effect_of_word (decode_of word) processor.old)
         ≡ Err why) }
     ensures same { OnErr result ((processor.new ≡ processor.old) × (memory.new ≡ memory.old)) }
     ensures noted { IsNoted (is_among (accessed processor.old.index (effect_of_word (decode_of word) processor.old)))
         number first_touch.old first_touch.new }
 {
-    touch.clear();
-    let done = match decode(word) {
-        Some(instr) => execute(processor, memory, instr, 0, touch),
-        None => Err(Stop::NoInstruction),
+    let Some(instr) = decode(word) else {
+        return Err(Stop::NoInstruction);
     };
-    touch.note(first_touch, number);
-    done
+    let span = execute(processor, memory, instr, keys)?;
+    span.note(first_touch, number);
+    Ok(())
 }

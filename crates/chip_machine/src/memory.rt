@@ -1,33 +1,26 @@
 //! The bytes at I.
 
-ghost use Rattle.std.specs.Prelude.{◌≡◌, ◌+◌, ◌<◌, ◌≤◌, ◌↔◌, ◌++◌, length, take, drop, IfOk, IfErr, IsOk, IsErr, OnOk, OnErr};
+ghost use Rattle.std.specs.Prelude.{◌≡◌, ◌+◌, ◌<◌, ◌≤◌, ◌↔◌, [], length, take, drop, IfOk, IfErr, IsOk, IsErr, OnOk, OnErr};
 ghost use Rattle.std.specs.List.{range_with_len};
 ghost use Rattle.chip_machine.specs.State.{overwrite};
 ghost use Rattle.chip_machine.specs.Step.{span_at};
 
-use crate::limits::{MEMORY_BYTES, TOUCHES};
+use crate::limits::{MEMORY_BYTES, SPRITE_BYTES};
 use crate::stop::Stop;
-use crate::touch::Touch;
 
 /// Reads bytes, where they are within the memory.
-pub(crate) fn load<'a>(
-    memory: &'a [u8],
-    at: u16,
-    count: usize,
-    touch: &mut Touch,
-) -> Result<&'a [u8], Stop>
+pub(crate) fn load(memory: &[u8], at: u16, count: usize) -> Result<&[u8], Stop>
     requires size { length memory.now ≡ MEMORY_BYTES }
-    requires room { length touch.old + count ≤ TOUCHES }
+    requires few { count ≤ SPRITE_BYTES }
     ensures fits { IsOk result ↔ (at + count ≤ MEMORY_BYTES) }
     ensures ok { IfOk result (λ bytes. bytes.now ≡ take count (drop at memory.now)) }
     ensures err { IfErr result (λ why. why ≡ Stop.AddressOutOfRange) }
-    ensures touched { touch.new ≡ touch.old ++ span_at at count }
+    ensures untouched { OnErr result (span_at at count ≡ []) }
 {
     let from = at as usize;
     if from + count > MEMORY_BYTES {
         return Err(Stop::AddressOutOfRange);
     }
-    touch.add_span(at, count);
     Ok(&memory[from..from + count])
 }
 
@@ -41,20 +34,19 @@ pub(crate) fn write_at(memory: &mut [u8], at: usize, bytes: &[u8])
 }
 
 /// Writes bytes, where they stay within the memory.
-pub(crate) fn store(memory: &mut [u8], at: u16, bytes: &[u8], touch: &mut Touch) -> Result<(), Stop>
+pub(crate) fn store(memory: &mut [u8], at: u16, bytes: &[u8]) -> Result<(), Stop>
     requires size { length memory.old ≡ MEMORY_BYTES }
-    requires room { length touch.old + length bytes.now ≤ TOUCHES }
+    requires few { length bytes.now ≤ SPRITE_BYTES }
     ensures fits { IsOk result ↔ (at + length bytes.now ≤ MEMORY_BYTES) }
     ensures ok { OnOk result (memory.new ≡ overwrite memory.old at bytes.now) }
     ensures err { OnErr result (memory.new ≡ memory.old) }
     ensures why { IfErr result (λ why. why ≡ Stop.AddressOutOfRange) }
-    ensures touched { touch.new ≡ touch.old ++ span_at at (length bytes.now) }
+    ensures untouched { OnErr result (span_at at (length bytes.now) ≡ []) }
 {
     let from = at as usize;
     if from + bytes.len() > MEMORY_BYTES {
         return Err(Stop::AddressOutOfRange);
     }
-    touch.add_span(at, bytes.len());
     write_at(memory, from, bytes);
     Ok(())
 }

@@ -17,6 +17,7 @@ use crate::stop::Stop;
 use chip_lang::number::{Addr, Nibble, Reg};
 use std::alloc::{AllocError, Global};
 use std::marker::Model;
+use std::rc::RcSlice;
 
 /// The registers, and what else is not memory.
 #[derive(Drop)]
@@ -29,8 +30,11 @@ pub(crate) struct Processor {
     delay: u8,
     sound: u8,
     flags: [u8; FLAGS],
-    tape: Vec<u8>,
+    /// Shared with the copies of this machine.
+    tape: RcSlice<u8>,
     draws: u64,
+    /// Where the next random byte stands on the tape.
+    place: usize,
     screen: Screen,
     high: bool,
     stopped: Option<Stop>,
@@ -38,7 +42,8 @@ pub(crate) struct Processor {
 }
 
 impl Model for Processor {
-    ghost use Rattle.std.specs.Prelude.{◌<◌, ◌≤◌, length, take};
+    ghost use Rattle.std.specs.Prelude.{◌≡◌, ◌<◌, ◌≤◌, ◌%◌, length, take};
+    ghost use Rattle.std.specs.Rc.{rc_slice_items};
     ghost use Rattle.chip_machine.specs.State.{Core};
     ghost use Rattle.chip_machine.specs.Codes.{core_code};
     ghost use Rattle.chip_machine.specs.declared.limits.TheConstants.{FRAMES, TAPE_BYTES};
@@ -55,7 +60,7 @@ impl Model for Processor {
       delay = p.delay;
       sound = p.sound;
       flags = p.flags;
-      tape = p.tape.items;
+      tape = rc_slice_items p.tape;
       draws = p.draws;
       lit = p.screen;
       high = p.high;
@@ -63,7 +68,10 @@ impl Model for Processor {
       profile = p.profile;
     } };
 
-    ghost invariant = { λ p. (p.depth ≤ FRAMES) × (0 < length p.tape.items) × (length p.tape.items ≤ TAPE_BYTES) };
+    ghost invariant = { λ p. (p.depth ≤ FRAMES)
+        × (0 < length (rc_slice_items p.tape))
+        × (length (rc_slice_items p.tape) ≤ TAPE_BYTES)
+        × (p.place ≡ p.draws % length (rc_slice_items p.tape)) };
 }
 
 impl Processor {
@@ -72,7 +80,7 @@ impl Processor {
         requires { IsTape tape.now }
         ensures { IfOk result (λ processor. processor ≡ start_core tape.now profile) }
     {
-        let tape = tape.to_vec(alloc)?;
+        let tape = RcSlice::from_slice(alloc, tape)?;
         let screen = Screen::new(alloc)?;
         Ok(Processor {
             registers: [0; 16],
@@ -85,6 +93,7 @@ impl Processor {
             flags: [0; FLAGS],
             tape,
             draws: 0,
+            place: 0,
             screen,
             high: false,
             stopped: None,
@@ -107,11 +116,35 @@ impl Processor {
             flags: self.flags,
             tape: self.tape.clone()?,
             draws: self.draws,
+            place: self.place,
             screen: self.screen.copy_of()?,
             high: self.high,
             stopped: self.stopped,
             profile: self.profile,
         })
+    }
+
+    /// Takes the state of another. Errors: memory ran out, and nothing is changed.
+    pub(crate) fn copy_from(&mut self, other: &Processor) -> Result<(), AllocError>
+        ensures ok { OnOk result (self.new ≡ other.now) }
+        ensures err { OnErr result (self.new ≡ self.old) }
+    {
+        self.tape = other.tape.clone()?;
+        self.registers = other.registers;
+        self.index = other.index;
+        self.pc = other.pc;
+        self.frames = other.frames;
+        self.depth = other.depth;
+        self.delay = other.delay;
+        self.sound = other.sound;
+        self.flags = other.flags;
+        self.draws = other.draws;
+        self.place = other.place;
+        self.screen.copy_from(&other.screen);
+        self.high = other.high;
+        self.stopped = other.stopped;
+        self.profile = other.profile;
+        Ok(())
     }
 
     /// The value of a register.
@@ -296,9 +329,13 @@ impl Processor {
         ensures value { result ≡ random_byte self.old }
         ensures after { self.new ≡ drawn self.old }
     {
-        let place = self.draws % self.tape.len() as u64;
-        self.draws = self.draws.saturating_add(1);
-        self.tape[place as usize]
+        let tape = self.tape.as_slice();
+        let drawn = tape[self.place];
+        if self.draws < u64::MAX {
+            self.draws += 1;
+            self.place = next_place(self.place, tape.len());
+        }
+        drawn
     }
 
     /// Copies the registers up to x into the flag registers.
@@ -452,4 +489,13 @@ impl Processor {
     {
         self.draws
     }
+}
+
+/// The place after one on a tape, of which the first follows the last.
+#[inline(always)]
+fn next_place(place: usize, tape_len: usize) -> usize
+    requires { place < tape_len }
+    ensures { (draws : ℕ) → place ≡ draws % tape_len → result ≡ (draws + 1) % tape_len }
+{
+    if place + 1 == tape_len { 0 } else { place + 1 }
 }

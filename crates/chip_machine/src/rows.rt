@@ -1,6 +1,6 @@
 //! The rows of the instruction table, a method for each.
 
-ghost use Rattle.std.specs.Prelude.{◌≡◌, ℕ, ◌≤◌, ◌++◌, List, [], length, OnOk, OnErr, IfErr, Ok, Err};
+ghost use Rattle.std.specs.Prelude.{◌≡◌, ℕ, ◌≤◌, List, [], length, OnOk, OnErr, IfOk, IfErr, Ok, Err};
 ghost use Rattle.chip_machine.specs.Step.{effect, Changes, Stops, perform, accessed};
 
 use crate::keys::{is_down, least_down};
@@ -9,7 +9,7 @@ use crate::memory::{load, store};
 use crate::processor::Processor;
 use crate::sprite::sprite_bytes;
 use crate::stop::Stop;
-use crate::touch::Touch;
+use crate::touch::Span;
 use chip_lang::instr::Instr;
 use chip_lang::number::{Addr, Nibble, Reg};
 
@@ -483,101 +483,88 @@ impl Processor {
         y: Reg,
         n: Nibble,
         memory: &[u8],
-        touch: &mut Touch,
-    ) -> Result<(), Stop>
+    ) -> Result<Span, Stop>
         requires size { length memory.now ≡ MEMORY_BYTES }
         requires pc { self.old.pc ≤ LAST_WORD }
-        requires room { length touch.old ≤ 2 }
         ensures ok { OnOk result ((keys : ℕ) → perform keys (record { core = self.old; memory = memory.now }) (effect (Instr.Draw x y n) self.old) ≡ Ok (record { core = self.new; memory = memory.now })) }
         ensures why { IfErr result (λ why. (keys : ℕ) → perform keys (record { core = self.old; memory = memory.now }) (effect (Instr.Draw x y n) self.old) ≡ Err why) }
         ensures same { OnErr result (self.new ≡ self.old) }
-        ensures touched { touch.new ≡ touch.old ++ accessed self.old.index (effect (Instr.Draw x y n) self.old) }
+        ensures touched { IfOk result (λ span. span ≡ accessed self.old.index (effect (Instr.Draw x y n) self.old)) }
+        ensures untouched { OnErr result (accessed self.old.index (effect (Instr.Draw x y n) self.old) ≡ []) }
     {
         if self.draws_nothing(n) {
             self.clear_flag();
             self.advance();
-            return Ok(());
+            return Ok(Span::none());
         }
         let count = sprite_bytes(self.high(), n);
-        let sprite = load(memory, self.index(), count, touch)?;
+        let sprite = load(memory, self.index(), count)?;
+        let read = Span::new(self.index(), count);
         let left = self.reg(x);
         let top = self.reg(y);
         self.draw(left, top, sprite);
         self.advance();
-        Ok(())
+        Ok(read)
     }
 
     /// `FX33`, `LD B, Vx`: stores the three decimal digits of Vx at I.
     #[tactic(auto, unfolding(crate::specs::Step::effect))]
-    pub(crate) fn row_store_decimal(
-        &mut self,
-        x: Reg,
-        memory: &mut [u8],
-        touch: &mut Touch,
-    ) -> Result<(), Stop>
+    pub(crate) fn row_store_decimal(&mut self, x: Reg, memory: &mut [u8]) -> Result<Span, Stop>
         requires size { length memory.old ≡ MEMORY_BYTES }
         requires pc { self.old.pc ≤ LAST_WORD }
-        requires room { length touch.old ≤ 2 }
         ensures ok { OnOk result ((keys : ℕ) → perform keys (record { core = self.old; memory = memory.old }) (effect (Instr.StoreDecimal x) self.old) ≡ Ok (record { core = self.new; memory = memory.new })) }
         ensures why { IfErr result (λ why. (keys : ℕ) → perform keys (record { core = self.old; memory = memory.old }) (effect (Instr.StoreDecimal x) self.old) ≡ Err why) }
         ensures same { OnErr result ((self.new ≡ self.old) × (memory.new ≡ memory.old)) }
-        ensures touched { touch.new ≡ touch.old ++ accessed self.old.index (effect (Instr.StoreDecimal x) self.old) }
+        ensures touched { IfOk result (λ span. span ≡ accessed self.old.index (effect (Instr.StoreDecimal x) self.old)) }
+        ensures untouched { OnErr result (accessed self.old.index (effect (Instr.StoreDecimal x) self.old) ≡ []) }
     {
         let value = self.reg(x);
         let digits = [value / 100, value / 10 % 10, value % 10];
-        store(memory, self.index(), &digits, touch)?;
+        store(memory, self.index(), &digits)?;
+        let span = Span::new(self.index(), digits.len());
         self.advance();
-        Ok(())
+        Ok(span)
     }
 
     /// `FX55`, `LD [I], Vx`: stores V0 to Vx at I, which stays or moves past them.
+    #[inline(always)]
     #[tactic(auto, unfolding(crate::specs::Step::effect))]
-    pub(crate) fn row_store_registers(
-        &mut self,
-        x: Reg,
-        memory: &mut [u8],
-        touch: &mut Touch,
-    ) -> Result<(), Stop>
+    pub(crate) fn row_store_registers(&mut self, x: Reg, memory: &mut [u8]) -> Result<Span, Stop>
         requires size { length memory.old ≡ MEMORY_BYTES }
         requires pc { self.old.pc ≤ LAST_WORD }
-        requires room { length touch.old ≤ 2 }
         ensures ok { OnOk result ((keys : ℕ) → perform keys (record { core = self.old; memory = memory.old }) (effect (Instr.StoreRegisters x) self.old) ≡ Ok (record { core = self.new; memory = memory.new })) }
         ensures why { IfErr result (λ why. (keys : ℕ) → perform keys (record { core = self.old; memory = memory.old }) (effect (Instr.StoreRegisters x) self.old) ≡ Err why) }
         ensures same { OnErr result ((self.new ≡ self.old) × (memory.new ≡ memory.old)) }
-        ensures touched { touch.new ≡ touch.old ++ accessed self.old.index (effect (Instr.StoreRegisters x) self.old) }
+        ensures touched { IfOk result (λ span. span ≡ accessed self.old.index (effect (Instr.StoreRegisters x) self.old)) }
+        ensures untouched { OnErr result (accessed self.old.index (effect (Instr.StoreRegisters x) self.old) ≡ []) }
     {
+        let count = x.number() as usize + 1;
         let registers = self.registers();
-        store(
-            memory,
-            self.index(),
-            &registers[..x.number() as usize + 1],
-            touch,
-        )?;
+        store(memory, self.index(), &registers[..count])?;
+        let span = Span::new(self.index(), count);
         self.finish_move(x);
         self.advance();
-        Ok(())
+        Ok(span)
     }
 
     /// `FX65`, `LD Vx, [I]`: loads V0 to Vx from I, which stays or moves past them.
+    #[inline(always)]
     #[tactic(auto, unfolding(crate::specs::Step::effect))]
-    pub(crate) fn row_load_registers(
-        &mut self,
-        x: Reg,
-        memory: &[u8],
-        touch: &mut Touch,
-    ) -> Result<(), Stop>
+    pub(crate) fn row_load_registers(&mut self, x: Reg, memory: &[u8]) -> Result<Span, Stop>
         requires size { length memory.now ≡ MEMORY_BYTES }
         requires pc { self.old.pc ≤ LAST_WORD }
-        requires room { length touch.old ≤ 2 }
         ensures ok { OnOk result ((keys : ℕ) → perform keys (record { core = self.old; memory = memory.now }) (effect (Instr.LoadRegisters x) self.old) ≡ Ok (record { core = self.new; memory = memory.now })) }
         ensures why { IfErr result (λ why. (keys : ℕ) → perform keys (record { core = self.old; memory = memory.now }) (effect (Instr.LoadRegisters x) self.old) ≡ Err why) }
         ensures same { OnErr result (self.new ≡ self.old) }
-        ensures touched { touch.new ≡ touch.old ++ accessed self.old.index (effect (Instr.LoadRegisters x) self.old) }
+        ensures touched { IfOk result (λ span. span ≡ accessed self.old.index (effect (Instr.LoadRegisters x) self.old)) }
+        ensures untouched { OnErr result (accessed self.old.index (effect (Instr.LoadRegisters x) self.old) ≡ []) }
     {
-        let bytes = load(memory, self.index(), x.number() as usize + 1, touch)?;
+        let count = x.number() as usize + 1;
+        let bytes = load(memory, self.index(), count)?;
+        let span = Span::new(self.index(), count);
         self.load(bytes);
         self.finish_move(x);
         self.advance();
-        Ok(())
+        Ok(span)
     }
 }

@@ -92,6 +92,13 @@ impl Screen {
         Ok(Screen { rows })
     }
 
+    /// Takes the points of another screen.
+    pub(crate) fn copy_from(&mut self, other: &Screen)
+        ensures { self.new ≡ other.now }
+    {
+        self.rows.copy_from_slice(&other.rows);
+    }
+
     /// Draws a sprite, and answers whether it covers a point that was lit.
     pub(crate) fn draw(&mut self, high: bool, x: u8, y: u8, sprite: &[u8]) -> bool
         ensures lit { self.new ≡ symmetric_difference self.old (covered_by_length high x y sprite.now) }

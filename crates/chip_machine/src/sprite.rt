@@ -1,6 +1,6 @@
 //! The stored points that a sprite covers, as bits of the screen's rows.
 
-ghost use Rattle.std.specs.Prelude.{◌≡◌, ℕ, ◌+◌, ◌-◌, ◌*◌, ◌/◌, ◌%◌, ◌<◌, ◌≤◌, false, ◌==◌, slice_index, ◌^◌, ◌↔◌, IsTrue};
+ghost use Rattle.std.specs.Prelude.{◌≡◌, ℕ, ◌+◌, ◌-◌, ◌*◌, ◌/◌, ◌%◌, ◌<◌, ◌≤◌, false, ◌==◌, slice_index, ◌^◌, ◌↔◌, IsTrue, length};
 ghost use Rattle.std.specs.Int.{bit_at};
 ghost use Rattle.chip_machine.specs.Stored.{lights};
 ghost use Rattle.chip_machine.specs.Sprite.{StartsRight, covers_by_length, covers, is_set, row_bytes_by_length, scale, sprite_bytes};
@@ -43,6 +43,18 @@ fn byte_at(sprite: &[u8], at: usize) -> u8
     if at < sprite.len() { sprite[at] } else { 0 }
 }
 
+/// How many rows a sprite has: in the high size two bytes are a row where there are `SPRITE_BYTES`.
+#[tactic(auto, unfolding(crate::specs::Sprite::row_bytes_by_length))]
+fn rows_of(high: bool, sprite: &[u8]) -> usize
+    ensures { length sprite.now ≤ row_bytes_by_length high sprite.now * result }
+{
+    if high && sprite.len() == SPRITE_BYTES {
+        SPRITE_BYTES / 2
+    } else {
+        sprite.len()
+    }
+}
+
 /// The lines that a sprite may cover: the first of them, and the first past them. A line is a row of points of the size.
 pub(crate) fn lines_under(high: bool, y: u8, sprite: &[u8]) -> (usize, usize)
     ensures first { result.0 ≡ y % (64 / scale high) }
@@ -53,7 +65,7 @@ pub(crate) fn lines_under(high: bool, y: u8, sprite: &[u8]) -> (usize, usize)
 {
     let height = HEIGHT / scale_of(high);
     let first = y as usize % height;
-    let end = first + sprite.len().min(HEIGHT);
+    let end = first + rows_of(high, sprite).min(HEIGHT);
     (first, end.min(height))
 }
 

@@ -3,9 +3,10 @@
 ghost use Rattle.std.specs.Prelude.{◌≡◌, ℕ, ◌+◌, ◌<◌, ◌≤◌, ◌↔◌, [], ◌∷◌, ◌++◌, All, length, min, IsTrue, IfSome, slice_get, slice_index, slice_set};
 ghost use Rattle.std.specs.Bool.{OnTrue, OnFalse};
 ghost use Rattle.std.specs.List.{range_with_len};
+ghost use Rattle.chip_machine.specs.Step.{span_at};
 ghost use Rattle.chip_machine.specs.Touched.{IsNoted, is_among};
 
-use crate::limits::{MEMORY_BYTES, TOUCHES};
+use crate::limits::{MEMORY_BYTES, SPRITE_BYTES, TOUCHES};
 use std::marker::Model;
 
 /// The addresses that a step read or wrote.
@@ -30,6 +31,55 @@ impl Model for Touch {
     ghost view = { λ t. take t.count t.addresses ++ range_with_len t.row_start t.row_len };
 
     ghost invariant = { λ t. (t.count + t.row_len ≤ TOUCHES) × (t.row_start + t.row_len ≤ MEMORY_BYTES) × All (λ at. at < MEMORY_BYTES) (take t.count t.addresses) };
+}
+
+/// The addresses of so many bytes in a row that an instruction accesses, or none.
+#[derive(Drop)]
+pub(crate) struct Span {
+    start: u16,
+    len: usize,
+}
+
+impl Model for Span {
+    ghost use Rattle.std.specs.Prelude.{ℕ, List, ◌≤◌, ◌+◌};
+    ghost use Rattle.std.specs.List.{range_with_len};
+    ghost use Rattle.chip_lang.specs.declared.limits.TheConstants.{MEMORY_BYTES};
+    ghost use Rattle.chip_machine.specs.declared.limits.TheConstants.{SPRITE_BYTES};
+
+    ghost Value = { List ℕ };
+
+    ghost view = { λ s. range_with_len s.start s.len };
+
+    ghost invariant = { λ s. (s.len ≤ SPRITE_BYTES) × (s.start + s.len ≤ MEMORY_BYTES) };
+}
+
+impl Span {
+    /// No address.
+    #[inline(always)]
+    pub(crate) fn none() -> Self
+        ensures { result ≡ [] }
+    {
+        Span { start: 0, len: 0 }
+    }
+
+    /// The addresses of so many bytes.
+    #[inline(always)]
+    pub(crate) fn new(start: u16, len: usize) -> Self
+        requires few { len ≤ SPRITE_BYTES }
+        requires in_memory { start + len ≤ MEMORY_BYTES }
+        ensures { result ≡ span_at start len }
+    {
+        Span { start, len }
+    }
+
+    /// Notes a step at the addresses, as `Touch::note`.
+    #[inline(always)]
+    pub(crate) fn note(&self, first_touch: &mut [u32], number: u32)
+        requires { length first_touch.old ≡ MEMORY_BYTES }
+        ensures { IsNoted (is_among self.now) number first_touch.old first_touch.new }
+    {
+        note_row(first_touch, self.start as usize, self.len, number);
+    }
 }
 
 impl Touch {
@@ -104,6 +154,14 @@ impl Touch {
     {
         note_list(first_touch, &self.addresses[..self.count], number);
         note_row(first_touch, self.row_start as usize, self.row_len, number);
+    }
+
+    /// Adds the addresses that an instruction accesses to those of its word.
+    pub(crate) fn add_all(&mut self, span: Span)
+        requires { length self.old ≤ 2 }
+        ensures { self.new ≡ self.old ++ span }
+    {
+        self.add_span(span.start, span.len);
     }
 
     /// Adds the addresses of so many bytes.

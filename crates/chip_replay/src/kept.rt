@@ -2,7 +2,7 @@
 
 ghost use Rattle.std.specs.Prelude.{◌≡◌, ℕ, ◌+◌, ◌-◌, ◌*◌, ◌/◌, ◌<◌, ◌≤◌, ◌==◌, List, [], ◌∷◌, ◌++◌, length, min, max, IfOk, IfSome, OnOk, OnErr, if◌then◌else◌, slice_index, slice_index_or, slice_set, take, map, nat_lt, true, ◌⊎◌};
 ghost use Rattle.chip_replay.specs.Limits.{image_start, image_room};
-ghost use Rattle.chip_machine.specs.Touched.{touched, IsNoted};
+ghost use Rattle.chip_machine.specs.Touched.{touched};
 ghost use Rattle.chip_replay.specs.Run.{run, GoesOn};
 ghost use Rattle.chip_replay.specs.Keys.{Events, held};
 ghost use Rattle.chip_replay.specs.Changes.{KnowsKeys};
@@ -13,7 +13,6 @@ ghost use Rattle.chip_replay.specs.History.{AreFirst, IsSound, IsLent, IsCutBack
 use crate::keys::{Holding, Keys};
 use crate::limits::{IMAGE_BYTES, IMAGE_START, LAST_STEP, MEMORY_BYTES, NEVER};
 use crate::traced::Traced;
-use chip_machine::touch::Touch;
 use std::alloc::{AllocError, Global};
 
 /// What is kept of a run.
@@ -23,6 +22,8 @@ pub(crate) struct Kept<M: Traced> {
     pub(crate) spacing: u32,
     /// The states after `spacing` steps, twice as many and so on, up to `reach`.
     pub(crate) checkpoints: Vec<M>,
+    /// States whose memory the next checkpoints take. What they hold means nothing.
+    pub(crate) spare: Vec<M>,
     /// For each address the first step below `reach` that touched it, or `NEVER`.
     pub(crate) first_touch: Vec<u32>,
     /// How many steps of the run are known.
@@ -51,6 +52,7 @@ impl<M: Traced> Kept<M> {
         Ok(Kept {
             spacing,
             checkpoints: Vec::new(alloc),
+            spare: Vec::new(alloc),
             first_touch,
             reach: 0,
             lent: start,
@@ -141,13 +143,8 @@ impl<M: Traced> Kept<M> {
         let now = at + made;
         keys.hold(&mut self.holding, now);
         let tick = made + 1 == to_tick;
-        make_step(
-            &mut self.lent,
-            self.holding.keys,
-            tick,
-            &mut self.first_touch,
-            now,
-        );
+        let table = &mut self.first_touch;
+        self.lent.step_noted(self.holding.keys, tick, now, table);
         made + 1
     }
 
@@ -157,17 +154,44 @@ impl<M: Traced> Kept<M> {
     fn extend(&mut self, reach: u32, due: bool) -> Result<(), AllocError>
         ensures kept { OnOk result (self.new.checkpoints.items
             ≡ (if due then self.old.checkpoints.items ++ self.old.lent ∷ [] else self.old.checkpoints.items)) }
-        ensures others { OnOk result (self.new ≡ record self.old { checkpoints = self.new.checkpoints; reach = reach }) }
+        ensures others { OnOk result (self.new
+            ≡ record self.old { checkpoints = self.new.checkpoints; spare = self.new.spare; reach = reach }) }
         ensures checkpoints_stay { OnErr result (self.new.checkpoints.items ≡ self.old.checkpoints.items) }
         ensures table_cut { OnErr result (self.new.first_touch.items
             ≡ map (λ first. if nat_lt first self.old.reach then first else NEVER) self.old.first_touch.items) }
-        ensures others_stay { OnErr result (self.new ≡ record self.old { checkpoints = self.new.checkpoints; first_touch = self.new.first_touch }) }
+        ensures others_stay { OnErr result (self.new ≡ record self.old {
+          checkpoints = self.new.checkpoints;
+          spare = self.new.spare;
+          first_touch = self.new.first_touch;
+        }) }
     {
-        if due && let Err(error) = keep(&mut self.checkpoints, &self.lent) {
+        if due && let Err(error) = self.keep() {
             cut(&mut self.first_touch, self.reach);
             return Err(error);
         }
         self.reach = reach;
+        Ok(())
+    }
+
+    /// Keeps the lent state as a checkpoint.
+    #[cold]
+    #[inline(never)]
+    fn keep(&mut self) -> Result<(), AllocError>
+        ensures kept { OnOk result (self.new.checkpoints.items ≡ self.old.checkpoints.items ++ self.old.lent ∷ []) }
+        ensures err { OnErr result (self.new.checkpoints.items ≡ self.old.checkpoints.items) }
+        ensures others { self.new ≡ record self.old { checkpoints = self.new.checkpoints; spare = self.new.spare } }
+    {
+        let state = match self.spare.pop() {
+            Some(mut state) => {
+                state.copy_from(&self.lent)?;
+                state
+            }
+            None => {
+                self.spare.reserve(self.checkpoints.len() + 1)?;
+                self.lent.copy_of()?
+            }
+        };
+        self.checkpoints.push(state)?;
         Ok(())
     }
 
@@ -194,7 +218,8 @@ impl<M: Traced> Kept<M> {
         match self.lent_step {
             Some(lent_step) if from <= lent_step && lent_step <= step => Ok(lent_step),
             _ => {
-                self.lent = nearest(start, &self.checkpoints, place as usize).copy_of()?;
+                let from_state = nearest(start, &self.checkpoints, place as usize);
+                self.lent.copy_from(from_state)?;
                 self.lent_step = Some(from);
                 self.holding = keys.before(from);
                 Ok(from)
@@ -213,6 +238,7 @@ impl<M: Traced> Kept<M> {
         ensures holding { self.new.holding ≡ record self.old.holding { until = min self.old.holding.until from } }
         ensures others { self.new ≡ record self.old {
           checkpoints = self.new.checkpoints;
+          spare = self.new.spare;
           first_touch = self.new.first_touch;
           reach = self.new.reach;
           lent_step = self.new.lent_step;
@@ -234,12 +260,14 @@ impl<M: Traced> Kept<M> {
         ensures lent_step { IfSome self.new.lent_step (λ t. (t ≤ reach) × (self.old.lent_step ≡ Some t)) }
         ensures others { self.new ≡ record self.old {
           checkpoints = self.new.checkpoints;
+          spare = self.new.spare;
           first_touch = self.new.first_touch;
           reach = reach;
           lent_step = self.new.lent_step;
         } }
     {
-        self.checkpoints.truncate((reach / self.spacing) as usize);
+        let count = (reach / self.spacing) as usize;
+        set_apart(&mut self.checkpoints, &mut self.spare, count);
         cut(&mut self.first_touch, reach);
         self.lent_step = if_within(self.lent_step, reach);
         self.reach = reach;
@@ -341,6 +369,20 @@ fn if_before(step: u32, reach: u32) -> u32
     if step < reach { step } else { NEVER }
 }
 
+/// Takes out the states from a place on. Their memory is kept where there is room for them.
+fn set_apart<M: Traced>(states: &mut Vec<M>, spare: &mut Vec<M>, place: usize)
+    ensures { states.new.items ≡ take place states.old.items }
+{
+    while states.len() > place {
+        let last = states.pop();
+        if let Some(state) = last
+            && spare.len() < spare.capacity()
+        {
+            let _kept = spare.push(state);
+        }
+    }
+}
+
 /// The start state, or the checkpoint at a place, counted from 1.
 fn nearest<'a, M: Traced>(start: &'a M, checkpoints: &'a [M], place: usize) -> &'a M
     requires { place ≤ length checkpoints.now }
@@ -361,28 +403,4 @@ fn left_after(left: u32, made: u32, period: u32) -> u32
     ensures { result ≡ (if made == left then period else left - made) }
 {
     if made == left { period } else { left - made }
-}
-
-/// Keeps a checkpoint.
-#[cold]
-#[inline(never)]
-fn keep<M: Traced>(checkpoints: &mut Vec<M>, state: &M) -> Result<(), AllocError>
-    ensures kept { OnOk result (checkpoints.new.items ≡ checkpoints.old.items ++ state.now ∷ []) }
-    ensures err { OnErr result (checkpoints.new.items ≡ checkpoints.old.items) }
-{
-    let state = state.copy_of()?;
-    checkpoints.push(state)?;
-    Ok(())
-}
-
-/// Makes one step with these keys down, and notes it.
-fn make_step<M: Traced>(state: &mut M, keys: u16, tick: bool, first_touch: &mut [u32], number: u32)
-    requires table { length first_touch.old ≡ MEMORY_BYTES }
-    ensures state { state.new ≡ M.step_of state.old keys tick }
-    ensures length { length first_touch.new ≡ MEMORY_BYTES }
-    ensures noted { IsNoted (touched M.touches state.old) number first_touch.old first_touch.new }
-{
-    let mut touch = Touch::new();
-    state.step(keys, tick, &mut touch);
-    touch.note(first_touch, number);
 }

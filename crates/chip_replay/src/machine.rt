@@ -29,6 +29,11 @@ impl Traced for Machine {
         self.step(keys, tick, touch);
     }
 
+    fn step_noted(&mut self, keys: u16, tick: bool, number: u32, first_touch: &mut [u32]) {
+        self.step_noted(keys, tick, number, first_touch);
+    }
+
+    #[inline(always)]
     fn steps(&mut self, tick: bool, from: u32, count: u32, first_touch: &mut [u32]) -> u32 {
         self.steps(tick, from, count, first_touch)
     }
@@ -39,6 +44,10 @@ impl Traced for Machine {
 
     fn copy_of(&self) -> Result<Self, AllocError> {
         self.copy_of()
+    }
+
+    fn copy_from(&mut self, other: &Machine) -> Result<(), AllocError> {
+        self.copy_from(other)
     }
 
     ghost memory_of_changed = { λ s m. refl };

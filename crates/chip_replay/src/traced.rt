@@ -1,10 +1,10 @@
 //! What a replay asks of a machine.
 
-ghost use Rattle.std.specs.Prelude.{◌≡◌, ◌==◌, ℕ, ◌+◌, ◌^◌, ◌<◌, ◌≤◌, ◌↔◌, Bool, false, ◌&&◌, List, All, Contains, IfOk, IsFalse, length, slice_index, slice_set};
+ghost use Rattle.std.specs.Prelude.{◌≡◌, ◌==◌, ℕ, ◌+◌, ◌^◌, ◌<◌, ◌≤◌, ◌↔◌, Bool, false, ◌&&◌, List, All, Contains, IfOk, OnOk, OnErr, IsFalse, length, slice_index, slice_set};
 ghost use Rattle.chip_machine.specs.Block.{quiet, block, first_noted};
 ghost use Rattle.chip_replay.specs.Frame.{AgreeOff, IsFramed};
 ghost use Rattle.chip_replay.specs.Limits.{memory_size};
-ghost use Rattle.chip_machine.specs.Touched.{touched};
+ghost use Rattle.chip_machine.specs.Touched.{touched, IsNoted};
 
 use chip_machine::touch::Touch;
 use std::alloc::AllocError;
@@ -36,6 +36,19 @@ pub trait Traced: Drop + Sized {
         ensures touched { (at : ℕ) → Contains touch.new at ↔ Contains (touches self.old) at }
         ensures proper { is_proper self.new };
 
+    /// Makes a step as `step` does, and notes it: each address keeps in `first_touch` the lesser of
+    /// its number and the step's, if the step touched it.
+    fn step_noted(&mut self, keys: u16, tick: bool, number: u32, first_touch: &mut [u32])
+        requires { length first_touch.old ≡ memory_size }
+        ensures state { self.new ≡ step_of self.old keys tick }
+        ensures size { length first_touch.new ≡ memory_size }
+        ensures noted { IsNoted (touched touches self.old) number first_touch.old first_touch.new }
+    {
+        let mut touch = Touch::new();
+        self.step(keys, tick, &mut touch);
+        touch.note(first_touch, number);
+    }
+
     /// Makes some of the next `count` steps, or none, and answers how many: none that reads the keys.
     /// The first has the number `from`, and the last of all `count` ticks if `tick` says so. Each
     /// address keeps in `first_touch` the least number of a step that touched it.
@@ -62,6 +75,15 @@ pub trait Traced: Drop + Sized {
     fn copy_of(&self) -> Result<Self, AllocError>
         ensures same { IfOk result (λ copy. copy ≡ self.now) }
         ensures proper { is_proper self.now };
+
+    /// Takes the state of another machine. Errors: memory ran out, and nothing is changed.
+    fn copy_from(&mut self, other: &Self) -> Result<(), AllocError>
+        ensures ok { OnOk result (self.new ≡ other.now) }
+        ensures err { OnErr result (self.new ≡ self.old) }
+    {
+        *self = other.copy_of()?;
+        Ok(())
+    }
 
     /// The memory is a part of the state.
     ghost memory_of_changed: { (s : Self) (m : List ℕ) → memory (with_memory s m) ≡ m };

@@ -16,6 +16,6 @@ returns-clause-above c = λ x column row before.
 
 pub returns-clause-below : goal.returns-clause-below
 returns-clause-below c = λ x column row after on_screen.
-    covers_after c.args.high x c.args.y c.args.sprite.now column row c.min-2.result on_screen
+    covers_after c.args.high x c.args.y c.args.sprite.now column row c.min-2.result c.rows_of.result on_screen c.rows_of.ensures
     (c.min-2.ensures ∙ (λ i. min (c.args.y % (64 / c.scale_of-height.ensures.value i) + c.min.ensures i) (64 / c.scale_of-height.ensures.value i)))
     after

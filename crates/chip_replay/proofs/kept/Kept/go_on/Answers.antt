@@ -38,7 +38,7 @@ returns-clause-state g c = λ state goes here.
     let fewer : made < c.args.most = omega (arith, c.steps-made.ensures.at_most, c.if-made-most.false) in
     let block : c.steps-made.new.self ≡ state (c.args.at + made) = c.steps-made.ensures.state
     ∙ block_is m.step_of (touched m.touches) m.reads_keys g.met.M.Traced.keyless_step (held c.args.keys.now) c.args.at c.args.most c.args.to_tick c.requires.up_to_tick state goes c.args.self.now.lent here made c.steps-made.ensures.at_most c.steps-made.ensures.keyless _ made (omega arith) (λ some. block_ticks c.args.at c.args.most c.args.to_tick made c.requires.up_to_tick c.steps-made.ensures.at_most) in
-    state_more m.step_of (touched m.touches) m.reads_keys g.met.M.Traced.keyless_step (held c.args.keys.now) c.args.at c.args.most c.args.to_tick c.requires.up_to_tick state goes c.args.self.now.lent here made c.steps-made.ensures.at_most c.steps-made.ensures.keyless _ c.hold.new.known.keys c.steps-made.new.self c.make_step.new.state fewer block c.make_step.ensures.state (holds_held c.args.keys.now (c.args.at + made) c.hold.new.known c.hold.ensures) refl
+    state_more m.step_of (touched m.touches) m.reads_keys g.met.M.Traced.keyless_step (held c.args.keys.now) c.args.at c.args.most c.args.to_tick c.requires.up_to_tick state goes c.args.self.now.lent here made c.steps-made.ensures.at_most c.steps-made.ensures.keyless _ c.hold.new.known.keys c.steps-made.new.self c.step_noted.new.self fewer block c.step_noted.ensures.state (holds_held c.args.keys.now (c.args.at + made) c.hold.new.known c.hold.ensures) refl
 
 pub returns-clause-first : goal.returns-clause-first
 returns-clause-first g c = λ state reach goes here low first.
@@ -52,6 +52,6 @@ returns-clause-first g c = λ state reach goes here low first.
     let noted = λ (a : ℕ) (la : a < memory_size). c.steps-made.ensures.noted a la ∙ ap (λ xs. first_noted m.step_of c.args.self.now.lent (touched m.touches) c.args.at a (slice_index xs a) made) c.deref_mut.ensures.value in
     let block = first_block m.step_of (touched m.touches) m.reads_keys g.met.M.Traced.keyless_step (held c.args.keys.now) c.args.at c.args.most c.args.to_tick c.requires.up_to_tick state goes c.args.self.now.lent here made c.steps-made.ensures.at_most c.steps-made.ensures.keyless reach c.args.self.now.first_touch.items c.steps-made.new.first_touch low c.requires.in_range noted first in
     let between : c.deref_mut-2.result.now ≡ c.steps-made.new.first_touch = c.deref_mut-2.ensures.value ∙ written len c.steps-made.new.first_touch _ (full ∙ sym c.steps-made.ensures.size) in
-    let more = λ (a : ℕ) (la : a < memory_size). c.make_step.ensures.noted a la ∙ ap (λ xs. cond (touched m.touches c.steps-made.new.self a) (min (slice_index xs a) (c.args.at + made)) (slice_index xs a)) between in
-    subst (AreFirst (touched m.touches) state (max reach (c.args.at + (made + 1)))) (sym (written len c.make_step.new.first_touch _ (full ∙ sym c.make_step.ensures.length)))
-    (first_more m.step_of (touched m.touches) m.reads_keys g.met.M.Traced.keyless_step (held c.args.keys.now) c.args.at c.args.most c.args.to_tick c.requires.up_to_tick state goes c.args.self.now.lent here made c.steps-made.ensures.at_most c.steps-made.ensures.keyless reach c.steps-made.new.self c.steps-made.new.first_touch c.make_step.new.first_touch fewer c.requires.in_range here_now low more block)
+    let more = λ (a : ℕ) (la : a < memory_size). c.step_noted.ensures.noted a la ∙ ap (λ xs. cond (touched m.touches c.steps-made.new.self a) (min (slice_index xs a) (c.args.at + made)) (slice_index xs a)) between in
+    subst (AreFirst (touched m.touches) state (max reach (c.args.at + (made + 1)))) (sym (written len c.step_noted.new.first_touch _ (full ∙ sym c.step_noted.ensures.size)))
+    (first_more m.step_of (touched m.touches) m.reads_keys g.met.M.Traced.keyless_step (held c.args.keys.now) c.args.at c.args.most c.args.to_tick c.requires.up_to_tick state goes c.args.self.now.lent here made c.steps-made.ensures.at_most c.steps-made.ensures.keyless reach c.steps-made.new.self c.steps-made.new.first_touch c.step_noted.new.first_touch fewer c.requires.in_range here_now low more block)

@@ -1,0 +1,15 @@
+-- What is kept of a line beside it, so that most steps over all lines needn't look into it (own).
+use Rattle.std.specs.Prelude.{Bool, false, None, Some, is_some, slice_get}
+use Rattle.chip_lang.specs.Line.{Reading, bad, read}
+use Rattle.chip_lang.specs.Uses.{names_used}
+use Rattle.chip_asm.specs.Bare.{is_bare}
+
+-- it gives no name, and is an instruction or has no statement
+abbrev pub is_bare_line : Reading → Bool
+is_bare_line (bad fault) = false
+is_bare_line (read None body) = is_bare body
+is_bare_line (read (Some name) body) = false
+
+-- an expression of it has a name
+abbrev pub uses_name : Reading → Bool
+uses_name line = is_some (slice_get (names_used line) 0)
