@@ -1,5 +1,6 @@
 -- What is kept after a change of the image is sound for the new run.
-use Rattle.std.proofs.Common.{◌≡◌, ℕ, zero, suc, ◌+◌, ◌*◌, ◌/◌, ◌<◌, ◌≤◌, Bool, true, false, cond, ltb, List, [], ◌∷◌, map, take, length, get_or, slice_index, Option, Some, None, refl, sym, ap, ◌∙◌, subst, arith, ◌⊎◌, inl, inr, get_or-take, length-take, ◌&&◌}
+use Rattle.std.proofs.Common.{◌≡◌, ℕ, zero, suc, ◌+◌, ◌*◌, ◌/◌, ◌<◌, ◌≤◌, Bool, true, false, cond, not, ltb, List, [], ◌∷◌, map, take, length, get_or, slice_index, Option, Some, None, refl, sym, ap, ◌∙◌, subst, arith, ◌⊎◌, inl, inr, get_or-take, length-take, ◌&&◌}
+use Rattle.std.proofs.lemmas.List.Sums.{prefix_len-le-length}
 use Rattle.std.proofs.lemmas.List.{length-map, map-id, get_or-map}
 use Rattle.std.proofs.lemmas.Bool.{cases_lt, false≢true}
 use Rattle.std.proofs.lemmas.Bool.Decides.{nat_tests}
@@ -35,26 +36,30 @@ first_cut_by false p q n m v e f l same =
 pub first_cut : (p q : ℕ → Bool) (n m v : ℕ) → IsFirst p n v → m ≤ n → ((s : ℕ) → s < m → q s ≡ p s) → IsFirst q m (cond (ltb v m) v never)
 first_cut p q n m v f l same = first_cut_by (ltb v m) p q n m v refl f l same
 
-place_within : (b : Bool) (place len : ℕ) → place ≤ len → cond b 0 (suc place) ≤ suc len
-place_within true place len l = omega arith
-place_within false place len l = omega arith
-
 first-le : {X : Type 0} (p : X → Bool) (xs : List X) → position_or_len p xs ≤ length xs
-first-le p [] = omega arith
-first-le p (x ∷ xs) = place_within (p x) (position_or_len p xs) (length xs) (first-le p xs)
+first-le p xs = prefix_len-le-length (λ x. not (p x)) xs
+
+here_at_most : (b : Bool) (place : ℕ) → b ≡ true → cond (not b) (1 + place) 0 ≤ 0
+here_at_most true place h = omega arith
+here_at_most false place h = absurd (false≢true h)
+
+later_at_most : (b : Bool) (place i : ℕ) → place ≤ i → cond (not b) (1 + place) 0 ≤ suc i
+later_at_most true place i l = omega arith
+later_at_most false place i l = omega arith
 
 -- the first place that passes is no later than one that does
 first-hit : {X : Type 0} (p : X → Bool) (xs : List X) (i : ℕ) (d : X) → i < length xs → p (get_or xs i d) ≡ true → position_or_len p xs ≤ i
 first-hit p [] i d l h = absurd (omega arith)
-first-hit p (x ∷ xs) zero d l h = rw h (omega arith)
-first-hit p (x ∷ xs) (suc i) d l h = place_within (p x) (position_or_len p xs) i (first-hit p xs i d (omega arith) h)
+first-hit p (x ∷ xs) zero d l h = here_at_most (p x) (position_or_len p xs) h
+first-hit p (x ∷ xs) (suc i) d l h = later_at_most (p x) (position_or_len p xs) i (first-hit p xs i d (omega arith) h)
 
 pub first_below-le : (p : ℕ → Bool) (f : ℕ) → first_below p f ≤ f
 first_below-le p f = omega (arith, first-le p (range_with_len 0 f), length-range_with_len 0 f)
 
 pub first_below-hit : (p : ℕ → Bool) (f r : ℕ) → r < f → p r ≡ true → first_below p f ≤ r
 first_below-hit p f r l h =
-    first-hit p (range_with_len 0 f) r 0 (omega (arith, length-range_with_len 0 f)) (ap p (get_or-range_with_len 0 f r 0 l) ∙ h)
+    let place : get_or (range_with_len 0 f) r 0 ≡ r = get_or-range_with_len 0 f r 0 l ∙ omega arith in
+    first-hit p (range_with_len 0 f) r 0 (omega (arith, length-range_with_len 0 f)) (ap p place ∙ h)
 
 both : (a b : Bool) → a ≡ true → b ≡ true → (a && b) ≡ true
 both true true p q = refl
