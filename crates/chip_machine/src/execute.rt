@@ -27,7 +27,6 @@ pub(crate) fn execute(
     ensures touched { IfOk result (λ span. span ≡ accessed processor.old.index (effect instr processor.old)) }
     ensures untouched { OnErr result (accessed processor.old.index (effect instr processor.old) ≡ []) }
 {
-    // `Ok(..?)` in place of the result itself, which stays in registers so.
     match instr {
         Instr::ScrollDown(n) => processor.row_scroll_down(n)?,
         Instr::ClearScreen => processor.row_clear_screen(),
@@ -57,7 +56,7 @@ pub(crate) fn execute(
         Instr::LoadIndex(address) => processor.row_load_index(address),
         Instr::JumpOffset(address) => processor.row_jump_offset(address),
         Instr::Random(x, byte) => processor.row_random(x, byte),
-        Instr::Draw(x, y, n) => return Ok(processor.row_draw(x, y, n, memory)?),
+        Instr::Draw(x, y, n) => return processor.row_draw(x, y, n, memory),
         Instr::SkipIfKey(x) => processor.row_skip_if_key(x, keys),
         Instr::SkipUnlessKey(x) => processor.row_skip_unless_key(x, keys),
         Instr::ReadDelay(x) => processor.row_read_delay(x),
@@ -67,9 +66,9 @@ pub(crate) fn execute(
         Instr::AddIndex(x) => processor.row_add_index(x),
         Instr::SmallDigit(x) => processor.row_small_digit(x),
         Instr::BigDigit(x) => processor.row_big_digit(x)?,
-        Instr::StoreDecimal(x) => return Ok(processor.row_store_decimal(x, memory)?),
-        Instr::StoreRegisters(x) => return Ok(processor.row_store_registers(x, memory)?),
-        Instr::LoadRegisters(x) => return Ok(processor.row_load_registers(x, memory)?),
+        Instr::StoreDecimal(x) => return processor.row_store_decimal(x, memory),
+        Instr::StoreRegisters(x) => return processor.row_store_registers(x, memory),
+        Instr::LoadRegisters(x) => return processor.row_load_registers(x, memory),
         Instr::StoreFlags(x) => processor.row_store_flags(x)?,
         Instr::LoadFlags(x) => processor.row_load_flags(x)?,
     }

@@ -432,6 +432,7 @@ impl Processor {
     }
 
     /// Draws a sprite of as many rows as its bytes tell, and sets VF where it covers a point that was lit.
+    #[inline(never)]
     pub(crate) fn draw(&mut self, x: u8, y: u8, sprite: &[u8])
         ensures { (n : ℕ) → n < 16 → length sprite.now ≡ sprite_bytes self.old.high n → self.new ≡ with_sprite x y n sprite.now self.old }
     {

@@ -476,6 +476,7 @@ impl Processor {
     }
 
     /// `DXYN`, `DRW Vx, Vy, n`: draws the sprite at I; VF says whether it met a lit point. Of 0 rows it may be none.
+    #[inline(always)]
     #[tactic(auto, unfolding(crate::specs::Step::effect))]
     pub(crate) fn row_draw(
         &mut self,
@@ -508,6 +509,7 @@ impl Processor {
     }
 
     /// `FX33`, `LD B, Vx`: stores the three decimal digits of Vx at I.
+    #[inline(always)]
     #[tactic(auto, unfolding(crate::specs::Step::effect))]
     pub(crate) fn row_store_decimal(&mut self, x: Reg, memory: &mut [u8]) -> Result<Span, Stop>
         requires size { length memory.old ≡ MEMORY_BYTES }
