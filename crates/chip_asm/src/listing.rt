@@ -135,32 +135,32 @@ fn push_value(alloc: Global, out: &mut Vec<u8>, value: i32) -> Result<(), AllocE
     Ok(())
 }
 
-/// What stands in the field of a line.
-fn field(
+/// Appends what stands in the field of a line.
+fn push_field(
+    out: &mut Vec<u8>,
     alloc: Global,
     fault: Option<Fault>,
     placement: &Placement,
     kept: &KeptLine,
-) -> Result<Vec<u8>, AllocError>
-    ensures { IfOk result (λ field. field.items
-        ≡ field_shown fault placement.now.live (body_of (reading_in kept.now)) placement.now.here placement.now.value placement.now.size (kept_bytes kept.now)) }
+) -> Result<(), AllocError>
+    ensures { OnOk result (out.new.items
+        ≡ out.old.items ++ field_shown fault placement.now.live (body_of (reading_in kept.now)) placement.now.here placement.now.value placement.now.size (kept_bytes kept.now)) }
 {
-    let mut field = Vec::new(alloc);
     if let Some(fault) = fault {
-        field.push(b'F')?;
-        field.extend_from_slice(fault.number().to_string(alloc)?.as_bytes())?;
-        return Ok(field);
+        out.push(b'F')?;
+        out.extend_from_slice(fault.number().to_string(alloc)?.as_bytes())?;
+        return Ok(());
     }
     if !placement.live {
-        return Ok(field);
+        return Ok(());
     }
     if is_definition(&kept.line) {
         let value = value_given(&kept.line, placement.value);
-        push_value(alloc, &mut field, value)?;
-        return Ok(field);
+        push_value(alloc, out, value)?;
+        return Ok(());
     }
-    push_bytes(&mut field, placement.size.min(6), kept_bytes(kept))?;
-    Ok(field)
+    push_bytes(out, placement.size.min(6), kept_bytes(kept))?;
+    Ok(())
 }
 
 /// The sign of a line with more than six bytes.
@@ -198,6 +198,20 @@ fn push_line(
     Ok(())
 }
 
+// How many bytes a line of the listing has beside its text, where its number has four digits at most.
+const BESIDE_TEXT: usize = 25;
+
+/// How many bytes the listing of some lines has, at least.
+fn listing_bytes(lines: &[KeptLine]) -> usize {
+    let mut bytes = 0usize;
+    for kept in lines {
+        bytes = bytes
+            .saturating_add(kept.text.get().len())
+            .saturating_add(BESIDE_TEXT);
+    }
+    bytes
+}
+
 /// The listing of all lines.
 pub(crate) fn listing_in(
     alloc: Global,
@@ -208,12 +222,14 @@ pub(crate) fn listing_in(
     requires current { AreCurrent lines.now }
     ensures { IfOk result (λ listing. listing.items ≡ lines_shown (placed (readings_in lines.now)) (texts_in lines.now)) }
 {
-    let mut listing = Vec::new(alloc);
+    let mut listing = Vec::with_capacity(alloc, listing_bytes(lines))?;
+    let mut field = Vec::new(alloc);
     for place in 0..lines.len() {
         let placement = layout.placements[place];
         let kept = &lines[place];
         let fault = kept_fault(&placement, kept);
-        let field = field(alloc, fault, &placement, kept)?;
+        field.clear();
+        push_field(&mut field, alloc, fault, &placement, kept)?;
         let more = more_sign(fault, placement.size);
         push_line(
             &mut listing,

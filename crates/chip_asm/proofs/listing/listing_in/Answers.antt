@@ -20,7 +20,9 @@ loop-place-preserved c =
     let a : About c.args.lines.now q kept c.loop-place.place
     = about c.args.lines.now c.args.layout.now c.requires.laid_out c.requires.current c.loop-place.place q kept c.loop-place-test.true c.index.ensures c.index-lines-place.is in
     let field_is : c.deref.result.now ≡ field_shown (kept_fault q kept) q.live (body_of (reading_in kept)) q.here q.value q.size (kept_bytes kept)
-    = c.deref.ensures.value ∙ c.in_ok-field.ensures ∙ ap (λ f. field_shown f q.live (body_of (reading_in kept)) q.here q.value q.size (kept_bytes kept)) c.kept_fault-fault.ensures in
+    = c.deref.ensures.value ∙ c.in_ok-push_field.ensures
+    ∙ ap (λ l. l ++ field_shown c.kept_fault-fault.result q.live (body_of (reading_in kept)) q.here q.value q.size (kept_bytes kept)) c.clear.ensures.items
+    ∙ ap (λ f. field_shown f q.live (body_of (reading_in kept)) q.here q.value q.size (kept_bytes kept)) c.kept_fault-fault.ensures in
     let more_is : c.more_sign-more.result ≡ more_shown (kept_fault q kept) q.size = c.more_sign-more.ensures ∙ ap (λ f. more_shown f q.size) c.kept_fault-fault.ensures in
     c.in_ok-push_line.ensures
     ∙ ap (λ l. l ++ shown q.number q.live q.here c.deref.result.now c.more_sign-more.result c.get.result.now) c.loop-place.invariant

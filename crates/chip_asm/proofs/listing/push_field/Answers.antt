@@ -4,7 +4,7 @@ use Rattle.std.specs.Fmt.{signed_decimal}
 use Rattle.chip_asm.specs.Layout.{body_of, value_given}
 use Rattle.chip_asm.specs.Listing.{is_definition}
 use Rattle.chip_asm.specs.Records.{reading_in}
-use Rattle.chip_asm.proofs.listing.field.Goals as goal
+use Rattle.chip_asm.proofs.listing.push_field.Goals as goal
 
 pub returns-then-is_definition : goal.returns-then-is_definition
 returns-then-is_definition c =
@@ -14,7 +14,6 @@ returns-then-is_definition c =
     let passed : to_z w32 (of_z w32 c.args.placement.now.value) ≡ c.args.placement.now.value = grind (arith, to_z-of_z) in
     rw (c.in_default.is, c.if-not-placement.false, defines)
     (c.in_ok-push_value.ensures
-    ∙ ap (λ v. c.new-field.result.items ++ 61 ∷ signed_decimal v) same
-    ∙ ap (λ l. l ++ 61 ∷ signed_decimal c.value_given-value.result) c.new-field.ensures.items
-    ∙ ap (λ v. 61 ∷ signed_decimal v) given
-    ∙ ap (λ v. 61 ∷ signed_decimal (value_given c.args.placement.now.here v (body_of (reading_in c.args.kept.now)))) passed)
+    ∙ ap (λ v. c.args.out.now.items ++ 61 ∷ signed_decimal v) same
+    ∙ ap (λ v. c.args.out.now.items ++ 61 ∷ signed_decimal v) given
+    ∙ ap (λ v. c.args.out.now.items ++ 61 ∷ signed_decimal (value_given c.args.placement.now.here v (body_of (reading_in c.args.kept.now)))) passed)
