@@ -1,9 +1,10 @@
 -- An edit of the kept lines is the edit of their texts.
-use Rattle.std.proofs.Common.{◌≡◌, ℕ, suc, List, ◌∷◌, ◌++◌, map, length, take, drop, set, insert, remove, ap, sym, ◌∙◌}
+use Rattle.std.proofs.Common.{◌≡◌, ℕ, suc, List, [], ◌∷◌, ◌++◌, map, length, take, drop, set, insert, remove, refl, ap, sym, ◌∙◌}
 use Rattle.std.proofs.lemmas.List.{map-append, take-map, drop-map, map-set, length-map}
 use Rattle.chip_lang.specs.Line.{reading_of}
 use Rattle.chip_asm.specs.declared.kept_line.KeptLine.{KeptLine}
 use Rattle.chip_asm.specs.Records.{reading_in, readings_in, texts_in}
+use Rattle.chip_asm.specs.Traits.{traits_of}
 
 map-insert : {X Y : Type 0} (f : X → Y) (xs : List X) (i : ℕ) (x : X) → map f (insert xs i x) ≡ insert (map f xs) i (f x)
 map-insert f xs i x =
@@ -40,3 +41,16 @@ read-remove lines at e =
 
 pub count-texts : (lines : List KeptLine) (texts : List (List ℕ)) → texts_in lines ≡ texts → length lines ≡ length texts
 count-texts lines texts e = sym (length-map lines (λ (k : KeptLine). k.text)) ∙ ap length e
+
+pub traits-insert : (lines : List KeptLine) (at : ℕ) (kept : KeptLine) → map traits_of (readings_in (insert lines at kept)) ≡ insert (map traits_of (readings_in lines)) at (traits_of (reading_in kept))
+traits-insert lines at kept = ap (map traits_of) (map-insert reading_in lines at kept) ∙ map-insert traits_of (readings_in lines) at (reading_in kept)
+
+pub traits-set : (lines : List KeptLine) (at : ℕ) (kept : KeptLine) → map traits_of (readings_in (set lines at kept)) ≡ set (map traits_of (readings_in lines)) at (traits_of (reading_in kept))
+traits-set lines at kept = ap (map traits_of) (map-set reading_in lines at kept) ∙ map-set traits_of (readings_in lines) at (reading_in kept)
+
+pub traits-remove : (lines : List KeptLine) (at : ℕ) → map traits_of (readings_in (remove lines at)) ≡ remove (map traits_of (readings_in lines)) at
+traits-remove lines at = ap (map traits_of) (map-remove reading_in lines at) ∙ map-remove traits_of (readings_in lines) at
+
+pub traits-all : (lines : List KeptLine) → map (λ (kept : KeptLine). traits_of (reading_in kept)) lines ≡ map traits_of (readings_in lines)
+traits-all [] = refl
+traits-all (kept ∷ lines) = ap (λ ts. traits_of (reading_in kept) ∷ ts) (traits-all lines)

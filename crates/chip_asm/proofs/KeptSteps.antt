@@ -10,6 +10,7 @@ use Rattle.chip_asm.specs.Records.{readings_in, texts_in}
 use Rattle.chip_asm.specs.Layouts.{IsLayoutOf}
 use Rattle.chip_asm.specs.Program.{byte_at, faults_of_lines}
 use Rattle.chip_asm.specs.Kept.{AreCurrent, IsKept}
+use Rattle.chip_asm.specs.Traits.{traits_of}
 use Rattle.chip_asm.proofs.Bounds.{end-high}
 
 no-lines : (lines : List KeptLine) → length lines ≡ 0 → address (placed (readings_in lines)) ≡ IMAGE_START
@@ -28,8 +29,8 @@ image-room kept k = by (length kept.lines.items) refl
 -- what is kept stays right where all but the room for more stays
 pub kept-same : (old new : Kept) → IsKept old → new.lines.items ≡ old.lines.items → new.layout ≡ old.layout → new.faults ≡ old.faults
     → ((index : ℕ) → get_or new.image.items index 0 ≡ get_or old.image.items index 0) → vec_len new.image ≤ IMAGE_BYTES → (vec_len old.image ≡ IMAGE_BYTES → vec_len new.image ≡ IMAGE_BYTES)
-    → IsKept new
-kept-same old new k lines layout faults image short long = record {
+    → new.traits ≡ old.traits → IsKept new
+kept-same old new k lines layout faults image short long traits = record {
   few = rw lines k.few;
   are_read = rw lines k.are_read;
   laid_out = rw (lines, layout) k.laid_out;
@@ -38,14 +39,15 @@ kept-same old new k lines layout faults image short long = record {
   short = short;
   long = λ some. long (k.long (omega (arith, ap length lines)));
   counted = rw lines (faults ∙ k.counted);
+  traits = rw lines (ap (λ v. v.items) traits ∙ k.traits);
 }
 
 -- what was made for these lines is right for them
 pub kept-by : (kept : Kept) (lines : List KeptLine) → kept.lines.items ≡ lines → length lines ≤ MOST_LINES → readings_in lines ≡ map reading_of (texts_in lines)
     → IsLayoutOf kept.layout (readings_in lines) → AreCurrent lines
     → ((index : ℕ) → index < IMAGE_BYTES → get_or kept.image.items index 0 ≡ byte_at (placed (readings_in lines)) (IMAGE_START + index)) → vec_len kept.image ≡ IMAGE_BYTES
-    → kept.faults ≡ length (faults_of_lines (readings_in lines)) → IsKept kept
-kept-by kept lines e few are_read laid_out current imaged long counted = record {
+    → kept.faults ≡ length (faults_of_lines (readings_in lines)) → kept.traits.items ≡ map traits_of (readings_in lines) → IsKept kept
+kept-by kept lines e few are_read laid_out current imaged long counted traits = record {
   few = rw e few;
   are_read = rw e are_read;
   laid_out = rw e laid_out;
@@ -54,4 +56,5 @@ kept-by kept lines e few are_read laid_out current imaged long counted = record 
   short = omega arith;
   long = λ some. long;
   counted = rw e counted;
+  traits = rw e traits;
 }

@@ -24,9 +24,10 @@ use Rattle.chip_asm.specs.Layout.{Placed, placed, body_of}
 use Rattle.chip_asm.specs.Layouts.{IsLayoutOf, placements_of}
 use Rattle.chip_asm.specs.Program.{names_of_lines, faults_of_lines, fault_of, byte_at, bytes_in_code, code_under, covers}
 use Rattle.chip_asm.specs.Recode.{has_code, is_placed_at, is_encoded_again, code_among}
+use Rattle.chip_asm.specs.Traits.{traits_of}
 use Rattle.chip_asm.specs.Work.{needs_count}
 use Rattle.chip_asm.specs.Records.{reading_in, readings_in, texts_in}
-use Rattle.chip_asm.proofs.EditTexts.{read-set}
+use Rattle.chip_asm.proofs.EditTexts.{read-set, traits-set}
 use Rattle.chip_asm.proofs.ImageSteps.{About, about, fault-kept, bytes-kept}
 use Rattle.chip_asm.proofs.ImageWhole.{covers-none}
 use Rattle.chip_asm.proofs.NeedsSteps.{count-needed}
@@ -153,8 +154,9 @@ pub kept-swapped : (old new : Kept) (at : ℕ) (q : Placement) (was added : Kept
     → new.layout ≡ old.layout → HasCodeAt (readings_in old.lines.items) at added → reading_in added ≡ reading_of added.text
     → (x : Exchange old.lines.items at q was added)
     → ((index : ℕ) → get_or new.image.items index 0 ≡ cond (leb q.here (IMAGE_START + index) && ltb (IMAGE_START + index) (q.here + q.size)) (get_or (kept_bytes added) (IMAGE_START + index - q.here) 0) (get_or old.image.items index 0))
-    → vec_len new.image ≡ vec_len old.image → new.faults + count_of (kept_fault q was) ≡ old.faults + count_of (kept_fault q added) → IsKept new
-kept-swapped old new at q was added k inside lines layout code is_read x image long faults = record {
+    → vec_len new.image ≡ vec_len old.image → new.faults + count_of (kept_fault q was) ≡ old.faults + count_of (kept_fault q added)
+    → new.traits.items ≡ set old.traits.items at (traits_of (reading_in added)) → IsKept new
+kept-swapped old new at q was added k inside lines layout code is_read x image long faults traits = record {
   few = rw lines (omega (arith, k.few, length-set old.lines.items at added));
   are_read = rw lines (read-set old.lines.items at added k.are_read is_read);
   laid_out = rw (lines, layout, readings-set old.lines.items at added) (layout-swapped old.layout (readings_in old.lines.items) at (reading_in added) x.swap k.laid_out);
@@ -167,6 +169,7 @@ kept-swapped old new at q was added k inside lines layout code is_read x image l
   short = omega (arith, k.short);
   long = λ some. long ∙ k.long (omega arith);
   counted = (let c = x.counted in rw lines (omega (arith, k.counted, faults, c)));
+  traits = traits ∙ ap (λ ts. set ts at (traits_of (reading_in added))) k.traits ∙ sym (traits-set old.lines.items at added) ∙ ap (λ ls. map traits_of (readings_in ls)) (sym lines);
 }
 
 -- what the kept parts of a line say of its effect

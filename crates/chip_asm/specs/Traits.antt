@@ -1,8 +1,11 @@
--- What is kept of a line beside it, so that most steps over all lines needn't look into it (own).
+-- What is kept of a line apart from it, so that steps over all lines needn't look into most of them (own).
 use Rattle.std.specs.Prelude.{Bool, false, None, Some, is_some, slice_get}
 use Rattle.chip_lang.specs.Line.{Reading, bad, read}
 use Rattle.chip_lang.specs.Uses.{names_used}
 use Rattle.chip_asm.specs.Bare.{is_bare}
+use Rattle.chip_asm.specs.Layout.{body_of}
+use Rattle.chip_asm.specs.Recode.{has_code}
+use Rattle.chip_asm.specs.declared.traits.Traits.{Traits}
 
 -- it gives no name, and is an instruction or has no statement
 abbrev pub is_bare_line : Reading → Bool
@@ -13,3 +16,6 @@ is_bare_line (read (Some name) body) = false
 -- an expression of it has a name
 abbrev pub uses_name : Reading → Bool
 uses_name line = is_some (slice_get (names_used line) 0)
+
+abbrev pub traits_of : Reading → Traits
+traits_of line = record { is_bare = is_bare_line line; is_coded = has_code (body_of line); has_names = uses_name line }

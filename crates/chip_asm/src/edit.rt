@@ -1,9 +1,11 @@
 //! A change of one line, seen before it is made.
 ghost use Rattle.std.specs.Prelude.{◌≡◌, ◌<◌, ◌≤◌, length, slice_get, slice_set, Some, vec_len, vec_capacity};
-ghost use Rattle.chip_asm.specs.Records.{IsPlaceWithin, lines_after, reading_in, readings_in, count_after, place_before};
+ghost use Rattle.chip_asm.specs.Records.{IsPlaceWithin, lines_after, readings_in, count_after, place_before};
+ghost use Rattle.chip_lang.specs.SeenLine.{seen_line};
 
 use crate::kept_line::KeptLine;
 use crate::limits::MOST_LINES;
+use chip_lang::Line;
 
 /// A change of one line; places count from 0.
 #[derive(Drop)]
@@ -18,31 +20,37 @@ pub(crate) enum Edit {
     Keep,
 }
 
-/// The line at a place after the edit.
-pub(crate) fn line_after<'a>(lines: &'a [KeptLine], edit: &'a Edit, place: usize) -> &'a KeptLine
+/// The reading of the line at a place after the edit.
+pub(crate) fn line_after<'a>(lines: &'a [KeptLine], edit: &'a Edit, place: usize) -> &'a Line
     requires within { IsPlaceWithin (length lines.now) edit.now }
     requires place { place < count_after (length lines.now) edit.now }
-    ensures { slice_get (readings_in (lines_after lines.now edit.now)) place ≡ Some (reading_in result.now) }
+    ensures { slice_get (readings_in (lines_after lines.now edit.now)) place ≡ Some (seen_line result.now) }
 {
     match edit {
         Edit::Insert(at, added) => {
             if place < *at {
-                &lines[place]
+                &lines[place].line
             } else if place == *at {
-                added
+                &added.line
             } else {
-                &lines[place - 1]
+                &lines[place - 1].line
             }
         }
-        Edit::Replace(at, added) => { if place == *at { added } else { &lines[place] } }
+        Edit::Replace(at, added) => {
+            if place == *at {
+                &added.line
+            } else {
+                &lines[place].line
+            }
+        }
         Edit::Delete(at) => {
             if place < *at {
-                &lines[place]
+                &lines[place].line
             } else {
-                &lines[place + 1]
+                &lines[place + 1].line
             }
         }
-        Edit::Keep => &lines[place],
+        Edit::Keep => &lines[place].line,
     }
 }
 

@@ -10,6 +10,7 @@ ghost use Rattle.chip_asm.specs.KeptCodes.{kept_fault, kept_bytes, count_of};
 use crate::kept_line::KeptLine;
 use crate::layout::Layout;
 use crate::placement::Placement;
+use crate::traits::has_code;
 use chip_lang::limits::{IMAGE_BYTES, IMAGE_START, MEMORY_BYTES};
 use chip_lang::{Coded, Fault};
 use std::alloc::{AllocError, Global};
@@ -24,7 +25,7 @@ pub(crate) fn kept_fault(placement: &Placement, kept: &KeptLine) -> Option<Fault
     if placement.fault.is_some() {
         return placement.fault;
     }
-    if !kept.is_coded {
+    if !has_code(&kept.line) {
         return None;
     }
     match &kept.code {
@@ -47,7 +48,7 @@ pub(crate) fn count_of(fault: Option<Fault>) -> usize
 pub(crate) fn kept_bytes(kept: &KeptLine) -> &[u8]
     ensures { result.now ≡ kept_bytes kept.now }
 {
-    if !kept.is_coded {
+    if !has_code(&kept.line) {
         return &[];
     }
     match &kept.code {

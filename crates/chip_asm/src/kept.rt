@@ -12,6 +12,7 @@ ghost use Rattle.chip_asm.specs.Records.{IsPlaceWithin, lines_after, reading_in,
 ghost use Rattle.chip_asm.specs.Work.{needs_count};
 ghost use Rattle.chip_asm.specs.Recode.{new_codes};
 ghost use Rattle.chip_asm.specs.Layouts.{IsLayoutOf};
+ghost use Rattle.chip_asm.specs.Traits.{traits_of};
 ghost use Rattle.chip_asm.specs.Kept.{AreCurrent, HasCodeAt, IsMerged, IsKept};
 
 use crate::changed::Changed;
@@ -23,6 +24,7 @@ use crate::kept_line::{KeptLine, with_code};
 use crate::layout::Layout;
 use crate::limits::MOST_LINES;
 use crate::recode::{code_if_accepted, recode, write_codes};
+use crate::traits::{Traits, traits_after, traits_of, traits_of_all};
 use chip_lang::laws::same_code;
 use chip_lang::limits::{IMAGE_BYTES, IMAGE_START};
 use chip_lang::{Coded, Line, Meter};
@@ -43,11 +45,14 @@ pub(crate) struct Kept {
     pub(crate) image: Vec<u8>,
     /// How many lines have a fault.
     pub(crate) faults: usize,
+    /// What steps over all lines ask of each.
+    pub(crate) traits: Vec<Traits>,
 }
 
-/// What an edit makes new: the layout, and a code for each line that needs one, with its place.
+/// What an edit makes new: the traits, the layout, and a code for each line that needs one, with its place.
 #[derive(Drop)]
 struct Prepared {
+    traits: Vec<Traits>,
     layout: Layout,
     codes: Vec<(usize, Coded)>,
 }
@@ -65,6 +70,7 @@ impl Kept {
             hints: Vec::new(alloc),
             image: Vec::new(alloc),
             faults: 0,
+            traits: Vec::new(alloc),
         }
     }
 
@@ -83,6 +89,7 @@ impl Kept {
         ensures parsed { meter.new.parsed ≡ meter.old.parsed }
     {
         let mut kept = Kept::new(alloc);
+        kept.traits = traits_of_all(alloc, &lines)?;
         kept.lines = lines;
         let prepared = kept.prepare(alloc, meter, &Edit::Keep)?;
         same_code();
@@ -165,7 +172,7 @@ impl Kept {
         ensures parsed { meter.new.parsed ≡ meter.old.parsed }
     {
         let accepted = self.layout.placements[at].is_accepted();
-        let code = code_if_accepted(accepted, alloc, meter, &added, &self.layout.names)?;
+        let code = code_if_accepted(accepted, alloc, meter, &added.line, &self.layout.names)?;
         Ok(self.put(at, with_code(added, code)))
     }
 
@@ -190,6 +197,7 @@ impl Kept {
             placement.size,
             kept_bytes(&added),
         );
+        self.traits[at] = traits_of(&added.line);
         replace_line(&mut self.lines, at, added);
         let first = placement.here - IMAGE_START;
         Changed {
@@ -239,6 +247,9 @@ impl Kept {
         requires within { IsPlaceWithin (vec_len self.old.lines) edit.now }
         requires few { vec_len self.old.lines ≤ MOST_LINES }
         requires short { vec_len self.old.image ≤ IMAGE_BYTES }
+        requires traits { self.old.traits.items ≡ map traits_of (readings_in self.old.lines.items) }
+        ensures traits { self.new.traits ≡ self.old.traits }
+        ensures traits_after { IfOk result (λ prepared. prepared.traits.items ≡ map traits_of (readings_in (lines_after self.old.lines.items edit.now))) }
         ensures lines { self.new.lines.items ≡ self.old.lines.items }
         ensures layout { self.new.layout ≡ self.old.layout }
         ensures faults { self.new.faults ≡ self.old.faults }
@@ -256,17 +267,23 @@ impl Kept {
         fill_up(&mut self.image)?;
         fill_hints(&mut self.hints, self.lines.len())?;
         let spare = mem::replace(&mut self.spare, Layout::new(alloc));
-        let layout = Layout::after(alloc, spare, &self.lines, edit)?;
+        let traits = traits_after(alloc, &self.traits, edit)?;
+        let layout = Layout::after(alloc, spare, &self.lines, &traits, edit)?;
         let codes = recode(
             alloc,
             meter,
             &self.lines,
+            &traits,
             &self.hints,
             edit,
             &self.layout,
             &layout,
         )?;
-        Ok(Prepared { layout, codes })
+        Ok(Prepared {
+            traits,
+            layout,
+            codes,
+        })
     }
 
     /// Puts in place what was prepared for these lines.
@@ -274,13 +291,19 @@ impl Kept {
         requires few { length self.old.lines.items ≤ MOST_LINES }
         requires are_read { readings_in self.old.lines.items ≡ map reading_of (texts_in self.old.lines.items) }
         requires laid_out { IsLayoutOf prepared.layout (readings_in self.old.lines.items) }
+        requires traits { prepared.traits.items ≡ map traits_of (readings_in self.old.lines.items) }
         requires within { All (λ e. e.0 < length self.old.lines.items) prepared.codes.items }
         requires current { (lines : List KeptLine) → IsMerged self.old.lines.items prepared.codes.items lines → AreCurrent lines }
         requires image { vec_len self.old.image ≡ IMAGE_BYTES }
         ensures texts { texts_in self.new.lines.items ≡ texts_in self.old.lines.items }
         ensures kept { IsKept self.new }
     {
-        let Prepared { layout, codes } = prepared;
+        let Prepared {
+            traits,
+            layout,
+            codes,
+        } = prepared;
+        self.traits = traits;
         note_hints(&mut self.hints, &self.lines, &codes, &layout.names);
         write_codes(&mut self.lines, codes);
         self.spare = mem::replace(&mut self.layout, layout);

@@ -3,6 +3,7 @@ ghost use Rattle.std.specs.Prelude.{◌≡◌, ◌<◌, ◌≤◌, [], IfOk, len
 ghost use Rattle.std.specs.List.{list_any};
 ghost use Rattle.chip_asm.specs.Marks.{marked};
 ghost use Rattle.chip_asm.specs.Records.{IsPlaceWithin, lines_after, readings_in};
+ghost use Rattle.chip_asm.specs.Traits.{traits_of};
 
 use crate::block::Block;
 use crate::edit::{Edit, count_after, line_after};
@@ -11,6 +12,7 @@ use crate::limits::MOST_LINES;
 use crate::pass::Pass;
 use crate::placement::Placement;
 use crate::table::Table;
+use crate::traits::Traits;
 use chip_lang::Fault;
 use chip_lang::limits::IMAGE_START;
 use std::alloc::{AllocError, Global};
@@ -87,10 +89,12 @@ impl Layout {
         alloc: Global,
         spare: Layout,
         lines: &[KeptLine],
+        traits: &[Traits],
         edit: &Edit,
     ) -> Result<Self, AllocError>
         requires within { IsPlaceWithin (length lines.now) edit.now }
         requires few { length lines.now ≤ MOST_LINES }
+        requires traits { traits.now ≡ map traits_of (readings_in (lines_after lines.now edit.now)) }
         ensures { IfOk result (λ layout. IsLayoutOf layout (readings_in (lines_after lines.now edit.now))) }
     {
         let Layout {
@@ -104,8 +108,8 @@ impl Layout {
         let count = count_after(lines.len(), edit);
         placements.reserve(count)?;
         for place in 0..count {
-            let kept = line_after(lines, edit, place);
-            placements.push(pass.step(alloc, place + 1, kept)?)?;
+            let line = line_after(lines, edit, place);
+            placements.push(pass.step(alloc, place + 1, traits[place], line)?)?;
         }
         let placements = mark_unclosed(alloc, placements, pass.ended, &pass.blocks)?;
         let end = pass.here;

@@ -20,6 +20,7 @@ mod recode;
 mod refusal;
 mod source;
 mod table;
+mod traits;
 
 pub use refusal::{OpenError, Refusal};
 pub use source::Source;

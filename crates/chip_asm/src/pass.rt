@@ -1,5 +1,5 @@
 //! The first pass: one line after another.
-ghost use Rattle.std.specs.Prelude.{◌≡◌, ℕ, ◌+◌, ◌-◌, ◌≤◌, ◌<◌, ◌^◌, List, [], ◌∷◌, ◌++◌, OnOk, IfOk, IfSome, length, reverse, is_some, is_none, unsigned_abs, int_lt, pos, nat_lt, Option, None, Ok, true, false, ◌&&◌, ◌||◌, if◌then◌else◌, option_to_list};
+ghost use Rattle.std.specs.Prelude.{◌≡◌, ℕ, ◌+◌, ◌-◌, ◌≤◌, ◌<◌, ◌^◌, List, [], ◌∷◌, ◌++◌, OnOk, IfOk, length, reverse, is_some, is_none, unsigned_abs, int_lt, pos, nat_lt, Option, None, Ok, true, false, ◌&&◌, ◌||◌, if◌then◌else◌, option_to_list};
 ghost use Rattle.chip_asm.specs.Bare.{IsBare, fault_of_bare, size_of_bare};
 ghost use Rattle.chip_asm.specs.Layout.{value_at, own_size, is_padded, full_size, is_negative_space, is_backwards, is_past_end, fault_of_value, is_redefinition, is_if_body, body_of, value_or_zero, condition_of, is_org_body, is_end_body, symbol_given};
 ghost use Rattle.chip_lang.specs.SeenLine.{seen_line, seen_body};
@@ -8,9 +8,9 @@ ghost use Rattle.chip_lang.specs.Uses.{name_defined};
 ghost use Rattle.chip_lang.specs.declared.limits.TheConstants.{MEMORY_BYTES};
 
 use crate::block::{Block, all_hold, move_blocks};
-use crate::kept_line::KeptLine;
 use crate::placement::{Placement, is_passed};
 use crate::table::{Symbol, Table};
+use crate::traits::Traits;
 use chip_lang::limits::{IMAGE_START, MEMORY_BYTES};
 use chip_lang::{Body, Fault, Line, defines, eval};
 use std::alloc::{AllocError, Global};
@@ -77,7 +77,7 @@ pub(crate) fn is_data(body: &Body) -> bool
 impl Pass {
     ghost use Rattle.chip_asm.specs.Layout.{Placed, is_live, is_misplaced, first_fault, symbols, place, placed};
     ghost use Rattle.chip_asm.specs.Placements.{is_placed};
-    ghost use Rattle.chip_asm.specs.Records.{reading_in};
+    ghost use Rattle.chip_asm.specs.Traits.{traits_of};
     ghost use Rattle.chip_asm.specs.Follows.{Follows, placement_of, next_address, next_aligning};
 
     /// Before the first line, with a table without names.
@@ -272,31 +272,18 @@ impl Pass {
         &mut self,
         alloc: Global,
         number: usize,
-        kept: &KeptLine,
-    ) -> Result<Placement, AllocError>
-        ensures found { (lines : List Reading) → Follows self.old (placed lines) → number ≡ length lines + 1
-            → IfOk result (λ placement. placement ≡ placement_of (place (placed lines) (reading_in kept.now))) }
-        ensures follows { (lines : List Reading) → Follows self.old (placed lines) → number ≡ length lines + 1
-            → OnOk result (Follows self.new (placed (lines ++ reading_in kept.now ∷ []))) }
-    {
-        match kept.bare_size() {
-            Some(size) => Ok(self.step_bare(number, size)),
-            None => self.step_line(alloc, number, &kept.line),
-        }
-    }
-
-    /// Goes on by any line.
-    fn step_line(
-        &mut self,
-        alloc: Global,
-        number: usize,
+        traits: Traits,
         line: &Line,
     ) -> Result<Placement, AllocError>
+        requires { traits ≡ traits_of (seen_line line.now) }
         ensures found { (lines : List Reading) → Follows self.old (placed lines) → number ≡ length lines + 1
             → IfOk result (λ placement. placement ≡ placement_of (place (placed lines) (seen_line line.now))) }
         ensures follows { (lines : List Reading) → Follows self.old (placed lines) → number ≡ length lines + 1
             → OnOk result (Follows self.new (placed (lines ++ seen_line line.now ∷ []))) }
     {
+        if let Some(size) = traits.bare_size() {
+            return Ok(self.step_bare(number, size));
+        }
         let empty = Body::Empty;
         let body = body_or(line, &empty);
         let placement = self.place(number, line);

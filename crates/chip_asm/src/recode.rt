@@ -1,15 +1,16 @@
 //! The lines that an edit makes encode again.
-ghost use Rattle.std.specs.Prelude.{◌≡◌, ◌<◌, ◌≤◌, ◌+◌, ◌++◌, ℕ, List, All, IfOk, OnOk, OnErr, Option, Result, Ok, Err, length, Some, None, true, if◌then◌else◌, ◌&&◌, option_to_list};
+ghost use Rattle.std.specs.Prelude.{◌≡◌, ◌<◌, ◌≤◌, ◌+◌, ◌++◌, ℕ, List, All, IfOk, OnOk, OnErr, Option, Result, Ok, Err, length, Some, None, true, if◌then◌else◌, ◌&&◌, map, option_to_list};
 ghost use Rattle.chip_lang.specs.Line.{Reading};
 ghost use Rattle.chip_lang.specs.SeenLine.{seen_line};
 ghost use Rattle.chip_lang.specs.Uses.{agree_on};
 ghost use Rattle.chip_lang.specs.Code.{code_of};
 ghost use Rattle.chip_asm.specs.Recode.{has_code, is_placed_at, is_encoded_again, new_codes, count_again};
-ghost use Rattle.chip_asm.specs.Records.{IsPlaceWithin, lines_after, reading_in, readings_in, place_before};
+ghost use Rattle.chip_asm.specs.Records.{IsPlaceWithin, lines_after, readings_in, place_before};
 ghost use Rattle.chip_asm.specs.Layout.{body_of};
 ghost use Rattle.chip_asm.specs.Layouts.{IsLayoutOf};
 ghost use Rattle.chip_asm.specs.Names.{values_of};
 ghost use Rattle.chip_asm.specs.Kept.{IsMerged};
+ghost use Rattle.chip_asm.specs.Traits.{traits_of};
 
 use crate::edit::{Edit, count_after, line_after, place_before};
 use crate::hints::{Hinted, hint_at};
@@ -18,6 +19,7 @@ use crate::layout::Layout;
 use crate::limits::MOST_LINES;
 use crate::placement::Placement;
 use crate::table::Table;
+use crate::traits::{Traits, has_code};
 use chip_lang::{Coded, Line, Meter, agree_on, encode};
 use std::alloc::{AllocError, Global};
 
@@ -30,16 +32,24 @@ fn is_placed_at(placements: &[Placement], place: usize) -> bool
     }
 }
 
-/// Whether each name of a line has one value, or none, under both layouts. The names need no search where none was moved, and hardly one
-/// where they stand at the hint.
-fn keeps_values(old: &Layout, new: &Layout, unmoved: bool, kept: &KeptLine, hint: usize) -> bool
-    requires { unmoved ≡ true → values_of old.now.names ≡ values_of new.now.names }
-    ensures { result ≡ agree_on (values_of old.now.names) (values_of new.now.names) (reading_in kept.now) }
+/// Whether each name of a line has one value, or none, under both layouts. The names need no search where the line has none or none was
+/// moved, and hardly one where they stand at the hint.
+fn keeps_values(
+    old: &Layout,
+    new: &Layout,
+    unmoved: bool,
+    traits: Traits,
+    line: &Line,
+    hint: usize,
+) -> bool
+    requires unmoved { unmoved ≡ true → values_of old.now.names ≡ values_of new.now.names }
+    requires traits { traits ≡ traits_of (seen_line line.now) }
+    ensures { result ≡ agree_on (values_of old.now.names) (values_of new.now.names) (seen_line line.now) }
 {
-    if unmoved {
+    if !traits.has_names {
         return true;
     }
-    if !kept.has_names {
+    if unmoved {
         return true;
     }
     let before = Hinted {
@@ -50,7 +60,7 @@ fn keeps_values(old: &Layout, new: &Layout, unmoved: bool, kept: &KeptLine, hint
         table: &new.names,
         hint,
     };
-    agree_on(&kept.line, &before, &after)
+    agree_on(line, &before, &after)
 }
 
 /// Whether the line at a place of the new source has to be encoded again.
@@ -61,21 +71,23 @@ fn is_encoded_again(
     unmoved: bool,
     edit: &Edit,
     place: usize,
-    kept: &KeptLine,
+    traits: Traits,
+    line: &Line,
     hints: &[usize],
 ) -> bool
     requires place { place ≤ MOST_LINES }
+    requires traits { traits ≡ traits_of (seen_line line.now) }
     requires unmoved { unmoved ≡ true → values_of old.now.names ≡ values_of new.now.names }
     ensures { (before after : List Reading) → IsLayoutOf old.now before → IsLayoutOf new.now after
-        → result ≡ is_encoded_again before after (place_before edit.now) (place, reading_in kept.now) }
+        → result ≡ is_encoded_again before after (place_before edit.now) (place, seen_line line.now) }
 {
-    if !kept.is_coded || !is_placed_at(&new.placements, place) {
+    if !traits.is_coded || !is_placed_at(&new.placements, place) {
         return false;
     }
     match place_before(edit, place) {
         Some(before) => {
             !(is_placed_at(&old.placements, before)
-                && keeps_values(old, new, unmoved, kept, hint_at(hints, before)))
+                && keeps_values(old, new, unmoved, traits, line, hint_at(hints, before)))
         }
         None => true,
     }
@@ -128,16 +140,16 @@ pub(crate) fn code_if_accepted(
     accepted: bool,
     alloc: Global,
     meter: &mut Meter,
-    kept: &KeptLine,
+    line: &Line,
     names: &Table,
 ) -> Result<Option<Coded>, AllocError>
-    ensures code { IfOk result (λ code. code ≡ (if accepted && has_code (body_of (reading_in kept.now)) then Some (code_of (reading_in kept.now) (values_of names.now)) else None)) }
-    ensures encoded { meter.new.encoded ≤ meter.old.encoded + (if accepted && has_code (body_of (reading_in kept.now)) then 1 else 0) }
+    ensures code { IfOk result (λ code. code ≡ (if accepted && has_code (body_of (seen_line line.now)) then Some (code_of (seen_line line.now) (values_of names.now)) else None)) }
+    ensures encoded { meter.new.encoded ≤ meter.old.encoded + (if accepted && has_code (body_of (seen_line line.now)) then 1 else 0) }
     ensures not_lowered { meter.old.encoded ≤ meter.new.encoded }
     ensures parsed { meter.new.parsed ≡ meter.old.parsed }
 {
-    let wanted = accepted && kept.is_coded;
-    encode_if(wanted, alloc, meter, &kept.line, names)
+    let wanted = accepted && has_code(line);
+    encode_if(wanted, alloc, meter, line, names)
 }
 
 /// The new codes, each with the place of its line.
@@ -145,6 +157,7 @@ pub(crate) fn recode(
     alloc: Global,
     meter: &mut Meter,
     lines: &[KeptLine],
+    traits: &[Traits],
     hints: &[usize],
     edit: &Edit,
     old: &Layout,
@@ -152,6 +165,7 @@ pub(crate) fn recode(
 ) -> Result<Vec<(usize, Coded)>, AllocError>
     requires within { IsPlaceWithin (length lines.now) edit.now }
     requires few { length lines.now ≤ MOST_LINES }
+    requires traits { traits.now ≡ map traits_of (readings_in (lines_after lines.now edit.now)) }
     requires new { IsLayoutOf new.now (readings_in (lines_after lines.now edit.now)) }
     ensures codes { (before : List Reading) → IsLayoutOf old.now before → IfOk result (λ codes. codes.items ≡ new_codes before (readings_in (lines_after lines.now edit.now)) (place_before edit.now)) }
     ensures encoded { (before : List Reading) → IsLayoutOf old.now before → meter.new.encoded ≤ meter.old.encoded + count_again before (readings_in (lines_after lines.now edit.now)) (place_before edit.now) }
@@ -162,11 +176,9 @@ pub(crate) fn recode(
     let count = count_after(lines.len(), edit);
     let mut codes = Vec::new(alloc);
     for place in 0..count {
-        let kept = line_after(&*lines, &*edit, place);
-        let again = is_encoded_again(old, new, unmoved, edit, place, kept, hints);
-        push_code_if(
-            again, alloc, meter, &mut codes, place, &kept.line, &new.names,
-        )?;
+        let line = line_after(&*lines, &*edit, place);
+        let again = is_encoded_again(old, new, unmoved, edit, place, traits[place], line, hints);
+        push_code_if(again, alloc, meter, &mut codes, place, line, &new.names)?;
     }
     Ok(codes)
 }

@@ -3,7 +3,8 @@ use Rattle.std.specs.List.{enumerate_from}
 use Rattle.std.proofs.lemmas.List.{take_all, map-append}
 use Rattle.std.proofs.lemmas.List.FromFn.{length-enumerate_from}
 use Rattle.chip_lang.specs.Line.{Reading}
-use Rattle.chip_asm.specs.Records.{lines_after, reading_in, readings_in, place_before}
+use Rattle.chip_lang.specs.SeenLine.{seen_line}
+use Rattle.chip_asm.specs.Records.{lines_after, readings_in, place_before}
 use Rattle.chip_asm.specs.Recode.{new_code, codes_placed, is_encoded_again}
 use Rattle.chip_asm.proofs.Edited.{length-readings_after}
 use Rattle.chip_asm.proofs.RecodeSteps.{count_by-take, take-numbered, count-numbered, code-pushed}
@@ -14,13 +15,13 @@ returns-in_err-push_code_if-clause-encoded c = λ before old.
     let all : List Reading = readings_in (lines_after c.args.lines.now c.args.edit.now) in
     let inside : c.loop-place.place < length all = omega (arith, length-readings_after c.args.lines.now c.args.edit.now c.requires.within, c.count_after-count.ensures) in
     let again = c.is_encoded_again-again.ensures before all old c.requires.new in
-    let grown : c.push_code_if.new.meter.encoded ≤ c.loop-place.meter.encoded + cond (is_encoded_again before all (place_before c.args.edit.now) (c.loop-place.place, reading_in c.line_after-kept.result.now)) 1 0
+    let grown : c.push_code_if.new.meter.encoded ≤ c.loop-place.meter.encoded + cond (is_encoded_again before all (place_before c.args.edit.now) (c.loop-place.place, seen_line c.line_after-line.result.now)) 1 0
     = rw (← again) c.push_code_if.ensures.encoded in
     omega (
       arith,
       c.loop-place.invariant.1 before old,
       grown,
-      count-numbered (is_encoded_again before all (place_before c.args.edit.now)) all c.loop-place.place (reading_in c.line_after-kept.result.now) inside c.line_after-kept.ensures,
+      count-numbered (is_encoded_again before all (place_before c.args.edit.now)) all c.loop-place.place (seen_line c.line_after-line.result.now) inside c.line_after-line.ensures,
       count_by-take (is_encoded_again before all (place_before c.args.edit.now)) (enumerate_from 0 all) (c.loop-place.place + 1),
     )
 
@@ -34,13 +35,13 @@ loop-place-preserved c =
       (λ before old.
           let again = c.is_encoded_again-again.ensures before all old c.requires.new in
           c.in_ok-push_code_if.ensures.codes
-          ∙ (rw (c.loop-place.invariant.0 before old, again, c.requires.new.names, take-numbered all c.loop-place.place (reading_in c.line_after-kept.result.now) inside c.line_after-kept.ensures)
-          (code-pushed before all (place_before c.args.edit.now) (take c.loop-place.place (enumerate_from 0 all)) c.loop-place.place (reading_in c.line_after-kept.result.now) _ refl))),
+          ∙ (rw (c.loop-place.invariant.0 before old, again, c.requires.new.names, take-numbered all c.loop-place.place (seen_line c.line_after-line.result.now) inside c.line_after-line.ensures)
+          (code-pushed before all (place_before c.args.edit.now) (take c.loop-place.place (enumerate_from 0 all)) c.loop-place.place (seen_line c.line_after-line.result.now) _ refl))),
       (λ before old.
           let again = c.is_encoded_again-again.ensures before all old c.requires.new in
-          let grown : c.push_code_if.new.meter.encoded ≤ c.loop-place.meter.encoded + cond (is_encoded_again before all (place_before c.args.edit.now) (c.loop-place.place, reading_in c.line_after-kept.result.now)) 1 0
+          let grown : c.push_code_if.new.meter.encoded ≤ c.loop-place.meter.encoded + cond (is_encoded_again before all (place_before c.args.edit.now) (c.loop-place.place, seen_line c.line_after-line.result.now)) 1 0
           = rw (← again) c.push_code_if.ensures.encoded in
-          omega (arith, c.loop-place.invariant.1 before old, grown, count-numbered (is_encoded_again before all (place_before c.args.edit.now)) all c.loop-place.place (reading_in c.line_after-kept.result.now) inside c.line_after-kept.ensures)),
+          omega (arith, c.loop-place.invariant.1 before old, grown, count-numbered (is_encoded_again before all (place_before c.args.edit.now)) all c.loop-place.place (seen_line c.line_after-line.result.now) inside c.line_after-line.ensures)),
       c.push_code_if.ensures.parsed ∙ c.loop-place.invariant.2,
       omega (arith, c.loop-place.invariant.3, c.push_code_if.ensures.not_lowered),
     )

@@ -24,4 +24,5 @@ returns-clause-kept c =
       short = omega (arith, c.new-5.ensures.len);
       long = λ some. absurd (omega arith);
       counted = rw c.new.ensures.items no_faults;
+      traits = rw (c.new.ensures.items, c.new-6.ensures.items) refl;
     }

@@ -1,6 +1,7 @@
 use Rattle.std.proofs.Common.{◌∙◌, ap, sym, subst, length, [], Some}
 use Rattle.chip_asm.specs.Layouts.{IsLayoutOf}
 use Rattle.chip_asm.specs.Records.{readings_in}
+use Rattle.chip_asm.proofs.EditTexts.{traits-all}
 use Rattle.chip_asm.proofs.KeptAfter.{currents, within-codes, had-none}
 use Rattle.chip_asm.proofs.kept.Kept.open.Goals as goal
 
@@ -16,4 +17,11 @@ settle-requires-clause-current c =
 
 pub returns-in_err-prepared-clause-encoded : goal.returns-in_err-prepared-clause-encoded
 returns-in_err-prepared-clause-encoded c =
+    c.prepare.ensures.encoded [] (subst (λ lines. IsLayoutOf c.new-kept.result.layout (readings_in lines)) c.new-kept.ensures.none c.new-kept.ensures.kept.laid_out)
+
+pub prepare-requires-clause-traits : goal.prepare-requires-clause-traits
+prepare-requires-clause-traits c = c.in_ok-kept.ensures ∙ (rw c.deref.ensures.value (traits-all c.args.lines.items))
+
+pub returns-clause-encoded : goal.returns-clause-encoded
+returns-clause-encoded c =
     c.prepare.ensures.encoded [] (subst (λ lines. IsLayoutOf c.new-kept.result.layout (readings_in lines)) c.new-kept.ensures.none c.new-kept.ensures.kept.laid_out)

@@ -1,4 +1,4 @@
-use Rattle.std.proofs.Common.{◌≡◌, ◌∙◌, ◌+◌, ◌-◌, ap, arith, length, get_or, refl}
+use Rattle.std.proofs.Common.{◌≡◌, ◌∙◌, ◌+◌, ◌-◌, ap, arith, length, get_or, set, refl}
 use Rattle.chip_asm.specs.KeptCodes.{kept_fault, count_of}
 use Rattle.chip_asm.specs.Records.{reading_in, readings_in, texts_in}
 use Rattle.chip_asm.proofs.EditTexts.{texts-set}
@@ -59,7 +59,7 @@ returns-clause-kept c =
     (λ k.
     ap (λ xs. get_or xs k 0) (refilled c.args.self.now.image.len c.write_line.new.image c.args.self.now.image.items long)
     ∙ (rw (← c.kept_bytes.ensures, ← c.deref_mut.ensures.value) (c.write_line.ensures k)))
-    refl faults
+    refl faults (ap (λ t. set c.args.self.now.traits.items c.args.at t) c.traits_of.ensures)
 
 pub returns-clause-changed : goal.returns-clause-changed
 returns-clause-changed c =

@@ -5,6 +5,7 @@ use Rattle.chip_asm.specs.Kept.{IsMerged}
 use Rattle.chip_asm.specs.Layout.{placed}
 use Rattle.chip_asm.specs.Program.{byte_at, faults_of_lines}
 use Rattle.chip_asm.specs.Records.{readings_in}
+use Rattle.chip_asm.specs.Traits.{traits_of}
 use Rattle.chip_asm.proofs.KeptSteps.{kept-by}
 use Rattle.chip_asm.proofs.KeptWrites.{refilled}
 use Rattle.chip_asm.proofs.kept.Kept.settle.Goals as goal
@@ -21,6 +22,7 @@ returns-clause-kept c =
     (λ k h.
     ap (λ xs. get_or xs k 0) written ∙ c.write_lines-self.ensures.bytes k h ∙ ap (λ lines. byte_at (placed (readings_in lines)) (IMAGE_START + k)) full)
     c.requires.image (c.write_lines-self.ensures.counted ∙ ap (λ lines. length (faults_of_lines (readings_in lines))) full)
+    (c.requires.traits ∙ ap (map traits_of) (sym merged.readings))
 
 pub write_lines-self-requires-clause-current : goal.write_lines-self-requires-clause-current
 write_lines-self-requires-clause-current c =

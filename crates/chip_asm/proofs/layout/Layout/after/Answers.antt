@@ -1,7 +1,8 @@
 use Rattle.std.proofs.Common.{◌≡◌, ◌∙◌, ◌+◌, ◌<◌, sym, subst, arith, take, length, List, refl}
 use Rattle.std.proofs.lemmas.List.{length-take, take_all}
 use Rattle.chip_lang.specs.Line.{Reading}
-use Rattle.chip_asm.specs.Records.{lines_after, reading_in, readings_in}
+use Rattle.chip_lang.specs.SeenLine.{seen_line}
+use Rattle.chip_asm.specs.Records.{lines_after, readings_in}
 use Rattle.chip_asm.specs.Layout.{placed}
 use Rattle.chip_asm.specs.Follows.{Follows}
 use Rattle.chip_asm.proofs.Edited.{length-readings_after}
@@ -18,7 +19,7 @@ loop-place-preserved c =
     let inside : c.loop-place.place < length all = omega (arith, length-readings_after c.args.lines.now c.args.edit.now c.requires.within, c.count_after-count.ensures) in
     let done : List Reading = take c.loop-place.place all in
     let counted_up : c.loop-place.place + 1 ≡ length done + 1 = omega (arith, length-take c.loop-place.place all) in
-    let more = take-next all c.loop-place.place (reading_in c.line_after-kept.result.now) inside c.line_after-kept.ensures in (
+    let more = take-next all c.loop-place.place (seen_line c.line_after-line.result.now) inside c.line_after-line.ensures in (
       rw more (c.in_ok-step.ensures.follows done c.loop-place.invariant.0 counted_up),
       rw (more, placements-push) (c.in_ok-push.ensures.items ∙ (rw (c.loop-place.invariant.1, c.in_ok-step.ensures.found done c.loop-place.invariant.0 counted_up) refl)),
     )

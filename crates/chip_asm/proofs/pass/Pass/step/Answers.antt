@@ -4,7 +4,7 @@ use Rattle.chip_lang.specs.SeenLine.{seen_line}
 use Rattle.chip_asm.specs.Layout.{placed, condition_of, body_of}
 use Rattle.chip_asm.proofs.Placing.{length-placed}
 use Rattle.chip_asm.proofs.NextLine.{follows-push}
-use Rattle.chip_asm.proofs.pass.Pass.step_line.Goals as goal
+use Rattle.chip_asm.proofs.pass.Pass.step.Goals as goal
 
 pub returns-clause-follows : goal.returns-clause-follows
 returns-clause-follows c = λ lines f n.

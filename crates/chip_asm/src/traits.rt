@@ -1,0 +1,113 @@
+//! What is kept of each line apart from it: what steps over all lines ask of most of them.
+ghost use Rattle.std.specs.Prelude.{◌≡◌, List, IfOk, IfSome, length, map};
+ghost use Rattle.chip_lang.specs.Line.{Reading};
+ghost use Rattle.chip_lang.specs.SeenLine.{seen_line};
+ghost use Rattle.chip_asm.specs.Bare.{IsBare};
+ghost use Rattle.chip_asm.specs.Layout.{body_of};
+ghost use Rattle.chip_asm.specs.Recode.{has_code};
+ghost use Rattle.chip_asm.specs.Records.{IsPlaceWithin, lines_after, readings_in};
+ghost use Rattle.chip_asm.specs.Traits.{is_bare_line, uses_name, traits_of};
+ghost use Rattle.chip_asm.specs.declared.kept_line.KeptLine.{KeptLine};
+
+use crate::edit::Edit;
+use crate::kept_line::KeptLine;
+use chip_lang::{Body, Line, uses};
+use std::alloc::{AllocError, Global};
+
+/// What steps over all lines ask of a line.
+#[derive(Clone, Copy, Debug)]
+pub(crate) struct Traits {
+    /// Whether it gives no name, and is an instruction or has no statement.
+    pub(crate) is_bare: bool,
+    /// Whether it has bytes of its own.
+    pub(crate) is_coded: bool,
+    /// Whether an expression of it has a name.
+    pub(crate) has_names: bool,
+}
+
+fn is_bare(line: &Line) -> bool
+    ensures { result ≡ is_bare_line (seen_line line.now) }
+{
+    matches!(
+        line,
+        Line::Read {
+            label: None,
+            body: Body::Empty | Body::Code(_, _),
+        }
+    )
+}
+
+/// Whether the line has bytes of its own.
+pub(crate) fn has_code(line: &Line) -> bool
+    ensures { result ≡ has_code (body_of (seen_line line.now)) }
+{
+    matches!(
+        line,
+        Line::Read {
+            body: Body::Db(_) | Body::Dw(_) | Body::Da(_) | Body::Code(_, _),
+            ..
+        }
+    )
+}
+
+/// The traits of a line.
+pub(crate) fn traits_of(line: &Line) -> Traits
+    ensures { result ≡ traits_of (seen_line line.now) }
+{
+    Traits {
+        is_bare: is_bare(line),
+        is_coded: has_code(line),
+        has_names: uses(line, 0).is_some(),
+    }
+}
+
+impl Traits {
+    /// The size of a line of which the first pass asks nothing else.
+    pub(crate) fn bare_size(self) -> Option<usize>
+        ensures { (line : Reading) → self ≡ traits_of line → IfSome result (λ size. IsBare line size) }
+    {
+        if !self.is_bare {
+            return None;
+        }
+        Some(if self.is_coded { 2 } else { 0 })
+    }
+}
+
+/// The traits of all lines.
+pub(crate) fn traits_of_all(alloc: Global, lines: &[KeptLine]) -> Result<Vec<Traits>, AllocError>
+    ensures { IfOk result (λ traits. traits.items ≡ map (λ kept. traits_of (seen_line kept.line)) lines.now) }
+{
+    let mut traits = Vec::new(alloc);
+    for place in 0..lines.len() {
+        traits.push(traits_of(&lines[place].line))?;
+    }
+    Ok(traits)
+}
+
+/// The traits of the lines after an edit.
+pub(crate) fn traits_after(
+    alloc: Global,
+    traits: &[Traits],
+    edit: &Edit,
+) -> Result<Vec<Traits>, AllocError>
+    requires within { IsPlaceWithin (length traits.now) edit.now }
+    ensures { (lines : List KeptLine) → traits.now ≡ map traits_of (readings_in lines)
+        → IfOk result (λ after. after.items ≡ map traits_of (readings_in (lines_after lines edit.now))) }
+{
+    let mut after = Vec::from_slice(alloc, traits)?;
+    match edit {
+        Edit::Insert(at, added) => {
+            after.insert(*at, traits_of(&added.line))?;
+            Ok(after)
+        }
+        Edit::Replace(at, added) => {
+            after[*at] = traits_of(&added.line);
+            Ok(after)
+        }
+        Edit::Delete(at) => {
+            let _ = after.remove(*at);
+            Ok(after)
+        }
+        Edit::Keep => Ok(after),
+    }
+}
