@@ -15,5 +15,6 @@ pub mod TextLemmas
 pub mod KeyLemmas
 pub mod WordLemmas
 pub mod RowLemmas
+pub mod RowBytes
 pub mod PageLemmas
 pub mod DoingLemmas

@@ -23,11 +23,6 @@ line_more text t₁ t₂ t₃ line bytes next all space newline some is e₁ e�
     ∙ ap (λ ls. text ++ flat_map indented_line ls) (sym (lines-next bytes some))
     ∙ whole
 
--- no line is left
-pub lines_end : (text bytes all : List ℕ) → lines_of bytes ≡ [] → text ++ indented bytes ≡ all → text ≡ all
-lines_end text bytes all none whole =
-    sym (append-nil text) ∙ ap (λ ls. text ++ flat_map indented_line ls) (sym none) ∙ whole
-
 module _ {E : Type 0} (result : Result Unit E) where
   -- two pieces, of which the second may have failed
   pub both_pushed : (text mid new a b : List ℕ) → mid ≡ text ++ a → OnOk result (new ≡ mid ++ b) → OnOk result (new ≡ text ++ (a ++ b))
@@ -36,9 +31,6 @@ module _ {E : Type 0} (result : Result Unit E) where
       on : (r : Result Unit E) → OnOk r (new ≡ mid ++ b) → OnOk r (new ≡ text ++ (a ++ b))
       on (Ok u) h = h ∙ ap (λ t. t ++ b) e ∙ append_assoc text a b
       on (Err x) h = tt
-
-pub pushed_twice : (text mid new a b : List ℕ) → mid ≡ text ++ a → new ≡ mid ++ b → new ≡ text ++ (a ++ b)
-pushed_twice text mid new a b e h = h ∙ ap (λ t. t ++ b) e ∙ append_assoc text a b
 
 parts : (a b c d e f x g h i : List ℕ) →
     (([] ++ (a ++ (b ++ (c ++ (d ++ (e ++ (f ++ []))))))) ++ x) ++ (g ++ (h ++ (i ++ [])))

@@ -1,10 +1,13 @@
 -- How far a script has been carried out, after one more byte, after more bytes, and at the end.
-use Rattle.std.proofs.Common.{◌≡◌, ◌≢◌, ◌⊎◌, inl, inr, ⊎_elim, ℕ, ◌+◌, ◌<◌, ◌≤◌, ◌==◌, Bool, true, false, cond, List, [], ◌∷◌, ◌++◌, length, take, drop, Option, Some, Result, Ok, Err, OnOk, refl, sym, ◌∙◌, ap, subst, append_assoc, arith}
+use Rattle.std.proofs.Common.{◌≡◌, ◌≢◌, ◌⊎◌, inl, inr, ⊎_elim, ℕ, ◌+◌, ◌-◌, ◌<◌, ◌≤◌, ◌==◌, min, Bool, true, false, cond, List, [], ◌∷◌, ◌++◌, length, take, drop, Option, Some, None, Result, Ok, Err, OnOk, refl, sym, ◌∙◌, ap, subst, append_assoc, arith}
 use Rattle.std.specs.Io.KnownBytes.{Appends}
+use Rattle.std.specs.List.{list_any}
 use Rattle.std.specs.Str.Lines.{strip_carriage_return}
 use Rattle.std.proofs.Common.{get_or}
-use Rattle.std.proofs.lemmas.List.{take_more, take-append-drop, append-nil, length-append, length-take, take_all, take-append-le}
-use Rattle.std.proofs.lemmas.Bool.{cases_lt}
+use Rattle.std.proofs.lemmas.List.{take_more, take-append-drop, append-nil, length-append, length-drop, length-take, take_all, take-append-le}
+use Rattle.std.proofs.Math.Seq.{take-add, take-append-add}
+use Rattle.std.proofs.lemmas.Bool.{cases_lt, eqb-true, false_from_ne_true}
+use Rattle.memchr.specs.Find.{IsFirstByte, is_byte}
 use Rattle.chip_bench.specs.declared.limits.TheConstants.{SCRIPT_BYTES, SCRIPT_LINES}
 use Rattle.chip_bench.specs.declared.server.TheConstants.{KEPT_LEN}
 use Rattle.chip_bench.specs.Lines.{lines, is_newline, complete_lines, unfinished_line}
@@ -15,7 +18,7 @@ use Rattle.chip_bench.specs.Progress.{Says, Reached, StoppedAt, Stopped, Went, C
 use Rattle.chip_bench.specs.declared.server.Conversation.{Conversation}
 use Rattle.chip_bench.specs.declared.server.Stop.{Stop}
 use Rattle.chip_bench.specs.declared.server.Stop.TheVariants as stop
-use Rattle.chip_bench.proofs.LineLemmas.{complete_byte, unfinished_byte, complete_newline, unfinished_newline, last_line, last_filled, lines_is, complete_none, unfinished_none}
+use Rattle.chip_bench.proofs.LineLemmas.{complete_part, unfinished_part, none_before, complete_newline, unfinished_newline, last_line, last_filled, lines_is, complete_none, unfinished_none}
 use Rattle.chip_bench.proofs.ScriptLemmas.{transcript_push, session_after_push, reply_stripped, after_stripped, reply_kept}
 use Rattle.chip_bench.proofs.WriteLemmas.{appends_known, keeps_known}
 
@@ -37,29 +40,45 @@ within_newline xs b e w few h = record {
   line_count = rw e (omega (arith, lines_newline xs));
 }
 
-within_byte : (xs : List ℕ) (b : ℕ) → is_newline b ≡ false → length xs < SCRIPT_BYTES → length (complete_lines xs) < SCRIPT_LINES → WithinBounds (xs ++ b ∷ [])
-within_byte xs b e few h = record {
-  bytes = omega (arith, length-append xs (b ∷ []));
-  line_count = omega (arith, lines_length (xs ++ b ∷ []), ap length (complete_byte xs b e));
+within_part : (xs part : List ℕ) → list_any is_newline part ≡ false → length xs + length part ≤ SCRIPT_BYTES → length (complete_lines xs) < SCRIPT_LINES → WithinBounds (xs ++ part)
+within_part xs part none few h = record {
+  bytes = omega (arith, length-append xs part);
+  line_count = omega (arith, lines_length (xs ++ part), ap length (complete_part part xs none));
 }
 
-take_byte_more : (u : List ℕ) (b : ℕ) → take KEPT_LEN (take KEPT_LEN u ++ b ∷ []) ≡ take KEPT_LEN (u ++ b ∷ [])
-take_byte_more u b = ⊎_elim
-    (λ (long : KEPT_LEN < length u). take-append-le KEPT_LEN (take KEPT_LEN u) (b ∷ []) (omega (arith, length-take KEPT_LEN u)) ∙ take_all KEPT_LEN (take KEPT_LEN u) (omega (arith, length-take KEPT_LEN u)) ∙ sym (take-append-le KEPT_LEN u (b ∷ []) (omega arith)))
-    (λ (short : length u ≤ KEPT_LEN). ap (λ l. take KEPT_LEN (l ++ b ∷ [])) (take_all KEPT_LEN u short)) (cases_lt KEPT_LEN (length u))
+take_part_more : (u part : List ℕ) → take KEPT_LEN (take KEPT_LEN u ++ part) ≡ take KEPT_LEN (u ++ part)
+take_part_more u part = ⊎_elim
+    (λ (long : KEPT_LEN < length u). take-append-le KEPT_LEN (take KEPT_LEN u) part (omega (arith, length-take KEPT_LEN u)) ∙ take_all KEPT_LEN (take KEPT_LEN u) (omega (arith, length-take KEPT_LEN u)) ∙ sym (take-append-le KEPT_LEN u part (omega arith)))
+    (λ (short : length u ≤ KEPT_LEN). ap (λ l. take KEPT_LEN (l ++ part)) (take_all KEPT_LEN u short)) (cases_lt KEPT_LEN (length u))
 
--- a byte that is kept
-pub reached_byte : {start : Session} {before given : List ℕ} {old new : Conversation} {held : Option (List ℕ)} (b : ℕ) → Reached start before given old held →
-    is_newline b ≡ false → old.taken < SCRIPT_BYTES → old.complete < SCRIPT_LINES →
-    new.bench.session ≡ old.bench.session → new.line.items ≡ take KEPT_LEN (old.line.items ++ b ∷ []) → new.complete ≡ old.complete → new.taken ≡ old.taken + 1 →
-    Reached start before (given ++ b ∷ []) new held
-reached_byte {start} {before} {given} {old} {new} {held} b r e few h bench line complete taken = record {
-  session = bench ∙ r.session ∙ ap (session_after start) (sym (complete_byte given b e));
-  line = line ∙ ap (λ l. take KEPT_LEN (l ++ b ∷ [])) r.line ∙ take_byte_more (unfinished_line given) b ∙ ap (take KEPT_LEN) (sym (unfinished_byte given b e));
-  complete = complete ∙ r.complete ∙ ap length (sym (complete_byte given b e));
-  taken = taken ∙ ap (λ n. n + 1) r.taken ∙ sym (length-append given (b ∷ []));
-  within = within_byte given b e (subst (λ n. n < SCRIPT_BYTES) r.taken few) (subst (λ n. n < SCRIPT_LINES) r.complete h);
-  told = r.told ∙ ap (λ l. Some (before ++ transcript_of start l)) (sym (complete_byte given b e));
+kept_length : {start : Session} {before given : List ℕ} {old : Conversation} {held : Option (List ℕ)} → Reached start before given old held → length old.line.items ≤ KEPT_LEN
+kept_length {given = given} r = omega (arith, ap length r.line, length-take KEPT_LEN (unfinished_line given))
+
+-- what is kept of a line and of bytes after it
+pub kept_more : (line part : List ℕ) (n : ℕ) → length line ≤ KEPT_LEN → n ≡ min (KEPT_LEN - length line) (length part) → line ++ take n part ≡ take KEPT_LEN (line ++ part)
+kept_more line part n short is =
+    let room : KEPT_LEN ≡ length line + (KEPT_LEN - length line) = omega arith in
+    ap (λ l. line ++ l) (ap (λ k. take k part) is ∙ take_min (KEPT_LEN - length line) part)
+    ∙ sym (take-append-add line part (KEPT_LEN - length line)) ∙ ap (λ k. take k (line ++ part)) (sym room)
+  where
+    take_min : (k : ℕ) (xs : List ℕ) → take (min k (length xs)) xs ≡ take k xs
+    take_min k xs = ⊎_elim
+        (λ (less : k < length xs). let same : min k (length xs) ≡ k = omega arith in ap (λ n. take n xs) same)
+        (λ (all : length xs ≤ k). let same : min k (length xs) ≡ length xs = omega arith in ap (λ n. take n xs) same ∙ take_all (length xs) xs (omega arith) ∙ sym (take_all k xs all))
+        (cases_lt k (length xs))
+
+-- bytes of a line that are kept
+pub carries_part : {old : Conversation} {held : Option (List ℕ)} (new : Conversation) (part : List ℕ) → list_any is_newline part ≡ false →
+    old.taken + length part ≤ SCRIPT_BYTES → old.complete < SCRIPT_LINES →
+    new.bench.session ≡ old.bench.session → (length old.line.items ≤ KEPT_LEN → new.line.items ≡ take KEPT_LEN (old.line.items ++ part)) →
+    new.complete ≡ old.complete → new.taken ≡ old.taken + length part → Carries old held part (Ok tt) new held
+carries_part {old} {held} new part none few h bench kept complete taken start before given r = record {
+  session = bench ∙ r.session ∙ ap (session_after start) (sym (complete_part part given none));
+  line = kept (kept_length r) ∙ ap (λ l. take KEPT_LEN (l ++ part)) r.line ∙ take_part_more (unfinished_line given) part ∙ ap (take KEPT_LEN) (sym (unfinished_part part given none));
+  complete = complete ∙ r.complete ∙ ap length (sym (complete_part part given none));
+  taken = taken ∙ ap (λ n. n + length part) r.taken ∙ sym (length-append given part);
+  within = within_part given part none (subst (λ n. n + length part ≤ SCRIPT_BYTES) r.taken few) (subst (λ n. n < SCRIPT_LINES) r.complete h);
+  told = r.told ∙ ap (λ l. Some (before ++ transcript_of start l)) (sym (complete_part part given none));
 }
 
 -- the transcript of one more complete line
@@ -104,7 +123,7 @@ front_newline {start} {before} {given} {old} {held} {holds} r (front, (back, e),
 pub went_newline : {start : Session} {before given : List ℕ} {old : Conversation} {held : Option (List ℕ)} (new : Conversation) (holds : Option (List ℕ)) (result : Result Unit Stop) → Reached start before given old held →
     old.taken < SCRIPT_BYTES → old.complete < SCRIPT_LINES →
     Says result held holds (reply old.bench.session (strip_carriage_return old.line.items)) →
-    OnOk result (new.bench.session ≡ after old.bench.session (strip_carriage_return old.line.items)) → OnOk result (new.line.items ≡ []) → OnOk result (new.complete ≡ old.complete + 1) → new.taken ≡ old.taken + 1 →
+    OnOk result (new.bench.session ≡ after old.bench.session (strip_carriage_return old.line.items)) → OnOk result (new.line.items ≡ []) → OnOk result (new.complete ≡ old.complete + 1) → OnOk result (new.taken ≡ old.taken + 1) →
     Went result start before (given ++ 10 ∷ []) new holds
 went_newline new holds (Ok _) r few h said bench line complete taken = reached_newline r few h said bench line complete taken
 went_newline {given = given} new holds (Err stop.WriterFailed) r few h said bench line complete taken =
@@ -121,25 +140,15 @@ at_bound : {start : Session} {before given : List ℕ} {old : Conversation} {hel
 at_bound r (inl p) = inl (omega (arith, r.within.bytes, r.taken))
 at_bound {given = given} r (inr p) = inr (omega (arith, r.within.line_count, r.complete, complete_within given))
 
--- a byte past a bound
-pub stopped_bound : {start : Session} {before given : List ℕ} {old : Conversation} {held : Option (List ℕ)} (b : ℕ) → Reached start before given old held →
-    ((SCRIPT_BYTES ≤ old.taken) ⊎ (SCRIPT_LINES ≤ old.complete)) → Stopped stop.TooMuchInput start before (given ++ b ∷ []) held
-stopped_bound {given = given} b r past = record {
+-- bytes past a bound
+pub stopped_bound : {start : Session} {before given : List ℕ} {old : Conversation} {held : Option (List ℕ)} (more : List ℕ) → 0 < length more → Reached start before given old held →
+    ((SCRIPT_BYTES ≤ old.taken) ⊎ (SCRIPT_LINES ≤ old.complete)) → Stopped stop.TooMuchInput start before (given ++ more) held
+stopped_bound {given = given} more some r past = record {
   done = given;
-  more = b ∷ [];
+  more = more;
   split = refl;
-  stopped = (r.within, at_bound r past, omega arith, r.told);
+  stopped = (r.within, at_bound r past, some, r.told);
 }
-
-pub kept_length : {start : Session} {before given : List ℕ} {old : Conversation} {held : Option (List ℕ)} → Reached start before given old held → length old.line.items ≤ KEPT_LEN
-kept_length {given = given} r = omega (arith, ap length r.line, length-take KEPT_LEN (unfinished_line given))
-
-pub other_byte : (b : ℕ) → b ≢ 10 → is_newline b ≡ false
-other_byte b h = grind arith
-
--- nothing taken
-pub carries_none : (c : Conversation) (held : Option (List ℕ)) → Carries c held [] (Ok tt) c held
-carries_none c held start before given r = subst (λ l. Reached start before l c held) (sym (append-nil given)) r
 
 -- more taken
 pub carries_more : {old : Conversation} {held : Option (List ℕ)} (mid : Conversation) (kept : Option (List ℕ)) (new : Conversation) (holds : Option (List ℕ)) (xs ys : List ℕ) (result : Result Unit Stop) →
@@ -209,14 +218,86 @@ reached_none start before c held bench line complete taken h = record {
   told = h ∙ ap Some (sym (append-nil before)) ∙ sym (ap (λ l. Some (before ++ transcript_of start l)) complete_none);
 }
 
--- one more byte of a piece, and a stop in the midst of it
-pub carries_byte : {old : Conversation} {held : Option (List ℕ)} (mid : Conversation) (kept : Option (List ℕ)) (new : Conversation) (holds : Option (List ℕ)) (piece : List ℕ) (i : ℕ) → i < length piece →
-    Carries old held (take i piece) (Ok tt) mid kept → Carries mid kept (get_or piece i 0 ∷ []) (Ok tt) new holds → Carries old held (take (i + 1) piece) (Ok tt) new holds
-carries_byte mid kept new holds piece i h one two start before given r =
-    subst (λ l. Reached start before (given ++ l) new holds) (sym (take_more piece i 0 h)) (carries_more mid kept new holds (take i piece) (get_or piece i 0 ∷ []) (Ok tt) one two start before given r)
+-- the bytes before a newline, and it
+line_split : (bytes : List ℕ) (n : ℕ) → n < length bytes → get_or bytes n 0 ≡ 10 → take (n + 1) bytes ≡ take n bytes ++ 10 ∷ []
+line_split bytes n lt newline = take_more bytes n 0 lt ∙ ap (λ b. take n bytes ++ b ∷ []) newline
 
-pub carries_break : {old : Conversation} {held : Option (List ℕ)} (mid : Conversation) (kept : Option (List ℕ)) (new : Conversation) (holds : Option (List ℕ)) (piece : List ℕ) (i : ℕ) (e : Stop) → i < length piece →
-    Carries old held (take i piece) (Ok tt) mid kept → Carries mid kept (get_or piece i 0 ∷ []) (Err e) new holds → Carries old held piece (Err e) new holds
-carries_break mid kept new holds piece i e h one two start before given r =
-    let stop = carries_stop new holds (take i piece ++ get_or piece i 0 ∷ []) (drop (i + 1) piece) e (carries_more mid kept new holds (take i piece) (get_or piece i 0 ∷ []) (Err e) one two) start before given r in
-    subst (λ l. Stopped e start before (given ++ l) holds) (ap (λ l. l ++ drop (i + 1) piece) (sym (take_more piece i 0 h)) ∙ take-append-drop (i + 1) piece) stop
+-- a part of a piece, and a stop in the next part of it
+pub carries_on : {old : Conversation} {held : Option (List ℕ)} (mid : Conversation) (kept : Option (List ℕ)) (new : Conversation) (holds : Option (List ℕ)) (piece : List ℕ) (n count : ℕ) →
+    Carries old held (take n piece) (Ok tt) mid kept → Carries mid kept (take count (drop n piece)) (Ok tt) new holds →
+    Carries old held (take (n + count) piece) (Ok tt) new holds
+carries_on mid kept new holds piece n count one two start before given r =
+    subst (λ l. Reached start before (given ++ l) new holds) (sym (take-add n count piece))
+    (carries_more mid kept new holds (take n piece) (take count (drop n piece)) (Ok tt) one two start before given r)
+
+pub carries_break : {old : Conversation} {held : Option (List ℕ)} (mid : Conversation) (kept : Option (List ℕ)) (new : Conversation) (holds : Option (List ℕ)) (piece : List ℕ) (n : ℕ) (e : Stop) →
+    Carries old held (take n piece) (Ok tt) mid kept → Carries mid kept (drop n piece) (Err e) new holds → Carries old held piece (Err e) new holds
+carries_break mid kept new holds piece n e one two start before given r =
+    subst (λ l. Stopped e start before (given ++ l) holds) (take-append-drop n piece)
+    (carries_more mid kept new holds (take n piece) (drop n piece) (Err e) one two start before given r)
+
+-- a piece that goes past the bound on bytes
+pub carries_past : {old : Conversation} {held : Option (List ℕ)} (new : Conversation) (holds : Option (List ℕ)) (piece : List ℕ) (n : ℕ) → n < length piece →
+    SCRIPT_BYTES ≤ new.taken → Carries old held (take n piece) (Ok tt) new holds → Carries old held piece (Err stop.TooMuchInput) new holds
+carries_past new holds piece n less full one start before given r =
+    subst (λ l. Stopped stop.TooMuchInput start before l holds)
+    (append_assoc given (take n piece) (drop n piece) ∙ ap (λ l. given ++ l) (take-append-drop n piece))
+    (stopped_bound (drop n piece) (omega (arith, length-drop n piece)) (one start before given r) (inl full))
+
+-- a stop in a front of a piece
+pub carries_front : {old : Conversation} {held : Option (List ℕ)} (new : Conversation) (holds : Option (List ℕ)) (piece : List ℕ) (n : ℕ) (e : Stop) →
+    Carries old held (take n piece) (Err e) new holds → Carries old held piece (Err e) new holds
+carries_front new holds piece n e one start before given r =
+    subst (λ l. Stopped e start before (given ++ l) holds) (take-append-drop n piece)
+    (carries_stop new holds (take n piece) (drop n piece) e one start before given r)
+
+-- a line and the newline that ends it
+pub carries_line : {old : Conversation} {held : Option (List ℕ)} (mid new : Conversation) (holds : Option (List ℕ)) (bytes : List ℕ) (n : ℕ) (result : Result Unit Stop) →
+    n < length bytes → get_or bytes n 0 ≡ 10 → Carries old held (take n bytes) (Ok tt) mid held → Carries mid held (10 ∷ []) result new holds →
+    Carries old held (take (n + 1) bytes) result new holds
+carries_line mid new holds bytes n result lt newline one two start before given r =
+    subst (λ l. Went result start before (given ++ l) new holds) (sym (line_split bytes n lt newline))
+    (carries_more mid _ new holds (take n bytes) (10 ∷ []) result one two start before given r)
+
+-- a place of a newline, before which there is none
+record FirstNewline (bytes : List ℕ) (n : ℕ) : Type 0 where
+  within : n < length bytes
+  newline : get_or bytes n 0 ≡ 10
+  none : list_any is_newline (take n bytes) ≡ false
+
+first_newline : (bytes : List ℕ) (n : ℕ) → IsFirstByte (is_byte 10) bytes (Some n) → FirstNewline bytes n
+first_newline bytes n found = record {
+  within = found.0.high;
+  newline = eqb-true _ _ found.1;
+  none = none_before bytes n (λ k lt. false_from_ne_true _ (found.0.before k (omega arith) lt));
+}
+
+pub no_newline : (bytes : List ℕ) → IsFirstByte (is_byte 10) bytes None → list_any is_newline bytes ≡ false
+no_newline bytes found =
+    ap (list_any is_newline) (sym (take_all (length bytes) bytes (omega arith)))
+    ∙ none_before bytes (length bytes) (λ k lt. false_from_ne_true _ (found k (omega arith) lt))
+
+-- all bytes
+pub carries_all : {old : Conversation} {held : Option (List ℕ)} (new : Conversation) (holds : Option (List ℕ)) (bytes : List ℕ) →
+    Carries old held bytes (Ok tt) new holds → Carries old held (take (length bytes) bytes) (Ok tt) new holds
+carries_all new holds bytes all start before given r =
+    subst (λ l. Reached start before (given ++ l) new holds) (sym (take_all (length bytes) bytes (omega arith))) (all start before given r)
+
+-- the bytes of a line, its newline, and the answer to it
+pub carries_answer : {old : Conversation} {held : Option (List ℕ)} (mid new : Conversation) (holds : Option (List ℕ)) (bytes : List ℕ) (n : ℕ) (result : Result Unit Stop) →
+    IsFirstByte (is_byte 10) bytes (Some n) → old.taken + length bytes ≤ SCRIPT_BYTES → old.complete < SCRIPT_LINES →
+    mid.bench.session ≡ old.bench.session → (length old.line.items ≤ KEPT_LEN → mid.line.items ≡ take KEPT_LEN (old.line.items ++ take n bytes)) →
+    mid.complete ≡ old.complete → mid.taken ≡ old.taken + length (take n bytes) →
+    Says result held holds (reply mid.bench.session (strip_carriage_return mid.line.items)) →
+    OnOk result (new.bench.session ≡ after mid.bench.session (strip_carriage_return mid.line.items)) → OnOk result (new.line.items ≡ []) →
+    OnOk result (new.complete ≡ mid.complete + 1) → OnOk result (new.taken ≡ mid.taken + 1) → Carries old held (take (n + 1) bytes) result new holds
+carries_answer {old} {held} mid new holds bytes n result found few h bench kept complete taken said next_bench next_line next_complete next_taken =
+    let first = first_newline bytes n found in
+    let within : n < length bytes = first.within in
+    let part : length (take n bytes) ≡ n = length-take n bytes ∙ min_left n (length bytes) (omega arith) in
+    carries_line mid new holds bytes n result within first.newline
+    (carries_part mid (take n bytes) first.none (omega arith) h bench kept complete taken)
+    (λ start before given r. went_newline new holds result r (omega arith) (omega arith) said next_bench next_line next_complete next_taken)
+  where
+    min_left : (a b : ℕ) → a ≤ b → min a b ≡ a
+    min_left a b le = omega arith

@@ -1,5 +1,5 @@
 -- The command line of the program, as `clap` sees it (own).
-use Rattle.std.specs.Prelude.{[], ◌∷◌, Some, codes, true, pos}
+use Rattle.std.specs.Prelude.{List, [], ◌∷◌, Some, codes, true, pos}
 use Rattle.clap.specs.Words.{App, Rule, new_app, new_rule, with_rule, with_subcommand}
 use Rattle.chip_replay.specs.declared.limits.TheConstants.{LAST_STEP, LEAST_SPACING, MOST_SPACING}
 use Rattle.chip_bench.specs.declared.settings.TheConstants.{MOST_RATE}
@@ -102,14 +102,13 @@ without_name app = record app { top = record app.top { no_binary_name = true } }
 abbrev pub with_version : App → App
 with_version app = record app { top = record app.top { has_version = true } }
 
-abbrev pub with_debug_to_dis : App → App
-with_debug_to_dis app =
-    with_subcommand (with_subcommand (with_subcommand (with_subcommand app debug.top) asm.top) list.top) dis.top
-
-abbrev pub with_run_to_explain : App → App
-with_run_to_explain app =
-    with_subcommand (with_subcommand (with_subcommand (with_subcommand app run.top) picture.top) check.top) explain.top
+-- these commands, in order
+abbrev pub with_commands : App → List App → App
+with_commands app [] = app
+with_commands app (command ∷ commands) = with_commands (with_subcommand app command.top) commands
 
 -- the program's commands
 abbrev pub chipbench : App
-chipbench = with_run_to_explain (with_debug_to_dis (without_name (with_version (new_app (codes "chipbench")))))
+chipbench =
+    with_commands (without_name (with_version (new_app (codes "chipbench"))))
+    (debug ∷ asm ∷ list ∷ dis ∷ run ∷ picture ∷ check ∷ explain ∷ [])

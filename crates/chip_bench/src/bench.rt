@@ -161,10 +161,21 @@ impl Bench {
             &mut self.replay,
             question,
         )?;
+        if out.is_empty() {
+            *out = answer;
+            return Ok(());
+        }
         match out.extend_from_slice(&answer) {
             Ok(()) => Ok(()),
             Err(_) => Err(Refusal::AnswerMemory),
         }
+    }
+
+    /// The source as edited so far.
+    pub(crate) fn source(&self) -> &Source
+        ensures { result.now.lines ≡ self.now.session.lines }
+    {
+        &self.source
     }
 
     /// What opening the source and all edits so far read and encoded.

@@ -318,7 +318,8 @@ fn chipbench<'a>(alloc: Global) -> Result<Command<'a>, AllocError>
 
 // Adds the first half of the commands.
 fn with_debug_to_dis<'a>(alloc: Global, command: Command<'a>) -> Result<Command<'a>, AllocError>
-    ensures { IfOk result (λ with. app_of with ≡ line.with_debug_to_dis (app_of command.entry)) }
+    ensures { IfOk result (λ with. app_of with ≡ line.with_commands (app_of command.entry)
+        (line.debug ∷ line.asm ∷ line.list ∷ line.dis ∷ [])) }
 {
     command
         .subcommand(debug_command(alloc)?)?
@@ -329,7 +330,8 @@ fn with_debug_to_dis<'a>(alloc: Global, command: Command<'a>) -> Result<Command<
 
 // Adds the second half of the commands.
 fn with_run_to_explain<'a>(alloc: Global, command: Command<'a>) -> Result<Command<'a>, AllocError>
-    ensures { IfOk result (λ with. app_of with ≡ line.with_run_to_explain (app_of command.entry)) }
+    ensures { IfOk result (λ with. app_of with ≡ line.with_commands (app_of command.entry)
+        (line.run ∷ line.picture ∷ line.check ∷ line.explain ∷ [])) }
 {
     command
         .subcommand(run_command(alloc)?)?

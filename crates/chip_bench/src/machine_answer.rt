@@ -2,9 +2,11 @@
 
 ghost use Rattle.std.specs.Prelude.{◌≡◌, ◌+◌, ◌*◌, ◌<◌, ◌≤◌, ◌^◌, ◌++◌, ◌∷◌, [], ℕ, List, IfOk, OnOk, slice_index};
 ghost use Rattle.chip_machine.specs.Step.{word_at};
-ghost use Rattle.chip_bench.specs.MachineAnswers.{from_on, size_name, state_name, register_line, place_part, timer_part, condition_part, state_line, flag_line, registers_of, bytes_at, memory_of, word_line, disassembly_of, row_byte, row_bytes, has_lit, row_line, row_lines, two_digits, screen_of, point};
+ghost use Rattle.chip_bench.specs.MachineAnswers.{from_on, size_name, state_name, register_line, place_part, timer_part, condition_part, state_line, flag_line, registers_of, bytes_at, memory_of, word_line, disassembly_of, row_bytes, has_lit, row_line, row_lines, two_digits, screen_of};
 
-use crate::text::{push_decimal, push_hex, push_hex_word, push_spaced_bytes, push_spaced_words};
+use crate::text::{
+    push_decimal, push_hex, push_hex_byte, push_hex_word, push_spaced_bytes, push_spaced_words,
+};
 use chip_lang::show;
 use chip_machine::limits::{LAST_WORD, MEMORY_BYTES};
 use chip_machine::{Machine, Stop};
@@ -47,9 +49,9 @@ fn push_timers(answer: &mut Vec<u8>, machine: &Machine) -> Result<(), AllocError
     ensures { OnOk result (answer.new.items ≡ answer.old.items ++ timer_part machine.now.core) }
 {
     answer.extend_from_slice(b" dt ")?;
-    push_hex(answer, &[machine.delay()])?;
+    push_hex_byte(answer, machine.delay())?;
     answer.extend_from_slice(b" st ")?;
-    push_hex(answer, &[machine.sound()])
+    push_hex_byte(answer, machine.sound())
 }
 
 fn push_condition(answer: &mut Vec<u8>, machine: &Machine) -> Result<(), AllocError>
@@ -57,9 +59,9 @@ fn push_condition(answer: &mut Vec<u8>, machine: &Machine) -> Result<(), AllocEr
 {
     answer.extend_from_slice(b" draws ")?;
     push_decimal(answer, machine.draws())?;
-    answer.extend_from_slice(b" ")?;
+    answer.push(b' ')?;
     answer.extend_from_slice(size_name(machine.high()))?;
-    answer.extend_from_slice(b" ")?;
+    answer.push(b' ')?;
     push_state_name(answer, machine.stopped())?;
     answer.push(b'\n')?;
     Ok(())
@@ -180,38 +182,32 @@ pub fn screen(alloc: Global, machine: &Machine) -> Result<Vec<u8>, AllocError>
     let mut answer = Vec::new(alloc);
     answer.extend_from_slice(size_name(machine.high()))?;
     answer.push(b'\n')?;
-    push_rows(alloc, &mut answer, machine)?;
+    push_rows(&mut answer, machine)?;
     answer.extend_from_slice(b".\n")?;
     Ok(answer)
 }
 
 #[tactic(auto, unfolding(crate::specs::MachineAnswers::row_lines))]
-fn push_rows(alloc: Global, answer: &mut Vec<u8>, machine: &Machine) -> Result<(), AllocError>
+fn push_rows(answer: &mut Vec<u8>, machine: &Machine) -> Result<(), AllocError>
     ensures { OnOk result (answer.new.items ≡ answer.old.items ++ row_lines machine.now.core.lit) }
 {
     for row in 0..64usize {
-        push_row_line(alloc, answer, machine, row)?;
+        push_row_line(answer, machine, row)?;
     }
     Ok(())
 }
 
 #[tactic(auto, unfolding(crate::specs::MachineAnswers::row_line))]
-fn push_row_line(
-    alloc: Global,
-    answer: &mut Vec<u8>,
-    machine: &Machine,
-    row: usize,
-) -> Result<(), AllocError>
+fn push_row_line(answer: &mut Vec<u8>, machine: &Machine, row: usize) -> Result<(), AllocError>
     requires { row < 64 }
     ensures { OnOk result (answer.new.items ≡ answer.old.items ++ row_line machine.now.core.lit row) }
 {
     if !has_lit(machine, row) {
         return Ok(());
     }
-    let bytes = row_bytes(alloc, machine, row)?;
     push_two_digits(answer, row as u64)?;
     answer.push(b' ')?;
-    push_hex(answer, &bytes)?;
+    push_hex(answer, &row_bytes(machine, row))?;
     answer.push(b'\n')?;
     Ok(())
 }
@@ -232,36 +228,15 @@ fn has_lit(machine: &Machine, row: usize) -> bool
     machine.row(row) != 0
 }
 
+/// The points of a row, eight to a byte.
 #[tactic(auto, unfolding(crate::specs::MachineAnswers::row_bytes))]
-fn row_bytes(alloc: Global, machine: &Machine, row: usize) -> Result<Vec<u8>, AllocError>
-    ensures { IfOk result (λ bytes. bytes.items ≡ row_bytes machine.now.core.lit row) }
+fn row_bytes(machine: &Machine, row: usize) -> [u8; 16]
+    ensures { result ≡ row_bytes machine.now.core.lit row }
 {
-    let mut bytes = Vec::new(alloc);
+    let points = machine.row(row);
+    let mut bytes = [0; 16];
     for place in 0..16usize {
-        bytes.push(row_byte(machine, row, place))?;
+        bytes[place] = ((points >> (120 - 8 * place)) % 256) as u8;
     }
-    Ok(bytes)
-}
-
-#[tactic(auto, unfolding(crate::specs::MachineAnswers::row_byte))]
-fn row_byte(machine: &Machine, row: usize, place: usize) -> u8
-    requires { place < 16 }
-    ensures { result ≡ row_byte machine.now.core.lit row place }
-{
-    let left = 8 * place;
-    128 * point(machine, row, left)
-        + 64 * point(machine, row, left + 1)
-        + 32 * point(machine, row, left + 2)
-        + 16 * point(machine, row, left + 3)
-        + 8 * point(machine, row, left + 4)
-        + 4 * point(machine, row, left + 5)
-        + 2 * point(machine, row, left + 6)
-        + point(machine, row, left + 7)
-}
-
-fn point(machine: &Machine, row: usize, column: usize) -> u8
-    ensures value { result ≡ point machine.now.core.lit row column }
-    ensures small { result ≤ 1 }
-{
-    u8::from(machine.lit(column, row))
+    bytes
 }

@@ -277,15 +277,15 @@ fn print_picture<'a, O: Write>(
 // Prints why a question isn't answered: the faults where there is no image.
 fn print_why<'a, O: Write>(
     alloc: Global,
-    bench: &mut Bench,
+    bench: &Bench,
     why: Refusal,
     output: &mut Counted<O>,
 ) -> Result<Ending, Failure<'a>>
-    ensures why { Prints O.contents output.old output.new (unanswered why (faults_of_lines bench.old.session.lines)) result }
+    ensures why { Prints O.contents output.old output.new (unanswered why (faults_of_lines bench.now.session.lines)) result }
     ensures memory { why ≡ Refusal.AnswerMemory → (result ≡ Err Failure.OutOfMemory) × (output.new ≡ output.old) }
 {
     match why {
-        Refusal::NoImage => print_bench_faults(alloc, bench, output),
+        Refusal::NoImage => print_faults(alloc, bench.source(), output),
         Refusal::AnswerMemory => Err(Failure::OutOfMemory),
         _ => print_code(alloc, why.code(), output),
     }
@@ -343,20 +343,6 @@ fn print_faults<'a, O: Write>(
 {
     let faults = faults_answer(alloc, source)?;
     print(&faults, Ending::Faulty, output)
-}
-
-fn print_bench_faults<'a, O: Write>(
-    alloc: Global,
-    bench: &mut Bench,
-    output: &mut Counted<O>,
-) -> Result<Ending, Failure<'a>>
-    ensures { Prints O.contents output.old output.new (faults_of_lines bench.old.session.lines) result }
-{
-    let mut faults = Vec::new(alloc);
-    match bench.ask(alloc, &Question::Faults, &mut faults) {
-        Ok(()) => print(&faults, Ending::Faulty, output),
-        Err(_) => Err(Failure::OutOfMemory),
-    }
 }
 
 // Prints why a source doesn't open.

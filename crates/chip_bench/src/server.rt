@@ -1,5 +1,5 @@
 //! A script, carried out as it is read.
-ghost use Rattle.std.specs.Prelude.{◌≡◌, ◌≢◌, ℕ, List, take, ◌+◌, ◌≤◌, ◌<◌, Ok, Err, None, [], ◌∷◌, ◌++◌, length, OnOk};
+ghost use Rattle.std.specs.Prelude.{◌≡◌, ◌≢◌, ℕ, List, take, ◌+◌, ◌≤◌, ◌<◌, Ok, Err, None, [], ◌∷◌, ◌++◌, length, OnOk, IfOk, IfErr};
 ghost use Rattle.std.specs.Str.Lines.{strip_carriage_return};
 ghost use Rattle.chip_asm.specs.Lines.{open_fault};
 ghost use Rattle.chip_bench.specs.Session.{Session, session_of};
@@ -15,6 +15,7 @@ use crate::limits::{COMMAND_BYTES, SCRIPT_BYTES, SCRIPT_LINES};
 use crate::refusal::Refusal;
 use crate::settings::Settings;
 use chip_asm::OpenError;
+use memchr::memchr;
 use std::alloc::{AllocError, Global};
 use std::io::{Read, Write};
 use thiserror::Error;
@@ -160,46 +161,91 @@ impl Conversation {
         }
     }
 
+    // Takes the next bytes, as far as the bound on bytes allows.
     fn take_piece<W: Write>(
         &mut self,
         alloc: Global,
         piece: &[u8],
         writer: &mut Counted<W>,
     ) -> Result<(), Stop>
+        requires { self.old.taken ≤ SCRIPT_BYTES }
+        ensures carries { Carries self.old (W.contents writer.old.inner) piece.now result
+            self.new (W.contents writer.new.inner) }
+        ensures bound { OnOk result (self.new.taken ≤ SCRIPT_BYTES) }
+        ensures taken { OnOk result (self.new.taken ≡ self.old.taken + length piece.now) }
+        ensures failures { writer.new.failures ≡ failures_after result writer.old.failures }
+    {
+        let room = (SCRIPT_BYTES - self.taken) as usize;
+        if piece.len() <= room {
+            return self.take_lines(alloc, piece, writer);
+        }
+        self.take_lines(alloc, &piece[..room], writer)?;
+        Err(Stop::TooMuchInput)
+    }
+
+    // Takes bytes that are within the bound on bytes.
+    fn take_lines<W: Write>(
+        &mut self,
+        alloc: Global,
+        piece: &[u8],
+        writer: &mut Counted<W>,
+    ) -> Result<(), Stop>
+        requires { self.old.taken + length piece.now ≤ SCRIPT_BYTES }
         ensures carries { Carries self.old (W.contents writer.old.inner) piece.now result
             self.new (W.contents writer.new.inner) }
         ensures taken { OnOk result (self.new.taken ≡ self.old.taken + length piece.now) }
-        ensures bound { OnOk result (self.old.taken ≤ SCRIPT_BYTES → self.new.taken ≤ SCRIPT_BYTES) }
         ensures failures { writer.new.failures ≡ failures_after result writer.old.failures }
     {
-        for byte in piece {
-            self.take_byte(alloc, *byte, writer)?;
+        let mut taken = 0;
+        while taken < piece.len() {
+            taken += self.take_line(alloc, &piece[taken..], writer)?;
         }
         Ok(())
     }
 
-    fn take_byte<W: Write>(
+    // Takes the bytes up to the first newline, or all of them, and answers how many these are.
+    fn take_line<W: Write>(
         &mut self,
         alloc: Global,
-        byte: u8,
+        bytes: &[u8],
         writer: &mut Counted<W>,
-    ) -> Result<(), Stop>
-        ensures carries { Carries self.old (W.contents writer.old.inner) (byte ∷ []) result
-            self.new (W.contents writer.new.inner) }
-        ensures taken { OnOk result (self.new.taken ≡ self.old.taken + 1) }
-        ensures bound { OnOk result (self.new.taken ≤ SCRIPT_BYTES) }
-        ensures failures { writer.new.failures ≡ failures_after result writer.old.failures }
+    ) -> Result<usize, Stop>
+        requires some { 0 < length bytes.now }
+        requires room { self.old.taken + length bytes.now ≤ SCRIPT_BYTES }
+        ensures ok { IfOk result (λ count. Carries self.old (W.contents writer.old.inner)
+            (take count bytes.now) (Ok tt) self.new (W.contents writer.new.inner)) }
+        ensures count { IfOk result (λ count. (0 < count) × (count ≤ length bytes.now)) }
+        ensures taken { IfOk result (λ count. self.new.taken ≡ self.old.taken + count) }
+        ensures err { IfErr result (λ e. Carries self.old (W.contents writer.old.inner)
+            bytes.now (Err e) self.new (W.contents writer.new.inner)) }
+        ensures sound { OnOk result (writer.new.failures ≡ writer.old.failures) }
+        ensures failed { IfErr result (λ e. writer.new.failures ≡ failures_after (Err e) writer.old.failures) }
     {
-        if self.taken >= SCRIPT_BYTES || self.complete >= SCRIPT_LINES {
+        if self.complete >= SCRIPT_LINES {
             return Err(Stop::TooMuchInput);
         }
-        self.taken += 1;
-        if byte == b'\n' {
-            self.complete_line(alloc, writer)
-        } else {
-            keep(&mut self.line, byte)?;
-            Ok(())
-        }
+        let Some(len) = memchr(b'\n', bytes) else {
+            self.keep(bytes)?;
+            return Ok(bytes.len());
+        };
+        self.keep(&bytes[..len])?;
+        self.complete_line(alloc, writer)?;
+        Ok(len + 1)
+    }
+
+    // Keeps the next bytes of a line, as far as it isn't too long.
+    fn keep(&mut self, part: &[u8]) -> Result<(), AllocError>
+        requires { self.old.taken + length part.now ≤ SCRIPT_BYTES }
+        ensures line { OnOk result (length self.old.line.items ≤ KEPT_LEN
+            → self.new.line.items ≡ take KEPT_LEN (self.old.line.items ++ part.now)) }
+        ensures bench { self.new.bench ≡ self.old.bench }
+        ensures complete { self.new.complete ≡ self.old.complete }
+        ensures taken { OnOk result (self.new.taken ≡ self.old.taken + length part.now) }
+    {
+        let room = KEPT_LEN.saturating_sub(self.line.len());
+        self.line.extend_from_slice(&part[..room.min(part.len())])?;
+        self.taken += part.len() as u32;
+        Ok(())
     }
 
     // Answers the line that a newline has just ended.
@@ -208,19 +254,21 @@ impl Conversation {
         alloc: Global,
         writer: &mut Counted<W>,
     ) -> Result<(), Stop>
-        requires { self.old.complete < SCRIPT_LINES }
+        requires complete { self.old.complete < SCRIPT_LINES }
+        requires taken { self.old.taken < SCRIPT_BYTES }
         ensures said { Says result (W.contents writer.old.inner) (W.contents writer.new.inner)
             (reply self.old.bench.session (strip_carriage_return self.old.line.items)) }
         ensures bench { OnOk result (self.new.bench.session ≡ after self.old.bench.session (strip_carriage_return self.old.line.items)) }
         ensures line { OnOk result (self.new.line.items ≡ []) }
         ensures complete { OnOk result (self.new.complete ≡ self.old.complete + 1) }
-        ensures taken { self.new.taken ≡ self.old.taken }
+        ensures taken { OnOk result (self.new.taken ≡ self.old.taken + 1) }
         ensures failures { writer.new.failures ≡ failures_after result writer.old.failures }
     {
         let line = without_carriage_return(&self.line);
         say(alloc, &mut self.bench, line, &mut self.answer, writer)?;
         self.line.clear();
         self.complete += 1;
+        self.taken += 1;
         Ok(())
     }
 
@@ -306,16 +354,6 @@ pub(crate) fn refuse(answer: &mut Vec<u8>, code: &[u8]) -> Result<(), AllocError
     answer.extend_from_slice(b"no ")?;
     answer.extend_from_slice(code)?;
     answer.extend_from_slice(b"\n")
-}
-
-// Keeps the next byte of a line, unless the line is too long already.
-fn keep(line: &mut Vec<u8>, byte: u8) -> Result<(), AllocError>
-    ensures { length line.old.items ≤ KEPT_LEN → OnOk result (line.new.items ≡ take KEPT_LEN (line.old.items ++ byte ∷ [])) }
-{
-    if line.len() < KEPT_LEN {
-        line.push(byte)?;
-    }
-    Ok(())
 }
 
 pub(crate) fn without_carriage_return(line: &[u8]) -> &[u8]

@@ -46,21 +46,41 @@ fn hex_digit(value: u8) -> u8
     value + b'0' + if value > 9 { 39 } else { 0 }
 }
 
-/// A space, and a byte in two hexadecimal digits.
+/// A byte in two hexadecimal digits.
 #[inline(always)]
-fn spaced_byte(byte: u8) -> [u8; 3]
-    ensures { result ≡ 32 ∷ hex_byte byte }
+fn byte_digits(byte: u8) -> [u8; 2]
+    ensures { result ≡ hex_byte byte }
 {
-    [b' ', hex_digit(byte / 16), hex_digit(byte % 16)]
+    [hex_digit(byte / 16), hex_digit(byte % 16)]
+}
+
+/// A number of 16 bits in four hexadecimal digits.
+#[inline(always)]
+fn word_digits(word: u16) -> [u8; 4]
+    ensures { result ≡ hex_word word }
+{
+    let high = (word / 256) as u8;
+    let low = (word % 256) as u8;
+    [
+        hex_digit(high / 16),
+        hex_digit(high % 16),
+        hex_digit(low / 16),
+        hex_digit(low % 16),
+    ]
+}
+
+/// Adds a byte in two hexadecimal digits.
+pub(crate) fn push_hex_byte(out: &mut Vec<u8>, byte: u8) -> Result<(), AllocError>
+    ensures { OnOk result (out.new.items ≡ out.old.items ++ hex_byte byte) }
+{
+    out.extend_from_slice(&byte_digits(byte))
 }
 
 /// Adds a number of 16 bits in four hexadecimal digits.
 pub(crate) fn push_hex_word(out: &mut Vec<u8>, word: u16) -> Result<(), AllocError>
     ensures { OnOk result (out.new.items ≡ out.old.items ++ hex_word word) }
 {
-    let high = (word / 256) as u8;
-    let low = (word % 256) as u8;
-    push_hex(out, &[high, low])
+    out.extend_from_slice(&word_digits(word))
 }
 
 /// Adds a number in decimal.
@@ -83,10 +103,29 @@ pub(crate) fn push_signed(out: &mut Vec<u8>, number: i32) -> Result<(), AllocErr
 pub(crate) fn push_spaced_bytes(out: &mut Vec<u8>, bytes: &[u8]) -> Result<(), AllocError>
     ensures { OnOk result (out.new.items ≡ out.old.items ++ spaced hex_byte bytes.now) }
 {
-    for byte in bytes {
-        out.extend_from_slice(&spaced_byte(*byte))?;
-    }
+    let start = out.len();
+    let Some(added) = bytes.len().checked_mul(3) else {
+        return Err(AllocError);
+    };
+    let Some(end) = start.checked_add(added) else {
+        return Err(AllocError);
+    };
+    out.resize(end, 0)?;
+    write_spaced(bytes, &mut out[start..]);
     Ok(())
+}
+
+/// Writes bytes in hexadecimal, each after a space, over the whole of `text`.
+fn write_spaced(bytes: &[u8], text: &mut [u8])
+    requires { length text.old ≡ 3 * length bytes.now }
+    ensures { text.new ≡ spaced hex_byte bytes.now }
+{
+    'bytes: for i in 0..bytes.len() {
+        let byte = bytes[i];
+        text[3 * i] = b' ';
+        text[3 * i + 1] = hex_digit(byte / 16);
+        text[3 * i + 2] = hex_digit(byte % 16);
+    }
 }
 
 /// Adds numbers of 16 bits in hexadecimal, each after a space.

@@ -1,9 +1,23 @@
-use Rattle.std.proofs.Common.{zero-add}
-use Rattle.std.proofs.lemmas.List.FromFn.{map-range_with_len_more}
-use Rattle.chip_bench.specs.MachineAnswers.{row_byte}
+use Rattle.std.proofs.Common.{◌≡◌, ◌∙◌, ap, sym, arith, map, take}
+use Rattle.std.proofs.lemmas.List.{take_all, length-set}
+use Rattle.chip_bench.specs.MachineAnswers.{from_on, row_byte, row_bytes}
+use Rattle.chip_bench.proofs.RowBytes.{filled_more, row_byte_is}
 use Rattle.chip_bench.proofs.machine_answer.row_bytes.Goals as goal
 
 pub loop-place-preserved : goal.loop-place-preserved
 loop-place-preserved c =
-    let more = map-range_with_len_more (row_byte c.args.machine.now.core.lit c.args.row) 0 c.loop-place.place c.loop-place.place (zero-add c.loop-place.place) in
-    cc (c.in_ok-push.ensures.items, c.row_byte.ensures)
+    let lit = c.args.machine.now.core.lit in
+    let byte = row_byte_is lit c.args.row c.row-points.result c.row-points.ensures.points c.loop-place.place c.loop-place-test.true in
+    record {
+      made = filled_more (row_byte lit c.args.row) c.loop-place.bytes c.loop-place.place _ (omega (arith, c.loop-place.invariant.room)) byte c.loop-place.invariant.made;
+      room = length-set c.loop-place.bytes c.loop-place.place _ ∙ c.loop-place.invariant.room;
+    }
+
+pub returns : goal.returns
+unfolding row_bytes
+returns c =
+    let whole : c.loop-place.place ≡ 16 = omega arith in
+    sym (take_all 16 c.loop-place.bytes (omega (arith, c.loop-place.invariant.room)))
+    ∙ ap (λ n. take n c.loop-place.bytes) (sym whole)
+    ∙ c.loop-place.invariant.made
+    ∙ ap (λ n. map (row_byte c.args.machine.now.core.lit c.args.row) (from_on 0 n)) whole

@@ -26,7 +26,7 @@ returns-in-Err-clause-transcript g c = exchanges _ _ _ _ (λ all before h k.
 pub pieces-preserved : goal.pieces-preserved
 pieces-preserved g c = record {
   told = λ all before h k. underway_piece (g.R.Read.remaining c.read.new.self.inner) c.take_piece.new.self (g.W.Write.contents c.take_piece.new.writer.inner) (take c.in-Ok.count c.read.new.buf) (c.pieces.invariant.told all before h k) c.in-Ok.ensures.bytes.0 c.in_ok-take_piece-in-Ok.ensures.carries;
-  bound = c.in_ok-take_piece-in-Ok.ensures.bound c.pieces.invariant.bound;
+  bound = c.in_ok-take_piece-in-Ok.ensures.bound;
   reader_same = c.in-Ok.ensures.failures ∙ c.pieces.invariant.reader_same;
   writer_same = c.in_ok-take_piece-in-Ok.ensures.failures ∙ c.pieces.invariant.writer_same;
   room = c.read.auto.buf ∙ c.pieces.invariant.room;

@@ -1,6 +1,6 @@
 use Rattle.std.proofs.Common.{refl}
 use Rattle.hex.specs.Hex.{encode_with}
-use Rattle.chip_bench.proofs.text.spaced_byte.Goals as goal
+use Rattle.chip_bench.proofs.text.byte_digits.Goals as goal
 
 pub returns : goal.returns
 unfolding encode_with
