@@ -17,7 +17,6 @@
 --     FaultNumber      the numbers of faults
 --     FaultPlace       at which tokens a fault lies
 --     Seen, SeenLine, SeenShape     values of the program without where they lie in memory
---     Place      the bytes of a list of bytes
 --     Examples   worked examples
 pub mod ByDigits
 pub mod Code
@@ -36,7 +35,6 @@ pub mod Named
 pub mod NamedRow
 pub mod Operand
 pub mod Parse
-pub mod Place
 pub mod Reserved
 pub mod Scan
 pub mod Seen

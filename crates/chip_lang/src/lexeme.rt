@@ -3,7 +3,7 @@
 ghost use Rattle.std.specs.Prelude.{◌≡◌, IfOk, map, length, ◌-◌, ◌≤◌, slice_range};
 ghost use Rattle.chip_lang.specs.Line.{upper, lexeme_of, lexemes_of, is_the, is_sign_of};
 
-use crate::bytes::{Bytes, FEW};
+use crate::bytes::Bytes;
 use crate::fault::Fault;
 use crate::token::{Kind, Token, tokens};
 use std::alloc::{AllocError, Global};
@@ -68,15 +68,8 @@ fn upper(byte: u8) -> u8
 fn in_upper_case(alloc: Global, word: &[u8]) -> Result<Bytes, AllocError>
     ensures { IfOk result (λ bytes. bytes ≡ map upper word.now) }
 {
-    if word.len() > FEW {
-        let bytes = word.iter().map(|byte| upper(*byte)).collect(alloc)?;
-        return Ok(Bytes::new(bytes));
-    }
-    let mut array = [0; FEW];
-    for (index, byte) in word.iter().enumerate() {
-        array[index] = upper(*byte);
-    }
-    Ok(Bytes::inline(word.len(), array))
+    let bytes = word.iter().map(|byte| upper(*byte)).collect(alloc)?;
+    Ok(Bytes::new(bytes))
 }
 
 /// The bytes of a text without its quotes.
