@@ -3,12 +3,13 @@ ghost use Rattle.chip_asm.specs.Names.{values_of};
 
 use crate::edit::Edit;
 use crate::kept_line::KeptLine;
+use crate::limits::MOST_LINES;
 use crate::table::Table;
 use chip_lang::{Coded, Names, uses};
 use std::alloc::AllocError;
 
 /// Makes a hint for each of so many lines, and room for one more.
-pub(crate) fn fill_hints(hints: &mut Vec<usize>, count: usize) -> Result<(), AllocError> {
+pub(crate) fn fill_hints(hints: &mut Vec<u32>, count: usize) -> Result<(), AllocError> {
     hints.reserve(count.saturating_add(1).saturating_sub(hints.len()))?;
     for _index in hints.len()..count {
         hints.push(0)?;
@@ -17,7 +18,7 @@ pub(crate) fn fill_hints(hints: &mut Vec<usize>, count: usize) -> Result<(), All
 }
 
 /// Makes an edit of the lines in the hints, which have room for one more.
-pub(crate) fn shift_hints(hints: &mut Vec<usize>, edit: &Edit) {
+pub(crate) fn shift_hints(hints: &mut Vec<u32>, edit: &Edit) {
     match edit {
         Edit::Insert(at, _) => {
             if *at <= hints.len() {
@@ -34,16 +35,21 @@ pub(crate) fn shift_hints(hints: &mut Vec<usize>, edit: &Edit) {
 }
 
 /// The hint at a place, if there is one.
-pub(crate) fn hint_at(hints: &[usize], place: usize) -> usize {
+pub(crate) fn hint_at(hints: &[u32], place: usize) -> usize {
     match hints.get(place) {
-        Some(hint) => *hint,
+        Some(hint) => *hint as usize,
         None => 0,
     }
 }
 
+/// An index as a hint; another one where it is too large.
+fn hint_of(index: usize) -> u32 {
+    if index < MOST_LINES { index as u32 } else { 0 }
+}
+
 /// Notes where the first names of the lines at these places stand.
 pub(crate) fn note_hints(
-    hints: &mut [usize],
+    hints: &mut [u32],
     lines: &[KeptLine],
     codes: &[(usize, Coded)],
     names: &Table,
@@ -52,7 +58,7 @@ pub(crate) fn note_hints(
         let place = codes[index].0;
         if place < lines.len() && place < hints.len() {
             if let Some(name) = uses(&lines[place].line, 0) {
-                hints[place] = names.index_near(hints[place], name);
+                hints[place] = hint_of(names.index_near(hints[place] as usize, name));
             }
         }
     }

@@ -1,16 +1,18 @@
 //! The image, and the faults of lines, from what is kept.
-ghost use Rattle.std.specs.Prelude.{◌≡◌, ℕ, ◌+◌, ◌-◌, ◌<◌, ◌≤◌, ◌&&◌, nat_le, nat_lt, length, slice_index, if◌then◌else◌, option_map, IfOk, OnOk, ◌++◌, option_to_list, vec_len};
-ghost use Rattle.chip_asm.specs.Layout.{placed};
+ghost use Rattle.std.specs.Prelude.{◌≡◌, ℕ, ◌+◌, ◌-◌, ◌<◌, ◌≤◌, ◌&&◌, nat_le, nat_lt, length, slice_index, if◌then◌else◌, option_map, IfOk, OnOk, ◌++◌, option_to_list, map, vec_len};
+ghost use Rattle.chip_asm.specs.Layout.{body_of, placed};
 ghost use Rattle.chip_asm.specs.Layouts.{IsLayoutOf};
 ghost use Rattle.chip_asm.specs.Program.{faults_of_lines, byte_at, fault_of_line};
-ghost use Rattle.chip_asm.specs.Records.{readings_in};
+ghost use Rattle.chip_asm.specs.Recode.{has_code};
+ghost use Rattle.chip_asm.specs.Records.{reading_in, readings_in};
+ghost use Rattle.chip_asm.specs.Traits.{traits_of};
 ghost use Rattle.chip_asm.specs.Kept.{AreCurrent};
 ghost use Rattle.chip_asm.specs.KeptCodes.{kept_fault, kept_bytes, count_of};
 
 use crate::kept_line::KeptLine;
 use crate::layout::Layout;
 use crate::placement::Placement;
-use crate::traits::has_code;
+use crate::traits::{Traits, has_code};
 use chip_lang::limits::{IMAGE_BYTES, IMAGE_START, MEMORY_BYTES};
 use chip_lang::{Coded, Fault};
 use std::alloc::{AllocError, Global};
@@ -19,13 +21,21 @@ use std::alloc::{AllocError, Global};
 pub(crate) fn kept_fault(placement: &Placement, kept: &KeptLine) -> Option<Fault>
     ensures { result ≡ kept_fault placement.now kept.now }
 {
+    fault_by(placement, has_code(&kept.line), kept)
+}
+
+/// The same, where it is known whether the line has bytes of its own.
+fn fault_by(placement: &Placement, is_coded: bool, kept: &KeptLine) -> Option<Fault>
+    requires { is_coded ≡ has_code (body_of (reading_in kept.now)) }
+    ensures { result ≡ kept_fault placement.now kept.now }
+{
     if !placement.live {
         return None;
     }
     if placement.fault.is_some() {
         return placement.fault;
     }
-    if !has_code(&kept.line) {
+    if !is_coded {
         return None;
     }
     match &kept.code {
@@ -48,7 +58,15 @@ pub(crate) fn count_of(fault: Option<Fault>) -> usize
 pub(crate) fn kept_bytes(kept: &KeptLine) -> &[u8]
     ensures { result.now ≡ kept_bytes kept.now }
 {
-    if !has_code(&kept.line) {
+    bytes_by(has_code(&kept.line), kept)
+}
+
+/// The same, where it is known whether the line has bytes of its own.
+fn bytes_by(is_coded: bool, kept: &KeptLine) -> &[u8]
+    requires { is_coded ≡ has_code (body_of (reading_in kept.now)) }
+    ensures { result.now ≡ kept_bytes kept.now }
+{
+    if !is_coded {
         return &[];
     }
     match &kept.code {
@@ -106,7 +124,13 @@ pub(crate) fn fill_up(image: &mut Vec<u8>) -> Result<(), AllocError>
 }
 
 /// Writes the bytes of all lines into zeros. How many lines have a fault.
-pub(crate) fn write_lines(image: &mut [u8], lines: &[KeptLine], layout: &Layout) -> usize
+pub(crate) fn write_lines(
+    image: &mut [u8],
+    lines: &[KeptLine],
+    traits: &[Traits],
+    layout: &Layout,
+) -> usize
+    requires traits { traits.now ≡ map traits_of (readings_in lines.now) }
     requires long { length image.old ≡ IMAGE_BYTES }
     requires zeros { (index : ℕ) → slice_index image.old index ≡ 0 }
     requires laid_out { IsLayoutOf layout.now (readings_in lines.now) }
@@ -118,8 +142,10 @@ pub(crate) fn write_lines(image: &mut [u8], lines: &[KeptLine], layout: &Layout)
     for place in 0..lines.len() {
         let placement = layout.placements[place];
         let kept = &lines[place];
-        faults += count_of(kept_fault(&placement, kept));
-        write_line(image, placement.here, placement.size, kept_bytes(kept));
+        let is_coded = traits[place].is_coded;
+        faults += count_of(fault_by(&placement, is_coded, kept));
+        let bytes = bytes_by(is_coded, kept);
+        write_line(image, placement.here, placement.size, bytes);
     }
     faults
 }

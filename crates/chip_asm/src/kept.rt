@@ -40,7 +40,7 @@ pub(crate) struct Kept {
     pub(crate) spare: Layout,
     /// At the place of each line that uses one name: where the name stood in the table of names when it was looked for last. Nothing
     /// but speed rests on it.
-    pub(crate) hints: Vec<usize>,
+    pub(crate) hints: Vec<u32>,
     /// The byte at each address from `IMAGE_START` on, also where a line has a fault. Empty until there is a line.
     pub(crate) image: Vec<u8>,
     /// How many lines have a fault.
@@ -308,6 +308,6 @@ impl Kept {
         write_codes(&mut self.lines, codes);
         self.spare = mem::replace(&mut self.layout, layout);
         clear(&mut self.image);
-        self.faults = write_lines(&mut self.image, &self.lines, &self.layout);
+        self.faults = write_lines(&mut self.image, &self.lines, &self.traits, &self.layout);
     }
 }

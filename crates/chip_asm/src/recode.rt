@@ -73,7 +73,7 @@ fn is_encoded_again(
     place: usize,
     traits: Traits,
     line: &Line,
-    hints: &[usize],
+    hints: &[u32],
 ) -> bool
     requires place { place ≤ MOST_LINES }
     requires traits { traits ≡ traits_of (seen_line line.now) }
@@ -158,7 +158,7 @@ pub(crate) fn recode(
     meter: &mut Meter,
     lines: &[KeptLine],
     traits: &[Traits],
-    hints: &[usize],
+    hints: &[u32],
     edit: &Edit,
     old: &Layout,
     new: &Layout,

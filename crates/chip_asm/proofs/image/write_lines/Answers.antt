@@ -1,6 +1,8 @@
-use Rattle.std.proofs.Common.{◌∙◌, ◌+◌, ◌≤◌, arith, length, sym, ap, refl, get_or, reverse, take}
+use Rattle.std.proofs.Common.{◌∙◌, ◌+◌, ◌≤◌, ◌<◌, arith, length, sym, ap, refl, get_or, reverse, take}
 use Rattle.chip_lang.specs.declared.limits.TheConstants.{IMAGE_START, MEMORY_BYTES}
-use Rattle.chip_asm.specs.Records.{readings_in}
+use Rattle.chip_asm.specs.Records.{reading_in, readings_in}
+use Rattle.chip_asm.specs.Traits.{traits_of}
+use Rattle.std.proofs.lemmas.List.{get_or-map, length-map}
 use Rattle.chip_asm.specs.Layout.{placed}
 use Rattle.chip_asm.proofs.ImageSteps.{About, about}
 use Rattle.chip_asm.proofs.ImageWhole.{length-kept, image-more, part-more, byte-whole, byte-none, count-more, one-fault, faults-all}
@@ -13,12 +15,12 @@ pub loop-place-preserved : goal.loop-place-preserved
 loop-place-preserved c =
     let a : About c.args.lines.now c.index.result.now c.index-lines-place.result c.loop-place.place
     = about c.args.lines.now c.args.layout.now c.requires.laid_out c.requires.current c.loop-place.place c.index.result.now c.index-lines-place.result c.loop-place-test.true c.index.ensures c.index-lines-place.is in (
-      omega (arith, one-fault c.kept_fault.result, c.count_of-faults.ensures, c.loop-place.invariant.0),
-      rw (c.loop-place.invariant.1, c.count_of-faults.ensures, c.kept_fault.ensures) (sym (count-more c.args.lines.now c.index.result.now c.index-lines-place.result c.loop-place.place a)),
+      omega (arith, one-fault c.fault_by.result, c.count_of-faults.ensures, c.loop-place.invariant.0),
+      rw (c.loop-place.invariant.1, c.count_of-faults.ensures, c.fault_by.ensures) (sym (count-more c.args.lines.now c.index.result.now c.index-lines-place.result c.loop-place.place a)),
       λ k h.
           rw (part-more c.args.lines.now c.index.result.now c.index-lines-place.result c.loop-place.place a)
           (image-more c.args.lines.now c.index.result.now c.index-lines-place.result c.loop-place.place a (get_or c.loop-place.image k 0) (get_or c.write_line.new.image k 0) (reverse (take c.loop-place.place (reverse (placed (readings_in c.args.lines.now))))) k
-          (rw (← c.kept_bytes.ensures) (c.write_line.ensures k)) (c.loop-place.invariant.2 k h)),
+          (rw (← c.bytes_by-bytes.ensures) (c.write_line.ensures k)) (c.loop-place.invariant.2 k h)),
     )
 
 pub index-requires : goal.index-requires
@@ -42,3 +44,19 @@ returns-clause-counted c = c.loop-place.invariant.1 ∙ ap length (faults-all c.
 
 pub returns-clause-bytes : goal.returns-clause-bytes
 returns-clause-bytes c = λ k h. c.loop-place.invariant.2 k h ∙ byte-whole c.args.lines.now c.loop-place.place (IMAGE_START + k) (omega arith)
+
+pub fault_by-requires : goal.fault_by-requires
+fault_by-requires c =
+    let at : c.loop-place.place < length c.args.lines.now = c.loop-place-test.true in
+    let there : c.loop-place.place < length (readings_in c.args.lines.now) = omega (arith, length-map c.args.lines.now reading_in) in
+    rw c.requires.traits (ap (λ t. t.is_coded)
+    (get_or-map traits_of (readings_in c.args.lines.now) c.loop-place.place (reading_in c.index-lines-place.result) _ there
+    ∙ ap traits_of (get_or-map reading_in c.args.lines.now c.loop-place.place c.index-lines-place.result (reading_in c.index-lines-place.result) at ∙ ap reading_in (sym c.index-lines-place.is))))
+
+pub bytes_by-bytes-requires : goal.bytes_by-bytes-requires
+bytes_by-bytes-requires c =
+    let at : c.loop-place.place < length c.args.lines.now = c.loop-place-test.true in
+    let there : c.loop-place.place < length (readings_in c.args.lines.now) = omega (arith, length-map c.args.lines.now reading_in) in
+    rw c.requires.traits (ap (λ t. t.is_coded)
+    (get_or-map traits_of (readings_in c.args.lines.now) c.loop-place.place (reading_in c.index-lines-place.result) _ there
+    ∙ ap traits_of (get_or-map reading_in c.args.lines.now c.loop-place.place c.index-lines-place.result (reading_in c.index-lines-place.result) at ∙ ap reading_in (sym c.index-lines-place.is))))

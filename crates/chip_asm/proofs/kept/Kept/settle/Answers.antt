@@ -31,3 +31,11 @@ write_lines-self-requires-clause-current c =
     let rest = refilled c.args.self.now.lines.len c.write_codes.new.lines c.args.self.now.lines.items (merged.long ∙ sym c.args.self.now.lines.ok.0) in
     let full : c.deref-3.result.now ≡ c.write_codes.new.lines = c.deref-3.ensures.value ∙ rest in
     rw full (c.requires.current c.write_codes.new.lines merged)
+
+pub write_lines-self-requires-clause-traits : goal.write_lines-self-requires-clause-traits
+write_lines-self-requires-clause-traits c =
+    let seen : c.deref_mut-2.result.now ≡ c.args.self.now.lines.items = c.deref_mut-2.ensures.value in
+    let merged : IsMerged c.args.self.now.lines.items c.args.prepared.codes.items c.write_codes.new.lines = rw (← seen) c.write_codes.ensures in
+    let rest = refilled c.args.self.now.lines.len c.write_codes.new.lines c.args.self.now.lines.items (merged.long ∙ sym c.args.self.now.lines.ok.0) in
+    let full : c.deref-3.result.now ≡ c.write_codes.new.lines = c.deref-3.ensures.value ∙ rest in
+    c.deref-4.ensures.value ∙ c.requires.traits ∙ ap (map traits_of) (sym merged.readings) ∙ ap (λ lines. map traits_of (readings_in lines)) (sym full)
