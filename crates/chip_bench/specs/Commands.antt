@@ -1,5 +1,5 @@
 -- The command that a line of a script spells (own).
-use Rattle.std.specs.Prelude.{ℕ, ◌&&◌, ◌==◌, not, Bool, true, false, [], ◌∷◌, length, nat_lt, nat_le, Option, Some, None, Result, Ok, Err, if◌then◌else◌, codes}
+use Rattle.std.specs.Prelude.{ℕ, ◌&&◌, ◌==◌, not, Bool, true, false, List, [], ◌∷◌, ◌++◌, length, nat_lt, nat_le, Option, Some, None, Result, Ok, Err, if◌then◌else◌, codes}
 use Rattle.std.specs.Char.{is_digit}
 use Rattle.std.specs.Str.{bytes_eq}
 use Rattle.std.specs.Str.Parse.{digits_value}
@@ -82,42 +82,68 @@ abbrev pub made : {A : Type 0} → (A → Command) → Option A → Result Comma
 made command None = Err Unknown
 made command (Some x) = Ok (command x)
 
-abbrev pub without_words : Text → Question → Result Command CommandFault
-without_words operands question = if is_empty operands then Ok (ask question) else Err Unknown
+-- What stands after the word of a command, and the command that it makes.
+pub data Shape : Type 0 where
+  nothing : Question → Shape
+  one : (ℕ → Command) → Shape
+  two : (ℕ → ℕ → Command) → Shape
+  three : (ℕ → ℕ → ℕ → Command) → Shape
+  -- a step, a key and its state
+  event : (ℕ → ℕ → Bool → Command) → Shape
+  -- a number, one space, and all that follows it
+  line_text : (ℕ → Text → Command) → Shape
 
--- a question about the machine, by its word
-unfoldable pub machine_question : Text → Text → Result Command CommandFault
-machine_question word operands =
-    if bytes_eq word (codes "regs") then made (λ step. ask (Registers step)) (one_number operands)
-    else if bytes_eq word (codes "mem") then made (λ n. ask (Memory n.0 n.1.0 n.1.1)) (three_numbers operands)
-    else if bytes_eq word (codes "screen") then made (λ step. ask (Screen step)) (one_number operands)
-    else if bytes_eq word (codes "dis") then made (λ n. ask (Disassembly n.0 n.1.0 n.1.1)) (three_numbers operands)
-    else Err Unknown
+-- the command that a shape makes of what follows the spaces after the word
+abbrev pub read_by : Shape → Text → Result Command CommandFault
+read_by (nothing question) operands = if is_empty operands then Ok (ask question) else Err Unknown
+read_by (one command) operands = made command (one_number operands)
+read_by (two command) operands = made (λ n. command n.0 n.1) (two_numbers operands)
+read_by (three command) operands = made (λ n. command n.0 n.1.0 n.1.1) (three_numbers operands)
+read_by (event command) operands = made (λ e. command e.0 e.1.0 e.1.1) (key_event operands)
+read_by (line_text command) operands = made (λ n. command n (after_first is_space operands)) (front_number operands)
 
--- a question about the source, by its word
-unfoldable pub source_question : Text → Text → Result Command CommandFault
-source_question word operands =
-    if bytes_eq word (codes "image") then without_words operands Image
-    else if bytes_eq word (codes "syms") then without_words operands Symbols
-    else if bytes_eq word (codes "list") then without_words operands Listing
-    else if bytes_eq word (codes "faults") then without_words operands Faults
-    else machine_question word operands
+-- a row for each command: its word, and what stands after it
+abbrev pub Row : Type 0
+Row = Text × Shape
 
--- an edit of the key events, by its word
-unfoldable pub key_edit : Text → Text → Result Command CommandFault
-key_edit word operands =
-    if bytes_eq word (codes "kins") then made (λ e. change (insert_event e.0 e.1.0 e.1.1)) (key_event operands)
-    else if bytes_eq word (codes "krep") then made (λ e. change (replace_event e.0 e.1.0 e.1.1)) (key_event operands)
-    else if bytes_eq word (codes "kdel") then made (λ e. change (delete_event e.0 e.1)) (two_numbers operands)
-    else source_question word operands
+unfoldable pub line_edits : List Row
+line_edits =
+    (codes "ins", line_text (λ n text. change (insert_line n text)))
+    ∷ (codes "rep", line_text (λ n text. change (replace_line n text)))
+    ∷ (codes "del", one (λ n. change (delete_line n)))
+    ∷ []
 
--- A command's first word, and what follows the spaces after it. For `ins` and `rep` the text is all that follows the one space after the number.
+unfoldable pub key_edits : List Row
+key_edits =
+    (codes "kins", event (λ step key down. change (insert_event step key down)))
+    ∷ (codes "krep", event (λ step key down. change (replace_event step key down)))
+    ∷ (codes "kdel", two (λ step key. change (delete_event step key)))
+    ∷ []
+
+unfoldable pub source_questions : List Row
+source_questions =
+    (codes "image", nothing Image)
+    ∷ (codes "syms", nothing Symbols)
+    ∷ (codes "list", nothing Listing)
+    ∷ (codes "faults", nothing Faults)
+    ∷ []
+
+unfoldable pub machine_questions : List Row
+machine_questions =
+    (codes "regs", one (λ step. ask (Registers step)))
+    ∷ (codes "mem", three (λ step at count. ask (Memory step at count)))
+    ∷ (codes "screen", one (λ step. ask (Screen step)))
+    ∷ (codes "dis", three (λ step at count. ask (Disassembly step at count)))
+    ∷ []
+
+-- the command of the first row that has the word
+abbrev pub command_in : List Row → Text → Text → Result Command CommandFault
+command_in [] word operands = Err Unknown
+command_in (row ∷ rows) word operands = if bytes_eq word row.0 then read_by row.1 operands else command_in rows word operands
+
+-- the command of a first word, and of what follows the spaces after it
 abbrev pub worded : Text → Text → Result Command CommandFault
-worded word operands =
-    if bytes_eq word (codes "ins") then made (λ n. change (insert_line n (after_first is_space operands))) (front_number operands)
-    else if bytes_eq word (codes "rep") then made (λ n. change (replace_line n (after_first is_space operands))) (front_number operands)
-    else if bytes_eq word (codes "del") then made (λ n. change (delete_line n)) (one_number operands)
-    else key_edit word operands
+worded = command_in (line_edits ++ (key_edits ++ (source_questions ++ machine_questions)))
 
 unfoldable pub command_of : Text → Result Command CommandFault
 command_of line =

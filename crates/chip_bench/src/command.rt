@@ -1,9 +1,9 @@
 //! The commands of a script.
-ghost use Rattle.std.specs.Prelude.{◌≡◌, ◌≤◌, ◌^◌, length, true, None};
+ghost use Rattle.std.specs.Prelude.{◌≡◌, ◌≤◌, ◌^◌, ◌++◌, length, true, None};
 ghost use Rattle.std.specs.Char.{digit_value, is_digit};
 ghost use Rattle.std.specs.Str.Parse.{digits_value};
 ghost use Rattle.std.specs.List.{list_all, before_first, after_first, position_or_len};
-ghost use Rattle.chip_bench.specs.Commands.{command_of, is_space, skip_spaces, numeral, number_of, worded, key_edit, source_question, machine_question, without_words, front_number, next_words, one_number, two_numbers, three_numbers, key_state, key_event};
+ghost use Rattle.chip_bench.specs.Commands.{command_of, is_space, skip_spaces, numeral, number_of, command_in, worded, key_edits, source_questions, machine_questions, read_by, nothing, front_number, next_words, one_number, two_numbers, three_numbers, key_state, key_event};
 ghost use Rattle.chip_bench.specs.CommandView.{Reads};
 ghost use Rattle.chip_bench.specs.Transcript.{fault_code};
 
@@ -60,6 +60,7 @@ pub fn read_command(line: &[u8]) -> Result<Command<'_>, CommandFault>
 }
 
 // The command of a first word, and what follows the spaces after it.
+#[tactic(auto, unfolding(crate::specs::Commands::line_edits))]
 fn command_named<'a>(word: &[u8], operands: &'a [u8]) -> Result<Command<'a>, CommandFault>
     ensures { Reads result (worded word.now operands.now) }
 {
@@ -91,9 +92,9 @@ fn command_named<'a>(word: &[u8], operands: &'a [u8]) -> Result<Command<'a>, Com
 }
 
 // An edit of the key events, or a question, by its word.
-#[tactic(auto, unfolding(crate::specs::Commands::key_edit))]
+#[tactic(auto, unfolding(crate::specs::Commands::key_edits))]
 fn key_edit<'a>(word: &[u8], operands: &'a [u8]) -> Result<Command<'a>, CommandFault>
-    ensures { Reads result (key_edit word.now operands.now) }
+    ensures { Reads result (command_in (key_edits ++ (source_questions ++ machine_questions)) word.now operands.now) }
 {
     if word == b"kins".as_slice() {
         return match key_event(operands) {
@@ -117,9 +118,9 @@ fn key_edit<'a>(word: &[u8], operands: &'a [u8]) -> Result<Command<'a>, CommandF
 }
 
 // A question, by its word.
-#[tactic(auto, unfolding(crate::specs::Commands::source_question))]
+#[tactic(auto, unfolding(crate::specs::Commands::source_questions))]
 fn source_question<'a>(word: &[u8], operands: &'a [u8]) -> Result<Command<'a>, CommandFault>
-    ensures { Reads result (source_question word.now operands.now) }
+    ensures { Reads result (command_in (source_questions ++ machine_questions) word.now operands.now) }
 {
     if word == b"image".as_slice() {
         return without_words(operands, Question::Image);
@@ -137,7 +138,7 @@ fn source_question<'a>(word: &[u8], operands: &'a [u8]) -> Result<Command<'a>, C
 }
 
 fn without_words<'a>(operands: &'a [u8], question: Question) -> Result<Command<'a>, CommandFault>
-    ensures { Reads result (without_words operands.now question) }
+    ensures { Reads result (read_by (nothing question) operands.now) }
 {
     if operands.is_empty() {
         Ok(Command::Ask(question))
@@ -147,9 +148,9 @@ fn without_words<'a>(operands: &'a [u8], question: Question) -> Result<Command<'
 }
 
 // A question about the machine, by its word.
-#[tactic(auto, unfolding(crate::specs::Commands::machine_question))]
+#[tactic(auto, unfolding(crate::specs::Commands::machine_questions))]
 fn machine_question<'a>(word: &[u8], operands: &'a [u8]) -> Result<Command<'a>, CommandFault>
-    ensures { Reads result (machine_question word.now operands.now) }
+    ensures { Reads result (command_in machine_questions word.now operands.now) }
 {
     if word == b"regs".as_slice() {
         return match one_number(operands) {
