@@ -1,18 +1,15 @@
+//! Whole sources: what they answer, and how they are edited.
+
+mod cases;
 mod sessions;
 
-use chip_asm::{OpenError, Refusal, Source};
-use chip_lang::Fault;
+use crate::assembler::cases::carry_out;
+use chip_asm::{OpenError, Refusal, Source, Symbol};
+use chip_lang::{Bytes, Fault};
 use std::alloc::{AllocError, Global};
 use std::test::Fail;
 
-fn has_image(source: &Source, expected: &[u8]) -> bool {
-    match source.image() {
-        Some(image) => image == expected,
-        None => false,
-    }
-}
-
-// Edits without their clauses, of which the tests have no use: a test of many of them would be proved slowly.
+// What a source does and answers, without its clauses, of which the tests have no use: a test of many calls would be proved slowly.
 pub(crate) fn insert(
     alloc: Global,
     source: &mut Source,
@@ -35,290 +32,440 @@ pub(crate) fn delete(alloc: Global, source: &mut Source, line: usize) -> Result<
     source.delete(alloc, line)
 }
 
-// What a source answers, without its clauses.
 pub(crate) fn opened(alloc: Global, text: &[u8]) -> Result<Source, OpenError> {
     Source::open(alloc, text)
 }
 
-fn has_some_image(source: &Source) -> bool {
-    source.image().is_some()
+pub(crate) fn lines(source: &Source) -> usize {
+    source.lines()
+}
+
+pub(crate) fn parsed(source: &Source) -> u64 {
+    source.work().parsed
+}
+
+pub(crate) fn encoded(source: &Source) -> u64 {
+    source.work().encoded
+}
+
+pub(crate) fn listed(alloc: Global, source: &Source) -> Result<Vec<u8>, AllocError> {
+    source.listing(alloc)
+}
+
+/// The image, or none.
+pub(crate) fn image(source: &Source) -> Option<&[u8]> {
+    source.image()
 }
 
 fn fault(source: &Source, line: usize) -> Option<Fault> {
     source.fault(line)
 }
 
-fn lines(source: &Source) -> usize {
-    source.lines()
+fn faults(alloc: Global, source: &Source) -> Result<Vec<(usize, Fault)>, AllocError> {
+    source.faults(alloc)
 }
 
-fn parsed(source: &Source) -> u64 {
-    source.work().parsed
+fn symbol(source: &Source, name: &[u8]) -> Option<Symbol> {
+    source.symbol(name)
 }
 
-fn encoded(source: &Source) -> u64 {
-    source.work().encoded
+fn symbols(alloc: Global, source: &Source) -> Result<Vec<(Bytes, Symbol)>, AllocError> {
+    source.symbols(alloc)
 }
 
-fn listed(alloc: Global, source: &Source) -> Result<Vec<u8>, AllocError> {
-    source.listing(alloc)
+fn number(fault: Fault) -> u8 {
+    fault.number()
 }
 
-const COUNTING: &[u8] = b"LD V0, 5\nLOOP: ADD V0, 1\nJP LOOP\n";
+/// The bytes of the image in hexadecimal; of a long one, how many there are and how many of them aren't 0.
+pub(crate) fn image_text(alloc: Global, source: &Source) -> Result<String, Fail> {
+    let Some(image) = image(source) else {
+        return Ok(String::from_str(alloc, "none")?);
+    };
+    if image.len() > 32 {
+        let others = image.iter().filter(|byte| **byte != 0).count();
+        return Ok(format!(in alloc; "{} bytes, {others} not 0", image.len())?);
+    }
+    let mut text = String::new(alloc);
+    for byte in image {
+        write!(text, "{byte:02x}")?;
+    }
+    Ok(text)
+}
+
+/// The number of the fault of a line, or none.
+pub(crate) fn fault_text(alloc: Global, source: &Source, line: usize) -> Result<String, Fail> {
+    match fault(source, line) {
+        Some(fault) => Ok(format!(in alloc; "F{}", number(fault))?),
+        None => Ok(String::from_str(alloc, "none")?),
+    }
+}
+
+/// All faults, each with its line.
+pub(crate) fn faults_text(alloc: Global, source: &Source) -> Result<String, Fail> {
+    let mut text = String::from_str(alloc, "faults")?;
+    for (line, fault) in &faults(alloc, source)? {
+        let number = number(*fault);
+        write!(text, " {line} F{number}")?;
+    }
+    Ok(text)
+}
+
+/// The value and the line of a name, or none.
+pub(crate) fn symbol_text(alloc: Global, source: &Source, name: &str) -> Result<String, Fail> {
+    match symbol(source, name.as_bytes()) {
+        Some(symbol) => Ok(format!(in alloc; "{} {}", symbol.value, symbol.line)?),
+        None => Ok(String::from_str(alloc, "none")?),
+    }
+}
+
+/// All names, each with its value and its line.
+pub(crate) fn symbols_text(alloc: Global, source: &Source) -> Result<String, Fail> {
+    let mut text = String::from_str(alloc, "symbols")?;
+    for (name, symbol) in &symbols(alloc, source)? {
+        let name = std::str::from_utf8(name.get())?;
+        let (value, line) = (symbol.value, symbol.line);
+        write!(text, " {name} {value} {line}")?;
+    }
+    Ok(text)
+}
+
+const EDITS: &str = "\
+== an edit encodes only what needs it
+| LD V0, 5
+| LOOP: ADD V0, 1
+| JP LOOP
+> open
+ok
+> lines
+3
+> work
+3 3
+> image
+600570011202
+> ins 2 CLS
+ok
+> work
+4 5
+> image
+600500e070011204
+> symbol looP
+516 3
+> symbol LOOP
+516 3
+> symbols
+symbols LOOP 516 3
+== lines are edited one after another
+> open
+ok
+> ins 1 LD V0, 5
+ok
+> ins 2 LOOP: ADD V0, 1
+ok
+> ins 3 JP LOOP
+ok
+> ins 2 CLS
+ok
+> image
+600500e070011204
+> del 9
+no such line
+> ins 0
+no such line
+> rep 1 a\rb
+line break
+> ins 1 BLANKS
+text too long
+> rep 1 LD V0, 9
+ok
+> del 2
+ok
+> image
+600970011202
+> del 2
+ok
+> fault 2
+F9
+> image
+none
+== kept codes are used again
+| N EQU 1
+| DB N
+| DB 5
+| LD V0, N
+> open
+ok
+> encoded 4
+so
+> image
+010005006001
+> rep 1 N EQU 2
+ok
+> encoded 7
+so
+> image
+020005006002
+> rep 1 N EQU 2
+ok
+> encoded 8
+so
+> ins 1 IFDEF ZZ
+ok
+> encoded 8
+so
+> fault 1
+F16
+> image
+none
+> ins 6 ENDIF
+ok
+> encoded 10
+so
+> image
+
+> ins 1 DEFINE ZZ
+ok
+> encoded 15
+so
+> image
+020005006002
+== a line has at most 200 bytes
+> open
+ok
+> ins 1 FULL
+ok
+> rep 1 FULL
+ok
+> rep 1 BLANKS
+text too long
+> lines
+1
+== a source has at most 4000 lines
+> empty 4000
+> open
+ok
+> lines
+4000
+> ins 4002 BLANKS
+no such line
+> ins 4001 BLANKS
+text too long
+> ins 4001 a\rb
+too many lines
+> rep 4001 BLANKS
+no such line
+> rep 4000 BLANKS
+text too long
+> rep 4000 a\rb
+line break
+> del 4001
+no such line
+> lines
+4000
+> parsed
+4000
+> rep 4000 DB 7
+ok
+> del 1
+ok
+> ins 4000 DB 8
+ok
+> ins 1
+too many lines
+> image
+07000800
+| x
+> open
+too many lines
+";
 
 #[test]
-fn an_edit_encodes_only_what_needs_it(rt: HostRuntime) -> Result<(), Fail> {
-    let alloc = rt.alloc();
-    let mut source = opened(alloc, COUNTING)?;
-    assert_eq!(rt; lines(&source), 3);
-    assert_eq!(rt; parsed(&source), 3);
-    assert_eq!(rt; encoded(&source), 3);
-    assert!(rt; has_image(&source, &[0x60, 5, 0x70, 1, 0x12, 2]));
-    insert(alloc, &mut source, 2, b"CLS")?;
-    assert_eq!(rt; parsed(&source), 4);
-    assert_eq!(rt; encoded(&source), 5);
-    assert!(rt; has_image(&source, &[0x60, 5, 0, 0xe0, 0x70, 1, 0x12, 4]));
-    assert!(rt; source.symbol(b"looP") == source.symbol(b"LOOP"));
-    let symbol = source.symbol(b"LOOP").ok_or("LOOP")?;
-    assert_eq!(rt; symbol.value, 516);
-    assert_eq!(rt; symbol.line, 3);
-    assert_eq!(rt; source.symbols(alloc)?.len(), 1);
+fn edits_are_answered(rt: HostRuntime) -> Result<(), Fail> {
+    assert_eq!(rt; carry_out(&rt, EDITS)?, 5);
     Ok(())
 }
 
+const SOURCES: &str = "\
+== a listing shows addresses and bytes
+| LD V0, 5
+| LOOP: ADD V0, 1
+| JP LOOP
+> open
+ok
+> list
+   1 0200 6005          LD V0, 5
+   2 0202 7001          LOOP: ADD V0, 1
+   3 0204 1202          JP LOOP
+== a listing shows values and lines that are skipped
+| IFDEF X
+| DB 1
+| ELSE
+| DB 2
+| ENDIF
+> open
+ok
+> image
+0200
+> ins 1 X EQU 7
+ok
+> image
+0100
+> list
+   1 0200 =7            X EQU 7
+   2 0200               IFDEF X
+   3 0200 0100          DB 1
+   4 0202               ELSE
+   5 ----               DB 2
+   6 0202               ENDIF
+== a listing cuts many bytes, and an image has at most 3584
+| DS 3584
+> open
+ok
+> list
+   1 0200 000000000000+ DS 3584
+> image
+3584 bytes, 0 not 0
+> rep 1 ORG 4096
+ok
+> image
+3584 bytes, 0 not 0
+== faults stand in line order
+| DB Q
+| P EQU Q
+| Q EQU 1
+> open
+ok
+> faults
+faults 2 F9
+== the first definition counts
+| X EQU 1
+| x EQU 2
+| DB X
+> open
+ok
+> fault 2
+F8
+> symbol X
+1 1
+== a block in one that is skipped
+| IFDEF X
+| IFDEF Y
+| ENDIF
+| DB 1
+| ENDIF
+> open
+ok
+> image
+
+== data
+| DB $..1111.., 255, -128, 1 + 2 * 3 < 1
+> open
+ok
+> image
+3cff800d
+== words
+| DW 6 | 1 ^ 7 & 2, -7/2
+> open
+ok
+> image
+0005fffd
+== a program
+| OPTION SCHIP11
+| ALIGN OFF
+| XREF ON
+| JP START ; go
+| DATA: DB #3C, $.1..1.1.
+| start: LD I, data
+> open
+ok
+> image
+12043c4aa202
+== names
+| P EQU 3
+| Q = P * (2 + P) - ~0
+| DB Q, 'Z', #0f, @17, $1.1
+> open
+ok
+> image
+105a0f0f0500
+> symbol q
+16 2
+== a name that is defined is 0
+| DEFINE Z1
+| DB Z1
+> open
+ok
+> image
+0000
+== the exclusive or has two signs
+| DB 6 \\ 3
+> open
+ok
+> image
+0500
+";
+
 #[test]
-fn lines_are_edited_one_after_another(rt: HostRuntime) -> Result<(), Fail> {
-    let alloc = rt.alloc();
-    let mut source = Source::new(alloc);
-    insert(alloc, &mut source, 1, b"LD V0, 5")?;
-    insert(alloc, &mut source, 2, b"LOOP: ADD V0, 1")?;
-    insert(alloc, &mut source, 3, b"JP LOOP")?;
-    insert(alloc, &mut source, 2, b"CLS")?;
-    assert!(rt; has_image(&source, &[0x60, 5, 0, 0xe0, 0x70, 1, 0x12, 4]));
-    assert_eq!(rt; delete(alloc, &mut source, 9), Err(Refusal::NoSuchLine));
-    assert_eq!(rt;
-        insert(alloc, &mut source, 0, b""),
-        Err(Refusal::NoSuchLine)
-    );
-    assert_eq!(rt;
-        replace(alloc, &mut source, 1, b"a\rb"),
-        Err(Refusal::LineBreak)
-    );
-    assert_eq!(rt;
-        insert(alloc, &mut source, 1, [b' '; 201].as_slice()),
-        Err(Refusal::TextTooLong)
-    );
-    replace(alloc, &mut source, 1, b"LD V0, 9")?;
-    delete(alloc, &mut source, 2)?;
-    assert!(rt; has_image(&source, &[0x60, 9, 0x70, 1, 0x12, 2]));
-    delete(alloc, &mut source, 2)?;
-    assert_eq!(rt; fault(&source, 2), Some(Fault::UndefinedName));
-    assert!(rt; !has_some_image(&source));
+fn sources_are_answered(rt: HostRuntime) -> Result<(), Fail> {
+    assert_eq!(rt; carry_out(&rt, SOURCES)?, 12);
     Ok(())
 }
 
-#[test]
-fn a_listing_shows_addresses_and_bytes(rt: HostRuntime) -> Result<(), Fail> {
-    let alloc = rt.alloc();
-    let source = opened(alloc, COUNTING)?;
-    let listing = listed(alloc, &source)?;
-    assert_eq!(rt;
-        listing.as_slice(),
-        b"   1 0200 6005          LD V0, 5\n   2 0202 7001          LOOP: ADD V0, 1\n   3 0204 1202          JP LOOP\n".as_slice()
-    );
-    let mut source = opened(alloc, b"IFDEF X\nDB 1\nELSE\nDB 2\nENDIF")?;
-    assert!(rt; has_image(&source, &[2, 0]));
-    insert(alloc, &mut source, 1, b"X EQU 7")?;
-    assert!(rt; has_image(&source, &[1, 0]));
-    assert_eq!(rt;
-        listed(alloc, &source)?.as_slice(),
-        b"   1 0200 =7            X EQU 7\n   2 0200               IFDEF X\n   3 0200 0100          DB 1\n   4 0202               ELSE\n   5 ----               DB 2\n   6 0202               ENDIF\n".as_slice()
-    );
-    let source = opened(alloc, b"DS 3584")?;
-    assert_eq!(rt;
-        listed(alloc, &source)?.as_slice(),
-        b"   1 0200 000000000000+ DS 3584\n".as_slice()
-    );
-    Ok(())
-}
+/// A line in each row; after a tab its fault in a source of this line alone.
+const FAULTS: &str = "\
+    FOO V0\tF3\n\
+    A: LD V0\tF4\n\
+    DB 'ab\tF2\n\
+    DB ?\tF1\n\
+    DB 99999999999\tF5\n\
+    LD: CLS\tF7\n\
+    INCLUDE 'x'\tF17\n\
+    ENDIF\tF15\n\
+    IFDEF X\tF16\n\
+    LD V0, 300\tF10\n\
+    DS 3585\tF14\n\
+    DS -1\tF10\n\
+    ORG 100\tF13\n\
+    ORG 4096\tnone\n\
+    DB 1/0\tF11\n\
+    DW 1 < 31\tF12\n\
+    DB 256\tF10\n\
+    X EQU 1 +\tF4";
 
-#[test]
-fn faults_stand_in_line_order(rt: HostRuntime) -> Result<(), Fail> {
-    let alloc = rt.alloc();
-    let source = opened(alloc, b"DB Q\nP EQU Q\nQ EQU 1")?;
-    let faults = source.faults(alloc)?;
-    assert_eq!(rt; faults.len(), 1);
-    assert_eq!(rt; faults[0], (2, Fault::UndefinedName));
-    let source = opened(alloc, b"X EQU 1\nx EQU 2\nDB X")?;
-    assert_eq!(rt; fault(&source, 2), Some(Fault::DefinedTwice));
-    let symbol = source.symbol(b"X").ok_or("X")?;
-    assert_eq!(rt; symbol.value, 1);
-    let source = opened(alloc, b"IFDEF X\nIFDEF Y\nENDIF\nDB 1\nENDIF")?;
-    assert!(rt; has_image(&source, &[]));
-    Ok(())
-}
-
-fn one_fault(rt: &HostRuntime, text: &[u8]) -> Result<Option<Fault>, OpenError> {
-    Ok(fault(&opened(rt.alloc(), text)?, 1))
+/// Whether the line of a row has its fault.
+fn has_fault(alloc: Global, row: &str) -> Result<bool, Fail> {
+    let (line, wanted) = row.split_once("\t").ok_or("no tab")?;
+    let source = opened(alloc, line.as_bytes())?;
+    Ok(fault_text(alloc, &source, 1)?.as_str() == wanted)
 }
 
 #[test]
 fn each_fault_has_its_line(rt: HostRuntime) -> Result<(), Fail> {
-    assert_eq!(rt; one_fault(&rt, b"FOO V0")?, Some(Fault::UnknownWord));
-    assert_eq!(rt; one_fault(&rt, b"A: LD V0")?, Some(Fault::WrongOperands));
-    assert_eq!(rt; one_fault(&rt, b"DB 'ab")?, Some(Fault::UnfinishedString));
-    assert_eq!(rt; one_fault(&rt, b"DB ?")?, Some(Fault::BadCharacter));
-    assert_eq!(rt;
-        one_fault(&rt, b"DB 99999999999")?,
-        Some(Fault::NumberTooLarge)
-    );
-    assert_eq!(rt; one_fault(&rt, b"LD: CLS")?, Some(Fault::BadName));
-    assert_eq!(rt; one_fault(&rt, b"INCLUDE 'x'")?, Some(Fault::NotInProfile));
-    assert_eq!(rt; one_fault(&rt, b"ENDIF")?, Some(Fault::StrayBranch));
-    assert_eq!(rt; one_fault(&rt, b"IFDEF X")?, Some(Fault::UnclosedIf));
-    assert_eq!(rt; one_fault(&rt, b"LD V0, 300")?, Some(Fault::OutOfRange));
-    assert_eq!(rt; one_fault(&rt, b"DS 3585")?, Some(Fault::PastMemory));
-    assert_eq!(rt; one_fault(&rt, b"DS -1")?, Some(Fault::OutOfRange));
-    assert_eq!(rt; one_fault(&rt, b"ORG 100")?, Some(Fault::OrgBelowHere));
-    assert_eq!(rt; one_fault(&rt, b"ORG 4096")?, None);
-    assert_eq!(rt; one_fault(&rt, b"DB 1/0")?, Some(Fault::DivisionByZero));
-    assert_eq!(rt; one_fault(&rt, b"DW 1 < 31")?, Some(Fault::Overflow));
-    assert_eq!(rt; one_fault(&rt, b"DB 256")?, Some(Fault::OutOfRange));
-    assert_eq!(rt; one_fault(&rt, b"X EQU 1 +")?, Some(Fault::WrongOperands));
-    Ok(())
-}
-
-#[test]
-fn data_is_written_as_it_stands(rt: HostRuntime) -> Result<(), Fail> {
-    let alloc = rt.alloc();
-    let source = opened(alloc, b"DB $..1111.., 255, -128, 1 + 2 * 3 < 1")?;
-    assert!(rt; has_image(&source, &[0x3c, 0xff, 0x80, 0x0d]));
-    let source = opened(alloc, b"DW 6 | 1 ^ 7 & 2, -7/2")?;
-    assert!(rt; has_image(&source, &[0, 5, 0xff, 0xfd]));
-    let source = opened(
-        alloc,
-        b"OPTION SCHIP11\nALIGN OFF\nXREF ON\nJP START ; go\nDATA: DB #3C, $.1..1.1.\nstart: LD I, data",
-    )?;
-    assert!(rt; has_image(&source, &[0x12, 4, 0x3c, 0x4a, 0xa2, 2]));
-    Ok(())
-}
-
-#[test]
-fn an_image_has_at_most_3584_bytes(rt: HostRuntime) -> Result<(), Fail> {
-    let alloc = rt.alloc();
-    for text in [b"DS 3584".as_slice(), b"ORG 4096"] {
-        let source = opened(alloc, text)?;
-        assert!(rt; has_image(&source, &[0; 3584]));
+    for row in FAULTS.lines() {
+        assert!(rt; has_fault(rt.alloc(), row)?, "{row}");
     }
     Ok(())
 }
 
-#[test]
-fn names_have_their_values_and_lines(rt: HostRuntime) -> Result<(), Fail> {
-    let alloc = rt.alloc();
-    let text = b"P EQU 3\nQ = P * (2 + P) - ~0\nDB Q, 'Z', #0f, @17, $1.1";
-    let source = opened(alloc, text)?;
-    assert!(rt; has_image(&source, &[0x10, 0x5a, 0x0f, 0x0f, 5, 0]));
-    let symbol = source.symbol(b"q").ok_or("q")?;
-    assert_eq!(rt; symbol.value, 16);
-    assert_eq!(rt; symbol.line, 2);
-    let source = opened(alloc, b"DEFINE Z1\nDB Z1")?;
-    assert!(rt; has_image(&source, &[0, 0]));
-    let source = opened(alloc, b"DB 6 \\ 3")?;
-    assert!(rt; has_image(&source, &[5, 0]));
-    Ok(())
-}
-
-#[test]
-fn a_source_has_at_most_4000_lines(rt: HostRuntime) -> Result<(), Fail> {
-    let alloc = rt.alloc();
-    let long = [b' '; 201];
-    let mut text = vec![in alloc; b'\n'; 4000]?;
-    let mut source = opened(alloc, &text)?;
-    assert_eq!(rt; lines(&source), 4000);
-    assert_eq!(rt;
-        insert(alloc, &mut source, 4002, &long),
-        Err(Refusal::NoSuchLine)
-    );
-    assert_eq!(rt;
-        insert(alloc, &mut source, 4001, &long),
-        Err(Refusal::TextTooLong)
-    );
-    assert_eq!(rt;
-        insert(alloc, &mut source, 4001, b"a\rb"),
-        Err(Refusal::TooManyLines)
-    );
-    assert_eq!(rt;
-        replace(alloc, &mut source, 4001, &long),
-        Err(Refusal::NoSuchLine)
-    );
-    assert_eq!(rt;
-        replace(alloc, &mut source, 4000, &long),
-        Err(Refusal::TextTooLong)
-    );
-    assert_eq!(rt;
-        replace(alloc, &mut source, 4000, b"a\nb"),
-        Err(Refusal::LineBreak)
-    );
-    assert_eq!(rt; delete(alloc, &mut source, 4001), Err(Refusal::NoSuchLine));
-    assert_eq!(rt; lines(&source), 4000);
-    assert_eq!(rt; parsed(&source), 4000);
-    replace(alloc, &mut source, 4000, b"DB 7")?;
-    delete(alloc, &mut source, 1)?;
-    insert(alloc, &mut source, 4000, b"DB 8")?;
-    assert_eq!(rt;
-        insert(alloc, &mut source, 1, b""),
-        Err(Refusal::TooManyLines)
-    );
-    assert!(rt; has_image(&source, &[7, 0, 8, 0]));
-    text.push(b'x')?;
-    assert_eq!(rt; opened(alloc, &text).err(), Some(OpenError::TooManyLines));
-    Ok(())
+/// Whether 200 blanks, these bytes and so many blanks are refused for the line of this number, or opened where that is 0.
+fn is_refused(alloc: Global, more: &[u8], blanks: u32, line: usize) -> Result<bool, Fail> {
+    let mut text = vec![in alloc; b' '; 200]?;
+    text.extend_from_slice(more)?;
+    for _ in 0..blanks {
+        text.push(b' ')?;
+    }
+    Ok(match opened(alloc, &text) {
+        Ok(_) => line == 0,
+        Err(why) => why == OpenError::LineTooLong(line),
+    })
 }
 
 #[test]
 fn a_line_has_at_most_200_bytes(rt: HostRuntime) -> Result<(), Fail> {
-    let alloc = rt.alloc();
-    let mut text = vec![in alloc; b' '; 200]?;
-    let mut source = opened(alloc, &text)?;
-    insert(alloc, &mut source, 1, &text)?;
-    replace(alloc, &mut source, 2, &text)?;
-    assert_eq!(rt; lines(&source), 2);
-    text.push(b'\r')?;
-    assert_eq!(rt; opened(alloc, &text).err(), Some(OpenError::LineTooLong(1)));
-    text.push(b'\n')?;
-    assert_eq!(rt; lines(&opened(alloc, &text)?), 1);
-    text.extend_from_slice(&[b' '; 201])?;
-    assert_eq!(rt; opened(alloc, &text).err(), Some(OpenError::LineTooLong(2)));
-    Ok(())
-}
-
-#[test]
-fn kept_codes_are_used_again(rt: HostRuntime) -> Result<(), Fail> {
-    let alloc = rt.alloc();
-    let mut source = opened(alloc, b"N EQU 1\nDB N\nDB 5\nLD V0, N")?;
-    assert_eq!(rt; parsed(&source), 4);
-    assert!(rt; encoded(&source) <= 4);
-    assert!(rt; has_image(&source, &[1, 0, 5, 0, 0x60, 1]));
-    replace(alloc, &mut source, 1, b"N EQU 2")?;
-    assert_eq!(rt; parsed(&source), 5);
-    assert!(rt; encoded(&source) <= 7);
-    assert!(rt; has_image(&source, &[2, 0, 5, 0, 0x60, 2]));
-    replace(alloc, &mut source, 1, b"N EQU 2")?;
-    assert_eq!(rt; parsed(&source), 6);
-    assert!(rt; encoded(&source) <= 8);
-    insert(alloc, &mut source, 1, b"IFDEF ZZ")?;
-    assert_eq!(rt; parsed(&source), 7);
-    assert!(rt; encoded(&source) <= 8);
-    assert_eq!(rt; fault(&source, 1), Some(Fault::UnclosedIf));
-    assert!(rt; !has_some_image(&source));
-    insert(alloc, &mut source, 6, b"ENDIF")?;
-    assert_eq!(rt; parsed(&source), 8);
-    assert!(rt; encoded(&source) <= 10);
-    assert!(rt; has_image(&source, &[]));
-    insert(alloc, &mut source, 1, b"DEFINE ZZ")?;
-    assert_eq!(rt; parsed(&source), 9);
-    assert!(rt; encoded(&source) <= 15);
-    assert!(rt; has_image(&source, &[2, 0, 5, 0, 0x60, 2]));
+    assert!(rt; is_refused(rt.alloc(), b"", 0, 0)?);
+    assert!(rt; is_refused(rt.alloc(), b"", 1, 1)?);
+    assert!(rt; is_refused(rt.alloc(), b"\r", 0, 1)?);
+    assert!(rt; is_refused(rt.alloc(), b"\r\n", 0, 0)?);
+    assert!(rt; is_refused(rt.alloc(), b"\r\n", 201, 2)?);
     Ok(())
 }

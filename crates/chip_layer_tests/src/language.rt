@@ -79,15 +79,28 @@ fn push_fault(alloc: Global, text: &mut String, fault: Fault) -> Result<(), Allo
     text.push_str(&fault.number().to_string(alloc)?)
 }
 
+// What chip_lang says of a line, without its clauses, of which the tests have no use.
+fn read(alloc: Global, line: &[u8]) -> Result<Line, AllocError> {
+    read_line(alloc, &mut Meter::new(), line)
+}
+
+fn code(alloc: Global, line: &Line) -> Result<Coded, AllocError> {
+    encode(alloc, &mut Meter::new(), line, &NoNames)
+}
+
+fn value(expr: &Expr) -> Result<i32, Fault> {
+    eval(expr, &NoNames)
+}
+
 fn push_value(alloc: Global, text: &mut String, expr: &Expr) -> Result<(), AllocError> {
-    match eval(expr, &NoNames) {
+    match value(expr) {
         Ok(value) => text.push_str(&value.to_string(alloc)?),
         Err(fault) => push_fault(alloc, text, fault),
     }
 }
 
 fn push_code(alloc: Global, text: &mut String, line: &Line) -> Result<(), AllocError> {
-    match encode(alloc, &mut Meter::new(), line, &NoNames)? {
+    match code(alloc, line)? {
         Coded::Bytes(bytes) => push_hex(text, bytes.get()),
         Coded::Faulty(fault) => push_fault(alloc, text, fault),
     }
@@ -96,7 +109,7 @@ fn push_code(alloc: Global, text: &mut String, line: &Line) -> Result<(), AllocE
 /// What a line says, in one text.
 fn answer(alloc: Global, line: &[u8]) -> Result<String, AllocError> {
     let mut text = String::new(alloc);
-    let line = read_line(alloc, &mut Meter::new(), line)?;
+    let line = read(alloc, line)?;
     match &line {
         Line::Bad(fault) => push_fault(alloc, &mut text, *fault)?,
         Line::Read { label, body } => {
@@ -129,25 +142,33 @@ fn push_operand(
     }
 }
 
+/// Whether a line says this.
+fn says(alloc: Global, line: &[u8], wanted: &str) -> Result<bool, Fail> {
+    Ok(answer(alloc, line)?.as_str().trim_end() == wanted)
+}
+
 #[test]
 fn lines_say_what_they_say_elsewhere(rt: HostRuntime) -> Result<(), Fail> {
     for row in LINES.lines() {
-        let (line, want) = row.split_once("\t").ok_or("no tab")?;
-        let found = answer(rt.alloc(), line.as_bytes())?;
-        assert_eq!(rt; found.as_str().trim_end(), want, "{row}");
+        let (line, wanted) = row.split_once("\t").ok_or("no tab")?;
+        assert!(rt; says(rt.alloc(), line.as_bytes(), wanted)?, "{row}");
     }
     Ok(())
 }
 
+/// Lines with other blanks than spaces, and with a byte that is no text.
+const OTHER_BYTES: [(&[u8], &str); 4] = [
+    (b"LD\tV0\t,\t5", "- Code 6005"),
+    (b"CLS\tCLS", "F4"),
+    (b"\xa0CLS", "F1"),
+    (b"CLS;\xa0", "- Code 00e0"),
+];
+
 #[test]
 fn blanks_and_other_bytes(rt: HostRuntime) -> Result<(), Fail> {
-    assert_eq!(rt;
-        answer(rt.alloc(), b"LD\tV0\t,\t5")?.as_str(),
-        "- Code 6005"
-    );
-    assert_eq!(rt; answer(rt.alloc(), b"CLS\tCLS")?.as_str(), "F4");
-    assert_eq!(rt; answer(rt.alloc(), b"\xa0CLS")?.as_str(), "F1");
-    assert_eq!(rt; answer(rt.alloc(), b"CLS;\xa0")?.as_str(), "- Code 00e0");
+    for (line, wanted) in OTHER_BYTES {
+        assert!(rt; says(rt.alloc(), line, wanted)?, "not {wanted}");
+    }
     Ok(())
 }
 
@@ -155,7 +176,7 @@ fn blanks_and_other_bytes(rt: HostRuntime) -> Result<(), Fail> {
 /// word, or a byte that begins no token.
 fn answer_of_byte(byte: u8) -> &'static str {
     match byte {
-        b' ' | b'\t' | b'\x0c' | b'\r' | b'\x1a' | b';' => "- Empty ",
+        b' ' | b'\t' | b'\x0c' | b'\r' | b'\x1a' | b';' => "- Empty",
         b'\'' | b'"' => "F2",
         b'A'..=b'Z' | b'a'..=b'z' | b'_' => "F3",
         b'0'..=b'9' | b',' | b':' | b'=' | b'[' | b']' | b'(' | b')' => "F4",
@@ -167,11 +188,7 @@ fn answer_of_byte(byte: u8) -> &'static str {
 #[test]
 fn each_byte_alone_has_a_reading(rt: HostRuntime) -> Result<(), Fail> {
     for byte in 0..=255u8 {
-        assert_eq!(rt;
-            answer(rt.alloc(), &[byte])?.as_str(),
-            answer_of_byte(byte),
-            "{byte}"
-        );
+        assert!(rt; says(rt.alloc(), &[byte], answer_of_byte(byte))?, "{byte}");
     }
     Ok(())
 }
@@ -267,92 +284,132 @@ fn faults_have_a_sentence(rt: HostRuntime) -> Result<(), Fail> {
     Ok(())
 }
 
+/// Whether there is a name, and it is this one.
+fn is_name(found: Option<&[u8]>, name: &[u8]) -> bool {
+    match found {
+        Some(found) => found == name,
+        None => false,
+    }
+}
+
+/// Whether a line uses this name at a place.
+fn has_use(line: &Line, place: usize, name: &[u8]) -> bool {
+    is_name(uses(line, place), name)
+}
+
+/// Whether a line uses names up to a place.
+fn ends_before(line: &Line, place: usize) -> bool {
+    uses(line, place).is_none() && agree_on(line, &NoNames, &NoNames)
+}
+
 #[test]
 fn names_of_a_line(rt: HostRuntime) -> Result<(), Fail> {
-    let line = read_line(rt.alloc(), &mut Meter::new(), b"a: DB 1 + x, -(y * x)")?;
-    assert!(rt; defines(&line).is_some_and(|name| name == b"A".as_slice()));
-    assert!(rt; uses(&line, 0).is_some_and(|name| name == b"X".as_slice()));
-    assert!(rt; uses(&line, 2).is_some_and(|name| name == b"X".as_slice()));
-    assert!(rt; uses(&line, 3).is_none());
-    assert!(rt; agree_on(&line, &NoNames, &NoNames));
+    let line = read(rt.alloc(), b"a: DB 1 + x, -(y * x)")?;
+    assert!(rt; is_name(defines(&line), b"A"));
+    assert!(rt; has_use(&line, 0, b"X") && has_use(&line, 1, b"Y") && has_use(&line, 2, b"X"));
+    assert!(rt; ends_before(&line, 3));
     Ok(())
 }
 
-/// A text with a part written over and over.
-fn long(
-    alloc: Global,
-    first: &[u8],
-    part: &[u8],
+/// A text with two parts, each written over and over.
+#[derive(Clone, Copy)]
+struct Long {
+    first: &'static str,
+    part: &'static str,
     count: u32,
-    last: &[u8],
-) -> Result<Vec<u8>, AllocError> {
-    let mut text = first.to_vec(alloc)?;
-    for _ in 0..count {
-        text.extend_from_slice(part)?;
+    second: &'static str,
+    last: &'static str,
+}
+
+impl Long {
+    /// The text; the second part comes as often as the first, if at all.
+    fn text(self, alloc: Global) -> Result<Vec<u8>, AllocError> {
+        let mut text = self.first.as_bytes().to_vec(alloc)?;
+        for _ in 0..self.count {
+            text.extend_from_slice(self.part.as_bytes())?;
+        }
+        for _ in 0..self.count {
+            text.extend_from_slice(self.second.as_bytes())?;
+        }
+        text.extend_from_slice(self.last.as_bytes())?;
+        Ok(text)
     }
-    text.extend_from_slice(last)?;
-    Ok(text)
+}
+
+/// Long lines and what they say.
+const LONG_LINES: &str = "\
+DB !+!10000!!1!- Db 01
+DB !+!10000!!!F4
+DW 1!+1!5000!!!- Dw 1389
+DB !(!10000!!1!F6
+DB !)!5000!(!1!F4
+DB !,!10000!!!F4
+!+!10000!!!F4
+X EQU !+!10000!!!F4
+!1 + !2500!!1!F4
+X EQU !1 + !2500!!1!X Equ 2501
+!(!10000!!!F4
+X EQU !(!10000!!!F6
+!)!5000!(!!F4
+X EQU !)!5000!(!!F4
+!,!10000!!!F4
+X EQU !,!10000!!!F4
+";
+
+/// Whether the line that a row describes says what the row has.
+fn is_so(alloc: Global, row: &'static str) -> Result<bool, Fail> {
+    let mut parts = Vec::new(alloc);
+    for part in row.split("!") {
+        parts.push(part)?;
+    }
+    match parts.as_slice() {
+        [first, part, count, second, last, wanted] => {
+            let long = Long {
+                first: *first,
+                part: *part,
+                count: count.parse::<u32>()?,
+                second: *second,
+                last: *last,
+            };
+            says(alloc, &long.text(alloc)?, *wanted)
+        }
+        _ => Err(Fail::new("not so many parts")),
+    }
 }
 
 #[test]
-fn long_signs_fit_the_stack(rt: HostRuntime) -> Result<(), Fail> {
-    let signs = long(rt.alloc(), b"DB ", b"+", 10_000, b"1")?;
-    assert_eq!(rt; answer(rt.alloc(), &signs)?.as_str(), "- Db 01");
-    let signs = long(rt.alloc(), b"DB ", b"+", 10_000, b"")?;
-    assert_eq!(rt; answer(rt.alloc(), &signs)?.as_str(), "F4");
-    Ok(())
-}
-
-#[test]
-fn long_sums_fit_the_stack(rt: HostRuntime) -> Result<(), Fail> {
-    let sum = long(rt.alloc(), b"DW 1", b"+1", 5_000, b"")?;
-    assert_eq!(rt; answer(rt.alloc(), &sum)?.as_str(), "- Dw 1389");
-    Ok(())
-}
-
-#[test]
-fn long_parentheses_fit_the_stack(rt: HostRuntime) -> Result<(), Fail> {
-    let open = long(rt.alloc(), b"DB ", b"(", 10_000, b"1")?;
-    assert_eq!(rt; answer(rt.alloc(), &open)?.as_str(), "F6");
-    let close = long(rt.alloc(), b"DB ", b")", 5_000, b"")?;
-    let both = long(rt.alloc(), &close, b"(", 5_000, b"1")?;
-    assert_eq!(rt; answer(rt.alloc(), &both)?.as_str(), "F4");
+fn long_lines_fit_the_stack(rt: HostRuntime) -> Result<(), Fail> {
+    for row in LONG_LINES.lines() {
+        assert!(rt; is_so(rt.alloc(), row)?, "{row}");
+    }
     Ok(())
 }
 
 #[test]
 fn long_lists_fit_the_stack(rt: HostRuntime) -> Result<(), Fail> {
-    let commas = long(rt.alloc(), b"DB ", b",", 10_000, b"")?;
-    assert_eq!(rt; answer(rt.alloc(), &commas)?.as_str(), "F4");
-    let many = long(rt.alloc(), b"DB 7", b",7", 5_000, b"")?;
-    assert_eq!(rt; answer(rt.alloc(), &many)?.len(), 10_007);
-    Ok(())
-}
-
-#[test]
-fn texts_of_ten_thousand_bytes_fit_the_stack(rt: HostRuntime) -> Result<(), Fail> {
-    let alloc = rt.alloc();
-    let close = long(alloc, b"", b")", 5_000, b"")?;
-    for (text, alone, value) in [
-        (long(alloc, b"", b"+", 10_000, b"")?, "F4", "F4"),
-        (long(alloc, b"", b"1 + ", 2_500, b"1")?, "F4", "X Equ 2501"),
-        (long(alloc, b"", b"(", 10_000, b"")?, "F4", "F6"),
-        (long(alloc, &close, b"(", 5_000, b"")?, "F4", "F4"),
-        (long(alloc, b"", b",", 10_000, b"")?, "F4", "F4"),
-    ] {
-        assert_eq!(rt; answer(alloc, &text)?.as_str(), alone);
-        let definition = long(alloc, b"X EQU ", &text, 1, b"")?;
-        assert_eq!(rt; answer(alloc, &definition)?.as_str(), value);
-    }
+    let list = Long {
+        first: "DB 7",
+        part: ",7",
+        count: 5_000,
+        second: "",
+        last: "",
+    };
+    let said = answer(rt.alloc(), &list.text(rt.alloc())?)?;
+    assert!(rt; said.len() == 10_007);
     Ok(())
 }
 
 #[test]
 fn names_of_a_long_line_fit_the_stack(rt: HostRuntime) -> Result<(), Fail> {
-    let sum = long(rt.alloc(), b"DW A", b"+A", 5_000, b"")?;
-    let line = read_line(rt.alloc(), &mut Meter::new(), &sum)?;
-    assert!(rt; uses(&line, 5_000).is_some_and(|name| name == b"A".as_slice()));
-    assert!(rt; uses(&line, 5_001).is_none());
-    assert!(rt; agree_on(&line, &NoNames, &NoNames));
+    let sum = Long {
+        first: "DW A",
+        part: "+A",
+        count: 5_000,
+        second: "",
+        last: "",
+    };
+    let line = read(rt.alloc(), &sum.text(rt.alloc())?)?;
+    assert!(rt; has_use(&line, 5_000, b"A"));
+    assert!(rt; ends_before(&line, 5_001));
     Ok(())
 }
