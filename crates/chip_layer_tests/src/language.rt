@@ -3,6 +3,7 @@
 ghost use Rattle.chip_lang.specs.Value.{Symbols};
 ghost use Rattle.std.specs.FinMap as map;
 
+use chip_lang::bytes::Bytes;
 use chip_lang::code::{Coded, encode};
 use chip_lang::expr::Expr;
 use chip_lang::fault::Fault;
@@ -411,5 +412,16 @@ fn names_of_a_long_line_fit_the_stack(rt: HostRuntime) -> Result<(), Fail> {
     let line = read(rt.alloc(), &sum.text(rt.alloc())?)?;
     assert!(rt; has_use(&line, 5_000, b"A"));
     assert!(rt; ends_before(&line, 5_001));
+    Ok(())
+}
+
+/// Whether a copy of bytes holds them.
+fn is_copied(alloc: Global, bytes: &[u8]) -> Result<bool, Fail> {
+    Ok(Bytes::from_slice(alloc, bytes)?.get() == bytes)
+}
+
+#[test]
+fn bytes_are_copied(rt: HostRuntime) -> Result<(), Fail> {
+    assert!(rt; is_copied(rt.alloc(), b"")? && is_copied(rt.alloc(), b"LOOP")?);
     Ok(())
 }

@@ -337,3 +337,49 @@ fn many_steps_end_where_the_keys_are_read(rt: HostRuntime) -> Result<(), Fail> {
     assert!(rt; has_touched(&table, &[(0x302, u32::MAX), (0x208, u32::MAX)]));
     Ok(())
 }
+
+/// Makes a step with key 3 down, which is noted under the number 7.
+fn note_step(machine: &mut Machine, table: &mut [u32; 4096]) {
+    machine.step_noted(1 << 3, false, 7, table);
+}
+
+#[test]
+fn step_with_keys_is_noted(rt: HostRuntime) -> Result<(), Fail> {
+    let mut machine = loaded(rt.alloc(), &[0x6003, 0xe09e])?;
+    run(&mut machine, 1, 0);
+    let mut table = [u32::MAX; 4096];
+    note_step(&mut machine, &mut table);
+    assert!(rt; machine.pc() == 0x206);
+    assert!(rt; has_touched(&table, &[(0x201, u32::MAX), (0x202, 7), (0x203, 7)]));
+    Ok(())
+}
+
+/// Gives a machine the state of another one.
+fn take_state(machine: &mut Machine, other: &Machine) -> Result<(), Fail> {
+    Ok(machine.copy_from(other)?)
+}
+
+#[test]
+fn state_is_copied_in_place(rt: HostRuntime) -> Result<(), Fail> {
+    let mut machine = loaded(rt.alloc(), &[0x6009])?;
+    let mut other = loaded(rt.alloc(), &[0x6007, 0xd005])?;
+    run(&mut other, 2, 0);
+    take_state(&mut machine, &other)?;
+    assert!(rt; registers(&machine) == [7, 0, 0, 0, 0]);
+    assert!(rt; machine.pc() == 0x204 && has_bytes(&machine, 0x200, &[0x60, 7, 0xd0, 5]));
+    assert!(rt; row_bits(&machine, 14) == 0xff << 106);
+    Ok(())
+}
+
+/// Whether no address is held, before one is added and after.
+fn is_empty_then(touch: &mut Touch) -> (bool, bool) {
+    let before = touch.is_empty();
+    touch.add(7);
+    (before, touch.is_empty())
+}
+
+#[test]
+fn added_address_is_held(rt: HostRuntime) -> Result<(), Fail> {
+    assert!(rt; is_empty_then(&mut Touch::new()) == (true, false));
+    Ok(())
+}
