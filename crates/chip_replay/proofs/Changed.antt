@@ -54,9 +54,11 @@ first-hit p (x ∷ xs) zero d l h = here_at_most (p x) (position_or_len p xs) h
 first-hit p (x ∷ xs) (suc i) d l h = later_at_most (p x) (position_or_len p xs) i (first-hit p xs i d (omega arith) h)
 
 pub first_below-le : (p : ℕ → Bool) (f : ℕ) → first_below p f ≤ f
+unfolding first_below
 first_below-le p f = omega (arith, first-le p (range_with_len 0 f), length-range_with_len 0 f)
 
 pub first_below-hit : (p : ℕ → Bool) (f r : ℕ) → r < f → p r ≡ true → first_below p f ≤ r
+unfolding first_below
 first_below-hit p f r l h =
     let place : get_or (range_with_len 0 f) r 0 ≡ r = get_or-range_with_len 0 f r 0 l ∙ omega arith in
     first-hit p (range_with_len 0 f) r 0 (omega (arith, length-range_with_len 0 f)) (ap p place ∙ h)

@@ -23,5 +23,5 @@ GoesOn after held at most to_tick state =
     (t : ℕ) → at ≤ t → t < at + most → state (t + 1) ≡ after (state t) (held t) (t + 1 == at + to_tick)
 
 -- the first of the steps 0, 1, .. below f that passes, or f
-abbrev pub first_below : (ℕ → Bool) → ℕ → ℕ
+unfoldable pub first_below : (ℕ → Bool) → ℕ → ℕ
 first_below p f = position_or_len p (range_with_len 0 f)
