@@ -7,13 +7,13 @@ use Rattle.chip_lang.specs.Line.{Body, empty, code, Reading, bad, read}
 use Rattle.chip_asm.specs.declared.block.Block.{Block}
 use Rattle.chip_asm.specs.declared.pass.Pass.{Pass}
 use Rattle.chip_asm.specs.declared.placement.Placement.{Placement}
-use Rattle.chip_asm.specs.Bare.{is_bare, IsBare, fault_of_bare, size_of_bare}
+use Rattle.chip_asm.specs.inner.Bare.{is_bare, IsBare, fault_of_bare, size_of_bare}
 use Rattle.chip_asm.specs.Layout.{Placed, place, placed, body_of, is_live, first_fault, fault_of_value, full_size, own_size, padding, is_padded, symbols, is_aligning, address, value_at, value_or_zero, is_if_body, is_side_or_end, symbol_given}
-use Rattle.chip_asm.specs.Follows.{Follows, placement_of}
-use Rattle.chip_asm.specs.Placements.{is_placed}
-use Rattle.chip_asm.specs.Recode.{has_code}
-use Rattle.chip_asm.specs.Traits.{is_bare_line}
-use Rattle.chip_asm.specs.Turns.{moved}
+use Rattle.chip_asm.specs.inner.Follows.{Follows, placement_of}
+use Rattle.chip_asm.specs.inner.Placements.{is_placed}
+use Rattle.chip_asm.specs.inner.Recode.{has_code}
+use Rattle.chip_asm.specs.inner.Traits.{is_bare_line}
+use Rattle.chip_asm.specs.inner.Turns.{moved}
 use Rattle.chip_asm.proofs.Placing.{length-placed}
 use Rattle.chip_asm.proofs.NextLine.{placement-at, follows-push, Advances}
 

@@ -9,8 +9,8 @@ use Rattle.chip_lang.specs.declared.line.Body.TheVariants.{Else, Endif}
 use Rattle.chip_lang.specs.SeenLine.{seen_body}
 use Rattle.chip_asm.specs.declared.block.Block.{Block}
 use Rattle.chip_asm.specs.Layout.{Placed, is_live, has_ended, enclosing, is_side_or_end}
-use Rattle.chip_asm.specs.Follows.{block_of}
-use Rattle.chip_asm.specs.Turns.{turned, turn_first}
+use Rattle.chip_asm.specs.inner.Follows.{block_of}
+use Rattle.chip_asm.specs.inner.Turns.{turned, turn_first}
 
 pub reverse-cons : {X : Type 0} (x : X) (xs : List X) → reverse (x ∷ xs) ≡ reverse xs ++ x ∷ []
 reverse-cons x xs = reverse-append (x ∷ []) xs

@@ -10,10 +10,10 @@ use Rattle.chip_lang.specs.Line.{Reading}
 use Rattle.chip_asm.specs.Changes.{ChangesWithin}
 use Rattle.chip_asm.specs.declared.kept_line.KeptLine.{KeptLine}
 use Rattle.chip_asm.specs.declared.placement.Placement.{Placement}
-use Rattle.chip_asm.specs.KeptCodes.{kept_bytes}
+use Rattle.chip_asm.specs.inner.KeptCodes.{kept_bytes}
 use Rattle.chip_asm.specs.Layout.{placed, address}
 use Rattle.chip_asm.specs.Program.{faults_of_lines, byte_at, bytes_of_lines, unless_faulty, image_of_lines}
-use Rattle.chip_asm.specs.Records.{reading_in, readings_in}
+use Rattle.chip_asm.specs.inner.Records.{reading_in, readings_in}
 use Rattle.chip_asm.proofs.Bounds.{end-high}
 use Rattle.chip_asm.proofs.KeptSwapped.{Exchange, readings-set}
 use Rattle.chip_asm.proofs.SwappedFacts.{end-swapped}

@@ -3,8 +3,8 @@ use Rattle.std.proofs.Common.{◌≡◌, ℕ, suc, List, [], ◌∷◌, ◌++◌
 use Rattle.std.proofs.lemmas.List.{map-append, take-map, drop-map, map-set, length-map}
 use Rattle.chip_lang.specs.Line.{reading_of}
 use Rattle.chip_asm.specs.declared.kept_line.KeptLine.{KeptLine}
-use Rattle.chip_asm.specs.Records.{reading_in, readings_in, texts_in}
-use Rattle.chip_asm.specs.Traits.{traits_of}
+use Rattle.chip_asm.specs.inner.Records.{reading_in, readings_in, texts_in}
+use Rattle.chip_asm.specs.inner.Traits.{traits_of}
 
 map-insert : {X Y : Type 0} (f : X → Y) (xs : List X) (i : ℕ) (x : X) → map f (insert xs i x) ≡ insert (map f xs) i (f x)
 map-insert f xs i x =

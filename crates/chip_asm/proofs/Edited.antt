@@ -5,7 +5,7 @@ use Rattle.std.proofs.lemmas.Option.{slice_get-get_or, slice_get-map}
 use Rattle.chip_asm.specs.declared.kept_line.KeptLine.{KeptLine}
 use Rattle.chip_asm.specs.declared.edit.Edit.{Edit}
 use Rattle.chip_asm.specs.declared.edit.Edit.TheVariants.{Insert, Replace, Delete, Keep}
-use Rattle.chip_asm.specs.Records.{reading_in, readings_in, IsPlaceWithin, lines_after, count_after}
+use Rattle.chip_asm.specs.inner.Records.{reading_in, readings_in, IsPlaceWithin, lines_after, count_after}
 
 pub length-lines_after : (lines : List KeptLine) (edit : Edit) → IsPlaceWithin (length lines) edit → length (lines_after lines edit) ≡ count_after (length lines) edit
 length-lines_after lines (Insert at line) h =

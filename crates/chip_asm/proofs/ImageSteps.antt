@@ -16,13 +16,13 @@ use Rattle.chip_asm.specs.declared.layout.Layout.{Layout}
 use Rattle.chip_asm.specs.declared.placement.Placement.{Placement}
 use Rattle.chip_asm.specs.Names.{values_of}
 use Rattle.chip_asm.specs.Layout.{Placed, placed, place, body_of, symbols, is_if, is_if_body, is_accepted}
-use Rattle.chip_asm.specs.Layouts.{IsLayoutOf, placements_of, final_placement}
-use Rattle.chip_asm.specs.Placements.{is_placed}
+use Rattle.chip_asm.specs.inner.Layouts.{IsLayoutOf, placements_of, final_placement}
+use Rattle.chip_asm.specs.inner.Placements.{is_placed}
 use Rattle.chip_asm.specs.Program.{fault_of, fault_of_line, first_pass_fault, code_under, fault_in_code, bytes_in_code, names_of_lines}
-use Rattle.chip_asm.specs.Records.{reading_in, readings_in}
-use Rattle.chip_asm.specs.Recode.{has_code, is_placed_at, code_among}
-use Rattle.chip_asm.specs.Kept.{AreCurrent}
-use Rattle.chip_asm.specs.KeptCodes.{kept_fault, kept_bytes, coded_fault, coded_bytes}
+use Rattle.chip_asm.specs.inner.Records.{reading_in, readings_in}
+use Rattle.chip_asm.specs.inner.Recode.{has_code, is_placed_at, code_among}
+use Rattle.chip_asm.specs.inner.Kept.{AreCurrent}
+use Rattle.chip_asm.specs.inner.KeptCodes.{kept_fault, kept_bytes, coded_fault, coded_bytes}
 use Rattle.chip_asm.proofs.NeedsSteps.{lines-placed, length-numbered}
 use Rattle.chip_asm.proofs.Bounds.{IsWithinMemory, within-memory}
 

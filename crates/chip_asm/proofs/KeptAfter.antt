@@ -9,12 +9,12 @@ use Rattle.chip_lang.specs.Line.{Reading}
 use Rattle.chip_asm.specs.declared.kept_line.KeptLine.{KeptLine}
 use Rattle.chip_asm.specs.Names.{values_of}
 use Rattle.chip_asm.specs.Layout.{body_of, placed}
-use Rattle.chip_asm.specs.Layouts.{placements_of}
+use Rattle.chip_asm.specs.inner.Layouts.{placements_of}
 use Rattle.chip_asm.specs.Program.{names_of_lines}
-use Rattle.chip_asm.specs.Records.{reading_in, readings_in, lines_after, place_before, IsPlaceWithin, count_after}
+use Rattle.chip_asm.specs.inner.Records.{reading_in, readings_in, lines_after, place_before, IsPlaceWithin, count_after}
 use Rattle.chip_asm.specs.declared.edit.Edit.{Edit}
-use Rattle.chip_asm.specs.Recode.{has_code, is_placed_at, is_encoded_again, code_among, new_code, new_codes}
-use Rattle.chip_asm.specs.Kept.{AreCurrent, IsMerged}
+use Rattle.chip_asm.specs.inner.Recode.{has_code, is_placed_at, is_encoded_again, code_among, new_code, new_codes}
+use Rattle.chip_asm.specs.inner.Kept.{AreCurrent, IsMerged}
 use Rattle.chip_asm.proofs.Edited.{length-lines_after}
 use Rattle.chip_asm.proofs.RecodeSteps.{code-among}
 use Rattle.chip_asm.proofs.StayedCodes.{Stayed, Stood, stood, stayed, fresh-at, codes-within, SameCode}

@@ -6,11 +6,11 @@ use Rattle.chip_lang.specs.Line.{reading_of}
 use Rattle.chip_asm.specs.declared.kept.Kept.{Kept}
 use Rattle.chip_asm.specs.declared.kept_line.KeptLine.{KeptLine}
 use Rattle.chip_asm.specs.Layout.{placed, address}
-use Rattle.chip_asm.specs.Records.{readings_in, texts_in}
-use Rattle.chip_asm.specs.Layouts.{IsLayoutOf}
+use Rattle.chip_asm.specs.inner.Records.{readings_in, texts_in}
+use Rattle.chip_asm.specs.inner.Layouts.{IsLayoutOf}
 use Rattle.chip_asm.specs.Program.{byte_at, faults_of_lines}
-use Rattle.chip_asm.specs.Kept.{AreCurrent, IsKept}
-use Rattle.chip_asm.specs.Traits.{traits_of}
+use Rattle.chip_asm.specs.inner.Kept.{AreCurrent, IsKept}
+use Rattle.chip_asm.specs.inner.Traits.{traits_of}
 use Rattle.chip_asm.proofs.Bounds.{end-high}
 
 no-lines : (lines : List KeptLine) → length lines ≡ 0 → address (placed (readings_in lines)) ≡ IMAGE_START

@@ -16,17 +16,17 @@ use Rattle.chip_asm.specs.declared.kept_line.KeptLine.{KeptLine}
 use Rattle.chip_asm.specs.declared.layout.Layout.{Layout}
 use Rattle.chip_asm.specs.declared.placement.Placement.{Placement}
 use Rattle.chip_asm.specs.Edits.{before_replace}
-use Rattle.chip_asm.specs.Placements.{is_placed}
-use Rattle.chip_asm.specs.Effect.{HasSameEffect, HasSameEffectAt}
-use Rattle.chip_asm.specs.Kept.{AreCurrent, HasCodeAt, IsKept}
-use Rattle.chip_asm.specs.KeptCodes.{kept_fault, kept_bytes, count_of}
+use Rattle.chip_asm.specs.inner.Placements.{is_placed}
+use Rattle.chip_asm.specs.inner.Effect.{HasSameEffect, HasSameEffectAt}
+use Rattle.chip_asm.specs.inner.Kept.{AreCurrent, HasCodeAt, IsKept}
+use Rattle.chip_asm.specs.inner.KeptCodes.{kept_fault, kept_bytes, count_of}
 use Rattle.chip_asm.specs.Layout.{Placed, placed, body_of}
-use Rattle.chip_asm.specs.Layouts.{IsLayoutOf, placements_of}
+use Rattle.chip_asm.specs.inner.Layouts.{IsLayoutOf, placements_of}
 use Rattle.chip_asm.specs.Program.{names_of_lines, faults_of_lines, fault_of, byte_at, bytes_in_code, code_under, covers}
-use Rattle.chip_asm.specs.Recode.{has_code, is_placed_at, is_encoded_again, code_among}
-use Rattle.chip_asm.specs.Traits.{traits_of}
+use Rattle.chip_asm.specs.inner.Recode.{has_code, is_placed_at, is_encoded_again, code_among}
+use Rattle.chip_asm.specs.inner.Traits.{traits_of}
 use Rattle.chip_asm.specs.Work.{needs_count}
-use Rattle.chip_asm.specs.Records.{reading_in, readings_in, texts_in}
+use Rattle.chip_asm.specs.inner.Records.{reading_in, readings_in, texts_in}
 use Rattle.chip_asm.proofs.EditTexts.{read-set, traits-set}
 use Rattle.chip_asm.proofs.ImageSteps.{About, about, fault-kept, bytes-kept}
 use Rattle.chip_asm.proofs.ImageWhole.{covers-none}

@@ -7,9 +7,9 @@ use Rattle.std.proofs.lemmas.List.{get_or-set_same, get_or-set_other, get_or-tak
 use Rattle.std.proofs.Math.Seq.{map-set_same}
 use Rattle.chip_lang.specs.declared.code.Coded.{Coded}
 use Rattle.chip_asm.specs.declared.kept_line.KeptLine.{KeptLine}
-use Rattle.chip_asm.specs.Records.{reading_in, readings_in, texts_in}
-use Rattle.chip_asm.specs.Recode.{code_at}
-use Rattle.chip_asm.specs.Kept.{IsMerged}
+use Rattle.chip_asm.specs.inner.Records.{reading_in, readings_in, texts_in}
+use Rattle.chip_asm.specs.inner.Recode.{code_at}
+use Rattle.chip_asm.specs.inner.Kept.{IsMerged}
 
 new-by : (was lines : List KeptLine) (fresh : List (ℕ × Coded)) (e : ℕ × Coded) (k : ℕ) (d x : KeptLine) (here : Bool) → eqb k e.0 ≡ here → IsMerged was fresh lines
     → e.0 < length lines → k < length was

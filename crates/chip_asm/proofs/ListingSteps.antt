@@ -12,8 +12,8 @@ use Rattle.chip_asm.specs.declared.placement.Placement.{Placement}
 use Rattle.chip_asm.specs.Layout.{Placed, placed, body_of}
 use Rattle.chip_asm.specs.Listing.{bytes_shown, field_shown, more_shown, shown, line_shown, lines_shown}
 use Rattle.chip_asm.specs.Program.{fault_of, code_under, bytes_in_code}
-use Rattle.chip_asm.specs.Records.{reading_in, readings_in, texts_in}
-use Rattle.chip_asm.specs.KeptCodes.{kept_fault, kept_bytes}
+use Rattle.chip_asm.specs.inner.Records.{reading_in, readings_in, texts_in}
+use Rattle.chip_asm.specs.inner.KeptCodes.{kept_fault, kept_bytes}
 use Rattle.chip_asm.proofs.ImageSteps.{About, fault-kept, bytes-live}
 
 one-byte : (b : ℕ) → flat_map hex_byte (b ∷ []) ≡ hex_byte b

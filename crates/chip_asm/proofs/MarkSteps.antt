@@ -9,9 +9,9 @@ use Rattle.chip_asm.specs.declared.block.Block.{Block}
 use Rattle.chip_asm.specs.declared.placement.Placement.{Placement}
 use Rattle.chip_asm.specs.Layout.{Placed, placed, has_ended, enclosing}
 use Rattle.chip_asm.specs.Program.{is_unclosed}
-use Rattle.chip_asm.specs.Follows.{block_of, placement_of}
-use Rattle.chip_asm.specs.Layouts.{first_placements, placements_of, final_placement}
-use Rattle.chip_asm.specs.Marks.{marked}
+use Rattle.chip_asm.specs.inner.Follows.{block_of, placement_of}
+use Rattle.chip_asm.specs.inner.Layouts.{first_placements, placements_of, final_placement}
+use Rattle.chip_asm.specs.inner.Marks.{marked}
 use Rattle.chip_asm.proofs.BlockSteps.{reverse-cons}
 
 or_swap : (a b : Bool) → (a || (b || false)) ≡ (b || a)

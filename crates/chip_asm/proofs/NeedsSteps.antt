@@ -10,11 +10,11 @@ use Rattle.chip_lang.specs.Line.{Reading}
 use Rattle.chip_lang.specs.Uses.{agree_on}
 use Rattle.chip_asm.specs.Names.{values_of}
 use Rattle.chip_asm.specs.Layout.{Placed, placed, place}
-use Rattle.chip_asm.specs.Layouts.{placements_of, final_placement}
-use Rattle.chip_asm.specs.Placements.{is_placed}
+use Rattle.chip_asm.specs.inner.Layouts.{placements_of, final_placement}
+use Rattle.chip_asm.specs.inner.Placements.{is_placed}
 use Rattle.chip_asm.specs.Program.{names_of_lines}
 use Rattle.chip_asm.specs.Work.{needs, needs_count, is_accepted_at, is_accepted_in, accepted_lines}
-use Rattle.chip_asm.specs.Recode.{count_again, is_encoded_again, is_placed_at}
+use Rattle.chip_asm.specs.inner.Recode.{count_again, is_encoded_again, is_placed_at}
 use Rattle.chip_asm.proofs.BlockSteps.{reverse-cons}
 use Rattle.chip_asm.proofs.Placing.{onto}
 

@@ -6,9 +6,9 @@ use Rattle.chip_asm.specs.declared.block.Block.{Block}
 use Rattle.chip_asm.specs.declared.pass.Pass.{Pass}
 use Rattle.chip_asm.specs.declared.placement.Placement.{Placement}
 use Rattle.chip_asm.specs.Layout.{Placed, is_if_body, place, placed, body_of, is_live, first_fault, full_size, symbols, is_aligning, address, value_at, value_or_zero, is_accepted, is_end_body, fault_of_value, condition_of, symbol_given, enclosing}
-use Rattle.chip_asm.specs.Follows.{Follows, block_of, placement_of, next_address, next_aligning}
-use Rattle.chip_asm.specs.Placements.{is_placed}
-use Rattle.chip_asm.specs.Turns.{moved}
+use Rattle.chip_asm.specs.inner.Follows.{Follows, block_of, placement_of, next_address, next_aligning}
+use Rattle.chip_asm.specs.inner.Placements.{is_placed}
+use Rattle.chip_asm.specs.inner.Turns.{moved}
 use Rattle.chip_asm.proofs.Numbers.{IsNumbered, blocks-cons}
 use Rattle.chip_asm.proofs.PlaceSteps.{address-cons, aligning-cons, has_ended-cons, symbols-cons}
 use Rattle.chip_asm.proofs.Placing.{placed-push, numbered-next, length-placed}

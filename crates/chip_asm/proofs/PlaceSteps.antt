@@ -8,7 +8,7 @@ use Rattle.chip_lang.specs.Line.{Body, align}
 use Rattle.chip_asm.specs.Names.{Name}
 use Rattle.chip_asm.specs.declared.table.Symbol.{Symbol}
 use Rattle.chip_asm.specs.Layout.{Placed, is_end_body, body_of, is_accepted, is_origin, is_align, is_align_body, is_align_off_body, address, is_aligning, has_ended, symbols, symbol_of}
-use Rattle.chip_asm.specs.Follows.{next_aligning}
+use Rattle.chip_asm.specs.inner.Follows.{next_aligning}
 use Rattle.chip_asm.proofs.BlockSteps.{reverse-cons}
 
 take_one_more : {X : Type 0} (n : ℕ) (x : X) (xs : List X) → take (1 + n) (x ∷ xs) ≡ x ∷ take n xs

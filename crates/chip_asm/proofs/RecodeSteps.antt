@@ -17,10 +17,10 @@ use Rattle.chip_lang.specs.Value.{Symbols, value_of_name}
 use Rattle.chip_lang.specs.Uses.{names_used, has_same_value, agree_on}
 use Rattle.chip_lang.specs.Code.{own_bytes, coded, code_of}
 use Rattle.chip_asm.specs.Names.{values_of}
-use Rattle.chip_asm.specs.Traits.{uses_name}
+use Rattle.chip_asm.specs.inner.Traits.{uses_name}
 use Rattle.chip_asm.specs.Layout.{body_of}
 use Rattle.chip_asm.specs.Program.{names_of_lines}
-use Rattle.chip_asm.specs.Recode.{has_code, is_encoded_again, code_among, new_code, codes_placed}
+use Rattle.chip_asm.specs.inner.Recode.{has_code, is_encoded_again, code_among, new_code, codes_placed}
 
 pub count_by-take : {X : Type 0} (p : X → Bool) (xs : List X) (i : ℕ) → count_by p (take i xs) ≤ count_by p xs
 count_by-take p xs zero = omega arith

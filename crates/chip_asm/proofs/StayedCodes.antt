@@ -17,10 +17,10 @@ use Rattle.chip_asm.specs.declared.edit.Edit.{Edit}
 use Rattle.chip_asm.specs.declared.edit.Edit.TheVariants.{Insert, Replace, Delete, Keep}
 use Rattle.chip_asm.specs.Names.{values_of}
 use Rattle.chip_asm.specs.Layout.{body_of}
-use Rattle.chip_asm.specs.Layouts.{placements_of}
+use Rattle.chip_asm.specs.inner.Layouts.{placements_of}
 use Rattle.chip_asm.specs.Program.{names_of_lines}
-use Rattle.chip_asm.specs.Records.{IsPlaceWithin, lines_after, count_after, place_before}
-use Rattle.chip_asm.specs.Recode.{has_code, is_placed_at, is_encoded_again, new_code, new_codes, codes_placed, code_at}
+use Rattle.chip_asm.specs.inner.Records.{IsPlaceWithin, lines_after, count_after, place_before}
+use Rattle.chip_asm.specs.inner.Recode.{has_code, is_placed_at, is_encoded_again, new_code, new_codes, codes_placed, code_at}
 
 some-same : (x y : ℕ) → Some x ≡ Some y → x ≡ y
 some-same x y e = cc

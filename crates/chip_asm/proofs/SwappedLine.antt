@@ -2,7 +2,7 @@
 use Rattle.std.proofs.Common.{◌≡◌, ℕ, zero, suc, ◌+◌, ◌<◌, ◌≤◌, List, [], ◌∷◌, ◌++◌, reverse, length, take, drop, set, get_or, slice_get, fold, refl, ap, sym, ◌∙◌, arith, Some, append_assoc, length-append}
 use Rattle.std.proofs.lemmas.List.{length-take}
 use Rattle.chip_lang.specs.Line.{Reading}
-use Rattle.chip_asm.specs.Effect.{HasSameEffect, HasSameEffectAt}
+use Rattle.chip_asm.specs.inner.Effect.{HasSameEffect, HasSameEffectAt}
 use Rattle.chip_asm.specs.Layout.{Placed, place, placed, address}
 use Rattle.chip_asm.proofs.BlockSteps.{reverse-cons}
 use Rattle.chip_asm.proofs.Bounds.{passes, stands-here}

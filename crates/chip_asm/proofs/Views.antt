@@ -6,7 +6,7 @@ use Rattle.chip_asm.specs.Program.{fault_of_line, fault_at, image_of_lines, imag
 use Rattle.chip_asm.specs.Layout.{placed}
 use Rattle.chip_asm.specs.Listing.{lines_shown, listing_of}
 use Rattle.chip_asm.specs.Changes.{ChangesWithin}
-use Rattle.chip_asm.specs.Records.{readings_in, texts_in}
+use Rattle.chip_asm.specs.inner.Records.{readings_in, texts_in}
 use Rattle.chip_asm.specs.Work.{needs_count, lines_to_encode, accepted_lines, accepted_of}
 
 pub fault-view : (lines : List KeptLine) (texts : List (List ℕ)) (number : ℕ) → readings_in lines ≡ map reading_of (texts_in lines) → texts_in lines ≡ texts → fault_of_line (readings_in lines) number ≡ fault_at texts number

@@ -1,4 +1,4 @@
--- What whole sources are: a reader believes the first group of these files.
+-- What whole sources are: a reader believes these files.
 --     Lines        the lines of a source, and whether it opens
 --     Edits        when an edit is refused
 --     Names        names and tables of names
@@ -8,27 +8,14 @@
 --     Work         which lines an edit makes encode anew
 --     Changes      which places of the image an edit changes
 --     Sources      what contracts see of a source
---   What the functions inside say of what they keep:
---     Turns, Follows, Bare, Placements, Marks, Layouts      the first pass
---     Records, Traits, Recode, Effect, Kept           kept lines and their codes
-pub mod Bare
+--     inner        what the functions inside say of what they keep; no public clause cites it, and a reader may skip it
 pub mod Changes
 pub mod Edits
-pub mod Effect
-pub mod Follows
-pub mod Kept
-pub mod KeptCodes
 pub mod Layout
-pub mod Layouts
 pub mod Lines
 pub mod Listing
-pub mod Marks
 pub mod Names
-pub mod Placements
 pub mod Program
-pub mod Recode
-pub mod Records
 pub mod Sources
-pub mod Traits
-pub mod Turns
 pub mod Work
+pub mod inner

@@ -1,7 +1,7 @@
 //! The open blocks.
 ghost use Rattle.std.specs.Prelude.{◌≡◌, List, OnOk, reverse};
 ghost use Rattle.std.specs.List.{list_all};
-ghost use Rattle.chip_asm.specs.Turns.{turned as turned_block, moved};
+ghost use Rattle.chip_asm.specs.inner.Turns.{turned as turned_block, moved};
 ghost use Rattle.chip_lang.specs.SeenLine.{seen_body};
 ghost use Rattle.chip_asm.specs.declared.block.Block.{Block};
 

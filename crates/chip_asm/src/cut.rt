@@ -5,7 +5,7 @@ ghost use Rattle.std.specs.Str.Lines.{strip_carriage_return};
 ghost use Rattle.chip_lang.specs.Line.{reading_of};
 ghost use Rattle.chip_lang.specs.Meter.{one_more};
 ghost use Rattle.chip_asm.specs.Lines.{lines_of, open_fault, is_newline, first_text};
-ghost use Rattle.chip_asm.specs.Records.{readings_in, texts_in};
+ghost use Rattle.chip_asm.specs.inner.Records.{readings_in, texts_in};
 ghost use Rattle.chip_asm.specs.declared.refusal.OpenError.{OpenError};
 
 use crate::kept_line::{KeptLine, read_kept};

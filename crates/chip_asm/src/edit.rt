@@ -1,6 +1,6 @@
 //! A change of one line, seen before it is made.
 ghost use Rattle.std.specs.Prelude.{◌≡◌, ◌<◌, ◌≤◌, length, slice_get, slice_set, Some, vec_len, vec_capacity};
-ghost use Rattle.chip_asm.specs.Records.{IsPlaceWithin, lines_after, readings_in, count_after, place_before};
+ghost use Rattle.chip_asm.specs.inner.Records.{IsPlaceWithin, lines_after, readings_in, count_after, place_before};
 ghost use Rattle.chip_lang.specs.SeenLine.{seen_line};
 
 use crate::kept_line::KeptLine;

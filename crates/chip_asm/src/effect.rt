@@ -3,7 +3,7 @@ ghost use Rattle.std.specs.Prelude.{◌≡◌, true};
 ghost use Rattle.std.specs.Option.{option_copied};
 ghost use Rattle.chip_lang.specs.SeenLine.{seen_line, seen_body};
 ghost use Rattle.chip_asm.specs.Layout.{body_of};
-ghost use Rattle.chip_asm.specs.Effect.{is_plain, is_idle, TakesSameSpace, AreAlike, HasSameEffect};
+ghost use Rattle.chip_asm.specs.inner.Effect.{is_plain, is_idle, TakesSameSpace, AreAlike, HasSameEffect};
 
 use crate::pass::{is_data, size_of_body};
 use chip_lang::{Body, Line, defines};

@@ -1,13 +1,13 @@
 //! The image, and the faults of lines, from what is kept.
 ghost use Rattle.std.specs.Prelude.{◌≡◌, ℕ, ◌+◌, ◌-◌, ◌<◌, ◌≤◌, ◌&&◌, nat_le, nat_lt, length, slice_index, if◌then◌else◌, option_map, IfOk, OnOk, ◌++◌, option_to_list, map, vec_len};
 ghost use Rattle.chip_asm.specs.Layout.{body_of, placed};
-ghost use Rattle.chip_asm.specs.Layouts.{IsLayoutOf};
+ghost use Rattle.chip_asm.specs.inner.Layouts.{IsLayoutOf};
 ghost use Rattle.chip_asm.specs.Program.{faults_of_lines, byte_at, fault_of_line};
-ghost use Rattle.chip_asm.specs.Recode.{has_code};
-ghost use Rattle.chip_asm.specs.Records.{reading_in, readings_in};
-ghost use Rattle.chip_asm.specs.Traits.{traits_of};
-ghost use Rattle.chip_asm.specs.Kept.{AreCurrent};
-ghost use Rattle.chip_asm.specs.KeptCodes.{kept_fault, kept_bytes, count_of};
+ghost use Rattle.chip_asm.specs.inner.Recode.{has_code};
+ghost use Rattle.chip_asm.specs.inner.Records.{reading_in, readings_in};
+ghost use Rattle.chip_asm.specs.inner.Traits.{traits_of};
+ghost use Rattle.chip_asm.specs.inner.Kept.{AreCurrent};
+ghost use Rattle.chip_asm.specs.inner.KeptCodes.{kept_fault, kept_bytes, count_of};
 
 use crate::kept_line::KeptLine;
 use crate::layout::Layout;

@@ -1,9 +1,9 @@
 //! The first pass over all lines.
 ghost use Rattle.std.specs.Prelude.{◌≡◌, ◌<◌, ◌≤◌, [], IfOk, length, map, nat_eq};
 ghost use Rattle.std.specs.List.{list_any};
-ghost use Rattle.chip_asm.specs.Marks.{marked};
-ghost use Rattle.chip_asm.specs.Records.{IsPlaceWithin, lines_after, readings_in};
-ghost use Rattle.chip_asm.specs.Traits.{traits_of};
+ghost use Rattle.chip_asm.specs.inner.Marks.{marked};
+ghost use Rattle.chip_asm.specs.inner.Records.{IsPlaceWithin, lines_after, readings_in};
+ghost use Rattle.chip_asm.specs.inner.Traits.{traits_of};
 
 use crate::block::Block;
 use crate::edit::{Edit, count_after, line_after};
@@ -70,10 +70,10 @@ fn mark_unclosed(
 }
 
 impl Layout {
-    ghost use Rattle.chip_asm.specs.Layouts.{IsLayoutOf};
+    ghost use Rattle.chip_asm.specs.inner.Layouts.{IsLayoutOf};
 
     /// The layout of no lines.
-    #[tactic(auto, unfolding(crate::specs::Layout::placed, crate::specs::Layout::address, crate::specs::Layout::symbols, crate::specs::Layouts::placements_of))]
+    #[tactic(auto, unfolding(crate::specs::Layout::placed, crate::specs::Layout::address, crate::specs::Layout::symbols, crate::specs::inner::Layouts::placements_of))]
     pub(crate) fn new(alloc: Global) -> Self
         ensures { IsLayoutOf result [] }
     {

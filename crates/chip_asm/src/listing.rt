@@ -4,11 +4,11 @@ ghost use Rattle.chip_lang.specs.SeenLine.{seen_line};
 ghost use Rattle.std.specs.Fmt.{decimal, signed_decimal};
 ghost use Rattle.chip_lang.specs.Show.{hex_byte, hex_word, hex_digit};
 ghost use Rattle.chip_asm.specs.Layout.{placed, value_given, body_of};
-ghost use Rattle.chip_asm.specs.Layouts.{IsLayoutOf};
+ghost use Rattle.chip_asm.specs.inner.Layouts.{IsLayoutOf};
 ghost use Rattle.chip_asm.specs.Listing.{at_right, at_left, address_shown, bytes_shown, field_shown, more_shown, is_definition, shown, lines_shown};
-ghost use Rattle.chip_asm.specs.Records.{reading_in, readings_in, texts_in};
-ghost use Rattle.chip_asm.specs.Kept.{AreCurrent};
-ghost use Rattle.chip_asm.specs.KeptCodes.{kept_fault, kept_bytes};
+ghost use Rattle.chip_asm.specs.inner.Records.{reading_in, readings_in, texts_in};
+ghost use Rattle.chip_asm.specs.inner.Kept.{AreCurrent};
+ghost use Rattle.chip_asm.specs.inner.KeptCodes.{kept_fault, kept_bytes};
 
 use crate::image::{byte_or_zero, kept_bytes, kept_fault};
 use crate::kept_line::KeptLine;

@@ -1,6 +1,6 @@
 //! The first pass: one line after another.
 ghost use Rattle.std.specs.Prelude.{◌≡◌, ℕ, ◌+◌, ◌-◌, ◌≤◌, ◌<◌, ◌^◌, List, [], ◌∷◌, ◌++◌, OnOk, IfOk, length, reverse, is_some, is_none, unsigned_abs, int_lt, pos, nat_lt, Option, None, Ok, true, false, ◌&&◌, ◌||◌, if◌then◌else◌, option_to_list};
-ghost use Rattle.chip_asm.specs.Bare.{IsBare, fault_of_bare, size_of_bare};
+ghost use Rattle.chip_asm.specs.inner.Bare.{IsBare, fault_of_bare, size_of_bare};
 ghost use Rattle.chip_asm.specs.Layout.{value_at, own_size, is_padded, full_size, is_negative_space, is_backwards, is_past_end, fault_of_value, is_redefinition, is_if_body, body_of, value_or_zero, condition_of, is_org_body, is_end_body, symbol_given};
 ghost use Rattle.chip_lang.specs.SeenLine.{seen_line, seen_body};
 ghost use Rattle.chip_lang.specs.Line.{Reading, empty as empty_body};
@@ -76,9 +76,9 @@ pub(crate) fn is_data(body: &Body) -> bool
 
 impl Pass {
     ghost use Rattle.chip_asm.specs.Layout.{Placed, is_live, is_misplaced, first_fault, symbols, place, placed};
-    ghost use Rattle.chip_asm.specs.Placements.{is_placed};
-    ghost use Rattle.chip_asm.specs.Traits.{traits_of};
-    ghost use Rattle.chip_asm.specs.Follows.{Follows, placement_of, next_address, next_aligning};
+    ghost use Rattle.chip_asm.specs.inner.Placements.{is_placed};
+    ghost use Rattle.chip_asm.specs.inner.Traits.{traits_of};
+    ghost use Rattle.chip_asm.specs.inner.Follows.{Follows, placement_of, next_address, next_aligning};
 
     /// Before the first line, with a table without names.
     #[tactic(auto, unfolding(crate::specs::Layout::address, crate::specs::Layout::is_aligning, crate::specs::Layout::has_ended, crate::specs::Layout::enclosing, crate::specs::Layout::symbols))]

@@ -23,7 +23,7 @@ pub(crate) fn is_passed(live: bool, fault: Option<Fault>) -> bool
 }
 
 impl Placement {
-    ghost use Rattle.chip_asm.specs.Placements.{is_placed};
+    ghost use Rattle.chip_asm.specs.inner.Placements.{is_placed};
 
     /// Whether the line is live and has no fault.
     pub(crate) fn is_accepted(&self) -> bool

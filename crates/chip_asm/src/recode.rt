@@ -4,13 +4,13 @@ ghost use Rattle.chip_lang.specs.Line.{Reading};
 ghost use Rattle.chip_lang.specs.SeenLine.{seen_line};
 ghost use Rattle.chip_lang.specs.Uses.{agree_on};
 ghost use Rattle.chip_lang.specs.Code.{code_of};
-ghost use Rattle.chip_asm.specs.Recode.{has_code, is_placed_at, is_encoded_again, new_codes, count_again};
-ghost use Rattle.chip_asm.specs.Records.{IsPlaceWithin, lines_after, readings_in, place_before};
+ghost use Rattle.chip_asm.specs.inner.Recode.{has_code, is_placed_at, is_encoded_again, new_codes, count_again};
+ghost use Rattle.chip_asm.specs.inner.Records.{IsPlaceWithin, lines_after, readings_in, place_before};
 ghost use Rattle.chip_asm.specs.Layout.{body_of};
-ghost use Rattle.chip_asm.specs.Layouts.{IsLayoutOf};
+ghost use Rattle.chip_asm.specs.inner.Layouts.{IsLayoutOf};
 ghost use Rattle.chip_asm.specs.Names.{values_of};
-ghost use Rattle.chip_asm.specs.Kept.{IsMerged};
-ghost use Rattle.chip_asm.specs.Traits.{traits_of};
+ghost use Rattle.chip_asm.specs.inner.Kept.{IsMerged};
+ghost use Rattle.chip_asm.specs.inner.Traits.{traits_of};
 
 use crate::edit::{Edit, count_after, line_after, place_before};
 use crate::hints::{Hinted, hint_at};
@@ -64,7 +64,7 @@ fn keeps_values(
 }
 
 /// Whether the line at a place of the new source has to be encoded again.
-#[tactic(auto, unfolding(crate::specs::Recode::is_encoded_again))]
+#[tactic(auto, unfolding(crate::specs::inner::Recode::is_encoded_again))]
 fn is_encoded_again(
     old: &Layout,
     new: &Layout,

@@ -38,8 +38,8 @@ impl Model for Source {
 
     ghost Value = { Text };
 
-    ghost use Rattle.chip_asm.specs.Records.{texts_in};
-    ghost use Rattle.chip_asm.specs.Kept.{IsKept};
+    ghost use Rattle.chip_asm.specs.inner.Records.{texts_in};
+    ghost use Rattle.chip_asm.specs.inner.Kept.{IsKept};
 
     ghost view = { λ s. record { lines = texts_in s.kept.lines.items; work = s.meter; first_changed = s.changed.first; end_changed = s.changed.end } };
 

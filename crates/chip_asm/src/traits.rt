@@ -2,11 +2,11 @@
 ghost use Rattle.std.specs.Prelude.{◌≡◌, List, IfOk, IfSome, length, map};
 ghost use Rattle.chip_lang.specs.Line.{Reading};
 ghost use Rattle.chip_lang.specs.SeenLine.{seen_line};
-ghost use Rattle.chip_asm.specs.Bare.{IsBare};
+ghost use Rattle.chip_asm.specs.inner.Bare.{IsBare};
 ghost use Rattle.chip_asm.specs.Layout.{body_of};
-ghost use Rattle.chip_asm.specs.Recode.{has_code};
-ghost use Rattle.chip_asm.specs.Records.{IsPlaceWithin, lines_after, readings_in};
-ghost use Rattle.chip_asm.specs.Traits.{is_bare_line, uses_name, traits_of};
+ghost use Rattle.chip_asm.specs.inner.Recode.{has_code};
+ghost use Rattle.chip_asm.specs.inner.Records.{IsPlaceWithin, lines_after, readings_in};
+ghost use Rattle.chip_asm.specs.inner.Traits.{is_bare_line, uses_name, traits_of};
 ghost use Rattle.chip_asm.specs.declared.kept_line.KeptLine.{KeptLine};
 
 use crate::edit::Edit;

@@ -13,7 +13,7 @@ use Rattle.chip_machine.specs.Start.{start_of, start_core, start_memory}
 use Rattle.chip_machine.specs.ImageLaw.{ImageAndZeros, SameBelowTheImage}
 use Rattle.chip_replay.specs.History.{History}
 use Rattle.chip_replay.specs.Image.{with_image, padded}
-use Rattle.chip_replay.specs.MachineFrame.{memory_of}
+use Rattle.chip_replay.specs.inner.MachineFrame.{memory_of}
 use Rattle.chip_bench.specs.Settings.{SessionSettings}
 use Rattle.chip_bench.specs.Kept.{Replays}
 

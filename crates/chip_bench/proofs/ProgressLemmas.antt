@@ -14,7 +14,7 @@ use Rattle.chip_bench.specs.Lines.{lines, is_newline, complete_lines, unfinished
 use Rattle.chip_bench.specs.Session.{Session}
 use Rattle.chip_bench.specs.Transcript.{reply, after, transcript_of, session_after}
 use Rattle.chip_bench.specs.Serving.{WithinBounds, BeginsWith}
-use Rattle.chip_bench.specs.Progress.{Says, Reached, StoppedAt, Stopped, Went, Carries, Ended}
+use Rattle.chip_bench.specs.inner.Progress.{Says, Reached, StoppedAt, Stopped, Went, Carries, Ended}
 use Rattle.chip_bench.specs.declared.server.Conversation.{Conversation}
 use Rattle.chip_bench.specs.declared.server.Stop.{Stop}
 use Rattle.chip_bench.specs.declared.server.Stop.TheVariants as stop

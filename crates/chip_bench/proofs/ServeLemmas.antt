@@ -9,7 +9,7 @@ use Rattle.chip_bench.specs.Session.{Session}
 use Rattle.chip_bench.specs.Tally.{one_more}
 use Rattle.chip_bench.specs.Transcript.{transcript_of, session_after}
 use Rattle.chip_bench.specs.Serving.{WithinBounds, PassesBound, lines_in_bounds, BeginsWith, Served, Exchanged, Exchanges, Opens, UnlessOpened, reader_failures, writer_failures}
-use Rattle.chip_bench.specs.Progress.{fault_of, failures_after, Reached, Stopped, Carries, Ended}
+use Rattle.chip_bench.specs.inner.Progress.{fault_of, failures_after, Reached, Stopped, Carries, Ended}
 use Rattle.chip_asm.specs.declared.refusal.OpenError.{OpenError}
 use Rattle.chip_bench.specs.declared.server.Conversation.{Conversation}
 use Rattle.chip_bench.specs.declared.server.ServeError.TheVariants as fault

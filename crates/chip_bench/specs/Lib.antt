@@ -20,7 +20,7 @@
 --     Tape         the tape of a seed
 --     Pages        what `explain` prints
 --     Doing        what the program does for each thing that its words can ask for
---     Progress     how far a script has been carried out, for the private contracts behind `serve`
+--     inner        how far a script has been carried out, for the private contracts behind `serve`
 pub mod Tally
 pub mod Lines
 pub mod Settings
@@ -33,7 +33,6 @@ pub mod Commands
 pub mod CommandView
 pub mod Transcript
 pub mod Serving
-pub mod Progress
 pub mod CommandLine
 pub mod Running
 pub mod IsAnswer
@@ -48,3 +47,4 @@ pub mod CommandWords
 pub mod KeyFile
 pub mod Pages
 pub mod Doing
+pub mod inner

@@ -5,7 +5,7 @@ ghost use Rattle.chip_asm.specs.Lines.{open_fault};
 ghost use Rattle.chip_bench.specs.Session.{Session, session_of};
 ghost use Rattle.chip_bench.specs.Transcript.{reply, after, refused};
 ghost use Rattle.chip_bench.specs.Serving.{Served, Exchanges, Opens, UnlessOpened, reader_failures, writer_failures};
-ghost use Rattle.chip_bench.specs.Progress.{fault_of, failures_after, Says, Reached, Carries, Ended};
+ghost use Rattle.chip_bench.specs.inner.Progress.{fault_of, failures_after, Says, Reached, Carries, Ended};
 ghost use Rattle.chip_bench.specs.declared.server.Stop.TheVariants.{OutOfMemory};
 
 use crate::bench::Bench;

@@ -4,7 +4,7 @@ use Rattle.std.proofs.lemmas.List.{at_drop_more}
 use Rattle.std.specs.Str.{bytes_eq}
 use Rattle.chip_lang.specs.declared.keyword.Named.{Named}
 use Rattle.chip_lang.specs.Named.{find_word}
-use Rattle.chip_lang.specs.NamedRow.{row_of}
+use Rattle.chip_lang.specs.inner.NamedRow.{row_of}
 
 pub found_here : {T : Type 0} (names : List (Named T)) (i : ℕ) (w : List ℕ) (d : Named T) → i < length names → bytes_eq (get_or names i d).text.now w ≡ true →
     find_word (map row_of (drop i names)) w ≡ Some (get_or names i d).meaning

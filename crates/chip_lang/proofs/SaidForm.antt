@@ -9,9 +9,9 @@ use Rattle.chip_lang.specs.declared.form.Pattern.{Pattern}
 use Rattle.chip_lang.specs.declared.instr.Instr.{Instr}
 use Rattle.chip_lang.specs.Operand.{Operand}
 use Rattle.chip_lang.specs.Decoding.{decode_of}
-use Rattle.chip_lang.specs.ByDigits.{system_byte_at, system_at, arithmetic_at, key_at, transfer_at, digits_at, instr_at}
+use Rattle.chip_lang.specs.inner.ByDigits.{system_byte_at, system_at, arithmetic_at, key_at, transfer_at, digits_at, instr_at}
 use Rattle.chip_lang.specs.Form.{Row, forms, fits, find_form}
-use Rattle.chip_lang.specs.InstrForm.{row_of_instr, HasWord, DecodesTo}
+use Rattle.chip_lang.specs.inner.InstrForm.{row_of_instr, HasWord, DecodesTo}
 use Rattle.chip_lang.specs.Value.{Symbols}
 use Rattle.chip_lang.specs.Show.{gives, form_shown}
 use Rattle.chip_lang.proofs.Decoding.{of_digits, decode_by_digits}

@@ -6,10 +6,10 @@ use Rattle.std.proofs.lemmas.Bool.{and_parts}
 use Rattle.chip_lang.specs.declared.instr.Instr.{Instr}
 use Rattle.chip_lang.specs.declared.instr.Instr.TheVariants.{ScrollDown, ClearScreen, Return, ScrollRight, ScrollLeft, Exit, LowSize, HighSize, SkipIfEqual, Copy, Or, And, Xor, Add, Subtract, ShiftRight, SubtractFrom, ShiftLeft, SkipUnlessEqual, SkipIfKey, SkipUnlessKey, ReadDelay, WaitKey, SetDelay, SetSound, AddIndex, SmallDigit, BigDigit, StoreDecimal, StoreRegisters, LoadRegisters, StoreFlags, LoadFlags}
 use Rattle.chip_lang.specs.Decoding.{decode_of}
-use Rattle.chip_lang.specs.ByDigits.{system_byte_at, system_at, arithmetic_at, key_at, transfer_at, instr_at}
+use Rattle.chip_lang.specs.inner.ByDigits.{system_byte_at, system_at, arithmetic_at, key_at, transfer_at, instr_at}
 use Rattle.chip_lang.proofs.Decoding.{decode_by_digits, ◌&◌, top_rows, if_holds, chosen_holds, EachHolds}
 use Rattle.chip_lang.specs.Form.{Row, forms}
-use Rattle.chip_lang.specs.InstrForm.{row_of_instr}
+use Rattle.chip_lang.specs.inner.InstrForm.{row_of_instr}
 use Rattle.chip_lang.specs.Show.{gives, form_shown}
 use Rattle.chip_lang.proofs.Digits.{digit, has_digits, is_proper, forms_proper, gives_digits}
 use Rattle.chip_lang.proofs.Sound.{equal}

@@ -9,7 +9,7 @@ use Rattle.chip_lang.specs.Reserved.{is_reserved}
 use Rattle.std.proofs.Common.{take, drop, Result, Ok, Err}
 use Rattle.std.specs.declared.alloc.AllocError.{AllocError}
 use Rattle.std.specs.Result.{IfOk}
-use Rattle.chip_lang.specs.Seen.{Answer, seen}
+use Rattle.chip_lang.specs.inner.Seen.{Answer, seen}
 use Rattle.chip_lang.proofs.Scan.{to_end}
 use Rattle.chip_lang.specs.Parse.{Parsed, front_prefix, front_operator, after, below, on_found, closed, prefixed, with_right, parse, further, sign_then, unless_sign, prefixes, after_prefixes, signed}
 

@@ -6,7 +6,7 @@ ghost use Rattle.std.specs.Option.{option_copied};
 ghost use Rattle.chip_lang.specs.FaultPlace.{is_bad, leftmost_bad, deepest, statement_at, operands_at, name_at, bad_name_at, is_fit, before_misfit, misfit_from, misfit, takes_values, is_misplaced, wrong_in_word, wrong_in_statement, wrong, place_of_fault, end_of, span_of_place, span_of_fault, mnemonic_at, mnemonic_of, name_in, name_of_token};
 ghost use Rattle.chip_lang.specs.Line.{pieces};
 ghost use Rattle.chip_lang.specs.Scan.{AreTokens};
-ghost use Rattle.chip_lang.specs.SeenShape.{seen_shape};
+ghost use Rattle.chip_lang.specs.inner.SeenShape.{seen_shape};
 
 use crate::bytes::Bytes;
 use crate::directive::Directive;

@@ -3,7 +3,7 @@
 ghost use Rattle.std.specs.Prelude.{◌≡◌, ◌≢◌, ◌<◌, ◌+◌, ◌*◌, ◌^◌, ◌/◌, ◌%◌, IfSome, ℕ};
 ghost use Rattle.chip_lang.specs.Word.{xyn, with_byte, with_address, word_of, Fits};
 ghost use Rattle.chip_lang.specs.Decoding.{decode_of};
-ghost use Rattle.chip_lang.specs.ByDigits.{system_byte_at, system_at, arithmetic_at, key_at, transfer_at, instr_at};
+ghost use Rattle.chip_lang.specs.inner.ByDigits.{system_byte_at, system_at, arithmetic_at, key_at, transfer_at, instr_at};
 ghost use Rattle.chip_lang.specs.declared.instr.Instr.{Instr};
 
 use crate::number::{Addr, Nibble, Reg};
@@ -214,7 +214,7 @@ fn instr_of(w: u16) -> Option<Instr>
     }
 }
 
-#[tactic(auto, unfolding(crate::specs::ByDigits::system_at))]
+#[tactic(auto, unfolding(crate::specs::inner::ByDigits::system_at))]
 fn system(x: Reg, y: Reg, n: Nibble, byte: u8) -> Option<Instr>
     requires { byte ≡ 16 * y + n }
     ensures found { IfSome result (λ i. Fits i × (word_of i ≡ xyn 0 x y n)) }
@@ -229,7 +229,7 @@ fn system(x: Reg, y: Reg, n: Nibble, byte: u8) -> Option<Instr>
     }
 }
 
-#[tactic(auto, unfolding(crate::specs::ByDigits::system_byte_at))]
+#[tactic(auto, unfolding(crate::specs::inner::ByDigits::system_byte_at))]
 fn system_byte(byte: u8) -> Option<Instr>
     ensures found { IfSome result (λ i. Fits i × (word_of i ≡ byte)) }
     ensures value { result ≡ system_byte_at byte }
@@ -246,7 +246,7 @@ fn system_byte(byte: u8) -> Option<Instr>
     }
 }
 
-#[tactic(auto, unfolding(crate::specs::ByDigits::arithmetic_at))]
+#[tactic(auto, unfolding(crate::specs::inner::ByDigits::arithmetic_at))]
 fn arithmetic(x: Reg, y: Reg, n: Nibble) -> Option<Instr>
     ensures found { IfSome result (λ i. Fits i × (word_of i ≡ xyn 8 x y n)) }
     ensures value { result ≡ arithmetic_at x y n }
@@ -265,7 +265,7 @@ fn arithmetic(x: Reg, y: Reg, n: Nibble) -> Option<Instr>
     }
 }
 
-#[tactic(auto, unfolding(crate::specs::ByDigits::key_at))]
+#[tactic(auto, unfolding(crate::specs::inner::ByDigits::key_at))]
 fn key(x: Reg, byte: u8) -> Option<Instr>
     ensures found { IfSome result (λ i. Fits i × (word_of i ≡ with_byte 14 x byte)) }
     ensures value { result ≡ key_at x byte }
@@ -277,7 +277,7 @@ fn key(x: Reg, byte: u8) -> Option<Instr>
     }
 }
 
-#[tactic(auto, unfolding(crate::specs::ByDigits::transfer_at))]
+#[tactic(auto, unfolding(crate::specs::inner::ByDigits::transfer_at))]
 fn transfer(x: Reg, byte: u8) -> Option<Instr>
     ensures found { IfSome result (λ i. Fits i × (word_of i ≡ with_byte 15 x byte)) }
     ensures value { result ≡ transfer_at x byte }

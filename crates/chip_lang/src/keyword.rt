@@ -2,7 +2,7 @@
 
 ghost use Rattle.std.specs.Prelude.{◌≡◌, map};
 ghost use Rattle.chip_lang.specs.Named.{find_word};
-ghost use Rattle.chip_lang.specs.NamedRow.{row_of};
+ghost use Rattle.chip_lang.specs.inner.NamedRow.{row_of};
 ghost use Rattle.chip_lang.specs.Keyword.{directives, specials, directive_of, special_of, register_of, register_named};
 
 use crate::directive::Directive;

@@ -15,7 +15,7 @@ ghost use Rattle.std.specs.Prelude.{true, ◌≢◌, ◌<◌, ◌≤◌, ◌*◌
 ghost use Rattle.std.specs.List.{list_all, filter};
 ghost use Rattle.chip_lang.specs.Operand.{Operand};
 ghost use Rattle.chip_lang.specs.Decoding.{decode_of};
-ghost use Rattle.chip_lang.specs.InstrForm.{row_of_instr, HasWord, DecodesTo};
+ghost use Rattle.chip_lang.specs.inner.InstrForm.{row_of_instr, HasWord, DecodesTo};
 ghost use Rattle.std.specs.Option.{option_map};
 ghost use Rattle.chip_lang.specs.Form.{Row, forms, fits};
 ghost use Rattle.chip_lang.specs.Encoding.{word_of_form};

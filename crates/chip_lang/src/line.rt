@@ -4,7 +4,7 @@ ghost use Rattle.std.specs.Prelude.{◌≡◌, ◌≤◌, ◌*◌, IfOk, length}
 ghost use Rattle.std.specs.Option.{option_copied};
 ghost use Rattle.chip_lang.specs.Line.{bad_token, too_deep, front_directive, statement_of, begins_with_no_word, begins_with_unknown_word, faults_in_order, first_fault, reading_of_tokens, reading_of};
 ghost use Rattle.chip_lang.specs.SeenLine.{seen_line};
-ghost use Rattle.chip_lang.specs.SeenShape.{seen_shape};
+ghost use Rattle.chip_lang.specs.inner.SeenShape.{seen_shape};
 ghost use Rattle.chip_lang.specs.Uses.{names_used};
 ghost use Rattle.chip_lang.specs.Meter.{one_more};
 

@@ -4,7 +4,7 @@ ghost use Rattle.std.specs.Prelude.{◌≡◌, length, option_to_list};
 ghost use Rattle.std.specs.List.{list_any};
 ghost use Rattle.std.specs.Option.{option_copied};
 ghost use Rattle.chip_lang.specs.Line.{is_equ, after_label, shape_of, is_bad_name, statement_of, front_directive, by_define, names_of, first_name};
-ghost use Rattle.chip_lang.specs.SeenShape.{seen_shape};
+ghost use Rattle.chip_lang.specs.inner.SeenShape.{seen_shape};
 
 use crate::bytes::Bytes;
 use crate::directive::Directive;

@@ -6,7 +6,7 @@ ghost use Rattle.std.specs.Str.{bytes_eq};
 ghost use Rattle.std.specs.Option.{option_map};
 ghost use Rattle.chip_lang.specs.Decoding.{decode_of};
 ghost use Rattle.chip_lang.specs.Form.{row_of_form, option_row};
-ghost use Rattle.chip_lang.specs.InstrForm.{row_of_instr};
+ghost use Rattle.chip_lang.specs.inner.InstrForm.{row_of_instr};
 ghost use Rattle.chip_lang.specs.Show.{hex_digit, hex_byte, hex_address, hex_word, small_decimal, register_text, field_in, part_in, parts_in, gives, form_shown, operand_text, operands_text, form_text, show_of};
 
 use crate::form::{FORMS, Form, Pattern};

@@ -4,7 +4,7 @@ ghost use Rattle.std.specs.Prelude.{◌≡◌, ℕ, Bool, List, Some, None, IfOk
 ghost use Rattle.std.specs.Option.{option_copied};
 ghost use Rattle.chip_lang.specs.Line.{one_text, one_name, one_switch, is_known_option, directive_body, takes_label, is_outside, is_skipped, instruction_body, statement_of, front_directive, statement_body, body_of_shape};
 ghost use Rattle.chip_lang.specs.SeenLine.{seen_statement};
-ghost use Rattle.chip_lang.specs.SeenShape.{seen_shape};
+ghost use Rattle.chip_lang.specs.inner.SeenShape.{seen_shape};
 
 use crate::bytes::Bytes;
 use crate::directive::Directive;

@@ -11,7 +11,7 @@ use Rattle.std.proofs.lemmas.Bool.{false≢true, or_cases, and_parts, and_from, 
 use Rattle.std.proofs.lemmas.List.Folds.{list_any-append}
 use Rattle.chip_machine.specs.Scroll.{scrolled_down, scrolled_right, scrolled_left}
 use Rattle.chip_machine.specs.Points.{Point, Points, point_cmp, is_lit, rectangle, points_where, symmetric_difference, meets, IsOnScreen}
-use Rattle.chip_machine.specs.Stored.{differ, any_below}
+use Rattle.chip_machine.specs.inner.Stored.{differ, any_below}
 
 pub point_total : IsTotalOrder point_cmp
 point_total = then_total (on_total (λ (p : Point). p.0) nat_cmp_total) (on_total (λ (p : Point). p.1) nat_cmp_total)

@@ -6,7 +6,7 @@ use Rattle.chip_machine.specs.State.{overwrite}
 use Rattle.chip_machine.specs.Digits.{small_shapes, big_shapes, bytes_of}
 use Rattle.chip_machine.specs.Start.{with_image, zeros}
 use Rattle.chip_machine.specs.ImageLaw.{ImageAndZeros, SameBelowTheImage}
-use Rattle.chip_machine.specs.Overwritten.{length-overwrite}
+use Rattle.chip_machine.specs.inner.Overwritten.{length-overwrite}
 
 -- what stands before the bytes that were written stays
 pub take-overwrite : (m : List ℕ) (i : ℕ) (bytes : List ℕ) → i ≤ length m → take i (overwrite m i bytes) ≡ take i m

@@ -1,6 +1,5 @@
 -- What the machine is and does:
 --   Points    the screen as the set of its lit points
---   Stored    which points 64 rows of 128 bits light
 --   Sprite    the points that a sprite covers
 --   Scroll    the lit points moved down, right or left
 --   Digits    the shapes of the digits
@@ -15,22 +14,14 @@
 --   ImageLaw  what the image is in the memory at the start
 --   Limits    the size of the memory and where the image stands
 --   Numbers   the numbers of stop causes and of errors at the start
---   Codes     how a state is stored as data
--- The rest are proofs, which a reader may skip. They stand here for a crate above whose trait asks for them as its laws:
---   Overwritten   memory after bytes were written, address by address
---   FrameTheorem  the frame law holds, and a step keeps a state proper
---   KeylessTheorem  a step that doesn't read the keys doesn't depend on them
+--   inner     how a state is stored, and proofs that a trait above asks for as its laws; a reader may skip it
 pub mod Block
-pub mod Codes
 pub mod Digits
 pub mod Frame
-pub mod FrameTheorem
 pub mod ImageLaw
 pub mod Keyless
-pub mod KeylessTheorem
 pub mod Limits
 pub mod Numbers
-pub mod Overwritten
 pub mod Points
 pub mod Profile
 pub mod Scroll
@@ -38,5 +29,5 @@ pub mod Sprite
 pub mod Start
 pub mod State
 pub mod Step
-pub mod Stored
 pub mod Touched
+pub mod inner

@@ -5,7 +5,7 @@ ghost use Rattle.chip_machine.specs.Step.{reg, with_reg, with_flag, go_to, skip_
 ghost use Rattle.chip_machine.specs.Profile.{by_profile};
 ghost use Rattle.chip_machine.specs.Points.{is_lit, IsOnScreen};
 ghost use Rattle.chip_machine.specs.Sprite.{sprite_bytes};
-ghost use Rattle.chip_machine.specs.Stored.{lights};
+ghost use Rattle.chip_machine.specs.inner.Stored.{lights};
 ghost use Rattle.chip_machine.specs.Scroll.{scrolled_down, scrolled_right, scrolled_left};
 ghost use Rattle.std.specs.FinSet as set;
 ghost use Rattle.chip_machine.specs.Start.{IsTape, start_core};
@@ -45,7 +45,7 @@ impl Model for Processor {
     ghost use Rattle.std.specs.Prelude.{◌≡◌, ◌<◌, ◌≤◌, ◌%◌, length, take};
     ghost use Rattle.std.specs.Rc.{rc_slice_items};
     ghost use Rattle.chip_machine.specs.State.{Core};
-    ghost use Rattle.chip_machine.specs.Codes.{core_code};
+    ghost use Rattle.chip_machine.specs.inner.Codes.{core_code};
     ghost use Rattle.chip_machine.specs.declared.limits.TheConstants.{FRAMES, TAPE_BYTES};
 
     ghost Value = { Core };

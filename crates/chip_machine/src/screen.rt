@@ -3,7 +3,7 @@
 ghost use Rattle.std.specs.Prelude.{◌≡◌, ℕ, ◌+◌, ◌-◌, ◌*◌, ◌/◌, ◌%◌, ◌<◌, ◌≤◌, Bool, true, false, ◌&&◌, ◌||◌, ◌==◌, length, slice_index, slice_index_or, IfOk, ◌^◌, IsTrue, ◌↔◌};
 ghost use Rattle.std.specs.FinSet as set;
 ghost use Rattle.chip_machine.specs.Points.{Points, points_code, is_lit, IsOnScreen, symmetric_difference, meets};
-ghost use Rattle.chip_machine.specs.Stored.{in_rows, lights, differ, any_below};
+ghost use Rattle.chip_machine.specs.inner.Stored.{in_rows, lights, differ, any_below};
 ghost use Rattle.chip_machine.specs.Sprite.{StartsRight, covers_by_length, covers, covered_by_length, scale};
 ghost use Rattle.chip_machine.specs.Scroll.{scrolled_down, scrolled_right, scrolled_left};
 

@@ -2,7 +2,7 @@
 
 ghost use Rattle.std.specs.Prelude.{◌≡◌, ℕ, ◌+◌, ◌-◌, ◌*◌, ◌/◌, ◌%◌, ◌<◌, ◌≤◌, false, ◌==◌, slice_index, ◌^◌, ◌↔◌, IsTrue, length};
 ghost use Rattle.std.specs.Int.{bit_at};
-ghost use Rattle.chip_machine.specs.Stored.{lights};
+ghost use Rattle.chip_machine.specs.inner.Stored.{lights};
 ghost use Rattle.chip_machine.specs.Sprite.{StartsRight, covers_by_length, covers, is_set, row_bytes_by_length, scale, sprite_bytes};
 
 use crate::doubled::DOUBLED;

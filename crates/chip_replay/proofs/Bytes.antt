@@ -4,10 +4,10 @@ use Rattle.std.specs.Prelude.{replicate, if◌then◌else◌}
 use Rattle.std.proofs.lemmas.List.{ext_get_or, get_or_append_left, get_or-append_right, get_or_past, get_or-replicate, length-replicate}
 use Rattle.std.proofs.lemmas.Bool.{cases_lt, cases_eq}
 use Rattle.std.proofs.lemmas.Bool.Decides.{nat_tests}
-use Rattle.chip_replay.specs.Machine.{poked}
+use Rattle.chip_replay.specs.inner.Machine.{poked}
 use Rattle.chip_replay.proofs.OneByte.{IsMemory}
 use Rattle.chip_replay.specs.Image.{differs, padded, with_image}
-use Rattle.chip_replay.specs.Patch.{patched_below, patched}
+use Rattle.chip_replay.specs.inner.Patch.{patched_below, patched}
 use Rattle.chip_replay.specs.Limits.{image_room, image_start, memory_size}
 
 length-padded : (image : List ℕ) → length image ≤ image_room → length (padded image) ≡ image_room

@@ -13,7 +13,7 @@ use Rattle.chip_replay.proofs.OneByte.{ByteLaw, KeepsProper, IsTraced, byte_law,
 use Rattle.chip_replay.proofs.Spaced.{multiple_within, div_mono}
 use Rattle.chip_replay.specs.Run.{run, ticks, first_below}
 use Rattle.chip_replay.specs.Image.{differs, affected, touches_change}
-use Rattle.chip_replay.specs.Patch.{patched}
+use Rattle.chip_replay.specs.inner.Patch.{patched}
 use Rattle.chip_replay.specs.History.{IsFirst, IsSound, IsLent, IsCutBack}
 use Rattle.chip_replay.proofs.Patched.{AllUntouched, run-patched, run-proper, patched_below-proper, patched_below-touches}
 use Rattle.chip_replay.specs.Limits.{image_room, image_start, memory_size, never}

@@ -6,7 +6,7 @@ use Rattle.std.proofs.lemmas.List.Folds.{list_any_at, Any-from_list_any}
 use Rattle.std.proofs.lemmas.Bool.{cases_eq, false≢true}
 use Rattle.std.proofs.lemmas.Bool.Decides.{nat_tests}
 use Rattle.chip_machine.specs.Touched.{is_among, touched}
-use Rattle.chip_replay.specs.Machine.{poked}
+use Rattle.chip_replay.specs.inner.Machine.{poked}
 use Rattle.chip_replay.specs.Frame.{AgreeOff, IsFramed}
 use Rattle.chip_replay.specs.Limits.{memory_size}
 

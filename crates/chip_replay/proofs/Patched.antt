@@ -2,11 +2,11 @@
 use Rattle.std.proofs.Common.{◌≡◌, ℕ, zero, suc, ◌+◌, ◌<◌, ◌≤◌, Bool, true, false, cond, List, slice_index, refl, sym, ap, ◌∙◌, arith, inl, inr}
 use Rattle.std.proofs.lemmas.Bool.{cases_eq}
 use Rattle.std.proofs.lemmas.Bool.Decides.{nat_tests}
-use Rattle.chip_replay.specs.Machine.{poked}
+use Rattle.chip_replay.specs.inner.Machine.{poked}
 use Rattle.chip_replay.proofs.OneByte.{ByteLaw, KeepsProper}
 use Rattle.chip_replay.specs.Run.{run, ticks}
 use Rattle.chip_replay.specs.Image.{differs}
-use Rattle.chip_replay.specs.Patch.{patched_below, patched}
+use Rattle.chip_replay.specs.inner.Patch.{patched_below, patched}
 use Rattle.chip_replay.specs.Limits.{image_room, image_start}
 
 module _ {S : Type 0} (memory : S → List ℕ) (with_memory : S → List ℕ → S) (proper : S → Type 0) (touches : S → ℕ → Bool) (after : S → ℕ → Bool → S) (frame : ByteLaw memory with_memory proper touches after) (keeps : KeepsProper memory with_memory proper touches after) where

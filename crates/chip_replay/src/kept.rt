@@ -7,7 +7,7 @@ ghost use Rattle.chip_replay.specs.Run.{run, GoesOn};
 ghost use Rattle.chip_replay.specs.Keys.{Events, held};
 ghost use Rattle.chip_replay.specs.Changes.{KnowsKeys};
 ghost use Rattle.chip_replay.specs.Image.{differs, AgreeOutside};
-ghost use Rattle.chip_replay.specs.Patch.{patched};
+ghost use Rattle.chip_replay.specs.inner.Patch.{patched};
 ghost use Rattle.chip_replay.specs.History.{AreFirst, IsSound, IsLent, IsCutBack, IsHolding};
 
 use crate::keys::{Holding, Keys};

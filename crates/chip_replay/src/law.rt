@@ -5,7 +5,7 @@ ghost use Rattle.chip_replay.specs.Limits.{image_start, image_room};
 ghost use Rattle.chip_replay.specs.Run.{run};
 ghost use Rattle.chip_machine.specs.Touched.{touched};
 ghost use Rattle.chip_replay.specs.Image.{differs, padded, with_image};
-ghost use Rattle.chip_replay.specs.Patch.{patched};
+ghost use Rattle.chip_replay.specs.inner.Patch.{patched};
 
 use crate::traced::Traced;
 

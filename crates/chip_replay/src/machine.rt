@@ -10,8 +10,8 @@ impl Traced for Machine {
     ghost use Rattle.chip_machine.specs.State.{IsProper, with_memory as machine_with_memory};
     ghost use Rattle.chip_machine.specs.Step.{step_of as machine_step, touches as machine_touches};
     ghost use Rattle.chip_machine.specs.Keyless.{reads_keys as machine_reads_keys};
-    ghost use Rattle.chip_machine.specs.KeylessTheorem.{keyless_step as machine_keyless_step};
-    ghost use Rattle.chip_replay.specs.MachineFrame.{memory_of, machine_framed, machine_step_keeps};
+    ghost use Rattle.chip_machine.specs.inner.KeylessTheorem.{keyless_step as machine_keyless_step};
+    ghost use Rattle.chip_replay.specs.inner.MachineFrame.{memory_of, machine_framed, machine_step_keeps};
 
     ghost step_of = { machine_step };
 

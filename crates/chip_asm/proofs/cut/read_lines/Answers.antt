@@ -7,7 +7,7 @@ use Rattle.chip_lang.specs.Meter.{one_more}
 use Rattle.chip_asm.specs.declared.kept_line.KeptLine.{KeptLine}
 use Rattle.chip_asm.specs.declared.refusal.OpenError.TheVariants.{LineTooLong}
 use Rattle.chip_asm.specs.Lines.{lines_of, first_text, is_newline, is_long}
-use Rattle.chip_asm.specs.Records.{texts_in}
+use Rattle.chip_asm.specs.inner.Records.{texts_in}
 use Rattle.chip_asm.proofs.CutSteps.{AllShort, lines-next, too-long, too-many, opens, some-bytes, no-lines, long-is, short-is, short-push}
 use Rattle.chip_asm.proofs.cut.read_lines.Goals as goal
 

@@ -2,7 +2,7 @@ use Rattle.std.proofs.Common.{◌≡◌, ◌≤◌, ◌++◌, length, map}
 use Rattle.chip_asm.specs.declared.limits.TheConstants.{MOST_LINES}
 use Rattle.chip_lang.specs.Line.{reading_of}
 use Rattle.chip_asm.specs.Lines.{lines_of}
-use Rattle.chip_asm.specs.Records.{readings_in, texts_in}
+use Rattle.chip_asm.specs.inner.Records.{readings_in, texts_in}
 use Rattle.chip_asm.proofs.CutSteps.{AllShort}
 use Rattle.chip_asm.proofs.cut.read_lines.Given as goal
 

@@ -1,6 +1,6 @@
 use Rattle.std.proofs.Common.{◌≡◌, ◌∙◌, ◌+◌, ◌-◌, ap, arith}
 use Rattle.chip_asm.specs.Program.{fault_of_line}
-use Rattle.chip_asm.specs.Records.{readings_in}
+use Rattle.chip_asm.specs.inner.Records.{readings_in}
 use Rattle.chip_asm.proofs.ImageSteps.{about, fault-at}
 use Rattle.chip_asm.proofs.ImageWhole.{length-kept, fault-above}
 use Rattle.chip_asm.proofs.image.fault_of_number.Goals as goal

@@ -1,7 +1,7 @@
 use Rattle.std.proofs.Common.{◌∙◌, ◌++◌, ap, sym, arith, option_map, option_to_list, filter_map, take, reverse}
 use Rattle.chip_asm.specs.Layout.{placed}
 use Rattle.chip_asm.specs.Program.{numbered_fault}
-use Rattle.chip_asm.specs.Records.{readings_in}
+use Rattle.chip_asm.specs.inner.Records.{readings_in}
 use Rattle.chip_asm.proofs.ImageSteps.{About, about}
 use Rattle.chip_asm.proofs.ImageWhole.{length-kept, faults-more, faults-all}
 use Rattle.chip_asm.proofs.image.faults_in.Goals as goal

@@ -1,7 +1,7 @@
 use Rattle.std.proofs.Common.{◌∙◌, ◌+◌, ◌≤◌, ◌<◌, arith, length, sym, ap, refl, get_or, reverse, take}
 use Rattle.chip_lang.specs.declared.limits.TheConstants.{IMAGE_START, MEMORY_BYTES}
-use Rattle.chip_asm.specs.Records.{reading_in, readings_in}
-use Rattle.chip_asm.specs.Traits.{traits_of}
+use Rattle.chip_asm.specs.inner.Records.{reading_in, readings_in}
+use Rattle.chip_asm.specs.inner.Traits.{traits_of}
 use Rattle.std.proofs.lemmas.List.{get_or-map, length-map}
 use Rattle.chip_asm.specs.Layout.{placed}
 use Rattle.chip_asm.proofs.ImageSteps.{About, about}

@@ -1,8 +1,8 @@
 use Rattle.std.proofs.Common.{◌≡◌, ◌∙◌, ◌++◌, ap, sym, arith}
 use Rattle.chip_asm.specs.Layout.{body_of}
 use Rattle.chip_asm.specs.Listing.{shown, field_shown, more_shown}
-use Rattle.chip_asm.specs.Records.{reading_in}
-use Rattle.chip_asm.specs.KeptCodes.{kept_fault, kept_bytes}
+use Rattle.chip_asm.specs.inner.Records.{reading_in}
+use Rattle.chip_asm.specs.inner.KeptCodes.{kept_fault, kept_bytes}
 use Rattle.chip_asm.specs.declared.placement.Placement.{Placement}
 use Rattle.chip_asm.specs.declared.kept_line.KeptLine.{KeptLine}
 use Rattle.chip_asm.proofs.ImageSteps.{About, about}

@@ -3,7 +3,7 @@ use Rattle.std.proofs.lemmas.Int.{to_z-of_z}
 use Rattle.std.specs.Fmt.{signed_decimal}
 use Rattle.chip_asm.specs.Layout.{body_of, value_given}
 use Rattle.chip_asm.specs.Listing.{is_definition}
-use Rattle.chip_asm.specs.Records.{reading_in}
+use Rattle.chip_asm.specs.inner.Records.{reading_in}
 use Rattle.chip_asm.proofs.listing.push_field.Goals as goal
 
 pub returns-then-is_definition : goal.returns-then-is_definition

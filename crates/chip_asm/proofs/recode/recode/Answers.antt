@@ -4,8 +4,8 @@ use Rattle.std.proofs.lemmas.List.{take_all, map-append}
 use Rattle.std.proofs.lemmas.List.FromFn.{length-enumerate_from}
 use Rattle.chip_lang.specs.Line.{Reading}
 use Rattle.chip_lang.specs.SeenLine.{seen_line}
-use Rattle.chip_asm.specs.Records.{lines_after, readings_in, place_before}
-use Rattle.chip_asm.specs.Recode.{new_code, codes_placed, is_encoded_again}
+use Rattle.chip_asm.specs.inner.Records.{lines_after, readings_in, place_before}
+use Rattle.chip_asm.specs.inner.Recode.{new_code, codes_placed, is_encoded_again}
 use Rattle.chip_asm.proofs.Edited.{length-readings_after}
 use Rattle.chip_asm.proofs.RecodeSteps.{count_by-take, take-numbered, count-numbered, code-pushed}
 use Rattle.chip_asm.proofs.recode.recode.Goals as goal

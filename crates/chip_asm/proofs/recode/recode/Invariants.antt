@@ -1,9 +1,9 @@
 use Rattle.std.proofs.Common.{◌≡◌, ◌+◌, ◌≤◌, List, take, count_by}
 use Rattle.std.specs.List.{enumerate_from}
 use Rattle.chip_lang.specs.Line.{Reading}
-use Rattle.chip_asm.specs.Records.{lines_after, readings_in, place_before}
-use Rattle.chip_asm.specs.Layouts.{IsLayoutOf}
-use Rattle.chip_asm.specs.Recode.{new_code, codes_placed, is_encoded_again}
+use Rattle.chip_asm.specs.inner.Records.{lines_after, readings_in, place_before}
+use Rattle.chip_asm.specs.inner.Layouts.{IsLayoutOf}
+use Rattle.chip_asm.specs.inner.Recode.{new_code, codes_placed, is_encoded_again}
 use Rattle.chip_asm.proofs.recode.recode.Given as goal
 
 abbrev pub invariant-loop-place : goal.invariant-loop-place

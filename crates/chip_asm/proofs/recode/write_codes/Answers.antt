@@ -1,6 +1,6 @@
 use Rattle.std.proofs.Common.{◌≡◌, ◌∙◌, ◌+◌, ◌-◌, ◌<◌, arith, sym, refl, ap, drop, get_or, vec_len, subst, List, ℕ}
 use Rattle.chip_lang.specs.declared.code.Coded.{Coded}
-use Rattle.chip_asm.specs.Kept.{IsMerged}
+use Rattle.chip_asm.specs.inner.Kept.{IsMerged}
 use Rattle.chip_asm.proofs.KeptWrites.{merged-new, popped}
 use Rattle.chip_asm.proofs.recode.write_codes.Goals as goal
 

@@ -1,5 +1,5 @@
 use Rattle.std.proofs.Common.{◌≡◌, vec_len, take, drop}
-use Rattle.chip_asm.specs.Kept.{IsMerged}
+use Rattle.chip_asm.specs.inner.Kept.{IsMerged}
 use Rattle.chip_asm.proofs.recode.write_codes.Given as goal
 
 abbrev pub invariant-loop-place : goal.invariant-loop-place

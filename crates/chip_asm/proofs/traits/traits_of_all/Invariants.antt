@@ -1,6 +1,6 @@
 use Rattle.std.proofs.Common.{◌≡◌, map, take}
 use Rattle.chip_lang.specs.SeenLine.{seen_line}
-use Rattle.chip_asm.specs.Traits.{traits_of}
+use Rattle.chip_asm.specs.inner.Traits.{traits_of}
 use Rattle.chip_asm.proofs.traits.traits_of_all.Given as goal
 
 abbrev pub invariant-loop-place : goal.invariant-loop-place

@@ -1,6 +1,6 @@
 use Rattle.std.proofs.Common.{◌≡◌, drop, map}
 use Rattle.chip_lang.specs.Named.{find_word}
-use Rattle.chip_lang.specs.NamedRow.{row_of}
+use Rattle.chip_lang.specs.inner.NamedRow.{row_of}
 use Rattle.chip_lang.proofs.keyword.find_in.Given as goal
 
 abbrev pub invariant-loop-row : goal.invariant-loop-row

@@ -1,6 +1,6 @@
 use Rattle.std.proofs.Common.{◌∙◌, ◌-◌, ap, sym, rules, arith, Some, None}
 use Rattle.chip_lang.specs.Tree.{tree_of}
-use Rattle.chip_lang.specs.Seen.{seen}
+use Rattle.chip_lang.specs.inner.Seen.{seen}
 use Rattle.chip_lang.proofs.Steps.{level_ok, name_ok, parentheses_at, slice_after, signed_at, after_shorter, leads_on, leads_nowhere, leads_end}
 use Rattle.chip_lang.proofs.parse.+parser.Goals as goal
 

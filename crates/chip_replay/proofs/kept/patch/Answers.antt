@@ -1,6 +1,6 @@
 use Rattle.std.proofs.Common.{sym, ◌∙◌, arith}
 use Rattle.chip_replay.specs.Limits.{image_room}
-use Rattle.chip_replay.specs.Patch.{patched}
+use Rattle.chip_replay.specs.inner.Patch.{patched}
 use Rattle.chip_replay.proofs.Patched.{patched_below-same}
 use Rattle.chip_replay.proofs.kept.patch.Goals as goal
 

@@ -1,5 +1,5 @@
 use Rattle.std.proofs.Common.{◌≡◌}
-use Rattle.chip_replay.specs.Patch.{patched_below}
+use Rattle.chip_replay.specs.inner.Patch.{patched_below}
 use Rattle.chip_replay.proofs.kept.patch.Given as goal
 
 abbrev pub invariant-loop-i : goal.invariant-loop-i

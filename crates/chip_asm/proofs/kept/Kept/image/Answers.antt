@@ -1,7 +1,7 @@
 use Rattle.std.proofs.Common.{◌∙◌, ◌-◌, ℕ, arith, take, ap, Some, sym}
 use Rattle.std.proofs.lemmas.List.{length-take}
 use Rattle.chip_lang.specs.declared.limits.TheConstants.{IMAGE_START}
-use Rattle.chip_asm.specs.Records.{readings_in}
+use Rattle.chip_asm.specs.inner.Records.{readings_in}
 use Rattle.chip_asm.proofs.Bounds.{end-low}
 use Rattle.chip_asm.proofs.KeptSteps.{image-room}
 use Rattle.chip_asm.proofs.ImageWhole.{image-made, faulty-image}

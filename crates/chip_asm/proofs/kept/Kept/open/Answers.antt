@@ -1,6 +1,6 @@
 use Rattle.std.proofs.Common.{◌∙◌, ap, sym, subst, length, [], Some}
-use Rattle.chip_asm.specs.Layouts.{IsLayoutOf}
-use Rattle.chip_asm.specs.Records.{readings_in}
+use Rattle.chip_asm.specs.inner.Layouts.{IsLayoutOf}
+use Rattle.chip_asm.specs.inner.Records.{readings_in}
 use Rattle.chip_asm.proofs.EditTexts.{traits-all}
 use Rattle.chip_asm.proofs.KeptAfter.{currents, within-codes, had-none}
 use Rattle.chip_asm.proofs.kept.Kept.open.Goals as goal

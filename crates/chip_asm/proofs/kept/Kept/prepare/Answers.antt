@@ -1,6 +1,6 @@
 use Rattle.std.proofs.Common.{◌≡◌, ◌∙◌, ◌+◌, ◌≤◌, arith}
-use Rattle.chip_asm.specs.Records.{readings_in, lines_after, place_before}
-use Rattle.chip_asm.specs.Recode.{count_again}
+use Rattle.chip_asm.specs.inner.Records.{readings_in, lines_after, place_before}
+use Rattle.chip_asm.specs.inner.Recode.{count_again}
 use Rattle.chip_asm.proofs.NeedsSteps.{count-needed}
 use Rattle.chip_asm.proofs.kept.Kept.prepare.Goals as goal
 

@@ -1,6 +1,6 @@
 use Rattle.std.proofs.Common.{◌≡◌, ◌∙◌, ◌+◌, ◌-◌, ap, arith, length, get_or, set, refl}
-use Rattle.chip_asm.specs.KeptCodes.{kept_fault, count_of}
-use Rattle.chip_asm.specs.Records.{reading_in, readings_in, texts_in}
+use Rattle.chip_asm.specs.inner.KeptCodes.{kept_fault, count_of}
+use Rattle.chip_asm.specs.inner.Records.{reading_in, readings_in, texts_in}
 use Rattle.chip_asm.proofs.EditTexts.{texts-set}
 use Rattle.chip_asm.proofs.ImageWhole.{length-kept, one-fault}
 use Rattle.std.proofs.lemmas.List.{length-map}

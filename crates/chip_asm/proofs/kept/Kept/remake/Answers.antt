@@ -1,5 +1,5 @@
 use Rattle.std.proofs.Common.{◌≡◌, ◌∙◌, length, ap, sym, subst}
-use Rattle.chip_asm.specs.Records.{readings_in, lines_after, place_before, IsPlaceWithin}
+use Rattle.chip_asm.specs.inner.Records.{readings_in, lines_after, place_before, IsPlaceWithin}
 use Rattle.chip_asm.proofs.KeptAfter.{currents, within-codes, had-codes}
 use Rattle.chip_asm.proofs.KeptSteps.{kept-same}
 use Rattle.chip_asm.proofs.ChangedBytes.{all-places}

@@ -2,9 +2,9 @@ use Rattle.std.proofs.Common.{◌≡◌, ◌∙◌, ◌<◌, ap, arith, length, 
 use Rattle.chip_lang.specs.Code.{code_of}
 use Rattle.chip_asm.specs.Names.{values_of}
 use Rattle.chip_asm.specs.Layout.{body_of}
-use Rattle.chip_asm.specs.Recode.{has_code, is_placed_at}
-use Rattle.chip_asm.specs.Layouts.{placements_of}
-use Rattle.chip_asm.specs.Records.{reading_in, readings_in}
+use Rattle.chip_asm.specs.inner.Recode.{has_code, is_placed_at}
+use Rattle.chip_asm.specs.inner.Layouts.{placements_of}
+use Rattle.chip_asm.specs.inner.Records.{reading_in, readings_in}
 use Rattle.chip_asm.proofs.ImageWhole.{length-kept}
 use Rattle.chip_asm.proofs.KeptSwapped.{placed-now, coded-at, needed-at, default-at}
 use Rattle.chip_asm.proofs.kept.Kept.rewrite.Goals as goal

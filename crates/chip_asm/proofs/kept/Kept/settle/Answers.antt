@@ -1,11 +1,11 @@
 use Rattle.std.proofs.Common.{◌≡◌, ◌∙◌, ◌+◌, arith, ap, sym, length, map, get_or}
 use Rattle.chip_lang.specs.declared.limits.TheConstants.{IMAGE_START}
 use Rattle.chip_lang.specs.Line.{reading_of}
-use Rattle.chip_asm.specs.Kept.{IsMerged}
+use Rattle.chip_asm.specs.inner.Kept.{IsMerged}
 use Rattle.chip_asm.specs.Layout.{placed}
 use Rattle.chip_asm.specs.Program.{byte_at, faults_of_lines}
-use Rattle.chip_asm.specs.Records.{readings_in}
-use Rattle.chip_asm.specs.Traits.{traits_of}
+use Rattle.chip_asm.specs.inner.Records.{readings_in}
+use Rattle.chip_asm.specs.inner.Traits.{traits_of}
 use Rattle.chip_asm.proofs.KeptSteps.{kept-by}
 use Rattle.chip_asm.proofs.KeptWrites.{refilled}
 use Rattle.chip_asm.proofs.kept.Kept.settle.Goals as goal

@@ -2,9 +2,9 @@ use Rattle.std.proofs.Common.{◌≡◌, ◌∙◌, ◌+◌, ◌<◌, sym, subst
 use Rattle.std.proofs.lemmas.List.{length-take, take_all}
 use Rattle.chip_lang.specs.Line.{Reading}
 use Rattle.chip_lang.specs.SeenLine.{seen_line}
-use Rattle.chip_asm.specs.Records.{lines_after, readings_in}
+use Rattle.chip_asm.specs.inner.Records.{lines_after, readings_in}
 use Rattle.chip_asm.specs.Layout.{placed}
-use Rattle.chip_asm.specs.Follows.{Follows}
+use Rattle.chip_asm.specs.inner.Follows.{Follows}
 use Rattle.chip_asm.proofs.Edited.{length-readings_after}
 use Rattle.chip_asm.proofs.LayoutSteps.{placed-empty, placements-empty, placements-push, take-next}
 use Rattle.chip_asm.proofs.MarkSteps.{marked-placements}

@@ -1,8 +1,8 @@
 use Rattle.std.proofs.Common.{◌≡◌, take}
-use Rattle.chip_asm.specs.Records.{lines_after, readings_in}
+use Rattle.chip_asm.specs.inner.Records.{lines_after, readings_in}
 use Rattle.chip_asm.specs.Layout.{placed}
-use Rattle.chip_asm.specs.Layouts.{first_placements}
-use Rattle.chip_asm.specs.Follows.{Follows}
+use Rattle.chip_asm.specs.inner.Layouts.{first_placements}
+use Rattle.chip_asm.specs.inner.Follows.{Follows}
 use Rattle.chip_asm.proofs.layout.Layout.after.Given as goal
 
 abbrev pub invariant-loop-place : goal.invariant-loop-place

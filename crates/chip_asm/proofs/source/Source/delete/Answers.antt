@@ -1,7 +1,7 @@
 use Rattle.std.proofs.Common.{◌≡◌, ◌∙◌, ◌-◌, ap, sym, arith, length, remove, map}
 use Rattle.chip_lang.specs.Line.{reading_of}
 use Rattle.chip_asm.specs.Edits.{delete_refusal, before_delete}
-use Rattle.chip_asm.specs.Records.{readings_in, texts_in}
+use Rattle.chip_asm.specs.inner.Records.{readings_in, texts_in}
 use Rattle.chip_asm.proofs.EditTexts.{texts-remove, read-remove, count-texts}
 use Rattle.chip_asm.proofs.Views.{needs-view, changes-view}
 use Rattle.chip_asm.proofs.source.Source.delete.Goals as goal

@@ -1,6 +1,6 @@
 use Rattle.std.proofs.Common.{◌∙◌, ap}
 use Rattle.chip_asm.specs.Program.{fault_of_line}
-use Rattle.chip_asm.specs.Records.{readings_in}
+use Rattle.chip_asm.specs.inner.Records.{readings_in}
 use Rattle.chip_asm.proofs.Views.{fault-view}
 use Rattle.chip_asm.proofs.source.Source.fault.Goals as goal
 

@@ -1,6 +1,6 @@
 use Rattle.std.proofs.Common.{◌≡◌, ◌∙◌, ap}
 use Rattle.chip_asm.specs.Program.{faults_of_lines, faults_of}
-use Rattle.chip_asm.specs.Records.{readings_in}
+use Rattle.chip_asm.specs.inner.Records.{readings_in}
 use Rattle.chip_asm.proofs.Views.{faults-view}
 use Rattle.chip_asm.proofs.source.Source.faults.Goals as goal
 

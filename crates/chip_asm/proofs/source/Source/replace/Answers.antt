@@ -1,7 +1,7 @@
 use Rattle.std.proofs.Common.{◌≡◌, ◌∙◌, ◌-◌, ap, sym, arith, length, set, map}
 use Rattle.chip_lang.specs.Line.{reading_of}
 use Rattle.chip_asm.specs.Edits.{replace_refusal, before_replace}
-use Rattle.chip_asm.specs.Records.{readings_in, texts_in}
+use Rattle.chip_asm.specs.inner.Records.{readings_in, texts_in}
 use Rattle.chip_asm.proofs.EditTexts.{texts-set, read-set, count-texts}
 use Rattle.chip_asm.proofs.Views.{needs-view, changes-view}
 use Rattle.chip_asm.proofs.source.Source.replace.Goals as goal

@@ -1,5 +1,5 @@
 use Rattle.std.proofs.Common.{◌≡◌, ◌+◌, ◌-◌, ◌≤◌, length, take, Ok}
-use Rattle.chip_bench.specs.Progress.{Carries}
+use Rattle.chip_bench.specs.inner.Progress.{Carries}
 use Rattle.chip_bench.proofs.server.Conversation.take_lines.Given as goal
 
 -- the piece so far has been carried out

@@ -1,6 +1,6 @@
 use Rattle.std.proofs.Common.{arith, ap, ◌∙◌}
 use Rattle.std.proofs.lemmas.List.{with_items_is}
-use Rattle.chip_machine.specs.Stored.{in_rows}
+use Rattle.chip_machine.specs.inner.Stored.{in_rows}
 use Rattle.chip_machine.specs.Scroll.{scrolled_left}
 use Rattle.chip_machine.proofs.RowLemmas.{in_rows-scrolled_left}
 use Rattle.chip_machine.proofs.screen.Screen.scroll_left.Goals as goal

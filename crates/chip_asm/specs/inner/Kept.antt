@@ -7,11 +7,11 @@ use Rattle.chip_lang.specs.Line.{Reading, reading_of}
 use Rattle.chip_asm.specs.declared.kept_line.KeptLine.{KeptLine}
 use Rattle.chip_asm.specs.declared.kept.Kept.{Kept}
 use Rattle.chip_asm.specs.Layout.{body_of, placed}
-use Rattle.chip_asm.specs.Layouts.{IsLayoutOf, placements_of}
+use Rattle.chip_asm.specs.inner.Layouts.{IsLayoutOf, placements_of}
 use Rattle.chip_asm.specs.Program.{faults_of_lines, byte_at}
-use Rattle.chip_asm.specs.Records.{reading_in, readings_in, texts_in}
-use Rattle.chip_asm.specs.Traits.{traits_of}
-use Rattle.chip_asm.specs.Recode.{has_code, is_placed_at, code_among, code_at}
+use Rattle.chip_asm.specs.inner.Records.{reading_in, readings_in, texts_in}
+use Rattle.chip_asm.specs.inner.Traits.{traits_of}
+use Rattle.chip_asm.specs.inner.Recode.{has_code, is_placed_at, code_among, code_at}
 
 -- an accepted line's code is its code under the names as they are
 pub record AreCurrent (lines : List KeptLine) : Type 0 where

@@ -2,9 +2,9 @@
 use Rattle.std.specs.Prelude.{Bool, false, None, Some, is_some, slice_get}
 use Rattle.chip_lang.specs.Line.{Reading, bad, read}
 use Rattle.chip_lang.specs.Uses.{names_used}
-use Rattle.chip_asm.specs.Bare.{is_bare}
+use Rattle.chip_asm.specs.inner.Bare.{is_bare}
 use Rattle.chip_asm.specs.Layout.{body_of}
-use Rattle.chip_asm.specs.Recode.{has_code}
+use Rattle.chip_asm.specs.inner.Recode.{has_code}
 use Rattle.chip_asm.specs.declared.traits.Traits.{Traits}
 
 -- it gives no name, and is an instruction or has no statement

@@ -16,7 +16,7 @@ use Rattle.chip_machine.specs.declared.stop.Stop.TheVariants as cause
 use Rattle.chip_machine.specs.State.{Core, State, overwrite}
 use Rattle.chip_machine.specs.Step.{Effect, Stops, Changes, Keyed, Loads, Stores, perform, accessed, is_past, settle, step_of, touches, effect_at, effect_of_word, word_at, ticked}
 use Rattle.chip_machine.specs.Frame.{FrameLaw, StepKeepsProper, SameOff, SameOn, Misses, AgreeOff, IsFramed}
-use Rattle.chip_machine.specs.Overwritten.{get_or-overwrite_within, get_or-overwrite_before, get_or-overwrite_past, length-overwrite}
+use Rattle.chip_machine.specs.inner.Overwritten.{get_or-overwrite_within, get_or-overwrite_before, get_or-overwrite_past, length-overwrite}
 
 -- two outcomes are alike, and each kept its bytes in the set
 abbrev AreAlike : (ℕ → Bool) → List ℕ → List ℕ → Result State Stop → Result State Stop → Type 0

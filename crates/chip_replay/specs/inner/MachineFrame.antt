@@ -7,7 +7,7 @@ use Rattle.std.specs.Prelude.{◌≡◌, ℕ, Bool, List, All, IsFalse}
 use Rattle.std.proofs.Common.{ap}
 use Rattle.chip_machine.specs.State.{Core, State, IsProper, with_memory}
 use Rattle.chip_machine.specs.Step.{step_of, touches}
-use Rattle.chip_machine.specs.FrameTheorem.{frame_law, step_keeps_proper}
+use Rattle.chip_machine.specs.inner.FrameTheorem.{frame_law, step_keeps_proper}
 use Rattle.chip_replay.specs.Frame.{AgreeOff, IsFramed}
 
 abbrev pub memory_of : State → List ℕ

@@ -10,8 +10,8 @@ use Rattle.chip_lang.specs.Uses.{agree_on}
 use Rattle.chip_asm.specs.Names.{values_of}
 use Rattle.chip_asm.specs.Layout.{body_of}
 use Rattle.chip_asm.specs.Program.{names_of_lines}
-use Rattle.chip_asm.specs.Layouts.{placements_of}
-use Rattle.chip_asm.specs.Placements.{is_placed}
+use Rattle.chip_asm.specs.inner.Layouts.{placements_of}
+use Rattle.chip_asm.specs.inner.Placements.{is_placed}
 use Rattle.chip_asm.specs.declared.placement.Placement.{Placement}
 
 -- the line has bytes of its own

@@ -4,7 +4,7 @@
 --     patched            the same at all places
 use Rattle.std.specs.Prelude.{ℕ, zero, suc, ◌+◌, List, slice_index, if◌then◌else◌}
 use Rattle.chip_replay.specs.Limits.{image_start, image_room}
-use Rattle.chip_replay.specs.Machine.{poked}
+use Rattle.chip_replay.specs.inner.Machine.{poked}
 use Rattle.chip_replay.specs.Image.{differs}
 
 module _ {S : Type 0} (memory : S → List ℕ) (with_memory : S → List ℕ → S) (old new : List ℕ) where

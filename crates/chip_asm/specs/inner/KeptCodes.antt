@@ -6,8 +6,8 @@ use Rattle.chip_lang.specs.declared.code.Coded.TheVariants.{Bytes, Faulty}
 use Rattle.chip_asm.specs.declared.placement.Placement.{Placement}
 use Rattle.chip_asm.specs.declared.kept_line.KeptLine.{KeptLine}
 use Rattle.chip_asm.specs.Layout.{body_of}
-use Rattle.chip_asm.specs.Records.{reading_in}
-use Rattle.chip_asm.specs.Recode.{has_code}
+use Rattle.chip_asm.specs.inner.Records.{reading_in}
+use Rattle.chip_asm.specs.inner.Recode.{has_code}
 
 abbrev pub coded_fault : Coded → Option Fault
 coded_fault (Bytes bytes) = None

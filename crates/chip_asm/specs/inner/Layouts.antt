@@ -3,7 +3,7 @@ use Rattle.std.specs.Prelude.{◌≡◌, List, map, reverse}
 use Rattle.chip_lang.specs.Line.{Reading}
 use Rattle.chip_asm.specs.Layout.{Placed, placed, address}
 use Rattle.chip_asm.specs.Program.{names_of_lines, first_pass_fault}
-use Rattle.chip_asm.specs.Follows.{placement_of}
+use Rattle.chip_asm.specs.inner.Follows.{placement_of}
 use Rattle.chip_asm.specs.declared.placement.Placement.{Placement}
 use Rattle.chip_asm.specs.declared.layout.Layout.{Layout}
 
