@@ -3,6 +3,7 @@
 -- KeylessTheorem (a step that doesn't read the keys doesn't depend on them).
 pub mod Codes
 pub mod FrameTheorem
+pub mod KeyRows
 pub mod KeylessTheorem
 pub mod Overwritten
 pub mod Stored

@@ -1,7 +1,6 @@
 //! The effect of one instruction.
 
 ghost use Rattle.std.specs.Prelude.{◌≡◌, ◌+◌, ◌<◌, ◌≤◌, [], length, OnOk, OnErr, IfOk, IfErr, Ok, Err};
-ghost use Rattle.chip_lang.specs.Decoding.{decode_of};
 ghost use Rattle.chip_machine.specs.Step.{effect, effect_of_word, perform, accessed};
 ghost use Rattle.chip_machine.specs.Touched.{IsNoted, is_among};
 
@@ -9,7 +8,7 @@ use crate::limits::{LAST_WORD, MEMORY_BYTES};
 use crate::processor::Processor;
 use crate::stop::Stop;
 use crate::touch::Span;
-use chip_lang::instr::{Instr, decode};
+use chip_lang::instr::Instr;
 
 /// Carries out an instruction, and says which bytes it accesses at I, or why the machine stops.
 #[inline(always)]
@@ -75,13 +74,13 @@ pub(crate) fn execute(
     Ok(Span::none())
 }
 
-/// Carries out the instruction of a word with these keys down, and notes the bytes that it accesses
-/// at I under a number.
+/// Carries out the instruction of a word, if it has one, with these keys down, and notes the bytes
+/// that it accesses at I under a number.
 #[inline(always)]
 pub(crate) fn execute_noted(
     processor: &mut Processor,
     memory: &mut [u8],
-    word: u16,
+    instr: Option<Instr>,
     keys: u16,
     number: u32,
     first_touch: &mut [u32],
@@ -91,17 +90,17 @@ pub(crate) fn execute_noted(
     requires table { length first_touch.old ≡ MEMORY_BYTES }
     ensures ok { OnOk result (
         perform keys (record { core = processor.old; memory = memory.old })
-        (effect_of_word (decode_of word) processor.old)
+        (effect_of_word instr processor.old)
         ≡ Ok (record { core = processor.new; memory = memory.new })) }
     ensures why { IfErr result (λ why.
         perform keys (record { core = processor.old; memory = memory.old })
-        (effect_of_word (decode_of word) processor.old)
+        (effect_of_word instr processor.old)
         ≡ Err why) }
     ensures same { OnErr result ((processor.new ≡ processor.old) × (memory.new ≡ memory.old)) }
-    ensures noted { IsNoted (is_among (accessed processor.old.index (effect_of_word (decode_of word) processor.old)))
+    ensures noted { IsNoted (is_among (accessed processor.old.index (effect_of_word instr processor.old)))
         number first_touch.old first_touch.new }
 {
-    let Some(instr) = decode(word) else {
+    let Some(instr) = instr else {
         return Err(Stop::NoInstruction);
     };
     let span = execute(processor, memory, instr, keys)?;
