@@ -9,14 +9,13 @@ use chip_asm::{Source, Symbol};
 use chip_lang::{Bytes, Fault};
 use std::alloc::{AllocError, Global};
 
-/// A line of bytes in lower case hexadecimal.
-pub(crate) fn hex_line(alloc: Global, bytes: &[u8]) -> Result<Vec<u8>, AllocError>
-    ensures { IfOk result (λ text. text.items ≡ hex_line bytes.now) }
+/// Adds a line of bytes in lower case hexadecimal.
+pub(crate) fn push_hex_line(text: &mut Vec<u8>, bytes: &[u8]) -> Result<(), AllocError>
+    ensures { OnOk result (text.new.items ≡ text.old.items ++ hex_line bytes.now) }
 {
-    let mut text = Vec::with_capacity(alloc, 2 * bytes.len() + 1)?;
-    push_hex(&mut text, bytes)?;
+    push_hex(text, bytes)?;
     text.push(b'\n')?;
-    Ok(text)
+    Ok(())
 }
 
 /// A line for each name, with its value and its line.

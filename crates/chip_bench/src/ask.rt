@@ -1,5 +1,5 @@
 //! The answers to questions about the machine at a step.
-ghost use Rattle.std.specs.Prelude.{◌≡◌, ◌≢◌, ◌∷◌, [], ◌++◌, ℕ, List, false, Ok, IfOk, IfErr};
+ghost use Rattle.std.specs.Prelude.{◌≡◌, ◌≢◌, ◌∷◌, [], ◌++◌, ℕ, List, false, Ok, IfOk, IfErr, OnOk};
 ghost use Rattle.std.specs.Option.{option_copied};
 ghost use Rattle.chip_asm.specs.Program.{image_of};
 ghost use Rattle.chip_bench.specs.Session.{session_with};
@@ -8,8 +8,8 @@ ghost use Rattle.chip_bench.specs.Answers.{is_past_end, picture_by, state_answer
 ghost use Rattle.chip_bench.specs.Workbench.{ReachesStep, ReusesRun, StaysPut};
 ghost use Rattle.chip_bench.specs.IsAnswer.{IsAnswered, IsUnanswered};
 
-use crate::answer::{faults_answer, hex_line, listing_answer, symbols_answer};
-use crate::machine_answer::{disassembly, memory_line, registers, screen};
+use crate::answer::{faults_answer, listing_answer, push_hex_line, symbols_answer};
+use crate::machine_answer::{push_disassembly, push_memory, push_registers, push_screen};
 use crate::question::{PictureForm, Question, StateQuestion};
 use crate::refusal::Refusal;
 use crate::settings::Settings;
@@ -20,23 +20,28 @@ use chip_replay::{LAST_STEP, Replay};
 use chip_views::{screen_pbm, screen_png, screen_text};
 use std::alloc::{AllocError, Global};
 
-/// What is asked of a machine's state.
+/// Adds what is asked of a machine's state to an answer that is empty.
 fn state_answer(
     alloc: Global,
     asked: StateQuestion,
     machine: &Machine,
-) -> Result<Vec<u8>, AllocError>
-    requires { is_past_end asked ≡ false }
-    ensures { IfOk result (λ answer. answer.items ≡ state_answer asked machine.now) }
+    out: &mut Vec<u8>,
+) -> Result<(), AllocError>
+    requires inside { is_past_end asked ≡ false }
+    requires empty { out.old.items ≡ [] }
+    ensures { OnOk result (out.new.items ≡ state_answer asked machine.now) }
 {
     match asked {
-        StateQuestion::Registers => registers(alloc, machine),
-        StateQuestion::Memory { at, count } => memory_line(alloc, machine, at as u16, count as u16),
-        StateQuestion::Screen => screen(alloc, machine),
+        StateQuestion::Registers => push_registers(out, machine),
+        StateQuestion::Memory { at, count } => push_memory(out, machine, at as u16, count as u16),
+        StateQuestion::Screen => push_screen(out, machine),
         StateQuestion::Disassembly { at, count } => {
-            disassembly(alloc, machine, at as u16, count as u16)
+            push_disassembly(alloc, out, machine, at as u16, count as u16)
         }
-        StateQuestion::Picture { form } => picture(alloc, machine, form),
+        StateQuestion::Picture { form } => {
+            *out = picture(alloc, machine, form)?;
+            Ok(())
+        }
     }
 }
 
@@ -78,7 +83,7 @@ fn step_refusal(asked: StateQuestion, step: u32) -> Option<Refusal>
     }
 }
 
-/// The answer to a question about the machine at a step of the run of the image.
+/// The answer to a question about the machine at a step of the run of the image, where `out` was empty.
 fn answer_at(
     alloc: Global,
     image: Option<&[u8]>,
@@ -87,10 +92,12 @@ fn answer_at(
     replay: &mut Replay<Machine>,
     asked: StateQuestion,
     step: u32,
-) -> Result<Vec<u8>, Refusal>
+    out: &mut Vec<u8>,
+) -> Result<(), Refusal>
     requires replays { Replays settings.now last.now replay.old }
     requires is_last { IsLastImage (option_copied image) last.now }
-    ensures ok { (lines : List (List ℕ)) → IfOk result (λ v. IsAnswered (answer_at (session_with lines replay.old.keys settings.now) asked step (option_copied image.entry)) v.items) }
+    requires empty { out.old.items ≡ [] }
+    ensures ok { (lines : List (List ℕ)) → OnOk result (IsAnswered (answer_at (session_with lines replay.old.keys settings.now) asked step (option_copied image.entry)) out.new.items) }
     ensures err { (lines : List (List ℕ)) → IfErr result (IsUnanswered (answer_at (session_with lines replay.old.keys settings.now) asked step (option_copied image.entry))) }
     ensures replays { Replays settings.now last.now replay.new }
     ensures keys { replay.new.keys ≡ replay.old.keys }
@@ -104,15 +111,15 @@ fn answer_at(
         return Err(why);
     }
     match replay.at(step) {
-        Ok(machine) => match state_answer(alloc, asked, machine) {
-            Ok(answer) => Ok(answer),
+        Ok(machine) => match state_answer(alloc, asked, machine, out) {
+            Ok(()) => Ok(()),
             Err(_) => Err(Refusal::AnswerMemory),
         },
         Err(_) => Err(Refusal::AnswerMemory),
     }
 }
 
-/// The answer to a question.
+/// The answer to a question, where `out` was empty.
 pub(crate) fn answer(
     alloc: Global,
     source: &Source,
@@ -120,10 +127,12 @@ pub(crate) fn answer(
     last: &[u8],
     replay: &mut Replay<Machine>,
     question: &Question,
-) -> Result<Vec<u8>, Refusal>
+    out: &mut Vec<u8>,
+) -> Result<(), Refusal>
     requires replays { Replays settings.now last.now replay.old }
     requires is_last { IsLastImage (image_of source.now.lines) last.now }
-    ensures ok { IfOk result (λ v. IsAnswered (answer_to (session_with source.now.lines replay.old.keys settings.now) question.now) v.items) }
+    requires empty { out.old.items ≡ [] }
+    ensures ok { OnOk result (IsAnswered (answer_to (session_with source.now.lines replay.old.keys settings.now) question.now) out.new.items) }
     ensures err { IfErr result (IsUnanswered (answer_to (session_with source.now.lines replay.old.keys settings.now) question.now)) }
     ensures replays { Replays settings.now last.now replay.new }
     ensures keys { replay.new.keys ≡ replay.old.keys }
@@ -131,65 +140,47 @@ pub(crate) fn answer(
     ensures refused { IfErr result (λ e. e ≢ Refusal.AnswerMemory → StaysPut replay.old.reach replay.old.ran replay.new.reach replay.new.ran) }
 {
     let image = source.image();
-    match *question {
-        Question::Image => image_answer(alloc, image),
-        Question::Symbols => told(symbols_answer(alloc, source)),
-        Question::Listing => told(listing_answer(alloc, source)),
-        Question::Faults => told(faults_answer(alloc, source)),
-        Question::Registers { step } => {
-            answer_at(
-                alloc,
-                image,
-                settings,
-                last,
-                replay,
-                StateQuestion::Registers,
-                step,
-            )
-        }
-        Question::Memory { step, at, count } => {
-            let asked = StateQuestion::Memory { at, count };
-            answer_at(alloc, image, settings, last, replay, asked, step)
-        }
-        Question::Screen { step } => {
-            answer_at(
-                alloc,
-                image,
-                settings,
-                last,
-                replay,
-                StateQuestion::Screen,
-                step,
-            )
-        }
-        Question::Disassembly { step, at, count } => {
-            let asked = StateQuestion::Disassembly { at, count };
-            answer_at(alloc, image, settings, last, replay, asked, step)
-        }
-        Question::Picture { step, form } => {
-            let asked = StateQuestion::Picture { form };
-            answer_at(alloc, image, settings, last, replay, asked, step)
-        }
-    }
+    let (asked, step) = match *question {
+        Question::Image => return image_answer(image, out),
+        Question::Symbols => return told(symbols_answer(alloc, source), out),
+        Question::Listing => return told(listing_answer(alloc, source), out),
+        Question::Faults => return told(faults_answer(alloc, source), out),
+        Question::Registers { step } => (StateQuestion::Registers, step),
+        Question::Memory { step, at, count } => (StateQuestion::Memory { at, count }, step),
+        Question::Screen { step } => (StateQuestion::Screen, step),
+        Question::Disassembly { step, at, count } => (
+            StateQuestion::Disassembly { at, count },
+            step,
+        ),
+        Question::Picture { step, form } => (StateQuestion::Picture { form }, step),
+    };
+    answer_at(alloc, image, settings, last, replay, asked, step, out)
 }
 
-fn image_answer(alloc: Global, image: Option<&[u8]>) -> Result<Vec<u8>, Refusal>
-    ensures ok { IfOk result (λ v. IsAnswered (image_answer (option_copied image.entry)) v.items) }
+fn image_answer(image: Option<&[u8]>, out: &mut Vec<u8>) -> Result<(), Refusal>
+    requires empty { out.old.items ≡ [] }
+    ensures ok { OnOk result (IsAnswered (image_answer (option_copied image.entry)) out.new.items) }
     ensures err { IfErr result (IsUnanswered (image_answer (option_copied image.entry))) }
 {
     let Some(bytes) = image else {
         return Err(Refusal::NoImage);
     };
-    match hex_line(alloc, bytes) {
-        Ok(text) => Ok(text),
+    match push_hex_line(out, bytes) {
+        Ok(()) => Ok(()),
         Err(_) => Err(Refusal::AnswerMemory),
     }
 }
 
 /// An answer that only memory can refuse.
-fn told(answer: Result<Vec<u8>, AllocError>) -> Result<Vec<u8>, Refusal>
-    ensures ok { (bytes : List ℕ) → IfOk answer (λ v. v.items ≡ bytes) → IfOk result (λ v. IsAnswered (Ok bytes) v.items) }
+fn told(answer: Result<Vec<u8>, AllocError>, out: &mut Vec<u8>) -> Result<(), Refusal>
+    ensures ok { (bytes : List ℕ) → IfOk answer (λ v. v.items ≡ bytes) → OnOk result (IsAnswered (Ok bytes) out.new.items) }
     ensures err { IfErr result (λ e. e ≡ Refusal.AnswerMemory) }
 {
-    answer.map_err(|_| Refusal::AnswerMemory)
+    match answer {
+        Ok(answer) => {
+            *out = answer;
+            Ok(())
+        }
+        Err(_) => Err(Refusal::AnswerMemory),
+    }
 }

@@ -23,6 +23,7 @@ use chip_machine::limits::IMAGE_BYTES;
 use chip_replay::Replay;
 use std::alloc::Global;
 use std::marker::Model;
+use std::mem::swap;
 
 /// A bench: a source as edited so far, the settings, and the replay of the last image that the lines had, under the key
 /// events as edited so far.
@@ -32,6 +33,8 @@ pub struct Bench {
     settings: Settings,
     replay: Replay<Machine>,
     last_image: Vec<u8>,
+    /// The room of the next answer. What it holds means nothing.
+    room: Vec<u8>,
 }
 
 impl Model for Bench {
@@ -86,6 +89,7 @@ impl Bench {
             settings,
             replay,
             last_image,
+            room: Vec::new(alloc),
         })
     }
 
@@ -153,19 +157,21 @@ impl Bench {
         ensures reuses { Reuses (step_asked question.now) result self.old self.new }
         ensures refused { IfErr result (λ e. e ≢ Refusal.AnswerMemory → StaysPut self.old.reach self.old.ran self.new.reach self.new.ran) }
     {
-        let answer = answer(
+        self.room.clear();
+        answer(
             alloc,
             &self.source,
             &self.settings,
             &self.last_image,
             &mut self.replay,
             question,
+            &mut self.room,
         )?;
         if out.is_empty() {
-            *out = answer;
+            swap(out, &mut self.room);
             return Ok(());
         }
-        match out.extend_from_slice(&answer) {
+        match out.extend_from_slice(&self.room) {
             Ok(()) => Ok(()),
             Err(_) => Err(Refusal::AnswerMemory),
         }

@@ -1,11 +1,12 @@
 //! Answers about the machine's state.
 
-ghost use Rattle.std.specs.Prelude.{◌≡◌, ◌+◌, ◌*◌, ◌<◌, ◌≤◌, ◌^◌, ◌++◌, ◌∷◌, [], ℕ, List, IfOk, OnOk, slice_index};
+ghost use Rattle.std.specs.Prelude.{◌≡◌, ◌+◌, ◌*◌, ◌<◌, ◌≤◌, ◌^◌, ◌++◌, ◌∷◌, [], ℕ, List, OnOk, slice_index};
 ghost use Rattle.chip_machine.specs.Step.{word_at};
 ghost use Rattle.chip_bench.specs.MachineAnswers.{from_on, size_name, state_name, register_line, place_part, timer_part, condition_part, state_line, flag_line, registers_of, bytes_at, memory_of, word_line, disassembly_of, row_bytes, has_lit, row_line, row_lines, two_digits, screen_of};
 
 use crate::text::{
-    push_decimal, push_hex, push_hex_byte, push_hex_word, push_spaced_bytes, push_spaced_words,
+    byte_digits, push_decimal, push_hex, push_hex_word, push_spaced_bytes, push_spaced_words,
+    word_digits,
 };
 use chip_lang::show;
 use chip_machine::limits::{LAST_WORD, MEMORY_BYTES};
@@ -15,16 +16,15 @@ use std::alloc::{AllocError, Global};
 // Room for the answer about a machine's registers, where few calls are open.
 const REGISTERS_ROOM: usize = 256;
 
-/// The registers, timers, flags and frames of a machine, in three lines.
+/// Adds the registers, timers, flags and frames of a machine, in three lines.
 #[tactic(auto, unfolding(crate::specs::MachineAnswers::registers_of))]
-pub fn registers(alloc: Global, machine: &Machine) -> Result<Vec<u8>, AllocError>
-    ensures { IfOk result (λ answer. answer.items ≡ registers_of machine.now) }
+pub(crate) fn push_registers(answer: &mut Vec<u8>, machine: &Machine) -> Result<(), AllocError>
+    ensures { OnOk result (answer.new.items ≡ answer.old.items ++ registers_of machine.now) }
 {
-    let mut answer = Vec::with_capacity(alloc, REGISTERS_ROOM)?;
-    push_register_line(&mut answer, machine)?;
-    push_state_line(&mut answer, machine)?;
-    push_flag_line(&mut answer, machine)?;
-    Ok(answer)
+    answer.reserve(REGISTERS_ROOM)?;
+    push_register_line(answer, machine)?;
+    push_state_line(answer, machine)?;
+    push_flag_line(answer, machine)
 }
 
 fn push_register_line(answer: &mut Vec<u8>, machine: &Machine) -> Result<(), AllocError>
@@ -39,19 +39,17 @@ fn push_register_line(answer: &mut Vec<u8>, machine: &Machine) -> Result<(), All
 fn push_place(answer: &mut Vec<u8>, machine: &Machine) -> Result<(), AllocError>
     ensures { OnOk result (answer.new.items ≡ answer.old.items ++ place_part machine.now.core) }
 {
-    answer.extend_from_slice(b"pc ")?;
-    push_hex_word(answer, machine.pc())?;
-    answer.extend_from_slice(b" i ")?;
-    push_hex_word(answer, machine.index())
+    let [a, b, c, d] = word_digits(machine.pc());
+    let [e, f, g, h] = word_digits(machine.index());
+    answer.extend_from_slice(&[b'p', b'c', b' ', a, b, c, d, b' ', b'i', b' ', e, f, g, h])
 }
 
 fn push_timers(answer: &mut Vec<u8>, machine: &Machine) -> Result<(), AllocError>
     ensures { OnOk result (answer.new.items ≡ answer.old.items ++ timer_part machine.now.core) }
 {
-    answer.extend_from_slice(b" dt ")?;
-    push_hex_byte(answer, machine.delay())?;
-    answer.extend_from_slice(b" st ")?;
-    push_hex_byte(answer, machine.sound())
+    let [a, b] = byte_digits(machine.delay());
+    let [c, d] = byte_digits(machine.sound());
+    answer.extend_from_slice(&[b' ', b'd', b't', b' ', a, b, b' ', b's', b't', b' ', c, d])
 }
 
 fn push_condition(answer: &mut Vec<u8>, machine: &Machine) -> Result<(), AllocError>
@@ -107,42 +105,41 @@ fn push_state_name(answer: &mut Vec<u8>, stopped: Option<Stop>) -> Result<(), Al
     }
 }
 
-/// So many bytes from an address, in hexadecimal.
+/// Adds so many bytes from an address, in hexadecimal.
 #[tactic(auto, unfolding(crate::specs::MachineAnswers::memory_of))]
-pub fn memory_line(
-    alloc: Global,
+pub(crate) fn push_memory(
+    answer: &mut Vec<u8>,
     machine: &Machine,
     at: u16,
     count: u16,
-) -> Result<Vec<u8>, AllocError>
+) -> Result<(), AllocError>
     requires { at + count ≤ MEMORY_BYTES }
-    ensures { IfOk result (λ answer. answer.items ≡ memory_of machine.now at count) }
+    ensures { OnOk result (answer.new.items ≡ answer.old.items ++ memory_of machine.now at count) }
 {
     let start = usize::from(at);
     let end = start + usize::from(count);
-    let mut answer = Vec::with_capacity(alloc, 2 * usize::from(count) + 1)?;
-    push_hex(&mut answer, &machine.memory()[start..end])?;
+    answer.reserve(2 * usize::from(count) + 1)?;
+    push_hex(answer, &machine.memory()[start..end])?;
     answer.push(b'\n')?;
-    Ok(answer)
+    Ok(())
 }
 
-/// So many words from an address: for each its address, the word, and its source text.
+/// Adds so many words from an address: for each its address, the word, and its source text.
 #[tactic(auto, unfolding(crate::specs::MachineAnswers::disassembly_of))]
-pub fn disassembly(
+pub(crate) fn push_disassembly(
     alloc: Global,
+    answer: &mut Vec<u8>,
     machine: &Machine,
     at: u16,
     count: u16,
-) -> Result<Vec<u8>, AllocError>
+) -> Result<(), AllocError>
     requires { at + 2 * count ≤ MEMORY_BYTES }
-    ensures { IfOk result (λ answer. answer.items ≡ disassembly_of machine.now at count) }
+    ensures { OnOk result (answer.new.items ≡ answer.old.items ++ disassembly_of machine.now at count) }
 {
-    let mut answer = Vec::new(alloc);
     for place in 0..count {
-        push_word_line(alloc, &mut answer, machine, at + 2 * place)?;
+        push_word_line(alloc, answer, machine, at + 2 * place)?;
     }
-    answer.extend_from_slice(b".\n")?;
-    Ok(answer)
+    answer.extend_from_slice(b".\n")
 }
 
 fn push_word_line(
@@ -174,17 +171,15 @@ fn word_at(machine: &Machine, at: u16) -> u16
     u16::from(memory[start]) * 256 + u16::from(memory[start + 1])
 }
 
-/// The size of the screen, and each row with a lit point.
+/// Adds the size of the screen, and each row with a lit point.
 #[tactic(auto, unfolding(crate::specs::MachineAnswers::screen_of))]
-pub fn screen(alloc: Global, machine: &Machine) -> Result<Vec<u8>, AllocError>
-    ensures { IfOk result (λ answer. answer.items ≡ screen_of machine.now) }
+pub(crate) fn push_screen(answer: &mut Vec<u8>, machine: &Machine) -> Result<(), AllocError>
+    ensures { OnOk result (answer.new.items ≡ answer.old.items ++ screen_of machine.now) }
 {
-    let mut answer = Vec::new(alloc);
     answer.extend_from_slice(size_name(machine.high()))?;
     answer.push(b'\n')?;
-    push_rows(&mut answer, machine)?;
-    answer.extend_from_slice(b".\n")?;
-    Ok(answer)
+    push_rows(answer, machine)?;
+    answer.extend_from_slice(b".\n")
 }
 
 #[tactic(auto, unfolding(crate::specs::MachineAnswers::row_lines))]

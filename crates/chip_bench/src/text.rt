@@ -48,7 +48,7 @@ fn hex_digit(value: u8) -> u8
 
 /// A byte in two hexadecimal digits.
 #[inline(always)]
-fn byte_digits(byte: u8) -> [u8; 2]
+pub(crate) fn byte_digits(byte: u8) -> [u8; 2]
     ensures { result ≡ hex_byte byte }
 {
     [hex_digit(byte / 16), hex_digit(byte % 16)]
@@ -56,7 +56,7 @@ fn byte_digits(byte: u8) -> [u8; 2]
 
 /// A number of 16 bits in four hexadecimal digits.
 #[inline(always)]
-fn word_digits(word: u16) -> [u8; 4]
+pub(crate) fn word_digits(word: u16) -> [u8; 4]
     ensures { result ≡ hex_word word }
 {
     let high = (word / 256) as u8;
@@ -67,13 +67,6 @@ fn word_digits(word: u16) -> [u8; 4]
         hex_digit(low / 16),
         hex_digit(low % 16),
     ]
-}
-
-/// Adds a byte in two hexadecimal digits.
-pub(crate) fn push_hex_byte(out: &mut Vec<u8>, byte: u8) -> Result<(), AllocError>
-    ensures { OnOk result (out.new.items ≡ out.old.items ++ hex_byte byte) }
-{
-    out.extend_from_slice(&byte_digits(byte))
 }
 
 /// Adds a number of 16 bits in four hexadecimal digits.

@@ -73,37 +73,3 @@ pub(crate) fn execute(
     }
     Ok(Span::none())
 }
-
-/// Carries out the instruction of a word, if it has one, with these keys down, and notes the bytes
-/// that it accesses at I under a number.
-#[inline(always)]
-pub(crate) fn execute_noted(
-    processor: &mut Processor,
-    memory: &mut [u8],
-    instr: Option<Instr>,
-    keys: u16,
-    number: u32,
-    first_touch: &mut [u32],
-) -> Result<(), Stop>
-    requires size { length memory.old ≡ MEMORY_BYTES }
-    requires pc { processor.old.pc ≤ LAST_WORD }
-    requires table { length first_touch.old ≡ MEMORY_BYTES }
-    ensures ok { OnOk result (
-        perform keys (record { core = processor.old; memory = memory.old })
-        (effect_of_word instr processor.old)
-        ≡ Ok (record { core = processor.new; memory = memory.new })) }
-    ensures why { IfErr result (λ why.
-        perform keys (record { core = processor.old; memory = memory.old })
-        (effect_of_word instr processor.old)
-        ≡ Err why) }
-    ensures same { OnErr result ((processor.new ≡ processor.old) × (memory.new ≡ memory.old)) }
-    ensures noted { IsNoted (is_among (accessed processor.old.index (effect_of_word instr processor.old)))
-        number first_touch.old first_touch.new }
-{
-    let Some(instr) = instr else {
-        return Err(Stop::NoInstruction);
-    };
-    let span = execute(processor, memory, instr, keys)?;
-    span.note(first_touch, number);
-    Ok(())
-}
