@@ -8,7 +8,7 @@ use crate::text::{
     byte_digits, push_decimal, push_hex, push_hex_word, push_spaced_bytes, push_spaced_words,
     word_digits,
 };
-use chip_lang::show;
+use chip_lang::push_shown;
 use chip_machine::limits::{LAST_WORD, MEMORY_BYTES};
 use chip_machine::{Machine, Stop};
 use std::alloc::{AllocError, Global};
@@ -136,15 +136,17 @@ pub(crate) fn push_disassembly(
     requires { at + 2 * count ≤ MEMORY_BYTES }
     ensures { OnOk result (answer.new.items ≡ answer.old.items ++ disassembly_of machine.now at count) }
 {
+    let mut text = String::new(alloc);
     for place in 0..count {
-        push_word_line(alloc, answer, machine, at + 2 * place)?;
+        push_word_line(answer, &mut text, machine, at + 2 * place)?;
     }
     answer.extend_from_slice(b".\n")
 }
 
+/// Adds a line for the word at an address. `text` has the room for its source text; what it holds means nothing.
 fn push_word_line(
-    alloc: Global,
     answer: &mut Vec<u8>,
+    text: &mut String,
     machine: &Machine,
     at: u16,
 ) -> Result<(), AllocError>
@@ -152,7 +154,8 @@ fn push_word_line(
     ensures { OnOk result (answer.new.items ≡ answer.old.items ++ word_line machine.now at) }
 {
     let word = word_at(machine, at);
-    let text = show(alloc, word)?;
+    text.clear();
+    push_shown(text, word)?;
     push_hex_word(answer, at)?;
     answer.push(b' ')?;
     push_hex_word(answer, word)?;

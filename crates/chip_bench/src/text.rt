@@ -36,6 +36,9 @@ fn write_hex(bytes: &[u8], digits: &mut [u8])
     }
 }
 
+/// The hexadecimal digits, for where one is made after another.
+const DIGITS: [u8; 16] = *b"0123456789abcdef";
+
 /// The hexadecimal digit of a number below 16, by arithmetic alone, so that many are made at once.
 #[inline(always)]
 #[tactic(auto, using(crate::proofs::TextLemmas::hex_digit_is))]
@@ -116,8 +119,8 @@ fn write_spaced(bytes: &[u8], text: &mut [u8])
     'bytes: for i in 0..bytes.len() {
         let byte = bytes[i];
         text[3 * i] = b' ';
-        text[3 * i + 1] = hex_digit(byte / 16);
-        text[3 * i + 2] = hex_digit(byte % 16);
+        text[3 * i + 1] = DIGITS[(byte / 16) as usize];
+        text[3 * i + 2] = DIGITS[(byte % 16) as usize];
     }
 }
 

@@ -41,7 +41,7 @@ pub use crate::line::{Body, Line, read_line};
 pub use crate::meter::Meter;
 pub use crate::names::Names;
 pub use crate::number::{Addr, Nibble, Reg};
-pub use crate::source_text::show;
+pub use crate::source_text::{push_shown, show};
 pub use crate::token::{Kind, Token, tokens};
 pub use crate::used_names::{agree_on, defines, uses};
 pub use crate::value::eval;

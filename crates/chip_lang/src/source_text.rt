@@ -14,23 +14,31 @@ use std::alloc::{AllocError, Global};
 
 /// The source text of a word: registers `V0` to `VF`, a byte as `#kk`, an address as `#nnn`, a nibble in decimal. A word that is no
 /// instruction is `DW #wwww`. Read as a line and encoded, the text gives the word.
-#[tactic(auto, unfolding(crate::specs::Show::show_of))]
 pub fn show(alloc: Global, word: u16) -> Result<String, AllocError>
     ensures text { IfOk result (λ text. string_bytes text ≡ show_of word) }
     ensures form { IfOk result (λ text. string_bytes text ≡ form_text (option_map row_of_instr (decode_of word)) word) }
 {
     let mut text = String::new(alloc);
+    push_shown(&mut text, word)?;
+    Ok(text)
+}
+
+/// Adds the source text of a word, as `show` gives it. Err where memory ran out; a part of the text may be added then.
+#[tactic(auto, unfolding(crate::specs::Show::show_of))]
+pub fn push_shown(text: &mut String, word: u16) -> Result<(), AllocError>
+    ensures text { IfOk result (λ _. string_bytes text.new ≡ string_bytes text.old ++ show_of word) }
+    ensures form { show_of word ≡ form_text (option_map row_of_instr (decode_of word)) word }
+{
     match form_shown(word) {
         Some(form) => {
             text.push_str(form.name)?;
-            push_operands(&mut text, " ", form.patterns, word)?;
+            push_operands(text, " ", form.patterns, word)
         }
         None => {
             text.push_str("DW #")?;
-            push_word(&mut text, word)?;
+            push_word(text, word)
         }
     }
-    Ok(text)
 }
 
 /// The first form but SYS that gives a word. It is that of the word's instruction.
