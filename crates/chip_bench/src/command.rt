@@ -208,8 +208,9 @@ fn after_word(operands: &[u8]) -> &[u8]
 fn one_number(operands: &[u8]) -> Option<u32>
     ensures { result ≡ one_number operands.now }
 {
-    if next_words(operands).is_empty() {
-        front_number(operands)
+    let (word, rest) = split_word(operands);
+    if skip_spaces(rest).is_empty() {
+        number_of(word)
     } else {
         None
     }

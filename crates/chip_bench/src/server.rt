@@ -20,7 +20,7 @@ use std::alloc::{AllocError, Global};
 use std::io::{Read, Write};
 use thiserror::Error;
 
-const PIECE_LEN: usize = 4096;
+const PIECE_LEN: usize = 16384;
 
 // A line that is no longer than it may be can have a carriage return after it, and one byte more shows that it is too long.
 const KEPT_LEN: usize = COMMAND_BYTES + 2;

@@ -83,6 +83,10 @@ pub(crate) fn push_hex_word(out: &mut Vec<u8>, word: u16) -> Result<(), AllocErr
 pub(crate) fn push_decimal(out: &mut Vec<u8>, number: u64) -> Result<(), AllocError>
     ensures { OnOk result (out.new.items ≡ out.old.items ++ decimal number) }
 {
+    if number < 10 {
+        out.push(b'0' + number as u8)?;
+        return Ok(());
+    }
     let mut digits = Buffer::new();
     out.extend_from_slice(digits.format(number).as_bytes())
 }
