@@ -62,7 +62,14 @@ is_exchanged m n from old new size before bytes =
       | inr high ↦ bytes at (at - from) within (omega arith) ∙ sym (get_or-exchanged_at m from old new at (at - from) within (omega arith))
     ])
 
-get_or-take_past : (n : ℕ) (xs : List ℕ) (i : ℕ) → n ≤ i → get_or (take n xs) i 0 ≡ 0
+-- bytes of which the same are chosen
+pub exchanged_alike : (m : List ℕ) (from : ℕ) (old new old' new' : List ℕ) → ((i x : ℕ) → chosen x (get_or old i 0) (get_or new i 0) ≡ chosen x (get_or old' i 0) (get_or new' i 0)) → exchanged m from old new ≡ exchanged m from old' new'
+exchanged_alike m from old new old' new' same =
+    is_exchanged m (exchanged m from old new) from old' new' (length-exchanged m from old new)
+    (λ at l low. get_or-exchanged_before m from old new at l low)
+    (λ at i l e. get_or-exchanged_at m from old new at i l e ∙ same i (get_or m at 0))
+
+pub get_or-take_past : (n : ℕ) (xs : List ℕ) (i : ℕ) → n ≤ i → get_or (take n xs) i 0 ≡ 0
 get_or-take_past n xs i l = get_or_past (take n xs) i 0 (omega (arith, length-take n xs))
 
 take_other : (n : ℕ) (xs : List ℕ) (i : ℕ) → i ≢ n → get_or (take n xs) i 0 ≡ get_or (take (n + 1) xs) i 0
@@ -105,6 +112,34 @@ exchanged_more m from old new at i v e is =
           ∙ get_or-exchanged_at m from (take i old) (take i new) k j l place
           ∙ ap (λ x. chosen (get_or m k 0) x (get_or (take i new) j 0)) (take_other i old j other)
           ∙ ap (λ y. chosen (get_or m k 0) (get_or (take (i + 1) old) j 0) y) (take_other i new j other))
+    ])
+
+-- a place at which they do not differ
+pub exchanged_skip : (m : List ℕ) (from : ℕ) (old new : List ℕ) (i : ℕ) → get_or old i 0 ≡ get_or new i 0 → exchanged m from (take i old) (take i new) ≡ exchanged m from (take (i + 1) old) (take (i + 1) new)
+exchanged_skip m from old new i same =
+    exchanged_alike m from (take i old) (take i new) (take (i + 1) old) (take (i + 1) new)
+    (λ j x. elim (cases_eq j i) [
+      | inl here ↦
+          subst (λ k. chosen x (get_or (take i old) k 0) (get_or (take i new) k 0) ≡ chosen x (get_or (take (i + 1) old) k 0) (get_or (take (i + 1) new) k 0)) (sym here)
+          (chosen-same x (get_or (take i old) i 0) (get_or (take i new) i 0) (get_or-take_past i old i (omega arith) ∙ sym (get_or-take_past i new i (omega arith)))
+          ∙ sym (chosen-same x (get_or (take (i + 1) old) i 0) (get_or (take (i + 1) new) i 0)
+          (get_or-take (i + 1) old i 0 (omega arith) ∙ same ∙ sym (get_or-take (i + 1) new i 0 (omega arith)))))
+      | inr off ↦
+          ap (λ y. chosen x y (get_or (take i new) j 0)) (take_other i old j off)
+          ∙ ap (λ y. chosen x (get_or (take (i + 1) old) j 0) y) (take_other i new j off)
+    ])
+
+-- no further place at which they differ
+pub exchanged_rest : (m : List ℕ) (from : ℕ) (old new : List ℕ) (n : ℕ) → ((i : ℕ) → n ≤ i → get_or old i 0 ≡ get_or new i 0) → exchanged m from (take n old) (take n new) ≡ exchanged m from old new
+exchanged_rest m from old new n same =
+    exchanged_alike m from (take n old) (take n new) old new
+    (λ i x. elim (cases_lt i n) [
+      | inl a ↦
+          ap (λ y. chosen x y (get_or (take n new) i 0)) (get_or-take n old i 0 a)
+          ∙ ap (λ y. chosen x (get_or old i 0) y) (get_or-take n new i 0 a)
+      | inr a ↦
+          chosen-same x (get_or (take n old) i 0) (get_or (take n new) i 0) (get_or-take_past n old i a ∙ sym (get_or-take_past n new i a))
+          ∙ sym (chosen-same x (get_or old i 0) (get_or new i 0) (same i a))
     ])
 
 -- all places

@@ -1,5 +1,4 @@
-use Rattle.std.proofs.Common.{◌≡◌, ◌≢◌, ℕ, ◌+◌, ◌<◌, ◌≤◌, List, length, take, get_or, set, sym, ap, ◌∙◌, arith, get_or-take}
-use Rattle.chip_machine.specs.State.{exchanged}
+use Rattle.std.proofs.Common.{◌≡◌, ◌≢◌, ℕ, ◌<◌, List, length, take, get_or, set, sym, ap, ◌∙◌, arith, get_or-take}
 use Rattle.chip_machine.specs.inner.Exchanged.{chosen, chosen-new, chosen-same, exchanged_none, exchanged-next, exchanged_more, exchanged_all}
 use Rattle.chip_machine.proofs.memory.exchange_all.Goals as goal
 use Rattle.chip_machine.proofs.memory.exchange_all.Goals.{then-old-i, else-old-i}
