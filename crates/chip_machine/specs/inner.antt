@@ -1,7 +1,8 @@
 -- How a state is stored (Codes, Stored), and proofs that the trait of the crate above asks for as its laws:
--- Overwritten (memory after bytes were written), FrameTheorem (the frame law holds, and a step keeps a state proper),
+-- Overwritten (memory after bytes were written), Exchanged (memory after bytes were exchanged), FrameTheorem (the frame law holds, and a step keeps a state proper),
 -- KeylessTheorem (a step that doesn't read the keys doesn't depend on them).
 pub mod Codes
+pub mod Exchanged
 pub mod FrameTheorem
 pub mod KeyRows
 pub mod KeylessTheorem

@@ -2,7 +2,7 @@
 
 ghost use Rattle.std.specs.Prelude.{◌≡◌, ◌+◌, ◌<◌, ◌≤◌, ◌↔◌, [], length, take, drop, IfOk, IfErr, IsOk, IsErr, OnOk, OnErr};
 ghost use Rattle.std.specs.List.{range_with_len};
-ghost use Rattle.chip_machine.specs.State.{overwrite};
+ghost use Rattle.chip_machine.specs.State.{overwrite, exchanged};
 ghost use Rattle.chip_machine.specs.Step.{span_at};
 
 use crate::limits::{MEMORY_BYTES, SPRITE_BYTES};
@@ -49,4 +49,27 @@ pub(crate) fn store(memory: &mut [u8], at: u16, bytes: &[u8]) -> Result<(), Stop
     }
     write_at(memory, from, bytes);
     Ok(())
+}
+
+/// Puts the bytes of `new` in the place of those of `old` where the two differ, and stores each of the others as it was.
+fn exchange_all(bytes: &mut [u8], old: &[u8], new: &[u8])
+    requires old_alike { length old.now ≡ length bytes.old }
+    requires new_alike { length new.now ≡ length bytes.old }
+    ensures { bytes.new ≡ exchanged bytes.old 0 old.now new.now }
+{
+    let count = bytes.len();
+    let (old, new) = (&old[..count], &new[..count]);
+    for i in 0..count {
+        let there = bytes[i];
+        bytes[i] = if old[i] != new[i] { new[i] } else { there };
+    }
+}
+
+/// Puts the bytes of `new` from an address on in the place of those of `old` where the two differ.
+pub(crate) fn exchange_at(memory: &mut [u8], at: usize, old: &[u8], new: &[u8])
+    requires alike { length old.now ≡ length new.now }
+    requires in_memory { at + length new.now ≤ length memory.old }
+    ensures { memory.new ≡ exchanged memory.old at old.now new.now }
+{
+    exchange_all(&mut memory[at..at + new.len()], old, new);
 }

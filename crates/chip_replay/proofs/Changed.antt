@@ -8,14 +8,14 @@ use Rattle.std.specs.Prelude.{IfSome}
 use Rattle.std.specs.List.{position_or_len, range_with_len}
 use Rattle.std.proofs.lemmas.List.FromFn.{get_or-range_with_len, length-range_with_len}
 use Rattle.std.proofs.lemmas.List.Folds.{list_any_at}
-use Rattle.chip_machine.specs.Touched.{touched}
-use Rattle.chip_replay.proofs.OneByte.{ByteLaw, KeepsProper, IsTraced, byte_law, keeps_proper}
+use Rattle.chip_machine.specs.Touched.{is_among, touched}
+use Rattle.chip_replay.proofs.TracedLaws.{IsTraced}
 use Rattle.chip_replay.proofs.Spaced.{multiple_within, div_mono}
 use Rattle.chip_replay.specs.Run.{run, ticks, first_below}
 use Rattle.chip_replay.specs.Image.{differs, affected, touches_change}
 use Rattle.chip_replay.specs.inner.Patch.{patched}
 use Rattle.chip_replay.specs.History.{IsFirst, IsSound, IsLent, IsCutBack}
-use Rattle.chip_replay.proofs.Patched.{AllUntouched, run-patched, run-proper, patched_below-proper, patched_below-touches}
+use Rattle.chip_replay.proofs.Patched.{AllUntouched, run-patched, run-proper, patched-proper, same_touches}
 use Rattle.chip_replay.specs.Limits.{image_room, image_start, memory_size, never}
 
 -- a first step, or none, if only the steps below m are known
@@ -144,12 +144,6 @@ not_touched p proper touches state cs first reach m sound within at la least s l
     ] refl
 
 module _ {S : Type 0} (p : ℕ) (memory : S → List ℕ) (with_memory : S → List ℕ → S) (proper : S → Type 0) (touches : S → List ℕ) (after : S → ℕ → Bool → S) (laws : IsTraced memory with_memory proper touches after) (rate : ℕ) (held : ℕ → ℕ) (start : S) (cs : List S) (first : List ℕ) (reach : ℕ) (sound : IsSound p proper (touched touches) (run after rate held start) cs first reach) (old new : List ℕ) where
-  pub frame : ByteLaw memory with_memory proper (touched touches) after
-  frame = byte_law memory with_memory proper touches after laws
-
-  pub keeps : KeepsProper memory with_memory proper (touched touches) after
-  keeps = keeps_proper memory with_memory proper touches after laws
-
   pub affected_le : (m : ℕ) → m ≤ reach → (m ≡ reach) ⊎ ((i : ℕ) × (i < image_room) × (differs old new i ≡ true) × (m ≡ slice_index first (image_start + i))) → affected touches after rate held old new start reach ≤ m
   affected_le m within (inl e) = omega (arith, first_below-le (λ s. touches_change touches old new (run after rate held start s)) reach)
   affected_le m within (inr (i, li, d, e)) =
@@ -162,22 +156,15 @@ module _ {S : Type 0} (p : ℕ) (memory : S → List ℕ) (with_memory : S → L
       ]
 
   -- where no step touches a byte at which the images differ
-  module _ (untouched : (s : ℕ) → s < reach → AllUntouched memory with_memory proper (touched touches) after frame keeps old new (run after rate held start s)) where
-    same_touches : (s : S) → proper s → AllUntouched memory with_memory proper (touched touches) after frame keeps old new s → (a : ℕ) → touched touches (patched memory with_memory old new s) a ≡ touched touches s a
-    unfolding patched
-    same_touches s ps u a = patched_below-touches memory with_memory proper (touched touches) after frame keeps old new s ps image_room (omega arith) u a
-
-    proper_start : proper (patched memory with_memory old new start)
-    unfolding patched
-    proper_start = patched_below-proper memory with_memory proper (touched touches) after frame keeps old new start sound.proper_start image_room (omega arith)
-
+  module _ (untouched : (s : ℕ) → s < reach → AllUntouched memory with_memory proper touches after laws old new (run after rate held start s)) where
     pub later_is : (t : ℕ) → t ≤ reach → run after rate held (patched memory with_memory old new start) t ≡ patched memory with_memory old new (run after rate held start t)
-    later_is t l = run-patched memory with_memory proper (touched touches) after frame keeps old new rate held start sound.proper_start t (λ r lr. untouched r (omega arith))
+    later_is t l = run-patched memory with_memory proper touches after laws old new rate held start sound.proper_start t (λ r lr. untouched r (omega arith))
 
     pub sound_patched : IsSound p proper (touched touches) (run after rate held (patched memory with_memory old new start)) (map (patched memory with_memory old new) cs) first reach
     sound_patched =
-        sound_changed p proper (touched touches) (run after rate held start) (run after rate held (patched memory with_memory old new start)) (patched memory with_memory old new) cs first reach sound proper_start later_is
-        (λ t a l. ap (λ s. touched touches s a) (later_is t (omega arith)) ∙ same_touches (run after rate held start t) (run-proper memory with_memory proper (touched touches) after frame keeps rate held start sound.proper_start t) (untouched t l) a)
+        sound_changed p proper (touched touches) (run after rate held start) (run after rate held (patched memory with_memory old new start)) (patched memory with_memory old new) cs first reach sound
+        (patched-proper memory with_memory proper touches after laws old new start sound.proper_start) later_is
+        (λ t a l. ap (λ s. touched touches s a) (later_is t (omega arith)) ∙ ap (λ xs. is_among xs a) (same_touches memory with_memory proper touches after laws old new (run after rate held start t) (run-proper memory with_memory proper touches after laws rate held start sound.proper_start t) (untouched t l)))
 
     pub lent_patched : (before : ℕ) (lent : S) (step step' : Option ℕ) → IsLent (run after rate held start) before lent step → IfSome step' (λ t. (t ≤ reach) × (step ≡ Some t)) → IsLent (run after rate held (patched memory with_memory old new start)) reach (patched memory with_memory old new lent) step'
     lent_patched before lent step step' known kept = lent_cut (run after rate held start) (run after rate held (patched memory with_memory old new start)) (patched memory with_memory old new) before reach lent step step' known later_is kept

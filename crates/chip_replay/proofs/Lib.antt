@@ -1,10 +1,11 @@
 pub mod Spaced
-pub mod OneByte
+pub mod TracedLaws
 pub mod Patched
 pub mod Blocks
 pub mod Sound
 pub mod Changed
 pub mod Bytes
+pub mod Places
 pub mod KeyFacts
 pub mod Moments
 pub mod LastEvent

@@ -1,64 +1,133 @@
 -- Changing bytes that no step touches, and then running, is running and then changing them.
-use Rattle.std.proofs.Common.{◌≡◌, ℕ, zero, suc, ◌+◌, ◌<◌, ◌≤◌, Bool, true, false, cond, List, slice_index, refl, sym, ap, ◌∙◌, arith, inl, inr}
-use Rattle.std.proofs.lemmas.Bool.{cases_eq}
+use Rattle.std.proofs.Common.{◌≡◌, ℕ, zero, suc, ◌+◌, ◌-◌, ◌<◌, ◌≤◌, Bool, true, false, List, length, get_or, slice_index, slice_index_or, refl, sym, ap, ◌∙◌, arith, inl, inr}
+use Rattle.std.specs.Prelude.{All, IsFalse, nat_le, nat_lt, ◌==◌, ◌&&◌, if◌then◌else◌}
+use Rattle.std.proofs.lemmas.List.{ext_get_or, get_or_past}
+use Rattle.std.proofs.lemmas.List.Folds.{list_any_at}
+use Rattle.std.proofs.lemmas.Bool.{cases_lt, false≢true}
 use Rattle.std.proofs.lemmas.Bool.Decides.{nat_tests}
-use Rattle.chip_replay.specs.inner.Machine.{poked}
-use Rattle.chip_replay.proofs.OneByte.{ByteLaw, KeepsProper}
+use Rattle.chip_machine.specs.State.{differ_at, exchanged}
+use Rattle.chip_machine.specs.Touched.{touched}
+use Rattle.chip_machine.specs.inner.Exchanged.{length-exchanged, get_or-exchanged}
+use Rattle.chip_replay.proofs.TracedLaws.{IsTraced}
+use Rattle.chip_replay.specs.Frame.{AgreeOff, IsFramed}
 use Rattle.chip_replay.specs.Run.{run, ticks}
 use Rattle.chip_replay.specs.Image.{differs}
-use Rattle.chip_replay.specs.inner.Patch.{patched_below, patched}
-use Rattle.chip_replay.specs.Limits.{image_room, image_start}
+use Rattle.chip_replay.specs.inner.Patch.{patched}
+use Rattle.chip_replay.specs.Limits.{image_room, image_start, memory_size}
 
-module _ {S : Type 0} (memory : S → List ℕ) (with_memory : S → List ℕ → S) (proper : S → Type 0) (touches : S → ℕ → Bool) (after : S → ℕ → Bool → S) (frame : ByteLaw memory with_memory proper touches after) (keeps : KeepsProper memory with_memory proper touches after) where
+both : (a b : Bool) → (a && b) ≡ true → (a ≡ true) × (b ≡ true)
+both true b e = (refl, e)
+both false b e = absurd (false≢true e)
+
+itself : (a : ℕ) → (a == a) ≡ true
+itself a = let same : a ≡ a = refl in grind (arith, nat_tests)
+
+below : (a b : ℕ) → nat_lt a b ≡ true → a < b
+below a b e = grind (arith, nat_tests)
+
+up_to : (a b : ℕ) → nat_le a b ≡ true → a ≤ b
+up_to a b e = grind (arith, nat_tests)
+
+off_within : (at size : ℕ) (b : Bool) → at < size → (nat_lt at size && b) ≡ false → b ≡ false
+off_within at size b l e =
+    let test : nat_lt at size ≡ true = grind (arith, nat_tests) in
+    sym (ap (λ t. t && b) test) ∙ e
+
+module _ {S : Type 0} (memory : S → List ℕ) (with_memory : S → List ℕ → S) (proper : S → Type 0) (touches : S → List ℕ) (after : S → ℕ → Bool → S) (laws : IsTraced memory with_memory proper touches after) where
   pub run-proper : (rate : ℕ) (held : ℕ → ℕ) (start : S) → proper start → (t : ℕ) → proper (run after rate held start t)
   run-proper rate held start p zero = p
   run-proper rate held start p (suc t) =
-      keeps.by_step _ (held t) (ticks rate t) (run-proper rate held start p t)
+      laws.by_step _ (held t) (ticks rate t) (run-proper rate held start p t)
 
   module _ (old new : List ℕ) where
-    -- no step touches a byte at which the images differ, below n
-    abbrev pub Untouched : S → ℕ → Type 0
-    Untouched s n = (i : ℕ) → i < n → differs old new i ≡ true → touches s (image_start + i) ≡ false
+    -- a state's next step touches no byte at which the images differ
+    abbrev pub AllUntouched : S → Type 0
+    AllUntouched s = (i : ℕ) → i < image_room → differs old new i ≡ true → touched touches s (image_start + i) ≡ false
 
-    pub patched_below-proper : (s : S) → proper s → (n : ℕ) → n ≤ image_room → proper (patched_below memory with_memory old new s n)
-    patched_below-proper s p zero h = p
-    patched_below-proper s p (suc n) h =
-        let before = patched_below memory with_memory old new s n in
-        let rest : proper before = patched_below-proper s p n (omega arith) in
-        elim (differs old new n) as (λ b. proper (cond b (poked memory with_memory before (image_start + n) (slice_index new n)) before)) [
-          | true ↦ keeps.by_poke before (image_start + n) (slice_index new n) rest
-          | false ↦ rest
+    -- the addresses of the memory at which they differ
+    abbrev changed : ℕ → Bool
+    changed at = nat_lt at memory_size && differ_at image_start old new at
+
+    place : (at : ℕ) → changed at ≡ true → (image_start + (at - image_start) ≡ at) × ((at - image_start < image_room) × (differs old new (at - image_start) ≡ true))
+    place at e =
+        let inside = both (nat_lt at memory_size) (differ_at image_start old new at) e in
+        let there = both (nat_le image_start at) (differs old new (at - image_start)) inside.1 in
+        let within : at < memory_size = below at memory_size inside.0 in
+        let low : image_start ≤ at = up_to image_start at there.0 in
+        (omega arith, (omega arith, there.1))
+
+    misses : (s : S) → AllUntouched s → All (λ at. IsFalse (changed at)) (touches s)
+    misses s u = λ k d l.
+        let at = slice_index_or (touches s) k d in
+        elim (changed at) as (λ b. changed at ≡ b → b ≡ false) [
+          | true ↦ λ e. (
+              let there = place at e in
+              absurd (false≢true (sym (u (at - image_start) there.1.0 there.1.1) ∙ ap (touched touches s) there.0 ∙ list_any_at (λ a. at == a) (touches s) k d l (itself at))))
+          | false ↦ λ e. refl
+        ] refl
+
+    back : (s : S) → memory (patched memory with_memory old new s) ≡ exchanged (memory s) image_start old new
+    unfolding patched
+    back s = laws.part.read_back s (exchanged (memory s) image_start old new)
+
+    pub patched-proper : (s : S) → proper s → proper (patched memory with_memory old new s)
+    unfolding patched
+    patched-proper s p =
+        laws.changed s (exchanged (memory s) image_start old new) p (length-exchanged (memory s) image_start old new ∙ laws.size s p)
+
+    -- a byte of the memory
+    stays : (m : List ℕ) (at : ℕ) → length m ≡ memory_size → changed at ≡ false → get_or m at 0 ≡ get_or (exchanged m image_start old new) at 0
+    stays m at size off =
+        elim (cases_lt at memory_size) [
+          | inl l ↦
+              sym (get_or-exchanged m image_start old new at (omega (arith, size))
+              ∙ ap (λ b. if b then slice_index new (at - image_start) else slice_index m at) (off_within at memory_size (differ_at image_start old new at) l off))
+          | inr l ↦
+              get_or_past m at 0 (omega (arith, size))
+              ∙ sym (get_or_past (exchanged m image_start old new) at 0 (omega (arith, size, length-exchanged m image_start old new)))
         ]
 
-    pub patched_below-touches : (s : S) → proper s → (n : ℕ) → n ≤ image_room → Untouched s n → (a : ℕ) → touches (patched_below memory with_memory old new s n) a ≡ touches s a
-    patched_below-touches s p zero h u a = refl
-    patched_below-touches s p (suc n) h u a =
-        let before = patched_below memory with_memory old new s n in
-        let proper_before : proper before = patched_below-proper s p n (omega arith) in
-        let rest = λ (b : ℕ). patched_below-touches s p n (omega arith) (λ i l. u i (omega arith)) b in
-        elim (differs old new n) as (λ b. differs old new n ≡ b → touches (cond b (poked memory with_memory before (image_start + n) (slice_index new n)) before) a ≡ touches s a) [
-          | true ↦ λ e. frame.same_touches before (image_start + n) (slice_index new n) a proper_before (omega arith) (rest (image_start + n) ∙ u n (omega arith) e) ∙ rest a
-          | false ↦ λ e. rest a
-        ] refl
+    goes : (m n : List ℕ) (at : ℕ) → length m ≡ memory_size → length n ≡ memory_size → changed at ≡ true → get_or (exchanged m image_start old new) at 0 ≡ get_or (exchanged n image_start old new) at 0
+    goes m n at sm sn on =
+        let inside = both (nat_lt at memory_size) (differ_at image_start old new at) on in
+        let within : at < memory_size = below at memory_size inside.0 in
+        get_or-exchanged m image_start old new at (omega (arith, sm))
+        ∙ ap (λ b. if b then slice_index new (at - image_start) else slice_index m at) inside.1
+        ∙ sym (get_or-exchanged n image_start old new at (omega (arith, sn))
+        ∙ ap (λ b. if b then slice_index new (at - image_start) else slice_index n at) inside.1)
 
-    pub after-patched_below : (s : S) (keys : ℕ) (tick : Bool) → proper s → (n : ℕ) → n ≤ image_room → Untouched s n → after (patched_below memory with_memory old new s n) keys tick ≡ patched_below memory with_memory old new (after s keys tick) n
-    after-patched_below s keys tick p zero h u = refl
-    after-patched_below s keys tick p (suc n) h u =
-        let before = patched_below memory with_memory old new s n in
-        let later = patched_below memory with_memory old new (after s keys tick) n in
-        let proper_before : proper before = patched_below-proper s p n (omega arith) in
-        let rest : after before keys tick ≡ later = after-patched_below s keys tick p n (omega arith) (λ i l. u i (omega arith)) in
-        elim (differs old new n) as (λ b. differs old new n ≡ b → after (cond b (poked memory with_memory before (image_start + n) (slice_index new n)) before) keys tick ≡ cond b (poked memory with_memory later (image_start + n) (slice_index new n)) later) [
-          | true ↦ λ e. frame.same_step before (image_start + n) (slice_index new n) keys tick proper_before (omega arith) (patched_below-touches s p n (omega arith) (λ i l. u i (omega arith)) (image_start + n) ∙ u n (omega arith) e) ∙ ap (λ s. poked memory with_memory s (image_start + n) (slice_index new n)) rest
-          | false ↦ λ e. rest
-        ] refl
+    agree : (s : S) → proper s → AgreeOff memory with_memory changed s (patched memory with_memory old new s)
+    unfolding patched
+    agree s p =
+        record {
+          rest = ap (with_memory s) (back s);
+          bytes = λ at off. stays (memory s) at (laws.size s p) off ∙ sym (ap (λ m. slice_index m at) (back s));
+        }
 
-    abbrev pub AllUntouched : S → Type 0
-    AllUntouched s = (i : ℕ) → i < image_room → differs old new i ≡ true → touches s (image_start + i) ≡ false
+    framed : (s : S) (keys : ℕ) (tick : Bool) → proper s → AllUntouched s → IsFramed memory with_memory (λ s. after s keys tick) touches changed s (patched memory with_memory old new s)
+    framed s keys tick p u = laws.frame changed keys tick s (patched memory with_memory old new s) p (patched-proper s p) (agree s p) (misses s u)
+
+    pub same_touches : (s : S) → proper s → AllUntouched s → touches (patched memory with_memory old new s) ≡ touches s
+    same_touches s p u = (framed s 0 false p u).same_touches
+
+    -- the bytes after the step
+    same_bytes : (s : S) (keys : ℕ) (tick : Bool) → proper s → AllUntouched s → memory (after (patched memory with_memory old new s) keys tick) ≡ exchanged (memory (after s keys tick)) image_start old new
+    same_bytes s keys tick p u =
+        let t = patched memory with_memory old new s in
+        let law = framed s keys tick p u in
+        let first : length (memory (after s keys tick)) ≡ memory_size = laws.size _ (laws.by_step s keys tick p) in
+        let second : length (memory (after t keys tick)) ≡ memory_size = laws.size _ (laws.by_step t keys tick (patched-proper s p)) in
+        ext_get_or 0 (memory (after t keys tick)) (exchanged (memory (after s keys tick)) image_start old new)
+        (second ∙ sym (length-exchanged (memory (after s keys tick)) image_start old new ∙ first))
+        (λ at l. elim (changed at) as (λ b. changed at ≡ b → get_or (memory (after t keys tick)) at 0 ≡ get_or (exchanged (memory (after s keys tick)) image_start old new) at 0) [
+          | true ↦ λ on. law.second_keeps at on ∙ ap (λ m. slice_index m at) (back s) ∙ goes (memory s) (memory (after s keys tick)) at (laws.size s p) first on
+          | false ↦ λ off. sym (law.still_agree.bytes at off) ∙ stays (memory (after s keys tick)) at first off
+        ] refl)
 
     pub after-patched : (s : S) (keys : ℕ) (tick : Bool) → proper s → AllUntouched s → after (patched memory with_memory old new s) keys tick ≡ patched memory with_memory old new (after s keys tick)
     unfolding patched
-    after-patched s keys tick p u = after-patched_below s keys tick p image_room (omega arith) u
+    after-patched s keys tick p u =
+        sym (framed s keys tick p u).still_agree.rest ∙ ap (with_memory (after s keys tick)) (same_bytes s keys tick p u)
 
     -- the state of the new run is the patched state of the old one, as long as no step touched a changed byte
     pub run-patched : (rate : ℕ) (held : ℕ → ℕ) (start : S) → proper start → (t : ℕ) → ((r : ℕ) → r < t → AllUntouched (run after rate held start r)) → run after rate held (patched memory with_memory old new start) t ≡ patched memory with_memory old new (run after rate held start t)
@@ -67,17 +136,3 @@ module _ {S : Type 0} (memory : S → List ℕ) (with_memory : S → List ℕ �
         let rest : run after rate held (patched memory with_memory old new start) t ≡ patched memory with_memory old new (run after rate held start t) = run-patched rate held start p t (λ r l. u r (omega arith)) in
         ap (λ s. after s (held t) (ticks rate t)) rest
         ∙ after-patched (run after rate held start t) (held t) (ticks rate t) (run-proper rate held start p t) (u t (omega arith))
-
--- where the images agree from one place up to another, nothing is changed there
-pub patched_below-same : {S : Type 0} (memory : S → List ℕ) (with_memory : S → List ℕ → S) (old new : List ℕ) (s : S) (a n : ℕ) → a ≤ n → ((i : ℕ) → a ≤ i → i < n → slice_index old i ≡ slice_index new i) → patched_below memory with_memory old new s n ≡ patched_below memory with_memory old new s a
-patched_below-same memory with_memory old new s a zero l same =
-    let none : 0 ≡ a = omega arith in ap (patched_below memory with_memory old new s) none
-patched_below-same memory with_memory old new s a (suc n) l same =
-    elim (cases_eq a (suc n)) [
-      | inl e ↦ ap (patched_below memory with_memory old new s) (sym e)
-      | inr e ↦
-          (let alike : slice_index old n ≡ slice_index new n = same n (omega arith) (omega arith) in
-          let no_change : differs old new n ≡ false = grind (arith, nat_tests) in
-          ap (λ b. cond b (poked memory with_memory (patched_below memory with_memory old new s n) (image_start + n) (slice_index new n)) (patched_below memory with_memory old new s n)) no_change
-          ∙ patched_below-same memory with_memory old new s a n (omega arith) (λ i li ln. same i li (omega arith)))
-    ]

@@ -1,5 +1,4 @@
--- What the functions inside say: a state with one byte changed (Machine), the exchange of one image for another (Patch),
--- and the frame law of the machine in the form of the trait (MachineFrame).
-pub mod Machine
+-- What the functions inside say: the exchange of one image for another (Patch), and the frame law of the machine in the
+-- form of the trait (MachineFrame).
 pub mod MachineFrame
 pub mod Patch

@@ -11,7 +11,7 @@ ghost use Rattle.chip_replay.specs.inner.Patch.{patched};
 ghost use Rattle.chip_replay.specs.History.{AreFirst, IsSound, IsLent, IsCutBack, IsHolding};
 
 use crate::keys::{Holding, Keys};
-use crate::limits::{IMAGE_BYTES, IMAGE_START, LAST_STEP, MEMORY_BYTES, NEVER};
+use crate::limits::{IMAGE_START, LAST_STEP, MEMORY_BYTES, NEVER};
 use crate::traced::Traced;
 use std::alloc::{AllocError, Global};
 
@@ -276,7 +276,9 @@ impl<M: Traced> Kept<M> {
     /// Puts the bytes of the new image in the place of the old one's in each state that is kept. They
     /// agree outside the places from `first` up to `end`.
     pub(crate) fn patch(&mut self, first: usize, end: usize, old: &[u8], new: &[u8])
-        requires { AgreeOutside first end old.now new.now }
+        requires old_fits { length old.now ≤ image_room }
+        requires new_fits { length new.now ≤ image_room }
+        requires alike { AgreeOutside first end old.now new.now }
         ensures checkpoints { self.new.checkpoints.items ≡ map (patched M.memory M.with_memory old.now new.now) self.old.checkpoints.items }
         ensures lent { self.new.lent ≡ patched M.memory M.with_memory old.now new.now self.old.lent }
         ensures others { self.new ≡ record self.old { checkpoints = self.new.checkpoints; lent = self.new.lent } }
@@ -304,14 +306,22 @@ pub(crate) fn least_touch(
     new: &[u8],
 ) -> u32
     requires table { length first_touch.now ≡ MEMORY_BYTES }
+    requires old_fits { length old.now ≤ image_room }
+    requires new_fits { length new.now ≤ image_room }
     requires alike { AgreeOutside first end old.now new.now }
     ensures within { result ≤ reach }
     ensures least { (i : ℕ) → i < image_room → differs old.now new.now i ≡ true → result ≤ slice_index first_touch.now (image_start + i) }
     ensures attained { (result ≡ reach) ⊎ ((i : ℕ) × (i < image_room) × (differs old.now new.now i ≡ true) × (result ≡ slice_index first_touch.now (image_start + i))) }
 {
-    let end = end.min(IMAGE_BYTES);
-    let mut least = reach;
-    for i in first.min(end)..end {
+    if reach == 0 {
+        return 0;
+    }
+    let shorter = old.len().min(new.len());
+    let to = end.min(shorter);
+    let from = first.min(to);
+    let touches = &first_touch[IMAGE_START + from..IMAGE_START + to];
+    let mut least = least_at_changes(touches, reach, &old[from..to], &new[from..to]);
+    for i in first.max(shorter)..end.min(old.len().max(new.len())) {
         if byte_at(old, i) != byte_at(new, i) {
             least = least.min(first_touch[IMAGE_START + i]);
         }
@@ -319,13 +329,38 @@ pub(crate) fn least_touch(
     least
 }
 
-/// Changes the bytes at which the images differ. They agree outside the places from `first` up to `end`.
+/// The least of the steps at the places where the bytes differ, and of `most`.
+fn least_at_changes(steps: &[u32], most: u32, old: &[u8], new: &[u8]) -> u32
+    requires old_alike { length old.now ≡ length steps.now }
+    requires new_alike { length new.now ≡ length steps.now }
+    ensures within { result ≤ most }
+    ensures least { (i : ℕ) → differs old.now new.now i ≡ true → result ≤ slice_index steps.now i }
+    ensures attained { (result ≡ most) ⊎ ((i : ℕ) × (i < length steps.now)
+        × (differs old.now new.now i ≡ true) × (result ≡ slice_index steps.now i)) }
+{
+    let count = steps.len();
+    let (old, new) = (&old[..count], &new[..count]);
+    let mut least = most;
+    for i in 0..count {
+        let floor = if old[i] != new[i] { 0 } else { most };
+        least = least.min(steps[i].max(floor));
+    }
+    least
+}
+
+/// Puts the bytes of the new image in the place of the old one's. They agree outside the places
+/// from `first` up to `end`.
 pub(crate) fn patch<M: Traced>(state: &mut M, first: usize, end: usize, old: &[u8], new: &[u8])
-    requires { AgreeOutside first end old.now new.now }
+    requires old_fits { length old.now ≤ image_room }
+    requires new_fits { length new.now ≤ image_room }
+    requires alike { AgreeOutside first end old.now new.now }
     ensures { state.new ≡ patched M.memory M.with_memory old.now new.now state.old }
 {
-    let end = end.min(IMAGE_BYTES);
-    for i in first.min(end)..end {
+    let shorter = old.len().min(new.len());
+    let to = end.min(shorter);
+    let from = first.min(to);
+    state.exchange((IMAGE_START + from) as u16, &old[from..to], &new[from..to]);
+    for i in first.max(shorter)..end.min(old.len().max(new.len())) {
         let byte = byte_at(new, i);
         if byte_at(old, i) != byte {
             state.poke((IMAGE_START + i) as u16, byte);
@@ -333,9 +368,11 @@ pub(crate) fn patch<M: Traced>(state: &mut M, first: usize, end: usize, old: &[u
     }
 }
 
-/// Changes the bytes at which the images differ in each state.
+/// Puts the bytes of the new image in the place of the old one's in each state.
 fn patch_all<M: Traced>(states: &mut [M], first: usize, end: usize, old: &[u8], new: &[u8])
-    requires { AgreeOutside first end old.now new.now }
+    requires old_fits { length old.now ≤ image_room }
+    requires new_fits { length new.now ≤ image_room }
+    requires alike { AgreeOutside first end old.now new.now }
     ensures { states.new ≡ map (patched M.memory M.with_memory old.now new.now) states.old }
 {
     for state in states.iter_mut() {

@@ -42,6 +42,10 @@ impl Traced for Machine {
         self.poke(at, byte);
     }
 
+    fn exchange(&mut self, at: u16, old: &[u8], new: &[u8]) {
+        self.exchange(at, old, new);
+    }
+
     fn copy_of(&self) -> Result<Self, AllocError> {
         self.copy_of()
     }

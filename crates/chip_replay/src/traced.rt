@@ -4,6 +4,7 @@ ghost use Rattle.std.specs.Prelude.{◌≡◌, ◌==◌, ℕ, ◌+◌, ◌^◌, 
 ghost use Rattle.chip_machine.specs.Block.{quiet, block, first_noted};
 ghost use Rattle.chip_replay.specs.Frame.{AgreeOff, IsFramed};
 ghost use Rattle.chip_replay.specs.Limits.{memory_size};
+ghost use Rattle.chip_machine.specs.State.{exchanged};
 ghost use Rattle.chip_machine.specs.Touched.{touched, IsNoted};
 
 use chip_machine::touch::Touch;
@@ -69,6 +70,15 @@ pub trait Traced: Drop + Sized {
     fn poke(&mut self, at: u16, byte: u8)
         requires { at < memory_size }
         ensures byte { self.new ≡ with_memory self.old (slice_set (memory self.old) at byte) }
+        ensures proper { is_proper self.new };
+
+    /// Puts the bytes of `new` from an address on in the place of those of `old`, where the two
+    /// differ: all other bytes stay.
+    fn exchange(&mut self, at: u16, old: &[u8], new: &[u8])
+        requires alike { length old.now ≡ length new.now }
+        requires in_memory { at + length new.now ≤ memory_size }
+        ensures bytes { memory self.new ≡ exchanged (memory self.old) at old.now new.now }
+        ensures others { self.new ≡ with_memory self.old (memory self.new) }
         ensures proper { is_proper self.new };
 
     /// A second machine in the same state. Errors: memory ran out.

@@ -4,7 +4,7 @@ use Rattle.chip_replay.specs.Image.{differs, with_image, affected}
 use Rattle.chip_replay.specs.History.{History, IsSound, IsCutBack}
 use Rattle.chip_machine.specs.Touched.{touched}
 use Rattle.chip_replay.specs.Run.{run}
-use Rattle.chip_replay.proofs.OneByte.{IsTraced}
+use Rattle.chip_replay.proofs.TracedLaws.{IsTraced}
 use Rattle.chip_replay.proofs.ByStep.{holding_cut}
 use Rattle.chip_replay.proofs.Changed.{sound_patched, lent_patched, affected_le, not_touched, step_kept}
 use Rattle.chip_replay.proofs.Bytes.{patched-with_image}
@@ -53,7 +53,7 @@ returns-clause-start g c =
     let met = g.met.M.Traced in
     let same : c.self.inside.start ≡ c.args.self.now.start = ap (λ (h : History g.row.M.Denot). h.start) c.self.view_is in
     c.patch.ensures
-    ∙ patched-with_image c.args.old.now c.args.new.now m.memory m.with_memory (record { read_back = met.memory_of_changed; same = met.changed_to_same; replaced = met.changed_twice }) c.self.inside.start c.requires.old_fits c.requires.new_fits (ap (λ s. drop image_start (m.memory s)) same ∙ c.requires.old_is_there)
+    ∙ patched-with_image c.args.old.now c.args.new.now m.memory m.with_memory c.self.inside.start c.requires.old_fits c.requires.new_fits (ap (λ s. drop image_start (m.memory s)) same ∙ c.requires.old_is_there)
     ∙ ap (with_image m.memory m.with_memory c.args.new.now) same
 
 pub returns-clause-reach : goal.returns-clause-reach

@@ -1,5 +1,5 @@
 use Rattle.std.proofs.Common.{ap, ◌∙◌, cond, min, slice_index}
-use Rattle.chip_replay.proofs.OneByte.{is_among-same}
+use Rattle.chip_replay.proofs.TracedLaws.{is_among-same}
 use Rattle.chip_replay.proofs.traced.Traced.step_noted.Goals as goal
 
 pub returns-clause-noted : goal.returns-clause-noted
