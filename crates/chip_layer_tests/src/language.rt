@@ -11,7 +11,7 @@ use chip_lang::instr::{decode, word};
 use chip_lang::line::{Body, Line, read_line};
 use chip_lang::meter::Meter;
 use chip_lang::names::Names;
-use chip_lang::show;
+use chip_lang::{push_shown, show};
 use chip_lang::token::{Kind, Token, tokens};
 use chip_lang::used_names::{agree_on, defines, uses};
 use chip_lang::value::eval;
@@ -249,6 +249,9 @@ fn source_texts(rt: HostRuntime) -> Result<(), Fail> {
         (0xFFFF, "DW #ffff"),
     ] {
         assert_eq!(rt; show(rt.alloc(), word)?.as_str(), want);
+        let mut text = String::new(rt.alloc());
+        push_shown(&mut text, word)?;
+        assert_eq!(rt; text.as_str(), want);
     }
     Ok(())
 }
