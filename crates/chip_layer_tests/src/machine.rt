@@ -183,6 +183,36 @@ fn program_that_writes_itself(rt: HostRuntime) -> Result<(), Fail> {
     Ok(())
 }
 
+/// Whether four bytes become others where bytes are exchanged from the second one on.
+fn exchanges(
+    alloc: Global,
+    words: &[u16; 2],
+    old: &[u8; 3],
+    new: &[u8; 3],
+    after: &[u8; 4],
+) -> Result<bool, Fail> {
+    let mut machine = loaded(alloc, words)?;
+    machine.exchange(0x201, old, new);
+    Ok(has_bytes(&machine, 0x200, after))
+}
+
+#[test]
+fn bytes_are_exchanged_where_they_differ(rt: HostRuntime) -> Result<(), Fail> {
+    let (alloc, words) = (rt.alloc(), [0x1122, 0x3344]);
+    assert!(rt; exchanges(alloc, &words, &[1, 2, 3], &[4, 5, 6], &[0x11, 4, 5, 6])?);
+    assert!(rt; exchanges(alloc, &words, &[1, 2, 3], &[4, 2, 6], &[0x11, 4, 0x33, 6])?);
+    assert!(rt;
+        exchanges(
+            alloc,
+            &words,
+            &[1, 2, 3],
+            &[1, 2, 3],
+            &[0x11, 0x22, 0x33, 0x44]
+        )?
+    );
+    Ok(())
+}
+
 /// The delay timer before a step, where a 2 is put into it in the second of ten steps a tick.
 fn delay_at(step: u32) -> u8 {
     match step {

@@ -99,6 +99,14 @@ impl Traced for Toy {
         self.bytes[at as usize] = byte;
     }
 
+    fn exchange(&mut self, at: u16, old: &[u8], new: &[u8]) {
+        for i in 0..new.len() {
+            if old[i] != new[i] {
+                self.bytes[at as usize + i] = new[i];
+            }
+        }
+    }
+
     fn copy_of(&self) -> Result<Toy, AllocError> {
         Ok(Toy {
             alloc: self.alloc,
@@ -165,6 +173,10 @@ impl Traced for Counting {
 
     fn poke(&mut self, at: u16, byte: u8) {
         self.toy.poke(at, byte);
+    }
+
+    fn exchange(&mut self, at: u16, old: &[u8], new: &[u8]) {
+        self.toy.exchange(at, old, new);
     }
 
     fn copy_of(&self) -> Result<Counting, AllocError> {
