@@ -11,10 +11,10 @@ use chip_lang::instr::{decode, word};
 use chip_lang::line::{Body, Line, read_line};
 use chip_lang::meter::Meter;
 use chip_lang::names::Names;
-use chip_lang::{push_shown, show};
 use chip_lang::token::{Kind, Token, tokens};
 use chip_lang::used_names::{agree_on, defines, uses};
 use chip_lang::value::eval;
+use chip_lang::{push_shown, show};
 use std::alloc::{AllocError, Global};
 use std::test::Fail;
 
