@@ -8,7 +8,8 @@ use Rattle.std.proofs.lemmas.Nat.Bits.{bit_at-zero, bit_at_cat_low, bit_at_cat_h
 use Rattle.chip_machine.specs.Scroll.{scrolled_down, scrolled_right, scrolled_left}
 use Rattle.chip_machine.specs.Points.{points_where, symmetric_difference, meets}
 use Rattle.chip_machine.specs.inner.Stored.{in_rows, lights, differ, any_below}
-use Rattle.chip_machine.specs.Sprite.{covers_by_length, is_set, row_bytes_by_length, scale}
+use Rattle.chip_machine.specs.Sprite.{is_set, scale}
+use Rattle.chip_machine.specs.inner.SpriteBytes.{covers_by_length, row_bytes_by_length}
 use Rattle.chip_machine.proofs.PointLemmas.{toggled_where, meets_where, any_below-false, any_below_none, scrolled_down_where, scrolled_right_where, scrolled_left_where}
 use Rattle.chip_machine.proofs.SpriteLemmas.{covers-inside, covers_left, is_set_right, is_set-inside}
 use Rattle.chip_machine.proofs.BitLemmas.{lights-bit_xor, lights_shr, lights_shl, lights_shl_out, stripe_inside, stripe_left, stripe_right}

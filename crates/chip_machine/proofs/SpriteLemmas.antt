@@ -5,7 +5,8 @@ use Rattle.std.proofs.lemmas.Bool.{cond-true, cond-false, cases_eq, eq-eqb, ne_e
 use Rattle.std.proofs.lemmas.Nat.Bits.{bit_at-zero}
 use Rattle.std.proofs.lemmas.List.{get_or_past}
 use Rattle.std.proofs.Math.Nat.{mul-le-mul_right, mul_comm}
-use Rattle.chip_machine.specs.Sprite.{covers_by_length, covers, is_set, row_bytes, row_bytes_by_length, scale, sprite_bytes}
+use Rattle.chip_machine.specs.Sprite.{covers, is_set, row_bytes, scale, sprite_bytes}
+use Rattle.chip_machine.specs.inner.SpriteBytes.{covers_by_length, row_bytes_by_length}
 
 pub is_set-inside : (w : ℕ) (sprite : List ℕ) (i j : ℕ) → i < 8 * w → is_set w sprite i j ≡ (bit_at (get_or sprite (w * j + i / 8) 0) (7 - i % 8) == 1)
 unfolding is_set

@@ -1,7 +1,7 @@
 -- A sprite drawn on the screen. In the high size a point is a stored point, and in the low size it is two by two of them.
 -- Source: COSMAC VIP manual (8 wide, the highest bit at the left, exclusive or, collisions);
 -- SUPER-CHIP 1.1 documentation (the high size, sprites of 16 by 16); own: 8 by 16 in the low size, starts modulo the size, clipping.
-use Rattle.std.specs.Prelude.{ℕ, ◌+◌, ◌-◌, ◌*◌, ◌/◌, ◌%◌, ◌≤◌, Bool, true, false, ◌&&◌, ◌==◌, nat_lt, nat_le, List, length, slice_index, if◌then◌else◌}
+use Rattle.std.specs.Prelude.{ℕ, ◌+◌, ◌-◌, ◌*◌, ◌/◌, ◌%◌, Bool, true, false, ◌&&◌, ◌==◌, nat_lt, nat_le, List, slice_index, if◌then◌else◌}
 use Rattle.std.specs.Int.{bit_at}
 use Rattle.chip_machine.specs.declared.limits.TheConstants.{SPRITE_BYTES}
 use Rattle.chip_machine.specs.Points.{Points, points_where}
@@ -35,17 +35,3 @@ covers high x y w sprite column row =
 -- the stored points under the set points of a sprite of n rows, as far as they are on the screen
 abbrev pub covered : Bool → ℕ → ℕ → ℕ → List ℕ → Points
 covered high x y n sprite = points_where (covers high x y (row_bytes high n) sprite)
-
--- likewise by the sprite's bytes alone, as the code draws it: in the high size so many are sixteen rows
-unfoldable pub row_bytes_by_length : Bool → List ℕ → ℕ
-row_bytes_by_length high sprite = if high && (length sprite == SPRITE_BYTES) then 2 else 1
-
-abbrev pub covers_by_length : Bool → ℕ → ℕ → List ℕ → ℕ → ℕ → Bool
-covers_by_length high x y sprite = covers high x y (row_bytes_by_length high sprite) sprite
-
-abbrev pub covered_by_length : Bool → ℕ → ℕ → List ℕ → Points
-covered_by_length high x y sprite = points_where (covers_by_length high x y sprite)
-
--- a sprite drawn at x starts in the right half of the stored columns: the code draws each half by a loop of its own
-abbrev pub StartsRight : Bool → ℕ → Type 0
-StartsRight high x = 64 ≤ scale high * (x % (128 / scale high))

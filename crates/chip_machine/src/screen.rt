@@ -4,7 +4,8 @@ ghost use Rattle.std.specs.Prelude.{◌≡◌, ℕ, ◌+◌, ◌-◌, ◌*◌, �
 ghost use Rattle.std.specs.FinSet as set;
 ghost use Rattle.chip_machine.specs.Points.{Points, points_code, is_lit, IsOnScreen, symmetric_difference, meets};
 ghost use Rattle.chip_machine.specs.inner.Stored.{in_rows, lights, differ, any_below};
-ghost use Rattle.chip_machine.specs.Sprite.{StartsRight, covers_by_length, covers, covered_by_length, scale};
+ghost use Rattle.chip_machine.specs.Sprite.{covers, scale};
+ghost use Rattle.chip_machine.specs.inner.SpriteBytes.{StartsRight, covers_by_length, covered_by_length};
 ghost use Rattle.chip_machine.specs.Scroll.{scrolled_down, scrolled_right, scrolled_left};
 
 use crate::sprite::{HEIGHT, WIDTH, covered_bits, lines_under, scale_of, starts_right};

@@ -3,7 +3,8 @@
 ghost use Rattle.std.specs.Prelude.{◌≡◌, ℕ, ◌+◌, ◌-◌, ◌*◌, ◌/◌, ◌%◌, ◌<◌, ◌≤◌, false, ◌==◌, slice_index, ◌^◌, ◌↔◌, IsTrue, length};
 ghost use Rattle.std.specs.Int.{bit_at};
 ghost use Rattle.chip_machine.specs.inner.Stored.{lights};
-ghost use Rattle.chip_machine.specs.Sprite.{StartsRight, covers_by_length, covers, is_set, row_bytes_by_length, scale, sprite_bytes};
+ghost use Rattle.chip_machine.specs.Sprite.{covers, is_set, scale, sprite_bytes};
+ghost use Rattle.chip_machine.specs.inner.SpriteBytes.{StartsRight, covers_by_length, row_bytes_by_length};
 
 use crate::doubled::DOUBLED;
 use crate::limits::SPRITE_BYTES;
@@ -44,7 +45,7 @@ fn byte_at(sprite: &[u8], at: usize) -> u8
 }
 
 /// How many rows a sprite has: in the high size two bytes are a row where there are `SPRITE_BYTES`.
-#[tactic(auto, unfolding(crate::specs::Sprite::row_bytes_by_length))]
+#[tactic(auto, unfolding(crate::specs::inner::SpriteBytes::row_bytes_by_length))]
 fn rows_of(high: bool, sprite: &[u8]) -> usize
     ensures { length sprite.now ≤ row_bytes_by_length high sprite.now * result }
 {

@@ -2,7 +2,7 @@ use Rattle.std.proofs.Common.{arith, ap, ◌∙◌}
 use Rattle.std.proofs.lemmas.List.{with_items_is}
 use Rattle.chip_machine.specs.Points.{symmetric_difference, meets}
 use Rattle.chip_machine.specs.inner.Stored.{in_rows}
-use Rattle.chip_machine.specs.Sprite.{covers_by_length, covered_by_length}
+use Rattle.chip_machine.specs.inner.SpriteBytes.{covers_by_length, covered_by_length}
 use Rattle.chip_machine.proofs.RowLemmas.{toggled_rows, hit_rows}
 use Rattle.chip_machine.proofs.screen.Screen.draw.Goals as goal
 
