@@ -1,19 +1,16 @@
 -- What the first pass finds of a line of which it asks only the size.
-use Rattle.std.proofs.Common.{◌≡◌, ℕ, ◌+◌, ◌≤◌, ◌<◌, ℤ, pos, Bool, true, false, cond, ◌&&◌, ◌||◌, is_none, if◌then◌else◌, List, [], ◌∷◌, ◌++◌, reverse, refl, ap, sym, ◌∙◌, arith, Option, None, Some, Ok, nat_lt, nat_eq, ◌%◌, option_to_list, length, unsigned_abs}
-use Rattle.chip_lang.specs.declared.fault.Fault.{Fault}
+use Rattle.std.proofs.Common.{◌≡◌, ℕ, ◌+◌, ℤ, pos, Bool, true, false, cond, ◌&&◌, ◌||◌, is_none, if◌then◌else◌, List, [], ◌∷◌, ◌++◌, refl, ap, sym, ◌∙◌, arith, None, Some, nat_lt, option_to_list, length, unsigned_abs}
 use Rattle.chip_lang.specs.declared.fault.Fault.TheVariants.{PastMemory}
 use Rattle.chip_lang.specs.declared.limits.TheConstants.{MEMORY_BYTES}
 use Rattle.chip_lang.specs.Line.{Body, empty, code, Reading, bad, read}
-use Rattle.chip_asm.specs.declared.block.Block.{Block}
 use Rattle.chip_asm.specs.declared.pass.Pass.{Pass}
 use Rattle.chip_asm.specs.declared.placement.Placement.{Placement}
 use Rattle.chip_asm.specs.inner.Bare.{is_bare, IsBare, fault_of_bare, size_of_bare}
-use Rattle.chip_asm.specs.Layout.{Placed, place, placed, body_of, is_live, first_fault, fault_of_value, full_size, own_size, padding, is_padded, symbols, is_aligning, address, value_at, value_or_zero, is_if_body, is_side_or_end, symbol_given}
+use Rattle.chip_asm.specs.Layout.{Placed, place, placed, body_of, is_live, first_fault, fault_of_value, full_size, own_size, symbols, is_aligning, address, value_at, value_or_zero, is_if_body, is_side_or_end, symbol_given}
 use Rattle.chip_asm.specs.inner.Follows.{Follows, placement_of}
 use Rattle.chip_asm.specs.inner.Placements.{is_placed}
 use Rattle.chip_asm.specs.inner.Recode.{has_code}
 use Rattle.chip_asm.specs.inner.Traits.{is_bare_line}
-use Rattle.chip_asm.specs.inner.Turns.{moved}
 use Rattle.chip_asm.proofs.Placing.{length-placed}
 use Rattle.chip_asm.proofs.NextLine.{placement-at, follows-push, Advances}
 
@@ -111,9 +108,9 @@ none-appended (x ∷ xs) = ap (λ l. x ∷ l) (none-appended xs)
 -- the state after such a line: only the address moves
 pub bare-next : (pass next : Pass) (lines : List Reading) (line : Reading) (number size : ℕ) (q : Placement) → IsBare line size → number ≡ length lines + 1
     → Follows pass (placed lines) → q ≡ placement_of (place (placed lines) line) → next.here ≡ pass.here + q.size
-    → next.aligning ≡ pass.aligning → next.ended ≡ pass.ended → next.blocks ≡ pass.blocks → next.names ≡ pass.names
+    → next.aligning ≡ pass.aligning → next.ended ≡ pass.ended → next.blocks ≡ pass.blocks → next.names ≡ pass.names → next.live ≡ pass.live
     → Follows next (placed (lines ++ line ∷ []))
-bare-next pass next lines line number size q b n f e here aligning ended blocks names =
+bare-next pass next lines line number size q b n f e here aligning ended blocks names live =
     follows-push pass next lines line number q n f e (advances (body_of line) b.bare refl)
   where
     address_same : (a : Bool) → pass.here + q.size ≡ cond (a && false) (unsigned_abs q.value) (pass.here + q.size)
@@ -131,6 +128,7 @@ bare-next pass next lines line number size q b n f e here aligning ended blocks 
       ended = rw is (ended ∙ live_same q.live);
       names = names ∙ sym (none-appended pass.names) ∙ ap (λ l. pass.names ++ option_to_list l) (none-given (is_placed q) number pass.here q.value line b.nameless);
       open_blocks = λ nearest e. rw is (ap (λ v. v.items) blocks ∙ e);
+      live = live ∙ f.live ∙ (rw (ended, blocks) refl);
     }
     advances (code form operands) h is = record {
       at_address = rw is (here ∙ address_same (is_placed q));
@@ -138,5 +136,6 @@ bare-next pass next lines line number size q b n f e here aligning ended blocks 
       ended = rw is (ended ∙ live_same q.live);
       names = names ∙ sym (none-appended pass.names) ∙ ap (λ l. pass.names ++ option_to_list l) (none-given (is_placed q) number pass.here q.value line b.nameless);
       open_blocks = λ nearest e. rw is (ap (λ v. v.items) blocks ∙ e);
+      live = live ∙ f.live ∙ (rw (ended, blocks) refl);
     }
     advances _ h is = cc

@@ -1,5 +1,5 @@
 -- The blocks of the pass, the last one last, against the open blocks, the last one first.
-use Rattle.std.proofs.Common.{◌≡◌, ℕ, ◌-◌, ◌<◌, Bool, true, false, ◌&&◌, List, [], ◌∷◌, ◌++◌, map, reverse, length, get_or, set, refl, ap, sym, ◌∙◌, arith, length-append}
+use Rattle.std.proofs.Common.{◌≡◌, ℕ, ◌-◌, ◌<◌, Bool, true, false, not, ◌&&◌, List, [], ◌∷◌, ◌++◌, map, reverse, length, get_or, set, refl, ap, sym, ◌∙◌, arith, length-append}
 use Rattle.std.specs.List.{list_all}
 use Rattle.std.proofs.lemmas.List.{reverse-append}
 use Rattle.std.proofs.lemmas.List.Folds.{list_all-append, list_all-map}
@@ -9,7 +9,8 @@ use Rattle.chip_lang.specs.declared.line.Body.TheVariants.{Else, Endif}
 use Rattle.chip_lang.specs.SeenLine.{seen_body}
 use Rattle.chip_asm.specs.declared.block.Block.{Block}
 use Rattle.chip_asm.specs.Layout.{Placed, is_live, has_ended, enclosing, is_side_or_end}
-use Rattle.chip_asm.specs.inner.Follows.{block_of}
+use Rattle.chip_asm.specs.declared.pass.Pass.{Pass}
+use Rattle.chip_asm.specs.inner.Follows.{Follows, block_of}
 use Rattle.chip_asm.specs.inner.Turns.{turned, turn_first}
 
 pub reverse-cons : {X : Type 0} (x : X) (xs : List X) → reverse (x ∷ xs) ≡ reverse xs ++ x ∷ []
@@ -37,6 +38,19 @@ pub live_elsewhere : (before : List Placed) (body : Body) (bs : List Block) → 
 unfolding is_live
 live_elsewhere before body bs s e h =
     rw (h, s, e) (list_all-reverse (λ (b : Block). b.holds) (map (block_of before) (enclosing before)) ∙ list_all-map (λ (b : Block). b.holds) (block_of before) (enclosing before))
+
+-- such a line is live where the pass says so
+ended_here : (before : List Placed) (body : Body) → has_ended before ≡ true → false ≡ is_live before body
+unfolding is_live
+ended_here before body h = rw h refl
+
+live_by : (ended live : Bool) (before : List Placed) (body : Body) (bs : List Block) → is_side_or_end body ≡ false → ended ≡ has_ended before
+    → bs ≡ reverse (map (block_of before) (enclosing before)) → live ≡ (not ended && list_all (λ b. b.holds) bs) → live ≡ is_live before body
+live_by false live before body bs s h e l = l ∙ live_elsewhere before body bs s (sym h) e
+live_by true live before body bs s h e l = l ∙ ended_here before body (sym h)
+
+pub live_here : (pass : Pass) (before : List Placed) (body : Body) → is_side_or_end body ≡ false → Follows pass before → pass.live ≡ is_live before body
+live_here pass before body s f = live_by pass.ended pass.live before body pass.blocks.items s f.ended f.open_blocks f.live
 
 set_last : (xs : List Block) (b c : Block) → set (xs ++ b ∷ []) (length xs) c ≡ xs ++ c ∷ []
 set_last [] b c = refl

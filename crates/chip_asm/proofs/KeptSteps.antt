@@ -10,6 +10,7 @@ use Rattle.chip_asm.specs.inner.Records.{readings_in, texts_in}
 use Rattle.chip_asm.specs.inner.Layouts.{IsLayoutOf}
 use Rattle.chip_asm.specs.Program.{byte_at, faults_of_lines}
 use Rattle.chip_asm.specs.inner.Kept.{AreCurrent, IsKept}
+use Rattle.chip_asm.specs.inner.Hints.{names_in, hint_in}
 use Rattle.chip_asm.specs.inner.Traits.{traits_of}
 use Rattle.chip_asm.proofs.Bounds.{end-high}
 
@@ -29,8 +30,8 @@ image-room kept k = by (length kept.lines.items) refl
 -- what is kept stays right where all but the room for more stays
 pub kept-same : (old new : Kept) → IsKept old → new.lines.items ≡ old.lines.items → new.layout ≡ old.layout → new.faults ≡ old.faults
     → ((index : ℕ) → get_or new.image.items index 0 ≡ get_or old.image.items index 0) → vec_len new.image ≤ IMAGE_BYTES → (vec_len old.image ≡ IMAGE_BYTES → vec_len new.image ≡ IMAGE_BYTES)
-    → new.traits ≡ old.traits → IsKept new
-kept-same old new k lines layout faults image short long traits = record {
+    → new.traits ≡ old.traits → new.hints ≡ old.hints → IsKept new
+kept-same old new k lines layout faults image short long traits hints = record {
   few = rw lines k.few;
   are_read = rw lines k.are_read;
   laid_out = rw (lines, layout) k.laid_out;
@@ -40,14 +41,15 @@ kept-same old new k lines layout faults image short long traits = record {
   long = λ some. long (k.long (omega (arith, ap length lines)));
   counted = rw lines (faults ∙ k.counted);
   traits = rw lines (ap (λ v. v.items) traits ∙ k.traits);
+  hints = rw (lines, layout) (ap (λ v. v.items) hints ∙ k.hints);
 }
 
 -- what was made for these lines is right for them
 pub kept-by : (kept : Kept) (lines : List KeptLine) → kept.lines.items ≡ lines → length lines ≤ MOST_LINES → readings_in lines ≡ map reading_of (texts_in lines)
     → IsLayoutOf kept.layout (readings_in lines) → AreCurrent lines
     → ((index : ℕ) → index < IMAGE_BYTES → get_or kept.image.items index 0 ≡ byte_at (placed (readings_in lines)) (IMAGE_START + index)) → vec_len kept.image ≡ IMAGE_BYTES
-    → kept.faults ≡ length (faults_of_lines (readings_in lines)) → kept.traits.items ≡ map traits_of (readings_in lines) → IsKept kept
-kept-by kept lines e few are_read laid_out current imaged long counted traits = record {
+    → kept.faults ≡ length (faults_of_lines (readings_in lines)) → kept.traits.items ≡ map traits_of (readings_in lines) → kept.hints.items ≡ map (hint_in (names_in kept.layout.names)) (readings_in lines) → IsKept kept
+kept-by kept lines e few are_read laid_out current imaged long counted traits hints = record {
   few = rw e few;
   are_read = rw e are_read;
   laid_out = rw e laid_out;
@@ -57,4 +59,5 @@ kept-by kept lines e few are_read laid_out current imaged long counted traits = 
   long = λ some. long;
   counted = rw e counted;
   traits = rw e traits;
+  hints = rw e hints;
 }

@@ -24,10 +24,12 @@ use Rattle.chip_asm.specs.Layout.{Placed, placed, body_of}
 use Rattle.chip_asm.specs.inner.Layouts.{IsLayoutOf, placements_of}
 use Rattle.chip_asm.specs.Program.{names_of_lines, faults_of_lines, fault_of, byte_at, bytes_in_code, code_under, covers}
 use Rattle.chip_asm.specs.inner.Recode.{has_code, is_placed_at, is_encoded_again, code_among}
+use Rattle.chip_asm.specs.inner.Hints.{names_in, hint_in}
 use Rattle.chip_asm.specs.inner.Traits.{traits_of}
 use Rattle.chip_asm.specs.Work.{needs_count}
 use Rattle.chip_asm.specs.inner.Records.{reading_in, readings_in, texts_in}
 use Rattle.chip_asm.proofs.EditTexts.{read-set, traits-set}
+use Rattle.chip_asm.proofs.HintSteps.{mapped-set}
 use Rattle.chip_asm.proofs.ImageSteps.{About, about, fault-kept, bytes-kept}
 use Rattle.chip_asm.proofs.ImageWhole.{covers-none}
 use Rattle.chip_asm.proofs.NeedsSteps.{count-needed}
@@ -155,8 +157,8 @@ pub kept-swapped : (old new : Kept) (at : ℕ) (q : Placement) (was added : Kept
     → (x : Exchange old.lines.items at q was added)
     → ((index : ℕ) → get_or new.image.items index 0 ≡ cond (leb q.here (IMAGE_START + index) && ltb (IMAGE_START + index) (q.here + q.size)) (get_or (kept_bytes added) (IMAGE_START + index - q.here) 0) (get_or old.image.items index 0))
     → vec_len new.image ≡ vec_len old.image → new.faults + count_of (kept_fault q was) ≡ old.faults + count_of (kept_fault q added)
-    → new.traits.items ≡ set old.traits.items at (traits_of (reading_in added)) → IsKept new
-kept-swapped old new at q was added k inside lines layout code is_read x image long faults traits = record {
+    → new.traits.items ≡ set old.traits.items at (traits_of (reading_in added)) → new.hints.items ≡ set old.hints.items at (hint_in (names_in old.layout.names) (reading_in added)) → IsKept new
+kept-swapped old new at q was added k inside lines layout code is_read x image long faults traits hints = record {
   few = rw lines (omega (arith, k.few, length-set old.lines.items at added));
   are_read = rw lines (read-set old.lines.items at added k.are_read is_read);
   laid_out = rw (lines, layout, readings-set old.lines.items at added) (layout-swapped old.layout (readings_in old.lines.items) at (reading_in added) x.swap k.laid_out);
@@ -170,6 +172,9 @@ kept-swapped old new at q was added k inside lines layout code is_read x image l
   long = λ some. long ∙ k.long (omega arith);
   counted = (let c = x.counted in rw lines (omega (arith, k.counted, faults, c)));
   traits = traits ∙ ap (λ ts. set ts at (traits_of (reading_in added))) k.traits ∙ sym (traits-set old.lines.items at added) ∙ ap (λ ls. map traits_of (readings_in ls)) (sym lines);
+  hints = rw layout
+      (hints ∙ ap (λ hs. set hs at (hint_in (names_in old.layout.names) (reading_in added))) k.hints ∙ sym (mapped-set (hint_in (names_in old.layout.names)) old.lines.items at added)
+      ∙ ap (λ ls. map (hint_in (names_in old.layout.names)) (readings_in ls)) (sym lines));
 }
 
 -- what the kept parts of a line say of its effect

@@ -1,5 +1,5 @@
 -- New codes written over the kept ones, from the last line back.
-use Rattle.std.proofs.Common.{◌≡◌, ℕ, ◌+◌, ◌-◌, ◌<◌, ◌≤◌, Bool, true, false, cond, List, [], ◌∷◌, length, take, drop, ◌++◌, set, get_or, refl, ap, sym, ◌∙◌, arith, Option, Some, None, eqb, length-set, All}
+use Rattle.std.proofs.Common.{◌≡◌, ℕ, ◌+◌, ◌-◌, ◌<◌, Bool, true, false, cond, List, ◌∷◌, length, take, drop, ◌++◌, set, get_or, refl, ap, sym, ◌∙◌, arith, Some, eqb, length-set, All}
 use Rattle.std.specs.Prelude.{unwrap_or}
 use Rattle.std.proofs.lemmas.Bool.{eqb-true, eqb-false}
 use Rattle.std.proofs.lemmas.List.Elements.{All-get_or}
@@ -7,7 +7,7 @@ use Rattle.std.proofs.lemmas.List.{get_or-set_same, get_or-set_other, get_or-tak
 use Rattle.std.proofs.Math.Seq.{map-set_same}
 use Rattle.chip_lang.specs.declared.code.Coded.{Coded}
 use Rattle.chip_asm.specs.declared.kept_line.KeptLine.{KeptLine}
-use Rattle.chip_asm.specs.inner.Records.{reading_in, readings_in, texts_in}
+use Rattle.chip_asm.specs.inner.Records.{reading_in}
 use Rattle.chip_asm.specs.inner.Recode.{code_at}
 use Rattle.chip_asm.specs.inner.Kept.{IsMerged}
 

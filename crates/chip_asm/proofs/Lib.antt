@@ -10,6 +10,7 @@ pub mod MarkSteps
 pub mod Edited
 pub mod TableSteps
 pub mod RecodeSteps
+pub mod HintSteps
 pub mod NeedsSteps
 pub mod StayedCodes
 pub mod KeptAfter
@@ -22,6 +23,7 @@ pub mod QuietLines
 pub mod SwappedLine
 pub mod SwappedFacts
 pub mod KeptSwapped
+pub mod Resumed
 pub mod ChangedBytes
 pub mod Views
 pub mod EditTexts

@@ -1,5 +1,6 @@
 -- The state of the pass after one line more.
-use Rattle.std.proofs.Common.{◌≡◌, ℕ, ◌+◌, ℤ, Bool, true, false, ◌&&◌, ◌||◌, is_none, if◌then◌else◌, List, [], ◌∷◌, ◌++◌, map, reverse, length, refl, ap, sym, subst, ◌∙◌, Option, None, Some, Ok, Err, option_to_list, Result}
+use Rattle.std.proofs.Common.{◌≡◌, ℕ, ◌+◌, ℤ, Bool, true, false, not, ◌&&◌, ◌||◌, is_none, if◌then◌else◌, List, [], ◌∷◌, ◌++◌, map, reverse, length, refl, ap, sym, subst, ◌∙◌, Option, None, Some, Ok, Err, option_to_list, Result}
+use Rattle.std.specs.List.{list_all}
 use Rattle.chip_lang.specs.declared.fault.Fault.{Fault}
 use Rattle.chip_lang.specs.Line.{Body, Reading}
 use Rattle.chip_asm.specs.declared.block.Block.{Block}
@@ -36,6 +37,7 @@ pub record Advances (pass next : Pass) (line : Reading) (q : Placement) (number 
   pub names : next.names ≡ pass.names ++ option_to_list (if is_placed q then symbol_given number pass.here q.value line else None)
   pub open_blocks : (nearest : List Block) → pass.blocks.items ≡ reverse nearest
       → next.blocks.items ≡ reverse (moved (body_of line) (record { number = number; live = q.live; holds = condition_of pass.names (body_of line); has_else = false }) nearest)
+  pub live : next.live ≡ (not next.ended && list_all (λ b. b.holds) next.blocks.items)
 
 number-at : (before : List Placed) (line : Reading) → (place before line).number ≡ length before + 1
 unfolding place
@@ -68,6 +70,7 @@ follows-next pass next before p number numbered at_here at_condition is_number f
       ended = a.ended ∙ (rw f.ended (sym (has_ended-cons p before)));
       open_blocks = blocks-next pass next before p number numbered is_number at_condition f a;
       names = a.names ∙ (rw (f.names, f.at_address, ← at_here, is_number) (sym (symbols-cons p before)));
+      live = a.live;
     }
 
 line-at : (before : List Placed) (line : Reading) → (place before line).line ≡ line

@@ -11,7 +11,7 @@ use Rattle.chip_asm.specs.Layout.{Placed, is_end_body, body_of, is_accepted, is_
 use Rattle.chip_asm.specs.inner.Follows.{next_aligning}
 use Rattle.chip_asm.proofs.BlockSteps.{reverse-cons}
 
-take_one_more : {X : Type 0} (n : ℕ) (x : X) (xs : List X) → take (1 + n) (x ∷ xs) ≡ x ∷ take n xs
+pub take_one_more : {X : Type 0} (n : ℕ) (x : X) (xs : List X) → take (1 + n) (x ∷ xs) ≡ x ∷ take n xs
 take_one_more n x xs = let e : 1 + n ≡ suc n = omega arith in rw e refl
 
 address_by : (p : Placed) (before : List Placed) (b : Bool) → is_origin p ≡ b → address (p ∷ before) ≡ cond b (unsigned_abs p.value) (address before + p.size)

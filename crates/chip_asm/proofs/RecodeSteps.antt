@@ -1,5 +1,5 @@
 -- Counting and collecting the lines that are encoded again.
-use Rattle.std.proofs.Common.{◌≡◌, ℕ, ℤ, suc, zero, ◌+◌, ◌<◌, ◌≤◌, Bool, true, false, ◌&&◌, cond, List, [], ◌∷◌, ◌++◌, length, take, get_or, count_by, slice_get, refl, ap, sym, ◌∙◌, arith, Option, Some, None, option_map, option_to_list, is_some}
+use Rattle.std.proofs.Common.{◌≡◌, ℕ, ℤ, suc, zero, ◌+◌, ◌<◌, ◌≤◌, Bool, true, false, cond, List, [], ◌∷◌, ◌++◌, length, take, get_or, count_by, slice_get, refl, ap, sym, ◌∙◌, arith, Option, Some, None, option_map, option_to_list, is_some}
 use Rattle.std.specs.List.{enumerate_from, list_all, cons_option}
 use Rattle.chip_lang.specs.declared.code.Coded.{Coded}
 use Rattle.std.proofs.lemmas.List.Elements.{filter_map-append}

@@ -42,7 +42,7 @@ map-swap f g same [] before x y e = rw e (ap (λ l. g y ∷ l) (maps before))
     maps (p ∷ ps) = rw (same p, maps ps) refl
 map-swap f g same (p ∷ later) before x y e = rw (same p, map-swap f g same later before x y e) refl
 
-map-reverse : (f : Placed → Placement) (xs : List Placed) → map f (reverse xs) ≡ reverse (map f xs)
+pub map-reverse : (f : Placed → Placement) (xs : List Placed) → map f (reverse xs) ≡ reverse (map f xs)
 map-reverse f [] = refl
 map-reverse f (x ∷ xs) = ap (map f) (reverse-cons x xs) ∙ map-append f (reverse xs) (x ∷ []) ∙ ap (λ l. l ++ f x ∷ []) (map-reverse f xs) ∙ sym (reverse-cons (f x) (map f xs))
 

@@ -1,5 +1,5 @@
 -- The table of names: what is found in it.
-use Rattle.std.proofs.Common.{◌≡◌, ◌+◌, ℕ, ℤ, Bool, true, false, cond, List, [], ◌∷◌, map, refl, ap, sym, ◌∙◌, Option, Some, None, option_map, option_to_list, drop, take, slice_get, zero, suc, ◌++◌, arith, length, unwrap_or, ◌<◌, ◌≤◌, IfSome, nat_lt, subst}
+use Rattle.std.proofs.Common.{◌≡◌, ◌+◌, ℕ, ℤ, Bool, true, false, cond, List, [], ◌∷◌, map, refl, ap, sym, ◌∙◌, Option, Some, None, option_map, option_to_list, drop, take, slice_get, zero, suc, ◌++◌, arith, length, unwrap_or, ◌<◌, ◌≤◌, IfSome, nat_lt, nat_le, get_or, subst}
 use Rattle.std.specs.Str.{bytes_eq}
 use Rattle.std.specs.Map.{lookup, keys_of}
 use Rattle.std.specs.List.{position_or_len, position, IsDistinct, AllByRecursion}
@@ -13,11 +13,13 @@ use Rattle.std.specs.FinMap as finite
 use Rattle.std.specs.FinMap.{get-from_entries}
 use Rattle.std.proofs.lemmas.Cmp.{nat_list_cmp_total}
 use Rattle.std.proofs.lemmas.Map.Text.{is_eq-slice_cmp}
-use Rattle.std.proofs.lemmas.List.{at_drop_more, length-map, length-take, take_all, map-append}
+use Rattle.std.proofs.lemmas.List.{at_drop_more, length-map, length-take, take_all, take-map, map-append}
+use Rattle.std.proofs.lemmas.List.Sums.{prefix_len_is}
 use Rattle.std.proofs.lemmas.Option.{get_or_from_slice_get, slice_get-map, slice_get_within}
 use Rattle.chip_lang.specs.Value.{value_of_name}
 use Rattle.chip_asm.specs.declared.table.Symbol.{Symbol}
 use Rattle.chip_asm.specs.Names.{Name, lookup_name, valued, values_of}
+use Rattle.chip_asm.specs.inner.Resume.{names_up_to}
 
 -- a look-up by the bytes of the keys
 pub lookup-seen : (name : Name) (es : List (Vec ℕ × Symbol)) → lookup (λ k. bytes_eq name k.items) es ≡ lookup_name (map (λ e. (e.0.items, e.1)) es) name
@@ -218,3 +220,26 @@ value-at entries names n i e name h view distinct at same =
     = ap (λ t. lookup_name t name) (sym view) ∙ sym (lookup-seen name (take n entries))
     ∙ ap (λ m. lookup (λ (k : Vec ℕ). bytes_eq m k.items) (take n entries)) (sym same) ∙ found-at entries n i e h distinct (sym at) in
     sym (value-of-name names name ∙ ap (option_map (λ (s : Symbol). s.value)) found)
+
+-- an entry as contracts see it
+pub seen-at : (entries : List (Vec ℕ × Symbol)) (names : List (Name × Symbol)) (i : ℕ) (entry : Vec ℕ × Symbol) (d : Name × Symbol) → map seen entries ≡ names
+    → Some entry ≡ slice_get entries i → (i < length names) × (get_or names i d ≡ seen entry)
+seen-at entries names i entry d view at =
+    let s : slice_get names i ≡ Some (seen entry) = ap (λ ns. slice_get ns i) (sym view) ∙ slice_get-map seen entries i ∙ ap (option_map seen) (sym at) in
+    (slice_get_within names i (seen entry) s, get_or_from_slice_get names i (seen entry) d s)
+
+pub take-shorter : {X : Type 0} (i n : ℕ) (xs : List X) → i ≤ n → take i (take n xs) ≡ take i xs
+take-shorter zero n xs h = refl
+take-shorter (suc i) zero xs h = absurd (omega arith)
+take-shorter (suc i) (suc n) [] h = refl
+take-shorter (suc i) (suc n) (x ∷ xs) h = ap (λ l. x ∷ l) (take-shorter i n xs (omega arith))
+
+-- the first entries as contracts see them
+pub seen-first : (entries : List (Vec ℕ × Symbol)) (names : List (Name × Symbol)) (i n : ℕ) → i ≤ n → map seen (take n entries) ≡ names → map seen (take i entries) ≡ take i names
+seen-first entries names i n h view = ap (map seen) (sym (take-shorter i n entries h)) ∙ sym (take-map seen i (take n entries)) ∙ ap (take i) view
+
+-- the names up to a number are those before the first that is over it
+pub taken-up-to : (number : ℕ) (names : List (Name × Symbol)) (i : ℕ) (d : Name × Symbol) → i ≤ length names → ((k : ℕ) → k < i → (x : Name × Symbol) → nat_le (get_or names k x).1.line number ≡ true)
+    → (i < length names → nat_le (get_or names i d).1.line number ≡ false) → names_up_to number names ≡ take i names
+taken-up-to number names i d h passes stops =
+    ap (λ k. take k names) (prefix_len_is (λ (e : Name × Symbol). nat_le e.1.line number) names i d h (λ k below. passes k below d) stops)

@@ -1,8 +1,9 @@
--- What the functions inside say: of the first pass in Turns, Follows, Bare, Placements, Marks and Layouts; of kept lines
--- and their codes in Records, Traits, Recode, Effect, Kept and KeptCodes.
+-- What the functions inside say: of the first pass in Turns, Follows, Bare, Placements, Marks, Layouts and Resume; of kept lines
+-- and their codes in Records, Traits, Hints, Recode, Effect, Kept and KeptCodes.
 pub mod Bare
 pub mod Effect
 pub mod Follows
+pub mod Hints
 pub mod Kept
 pub mod KeptCodes
 pub mod Layouts
@@ -10,5 +11,6 @@ pub mod Marks
 pub mod Placements
 pub mod Recode
 pub mod Records
+pub mod Resume
 pub mod Traits
 pub mod Turns

@@ -1,6 +1,7 @@
 //! A change of one line, seen before it is made.
 ghost use Rattle.std.specs.Prelude.{◌≡◌, ◌<◌, ◌≤◌, length, slice_get, slice_set, Some, vec_len, vec_capacity};
 ghost use Rattle.chip_asm.specs.inner.Records.{IsPlaceWithin, lines_after, readings_in, count_after, place_before};
+ghost use Rattle.chip_asm.specs.inner.Resume.{first_changed};
 ghost use Rattle.chip_lang.specs.SeenLine.{seen_line};
 
 use crate::kept_line::KeptLine;
@@ -63,6 +64,16 @@ pub(crate) fn count_after(count: usize, edit: &Edit) -> usize
         Edit::Insert(_, _) => count + 1,
         Edit::Delete(_) => count.saturating_sub(1),
         Edit::Replace(_, _) | Edit::Keep => count,
+    }
+}
+
+/// A place before which the edit changes no line.
+pub(crate) fn first_changed(edit: &Edit) -> usize
+    ensures { result ≡ first_changed edit.now }
+{
+    match edit {
+        Edit::Insert(at, _) | Edit::Replace(at, _) | Edit::Delete(at) => *at,
+        Edit::Keep => 0,
     }
 }
 

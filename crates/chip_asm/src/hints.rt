@@ -1,66 +1,110 @@
-//! Where the names that lines use stood in the table of names. Nothing but speed rests on them, so no clause speaks of them.
+//! Where the one name that a line uses stands in the table of names, so that steps over all lines needn't look for it.
+ghost use Rattle.std.specs.Prelude.{◌≡◌, ◌≤◌, true, List, IfOk, length, map};
 ghost use Rattle.chip_asm.specs.Names.{values_of};
+ghost use Rattle.chip_asm.specs.inner.Hints.{names_in, hint_in};
+ghost use Rattle.chip_asm.specs.inner.Records.{IsPlaceWithin, lines_after, readings_in};
+ghost use Rattle.chip_lang.specs.SeenLine.{seen_line};
+ghost use Rattle.chip_asm.specs.declared.kept_line.KeptLine.{KeptLine};
 
-use crate::edit::Edit;
+use crate::edit::{Edit, count_after, line_after};
 use crate::kept_line::KeptLine;
 use crate::limits::MOST_LINES;
 use crate::table::Table;
-use chip_lang::{Coded, Names, uses};
-use std::alloc::AllocError;
+use chip_lang::{Line, Names, uses};
+use std::alloc::{AllocError, Global};
 
-/// Makes a hint for each of so many lines, and room for one more.
-pub(crate) fn fill_hints(hints: &mut Vec<u32>, count: usize) -> Result<(), AllocError> {
-    hints.reserve(count.saturating_add(1).saturating_sub(hints.len()))?;
-    for _index in hints.len()..count {
+/// The number, counted from 1, of the one name that a line uses, among those of a table; 0 where it uses more or none, or the name isn't
+/// there.
+pub(crate) fn hint_of(names: &Table, line: &Line) -> usize
+    ensures { result ≡ hint_in (names_in names.now) (seen_line line.now) }
+{
+    let Some(name) = uses(line, 0) else {
+        return 0;
+    };
+    if uses(line, 1).is_some() {
+        return 0;
+    }
+    names.number_of(name)
+}
+
+/// The hints of lines where no names are known yet.
+pub(crate) fn no_hints(alloc: Global, lines: &[KeptLine]) -> Result<Vec<usize>, AllocError>
+    ensures { IfOk result (λ hints. hints.items ≡ map (λ kept. 0) lines.now) }
+{
+    let mut hints = Vec::new(alloc);
+    for _place in 0..lines.len() {
         hints.push(0)?;
     }
-    Ok(())
+    Ok(hints)
 }
 
-/// Makes an edit of the lines in the hints, which have room for one more.
-pub(crate) fn shift_hints(hints: &mut Vec<u32>, edit: &Edit) {
+/// The hints of all lines after an edit.
+fn hints_of_all(
+    alloc: Global,
+    names: &Table,
+    lines: &[KeptLine],
+    edit: &Edit,
+) -> Result<Vec<usize>, AllocError>
+    requires within { IsPlaceWithin (length lines.now) edit.now }
+    requires few { length lines.now ≤ MOST_LINES }
+    ensures { IfOk result (λ hints. hints.items ≡ map (hint_in (names_in names.now)) (readings_in (lines_after lines.now edit.now))) }
+{
+    let mut hints = Vec::new(alloc);
+    for place in 0..count_after(lines.len(), edit) {
+        let line = line_after(&*lines, &*edit, place);
+        hints.push(hint_of(names, line))?;
+    }
+    Ok(hints)
+}
+
+/// The hints of the lines after an edit, from those before it, where the names stand where they stood.
+fn edited_hints(
+    alloc: Global,
+    names: &Table,
+    hints: &[usize],
+    edit: &Edit,
+) -> Result<Vec<usize>, AllocError>
+    requires within { IsPlaceWithin (length hints.now) edit.now }
+    ensures { (lines : List KeptLine) → hints.now ≡ map (hint_in (names_in names.now)) (readings_in lines)
+        → IfOk result (λ after. after.items ≡ map (hint_in (names_in names.now)) (readings_in (lines_after lines edit.now))) }
+{
+    let mut after = Vec::from_slice(alloc, hints)?;
     match edit {
-        Edit::Insert(at, _) => {
-            if *at <= hints.len() {
-                let _ = hints.insert(*at, 0);
-            }
+        Edit::Insert(at, added) => {
+            after.insert(*at, hint_of(names, &added.line))?;
+            Ok(after)
+        }
+        Edit::Replace(at, added) => {
+            after[*at] = hint_of(names, &added.line);
+            Ok(after)
         }
         Edit::Delete(at) => {
-            if *at < hints.len() {
-                let _ = hints.remove(*at);
-            }
+            let _ = after.remove(*at);
+            Ok(after)
         }
-        Edit::Replace(_, _) | Edit::Keep => {}
+        Edit::Keep => Ok(after),
     }
 }
 
-/// The hint at a place, if there is one.
-pub(crate) fn hint_at(hints: &[u32], place: usize) -> usize {
-    match hints.get(place) {
-        Some(hint) => *hint as usize,
-        None => 0,
-    }
-}
-
-/// An index as a hint; another one where it is too large.
-fn hint_of(index: usize) -> u32 {
-    if index < MOST_LINES { index as u32 } else { 0 }
-}
-
-/// Notes where the first names of the lines at these places stand.
-pub(crate) fn note_hints(
-    hints: &mut [u32],
-    lines: &[KeptLine],
-    codes: &[(usize, Coded)],
+/// The hints of the lines after an edit. Those before it serve where all names stand where they stood.
+pub(crate) fn hints_after(
+    alloc: Global,
+    same_names: bool,
     names: &Table,
-) {
-    for index in 0..codes.len() {
-        let place = codes[index].0;
-        if place < lines.len() && place < hints.len() {
-            if let Some(name) = uses(&lines[place].line, 0) {
-                hints[place] = hint_of(names.index_near(hints[place] as usize, name));
-            }
-        }
+    hints: &[usize],
+    lines: &[KeptLine],
+    edit: &Edit,
+) -> Result<Vec<usize>, AllocError>
+    requires within { IsPlaceWithin (length lines.now) edit.now }
+    requires few { length lines.now ≤ MOST_LINES }
+    requires long { length hints.now ≡ length lines.now }
+    requires hints { same_names ≡ true → hints.now ≡ map (hint_in (names_in names.now)) (readings_in lines.now) }
+    ensures { IfOk result (λ after. after.items ≡ map (hint_in (names_in names.now)) (readings_in (lines_after lines.now edit.now))) }
+{
+    if same_names {
+        edited_hints(alloc, names, hints, edit)
+    } else {
+        hints_of_all(alloc, names, lines, edit)
     }
 }
 
@@ -68,13 +112,13 @@ pub(crate) fn note_hints(
 #[derive(Clone, Copy)]
 pub(crate) struct Hinted<'a> {
     pub(crate) table: &'a Table,
-    pub(crate) hint: usize,
+    pub(crate) index: usize,
 }
 
 impl<'a> Names for Hinted<'a> {
     ghost symbols = { λ h. values_of h.table.now };
 
     fn value(&self, name: &[u8]) -> Option<i32> {
-        self.table.value_near(self.hint, name)
+        self.table.value_near(self.index, name)
     }
 }

@@ -145,7 +145,12 @@ pub(crate) fn write_lines(
         let is_coded = traits[place].is_coded;
         faults += count_of(fault_by(&placement, is_coded, kept));
         let bytes = bytes_by(is_coded, kept);
-        write_line(image, placement.here, placement.size, bytes);
+        write_line(
+            image,
+            placement.here as usize,
+            placement.size as usize,
+            bytes,
+        );
     }
     faults
 }
@@ -169,13 +174,13 @@ pub(crate) fn fault_of_number(lines: &[KeptLine], layout: &Layout, number: usize
 /// Appends the fault of a line, if it has one.
 fn push_fault(
     faults: &mut Vec<(usize, Fault)>,
-    number: usize,
+    placement: &Placement,
     fault: Option<Fault>,
 ) -> Result<(), AllocError>
-    ensures { OnOk result (faults.new.items ≡ faults.old.items ++ option_to_list (option_map (λ f. (number, f)) fault)) }
+    ensures { OnOk result (faults.new.items ≡ faults.old.items ++ option_to_list (option_map (λ f. (placement.now.number, f)) fault)) }
 {
     if let Some(fault) = fault {
-        faults.push((number, fault))?;
+        faults.push((placement.number as usize, fault))?;
     }
     Ok(())
 }
@@ -194,7 +199,7 @@ pub(crate) fn faults_in(
     for place in 0..lines.len() {
         let placement = layout.placements[place];
         let fault = kept_fault(&placement, &lines[place]);
-        push_fault(&mut faults, placement.number, fault)?;
+        push_fault(&mut faults, &placement, fault)?;
     }
     Ok(faults)
 }

@@ -12,13 +12,15 @@ ghost use Rattle.chip_asm.specs.inner.Records.{IsPlaceWithin, lines_after, readi
 ghost use Rattle.chip_asm.specs.Work.{needs_count};
 ghost use Rattle.chip_asm.specs.inner.Recode.{new_codes};
 ghost use Rattle.chip_asm.specs.inner.Layouts.{IsLayoutOf};
+ghost use Rattle.chip_asm.specs.inner.Resume.{Continues, first_changed};
+ghost use Rattle.chip_asm.specs.inner.Hints.{names_in, hint_in};
 ghost use Rattle.chip_asm.specs.inner.Traits.{traits_of};
 ghost use Rattle.chip_asm.specs.inner.Kept.{AreCurrent, HasCodeAt, IsMerged, IsKept};
 
 use crate::changed::Changed;
 use crate::edit::{Edit, make_edit, replace_line};
 use crate::effect::has_same_effect;
-use crate::hints::{fill_hints, note_hints, shift_hints};
+use crate::hints::{hint_of, hints_after, no_hints};
 use crate::image::{clear, count_of, fill_up, kept_bytes, kept_fault, write_line, write_lines};
 use crate::kept_line::{KeptLine, with_code};
 use crate::layout::Layout;
@@ -38,9 +40,8 @@ pub(crate) struct Kept {
     pub(crate) layout: Layout,
     /// The layout before the last edit, for its room.
     pub(crate) spare: Layout,
-    /// At the place of each line that uses one name: where the name stood in the table of names when it was looked for last. Nothing
-    /// but speed rests on it.
-    pub(crate) hints: Vec<u32>,
+    /// At the place of each line that uses one name: the number of the name in the layout's table, counted from 1; else 0.
+    pub(crate) hints: Vec<usize>,
     /// The byte at each address from `IMAGE_START` on, also where a line has a fault. Empty until there is a line.
     pub(crate) image: Vec<u8>,
     /// How many lines have a fault.
@@ -49,10 +50,11 @@ pub(crate) struct Kept {
     pub(crate) traits: Vec<Traits>,
 }
 
-/// What an edit makes new: the traits, the layout, and a code for each line that needs one, with its place.
+/// What an edit makes new: the traits, the hints, the layout, and a code for each line that needs one, with its place.
 #[derive(Drop)]
 struct Prepared {
     traits: Vec<Traits>,
+    hints: Vec<usize>,
     layout: Layout,
     codes: Vec<(usize, Coded)>,
 }
@@ -90,6 +92,7 @@ impl Kept {
     {
         let mut kept = Kept::new(alloc);
         kept.traits = traits_of_all(alloc, &lines)?;
+        kept.hints = no_hints(alloc, &lines)?;
         kept.lines = lines;
         let prepared = kept.prepare(alloc, meter, &Edit::Keep)?;
         same_code();
@@ -193,16 +196,17 @@ impl Kept {
         self.faults = self.faults + is - was;
         write_line(
             &mut self.image,
-            placement.here,
-            placement.size,
+            placement.here as usize,
+            placement.size as usize,
             kept_bytes(&added),
         );
         self.traits[at] = traits_of(&added.line);
+        self.hints[at] = hint_of(&self.layout.names, &added.line);
         replace_line(&mut self.lines, at, added);
-        let first = placement.here - IMAGE_START;
+        let first = placement.here as usize - IMAGE_START;
         Changed {
             first,
-            end: first + placement.size,
+            end: first + placement.size as usize,
         }
     }
 
@@ -227,7 +231,6 @@ impl Kept {
     {
         let prepared = self.prepare(alloc, meter, &edit)?;
         same_code();
-        shift_hints(&mut self.hints, &edit);
         make_edit(&mut self.lines, edit);
         self.settle(prepared);
         Ok(Changed {
@@ -248,7 +251,11 @@ impl Kept {
         requires few { vec_len self.old.lines ≤ MOST_LINES }
         requires short { vec_len self.old.image ≤ IMAGE_BYTES }
         requires traits { self.old.traits.items ≡ map traits_of (readings_in self.old.lines.items) }
+        requires continues { Continues self.old.layout (readings_in (lines_after self.old.lines.items edit.now)) (first_changed edit.now) }
+        requires hints { self.old.hints.items ≡ map (hint_in (names_in self.old.layout.names)) (readings_in self.old.lines.items) }
         ensures traits { self.new.traits ≡ self.old.traits }
+        ensures hints { self.new.hints ≡ self.old.hints }
+        ensures hints_after { IfOk result (λ prepared. prepared.hints.items ≡ map (hint_in (names_in prepared.layout.names)) (readings_in (lines_after self.old.lines.items edit.now))) }
         ensures traits_after { IfOk result (λ prepared. prepared.traits.items ≡ map traits_of (readings_in (lines_after self.old.lines.items edit.now))) }
         ensures lines { self.new.lines.items ≡ self.old.lines.items }
         ensures layout { self.new.layout ≡ self.old.layout }
@@ -265,22 +272,32 @@ impl Kept {
     {
         self.lines.reserve(1)?;
         fill_up(&mut self.image)?;
-        fill_hints(&mut self.hints, self.lines.len())?;
         let spare = mem::replace(&mut self.spare, Layout::new(alloc));
         let traits = traits_after(alloc, &self.traits, edit)?;
-        let layout = Layout::after(alloc, spare, &self.lines, &traits, edit)?;
+        let layout = Layout::after(alloc, spare, &self.layout, &self.lines, &traits, edit)?;
+        let same_names = self.layout.names.has_same_names(&layout.names);
+        let hints = hints_after(
+            alloc,
+            same_names,
+            &layout.names,
+            &self.hints,
+            &self.lines,
+            edit,
+        )?;
         let codes = recode(
             alloc,
             meter,
             &self.lines,
             &traits,
-            &self.hints,
+            same_names,
+            &hints,
             edit,
             &self.layout,
             &layout,
         )?;
         Ok(Prepared {
             traits,
+            hints,
             layout,
             codes,
         })
@@ -292,6 +309,7 @@ impl Kept {
         requires are_read { readings_in self.old.lines.items ≡ map reading_of (texts_in self.old.lines.items) }
         requires laid_out { IsLayoutOf prepared.layout (readings_in self.old.lines.items) }
         requires traits { prepared.traits.items ≡ map traits_of (readings_in self.old.lines.items) }
+        requires hints { prepared.hints.items ≡ map (hint_in (names_in prepared.layout.names)) (readings_in self.old.lines.items) }
         requires within { All (λ e. e.0 < length self.old.lines.items) prepared.codes.items }
         requires current { (lines : List KeptLine) → IsMerged self.old.lines.items prepared.codes.items lines → AreCurrent lines }
         requires image { vec_len self.old.image ≡ IMAGE_BYTES }
@@ -300,11 +318,12 @@ impl Kept {
     {
         let Prepared {
             traits,
+            hints,
             layout,
             codes,
         } = prepared;
         self.traits = traits;
-        note_hints(&mut self.hints, &self.lines, &codes, &layout.names);
+        self.hints = hints;
         write_codes(&mut self.lines, codes);
         self.spare = mem::replace(&mut self.layout, layout);
         clear(&mut self.image);

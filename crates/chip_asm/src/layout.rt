@@ -1,12 +1,17 @@
 //! The first pass over all lines.
-ghost use Rattle.std.specs.Prelude.{◌≡◌, ◌<◌, ◌≤◌, [], IfOk, length, map, nat_eq};
+ghost use Rattle.std.specs.Prelude.{◌≡◌, ℕ, ◌+◌, ◌<◌, ◌≤◌, true, List, All, [], ◌∷◌, ◌++◌, IfOk, OnOk, Some, length, map, nat_eq, slice_get, slice_index_or, take, vec_len};
+ghost use Rattle.chip_lang.specs.Line.{Reading};
+ghost use Rattle.chip_asm.specs.Layout.{address, body_of, placed, place as place_next};
+ghost use Rattle.chip_asm.specs.inner.Layouts.{first_placements};
+ghost use Rattle.chip_asm.specs.inner.Resume.{Continues, first_changed as first_changed_by};
+ghost use Rattle.chip_asm.specs.inner.Follows.{Follows, placement_of};
 ghost use Rattle.std.specs.List.{list_any};
 ghost use Rattle.chip_asm.specs.inner.Marks.{marked};
-ghost use Rattle.chip_asm.specs.inner.Records.{IsPlaceWithin, lines_after, readings_in};
-ghost use Rattle.chip_asm.specs.inner.Traits.{traits_of};
+ghost use Rattle.chip_asm.specs.inner.Records.{IsPlaceWithin, lines_after, readings_in, count_after as count_of_after};
+ghost use Rattle.chip_asm.specs.inner.Traits.{is_steady, traits_of};
 
 use crate::block::Block;
-use crate::edit::{Edit, count_after, line_after};
+use crate::edit::{Edit, count_after, first_changed, line_after};
 use crate::kept_line::KeptLine;
 use crate::limits::MOST_LINES;
 use crate::pass::Pass;
@@ -29,16 +34,16 @@ pub(crate) struct Layout {
 fn marked(placement: &Placement, ended: bool, blocks: &[Block]) -> Placement
     ensures { result ≡ marked ended blocks.now placement.now }
 {
-    let number = placement.number;
+    let number = placement.number as usize;
     if placement.is_if && placement.live && !ended && is_open(blocks, number) {
         Placement {
-            number,
-            is_if: placement.is_if,
-            live: placement.live,
-            here: placement.here,
-            fault: Some(Fault::UnclosedIf),
             value: placement.value,
+            number: placement.number,
+            here: placement.here,
             size: placement.size,
+            fault: Some(Fault::UnclosedIf),
+            live: placement.live,
+            is_if: placement.is_if,
         }
     } else {
         *placement
@@ -69,8 +74,82 @@ fn mark_unclosed(
         .collect(alloc)
 }
 
+/// Goes on by the line at a place after an edit, which is looked at only where its traits don't say all.
+fn step_at(
+    pass: &mut Pass,
+    alloc: Global,
+    traits: Traits,
+    lines: &[KeptLine],
+    edit: &Edit,
+    place: usize,
+) -> Result<Placement, AllocError>
+    requires within { IsPlaceWithin (length lines.now) edit.now }
+    requires place { place < count_of_after (length lines.now) edit.now }
+    requires few { place ≤ MOST_LINES }
+    requires traits { (line : Reading) → slice_get (readings_in (lines_after lines.now edit.now)) place ≡ Some line → traits ≡ traits_of line }
+    ensures found { (before : List Reading) (line : Reading) → slice_get (readings_in (lines_after lines.now edit.now)) place ≡ Some line
+        → Follows pass.old (placed before) → place ≡ length before → IfOk result (λ placement. placement ≡ placement_of (place_next (placed before) line)) }
+    ensures follows { (before : List Reading) (line : Reading) → slice_get (readings_in (lines_after lines.now edit.now)) place ≡ Some line
+        → Follows pass.old (placed before) → place ≡ length before → OnOk result (Follows pass.new (placed (before ++ line ∷ []))) }
+{
+    match traits.bare_size() {
+        Some(size) => Ok(pass.step_bare(place + 1, size)),
+        None => pass.step(alloc, place + 1, line_after(lines, edit, place)),
+    }
+}
+
+/// How many lines before a place are steady, up to the first that isn't.
+fn steady_lines(traits: &[Traits], place: usize) -> usize
+    requires { place ≤ length traits.now }
+    ensures within { result ≤ place }
+    ensures steady { (index : ℕ) (other : Traits) → index < result → (slice_index_or traits.now index other).is_steady ≡ true }
+{
+    for index in 0..place {
+        if !traits[index].is_steady {
+            return index;
+        }
+    }
+    place
+}
+
+/// What the first pass finds of the first lines of a source, and its state after them, where these lines are steady, and the first ones
+/// of an old layout too. There is room for so many lines.
+fn first_lines(
+    alloc: Global,
+    spare: Layout,
+    old: &Layout,
+    first: usize,
+    count: usize,
+) -> Result<(Vec<Placement>, Pass), AllocError>
+    requires { first ≤ vec_len old.now.placements }
+    ensures { (lines : List Reading) → Continues old.now lines first → All (λ line. is_steady (body_of line) ≡ true) (take first lines)
+        → IfOk result (λ made. (made.0.items ≡ first_placements (take first lines)) × Follows made.1 (placed (take first lines))) }
+{
+    let Layout {
+        mut placements,
+        mut names,
+        end: _,
+    } = spare;
+    placements.clear();
+    placements.reserve(count)?;
+    placements.extend_from_slice(&old.placements[..first])?;
+    names.take_over(alloc, &old.names, first)?;
+    let pass = Pass::resume(alloc, old.address_at(first), names);
+    Ok((placements, pass))
+}
+
 impl Layout {
     ghost use Rattle.chip_asm.specs.inner.Layouts.{IsLayoutOf};
+
+    /// The address at which the line at a place stands, or that after the last line.
+    fn address_at(&self, place: usize) -> usize
+        ensures { (lines : List Reading) → IsLayoutOf self.now lines → place ≤ length lines → result ≡ address (placed (take place lines)) }
+    {
+        match self.placements.get(place) {
+            Some(placement) => placement.address(),
+            None => self.end,
+        }
+    }
 
     /// The layout of no lines.
     #[tactic(auto, unfolding(crate::specs::Layout::placed, crate::specs::Layout::address, crate::specs::Layout::symbols, crate::specs::inner::Layouts::placements_of))]
@@ -84,32 +163,28 @@ impl Layout {
         }
     }
 
-    /// The layout of the lines after an edit, in the room of another one, whose names serve again where they still come in this order.
+    /// The layout of the lines after an edit, where another one is that before it, in the room of a third one, whose names serve again
+    /// where they still come in this order. The pass begins at the edit, unless a line before it is no steady one.
     pub(crate) fn after(
         alloc: Global,
         spare: Layout,
+        old: &Layout,
         lines: &[KeptLine],
         traits: &[Traits],
         edit: &Edit,
     ) -> Result<Self, AllocError>
         requires within { IsPlaceWithin (length lines.now) edit.now }
+        requires continues { Continues old.now (readings_in (lines_after lines.now edit.now)) (first_changed_by edit.now) }
         requires few { length lines.now ≤ MOST_LINES }
         requires traits { traits.now ≡ map traits_of (readings_in (lines_after lines.now edit.now)) }
         ensures { IfOk result (λ layout. IsLayoutOf layout (readings_in (lines_after lines.now edit.now))) }
     {
-        let Layout {
-            mut placements,
-            mut names,
-            end: _,
-        } = spare;
-        names.restart();
-        placements.clear();
-        let mut pass = Pass::new(alloc, names);
         let count = count_after(lines.len(), edit);
-        placements.reserve(count)?;
-        for place in 0..count {
-            let line = line_after(lines, edit, place);
-            placements.push(pass.step(alloc, place + 1, traits[place], line)?)?;
+        let first = steady_lines(traits, first_changed(edit));
+        let (mut placements, mut pass) = first_lines(alloc, spare, old, first, count)?;
+        for place in first..count {
+            let placement = step_at(&mut pass, alloc, traits[place], lines, edit, place)?;
+            placements.push(placement)?;
         }
         let placements = mark_unclosed(alloc, placements, pass.ended, &pass.blocks)?;
         let end = pass.here;

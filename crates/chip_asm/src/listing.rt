@@ -159,7 +159,7 @@ fn push_field(
         push_value(alloc, out, value)?;
         return Ok(());
     }
-    push_bytes(out, placement.size.min(6), kept_bytes(kept))?;
+    push_bytes(out, (placement.size as usize).min(6), kept_bytes(kept))?;
     Ok(())
 }
 
@@ -186,9 +186,9 @@ fn push_line(
 ) -> Result<(), AllocError>
     ensures { OnOk result (out.new.items ≡ out.old.items ++ shown placement.now.number placement.now.live placement.now.here field.now more text.now) }
 {
-    push_number(out, alloc, placement.number)?;
+    push_number(out, alloc, placement.number as usize)?;
     out.push(b' ')?;
-    push_address(out, placement.live, placement.here)?;
+    push_address(out, placement.live, placement.here as usize)?;
     out.push(b' ')?;
     push_left(out, 12, field)?;
     out.push(more)?;
@@ -230,7 +230,7 @@ pub(crate) fn listing_in(
         let fault = kept_fault(&placement, kept);
         field.clear();
         push_field(&mut field, alloc, fault, &placement, kept)?;
-        let more = more_sign(fault, placement.size);
+        let more = more_sign(fault, placement.size as usize);
         push_line(
             &mut listing,
             alloc,

@@ -1,5 +1,6 @@
 //! The first pass: one line after another.
-ghost use Rattle.std.specs.Prelude.{◌≡◌, ℕ, ◌+◌, ◌-◌, ◌≤◌, ◌<◌, ◌^◌, List, [], ◌∷◌, ◌++◌, OnOk, IfOk, length, reverse, is_some, is_none, unsigned_abs, int_lt, pos, nat_lt, Option, None, Ok, true, false, ◌&&◌, ◌||◌, if◌then◌else◌, option_to_list};
+ghost use Rattle.std.specs.Prelude.{◌≡◌, ℕ, ◌+◌, ◌-◌, ◌≤◌, ◌<◌, ◌^◌, List, [], ◌∷◌, ◌++◌, OnOk, IfOk, length, reverse, is_some, is_none, unsigned_abs, int_lt, pos, nat_lt, Option, None, Ok, true, false, not, ◌&&◌, ◌||◌, if◌then◌else◌, option_to_list};
+ghost use Rattle.std.specs.List.{list_all};
 ghost use Rattle.chip_asm.specs.inner.Bare.{IsBare, fault_of_bare, size_of_bare};
 ghost use Rattle.chip_asm.specs.Layout.{value_at, own_size, is_padded, full_size, is_negative_space, is_backwards, is_past_end, fault_of_value, is_redefinition, is_if_body, body_of, value_or_zero, condition_of, is_org_body, is_end_body, symbol_given};
 ghost use Rattle.chip_lang.specs.SeenLine.{seen_line, seen_body};
@@ -8,10 +9,10 @@ ghost use Rattle.chip_lang.specs.Uses.{name_defined};
 ghost use Rattle.chip_lang.specs.declared.limits.TheConstants.{MEMORY_BYTES};
 
 use crate::block::{Block, all_hold, move_blocks};
+use crate::limits::MOST_LINES;
 use crate::placement::{Placement, is_passed};
 use crate::table::{Symbol, Table};
-use crate::traits::Traits;
-use chip_lang::limits::{IMAGE_START, MEMORY_BYTES};
+use chip_lang::limits::MEMORY_BYTES;
 use chip_lang::{Body, Fault, Line, defines, eval};
 use std::alloc::{AllocError, Global};
 
@@ -21,6 +22,8 @@ pub(crate) struct Pass {
     pub(crate) here: usize,
     pub(crate) aligning: bool,
     pub(crate) ended: bool,
+    /// Whether a line that is no ELSE or ENDIF is live here.
+    pub(crate) live: bool,
     pub(crate) blocks: Vec<Block>,
     pub(crate) names: Table,
     ghost within: { here ≤ MEMORY_BYTES },
@@ -75,21 +78,20 @@ pub(crate) fn is_data(body: &Body) -> bool
 }
 
 impl Pass {
-    ghost use Rattle.chip_asm.specs.Layout.{Placed, is_live, is_misplaced, first_fault, symbols, place, placed};
+    ghost use Rattle.chip_asm.specs.Layout.{Placed, address, is_aligning, has_ended, enclosing, is_live, is_misplaced, first_fault, symbols, place, placed};
     ghost use Rattle.chip_asm.specs.inner.Placements.{is_placed};
-    ghost use Rattle.chip_asm.specs.inner.Traits.{traits_of};
     ghost use Rattle.chip_asm.specs.inner.Follows.{Follows, placement_of, next_address, next_aligning};
 
-    /// Before the first line, with a table without names.
-    #[tactic(auto, unfolding(crate::specs::Layout::address, crate::specs::Layout::is_aligning, crate::specs::Layout::has_ended, crate::specs::Layout::enclosing, crate::specs::Layout::symbols))]
-    pub(crate) fn new(alloc: Global, names: Table) -> Self
-        requires { names ≡ [] }
-        ensures { Follows result [] }
+    /// At an address, after lines that give these names, where no block is open.
+    pub(crate) fn resume(alloc: Global, here: usize, names: Table) -> Self
+        ensures { (before : List Placed) → here ≡ address before → here ≤ MEMORY_BYTES → is_aligning before ≡ true → has_ended before ≡ false → enclosing before ≡ []
+            → names ≡ symbols before → Follows result before }
     {
         Pass {
-            here: IMAGE_START,
+            here: here.min(MEMORY_BYTES),
             aligning: true,
             ended: false,
+            live: true,
             blocks: Vec::new(alloc),
             names,
         }
@@ -107,7 +109,7 @@ impl Pass {
                 Some(block) => block.live,
                 None => true,
             },
-            _ => all_hold(&self.blocks),
+            _ => self.live,
         }
     }
 
@@ -232,8 +234,11 @@ impl Pass {
     }
 
     /// The size of the line, where it is accepted.
+    #[tactic(auto, unfolding(crate::specs::Layout::fault_of_value))]
     fn size_of(&self, accepted: bool, body: &Body, value: i32) -> usize
-        ensures { result ≡ (if accepted then full_size self.now.aligning self.now.here (seen_body body.now) value else 0) }
+        requires { accepted ≡ true → fault_of_value self.now.aligning self.now.here (seen_body body.now) (Ok value) ≡ None }
+        ensures bound { result ≤ MEMORY_BYTES }
+        ensures size { result ≡ (if accepted then full_size self.now.aligning self.now.here (seen_body body.now) value else 0) }
     {
         if accepted {
             self.full_size(body, value)
@@ -244,6 +249,7 @@ impl Pass {
 
     /// What holds of the next line.
     fn place(&self, number: usize, line: &Line) -> Placement
+        requires { number ≤ MOST_LINES + 1 }
         ensures placed { (before : List Placed) → Follows self.now before → number ≡ length before + 1 → result ≡ placement_of (place before (seen_line line.now)) }
         ensures new_name { is_placed result ≡ true → is_redefinition self.now.names (name_defined (seen_line line.now)) ≡ false }
         ensures fits { is_placed result ≡ true → fault_of_value self.now.aligning self.now.here (body_of (seen_line line.now)) (Ok result.value) ≡ None }
@@ -257,13 +263,13 @@ impl Pass {
         let fault = self.fault_of(live, line, read);
         let size = self.size_of(is_passed(live, fault), body, value);
         Placement {
-            number,
-            is_if: is_if(body),
-            live,
-            here: self.here,
-            fault,
             value,
-            size,
+            number: number as u16,
+            here: self.here as u16,
+            size: size as u16,
+            fault,
+            live,
+            is_if: is_if(body),
         }
     }
 
@@ -272,18 +278,14 @@ impl Pass {
         &mut self,
         alloc: Global,
         number: usize,
-        traits: Traits,
         line: &Line,
     ) -> Result<Placement, AllocError>
-        requires { traits ≡ traits_of (seen_line line.now) }
+        requires { number ≤ MOST_LINES + 1 }
         ensures found { (lines : List Reading) → Follows self.old (placed lines) → number ≡ length lines + 1
             → IfOk result (λ placement. placement ≡ placement_of (place (placed lines) (seen_line line.now))) }
         ensures follows { (lines : List Reading) → Follows self.old (placed lines) → number ≡ length lines + 1
             → OnOk result (Follows self.new (placed (lines ++ seen_line line.now ∷ []))) }
     {
-        if let Some(size) = traits.bare_size() {
-            return Ok(self.step_bare(number, size));
-        }
         let empty = Body::Empty;
         let body = body_or(line, &empty);
         let placement = self.place(number, line);
@@ -301,9 +303,22 @@ impl Pass {
             placement.live,
             accepted,
             placement.value,
-            placement.size,
+            placement.size as usize,
         );
+        self.note_live();
         Ok(placement)
+    }
+
+    /// Notes whether a line that is no ELSE or ENDIF is live here.
+    fn note_live(&mut self)
+        ensures live { self.new.live ≡ (not self.new.ended && list_all (λ b. b.holds) self.new.blocks.items) }
+        ensures here { self.new.here ≡ self.old.here }
+        ensures aligning { self.new.aligning ≡ self.old.aligning }
+        ensures ended { self.new.ended ≡ self.old.ended }
+        ensures blocks { self.new.blocks ≡ self.old.blocks }
+        ensures names { self.new.names ≡ self.old.names }
+    {
+        self.live = !self.ended && all_hold(&self.blocks);
     }
 
     /// The fault of a line of this size of which nothing else is asked.
@@ -330,26 +345,26 @@ impl Pass {
     }
 
     /// Goes on by such a line.
-    fn step_bare(&mut self, number: usize, size: usize) -> Placement
+    pub(crate) fn step_bare(&mut self, number: usize, size: usize) -> Placement
+        requires { number ≤ MOST_LINES + 1 }
         ensures found { (lines : List Reading) (line : Reading) → IsBare line size → Follows self.old (placed lines) → number ≡ length lines + 1
             → result ≡ placement_of (place (placed lines) line) }
         ensures follows { (lines : List Reading) (line : Reading) → IsBare line size → Follows self.old (placed lines) → number ≡ length lines + 1
             → Follows self.new (placed (lines ++ line ∷ [])) }
     {
-        let empty = Body::Empty;
-        let live = self.is_live(&empty);
+        let live = self.live;
         let fault = self.fault_of_bare(live, size);
         let taken = self.size_of_bare(live, size);
         let here = self.here;
         self.here += taken;
         Placement {
-            number,
-            is_if: false,
-            live,
-            here,
-            fault,
             value: 0,
-            size: taken,
+            number: number as u16,
+            here: here as u16,
+            size: taken as u16,
+            fault,
+            live,
+            is_if: false,
         }
     }
 
@@ -438,6 +453,7 @@ impl Pass {
             here: _,
             aligning: _,
             ended: _,
+            live: _,
             blocks: _,
             names,
         } = self;

@@ -3,16 +3,16 @@ ghost use Rattle.std.specs.Prelude.{◌≡◌, is_none, ◌&&◌};
 
 use chip_lang::Fault;
 
-/// What the first pass finds of a line.
+/// What the first pass finds of a line. All lines have one each, so it is small: 16 bytes.
 #[derive(Clone, Copy, Debug)]
 pub(crate) struct Placement {
-    pub(crate) number: usize,
-    pub(crate) is_if: bool,
-    pub(crate) live: bool,
-    pub(crate) here: usize,
-    pub(crate) fault: Option<Fault>,
     pub(crate) value: i32,
-    pub(crate) size: usize,
+    pub(crate) number: u16,
+    pub(crate) here: u16,
+    pub(crate) size: u16,
+    pub(crate) fault: Option<Fault>,
+    pub(crate) live: bool,
+    pub(crate) is_if: bool,
 }
 
 /// Whether a line is accepted.
@@ -24,6 +24,13 @@ pub(crate) fn is_passed(live: bool, fault: Option<Fault>) -> bool
 
 impl Placement {
     ghost use Rattle.chip_asm.specs.inner.Placements.{is_placed};
+
+    /// The address at which the line stands.
+    pub(crate) fn address(&self) -> usize
+        ensures { result ≡ self.now.here }
+    {
+        self.here as usize
+    }
 
     /// Whether the line is live and has no fault.
     pub(crate) fn is_accepted(&self) -> bool

@@ -1,11 +1,12 @@
 //! The lines that an edit makes encode again.
-ghost use Rattle.std.specs.Prelude.{◌≡◌, ◌<◌, ◌≤◌, ◌+◌, ◌++◌, ℕ, List, All, IfOk, OnOk, OnErr, Option, Result, Ok, Err, length, Some, None, true, if◌then◌else◌, ◌&&◌, map, option_to_list};
+ghost use Rattle.std.specs.Prelude.{◌≡◌, ◌<◌, ◌≤◌, ◌+◌, ◌++◌, ℕ, List, All, IfOk, OnOk, OnErr, Option, Result, Ok, Err, length, Some, None, true, if◌then◌else◌, ◌&&◌, map, option_to_list, slice_get};
 ghost use Rattle.chip_lang.specs.Line.{Reading};
 ghost use Rattle.chip_lang.specs.SeenLine.{seen_line};
 ghost use Rattle.chip_lang.specs.Uses.{agree_on};
 ghost use Rattle.chip_lang.specs.Code.{code_of};
+ghost use Rattle.chip_asm.specs.inner.Hints.{names_in, hint_in};
 ghost use Rattle.chip_asm.specs.inner.Recode.{has_code, is_placed_at, is_encoded_again, new_codes, count_again};
-ghost use Rattle.chip_asm.specs.inner.Records.{IsPlaceWithin, lines_after, readings_in, place_before};
+ghost use Rattle.chip_asm.specs.inner.Records.{IsPlaceWithin, lines_after, readings_in, place_before, count_after as count_of_after};
 ghost use Rattle.chip_asm.specs.Layout.{body_of};
 ghost use Rattle.chip_asm.specs.inner.Layouts.{IsLayoutOf};
 ghost use Rattle.chip_asm.specs.Names.{values_of};
@@ -13,7 +14,7 @@ ghost use Rattle.chip_asm.specs.inner.Kept.{IsMerged};
 ghost use Rattle.chip_asm.specs.inner.Traits.{traits_of};
 
 use crate::edit::{Edit, count_after, line_after, place_before};
-use crate::hints::{Hinted, hint_at};
+use crate::hints::Hinted;
 use crate::kept_line::KeptLine;
 use crate::layout::Layout;
 use crate::limits::MOST_LINES;
@@ -38,13 +39,20 @@ fn keeps_values(
     old: &Layout,
     new: &Layout,
     unmoved: bool,
+    lines: &[KeptLine],
+    edit: &Edit,
+    place: usize,
     traits: Traits,
-    line: &Line,
+    same_names: bool,
     hint: usize,
 ) -> bool
+    requires same { same_names ≡ true → names_in old.now.names ≡ names_in new.now.names }
+    requires hint { (line : Reading) → slice_get (readings_in (lines_after lines.now edit.now)) place ≡ Some line → hint ≡ hint_in (names_in new.now.names) line }
+    requires within { IsPlaceWithin (length lines.now) edit.now }
+    requires place { place < count_of_after (length lines.now) edit.now }
     requires unmoved { unmoved ≡ true → values_of old.now.names ≡ values_of new.now.names }
-    requires traits { traits ≡ traits_of (seen_line line.now) }
-    ensures { result ≡ agree_on (values_of old.now.names) (values_of new.now.names) (seen_line line.now) }
+    requires traits { (line : Reading) → slice_get (readings_in (lines_after lines.now edit.now)) place ≡ Some line → traits ≡ traits_of line }
+    ensures { (line : Reading) → slice_get (readings_in (lines_after lines.now edit.now)) place ≡ Some line → result ≡ agree_on (values_of old.now.names) (values_of new.now.names) line }
 {
     if !traits.has_names {
         return true;
@@ -52,13 +60,17 @@ fn keeps_values(
     if unmoved {
         return true;
     }
+    if same_names && hint > 0 {
+        return old.names.is_unmoved_at(&new.names, hint - 1);
+    }
+    let line = line_after(lines, edit, place);
     let before = Hinted {
         table: &old.names,
-        hint,
+        index: hint,
     };
     let after = Hinted {
         table: &new.names,
-        hint,
+        index: hint,
     };
     agree_on(line, &before, &after)
 }
@@ -69,17 +81,22 @@ fn is_encoded_again(
     old: &Layout,
     new: &Layout,
     unmoved: bool,
+    lines: &[KeptLine],
     edit: &Edit,
     place: usize,
     traits: Traits,
-    line: &Line,
-    hints: &[u32],
+    same_names: bool,
+    hint: usize,
 ) -> bool
-    requires place { place ≤ MOST_LINES }
-    requires traits { traits ≡ traits_of (seen_line line.now) }
+    requires same { same_names ≡ true → names_in old.now.names ≡ names_in new.now.names }
+    requires hint { (line : Reading) → slice_get (readings_in (lines_after lines.now edit.now)) place ≡ Some line → hint ≡ hint_in (names_in new.now.names) line }
+    requires within { IsPlaceWithin (length lines.now) edit.now }
+    requires few { place ≤ MOST_LINES }
+    requires place { place < count_of_after (length lines.now) edit.now }
+    requires traits { (line : Reading) → slice_get (readings_in (lines_after lines.now edit.now)) place ≡ Some line → traits ≡ traits_of line }
     requires unmoved { unmoved ≡ true → values_of old.now.names ≡ values_of new.now.names }
-    ensures { (before after : List Reading) → IsLayoutOf old.now before → IsLayoutOf new.now after
-        → result ≡ is_encoded_again before after (place_before edit.now) (place, seen_line line.now) }
+    ensures { (before after : List Reading) (line : Reading) → slice_get (readings_in (lines_after lines.now edit.now)) place ≡ Some line
+        → IsLayoutOf old.now before → IsLayoutOf new.now after → result ≡ is_encoded_again before after (place_before edit.now) (place, line) }
 {
     if !traits.is_coded || !is_placed_at(&new.placements, place) {
         return false;
@@ -87,28 +104,36 @@ fn is_encoded_again(
     match place_before(edit, place) {
         Some(before) => {
             !(is_placed_at(&old.placements, before)
-                && keeps_values(old, new, unmoved, traits, line, hint_at(hints, before)))
+                && keeps_values(
+                    old, new, unmoved, lines, edit, place, traits, same_names, hint,
+                ))
         }
         None => true,
     }
 }
 
-/// Appends the line's code with its place, where it is wanted.
+/// Appends the code of the line at a place with the place, where it is wanted. The line's names are looked for first at its hint.
 fn push_code_if(
     wanted: bool,
     alloc: Global,
     meter: &mut Meter,
     codes: &mut Vec<(usize, Coded)>,
+    lines: &[KeptLine],
+    edit: &Edit,
     place: usize,
-    line: &Line,
-    names: &Table,
+    names: &Hinted<'_>,
 ) -> Result<(), AllocError>
-    ensures codes { OnOk result (codes.new.items ≡ codes.old.items ++ option_to_list (if wanted then Some (place, code_of (seen_line line.now) (values_of names.now)) else None)) }
+    requires within { IsPlaceWithin (length lines.now) edit.now }
+    requires few { place ≤ MOST_LINES }
+    requires place { place < count_of_after (length lines.now) edit.now }
+    ensures codes { (line : Reading) → slice_get (readings_in (lines_after lines.now edit.now)) place ≡ Some line
+        → OnOk result (codes.new.items ≡ codes.old.items ++ option_to_list (if wanted then Some (place, code_of line (values_of names.now.table.now)) else None)) }
     ensures encoded { meter.new.encoded ≤ meter.old.encoded + (if wanted then 1 else 0) }
     ensures not_lowered { meter.old.encoded ≤ meter.new.encoded }
     ensures parsed { meter.new.parsed ≡ meter.old.parsed }
 {
     if wanted {
+        let line = line_after(lines, edit, place);
         let code = encode(alloc, meter, line, names)?;
         codes.push((place, code))?;
     }
@@ -158,11 +183,14 @@ pub(crate) fn recode(
     meter: &mut Meter,
     lines: &[KeptLine],
     traits: &[Traits],
-    hints: &[u32],
+    same_names: bool,
+    hints: &[usize],
     edit: &Edit,
     old: &Layout,
     new: &Layout,
 ) -> Result<Vec<(usize, Coded)>, AllocError>
+    requires same { same_names ≡ true → names_in old.now.names ≡ names_in new.now.names }
+    requires hints { hints.now ≡ map (hint_in (names_in new.now.names)) (readings_in (lines_after lines.now edit.now)) }
     requires within { IsPlaceWithin (length lines.now) edit.now }
     requires few { length lines.now ≤ MOST_LINES }
     requires traits { traits.now ≡ map traits_of (readings_in (lines_after lines.now edit.now)) }
@@ -176,9 +204,23 @@ pub(crate) fn recode(
     let count = count_after(lines.len(), edit);
     let mut codes = Vec::new(alloc);
     for place in 0..count {
-        let line = line_after(&*lines, &*edit, place);
-        let again = is_encoded_again(old, new, unmoved, edit, place, traits[place], line, hints);
-        push_code_if(again, alloc, meter, &mut codes, place, line, &new.names)?;
+        let hint = hints[place];
+        let again = is_encoded_again(
+            old,
+            new,
+            unmoved,
+            lines,
+            edit,
+            place,
+            traits[place],
+            same_names,
+            hint,
+        );
+        let names = Hinted {
+            table: &new.names,
+            index: hint.saturating_sub(1),
+        };
+        push_code_if(again, alloc, meter, &mut codes, lines, edit, place, &names)?;
     }
     Ok(codes)
 }

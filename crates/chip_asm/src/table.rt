@@ -73,6 +73,11 @@ impl Model for Table {
 }
 
 impl Table {
+    ghost use Rattle.chip_asm.specs.inner.Resume.{names_up_to};
+    ghost use Rattle.chip_asm.specs.inner.Hints.{names_in, number_of};
+    ghost use Rattle.chip_asm.specs.Names.{Name};
+    ghost use Rattle.chip_asm.specs.declared.table.Symbol.{Symbol};
+
     pub(crate) fn new(alloc: Global) -> Self
         ensures { result ≡ [] }
     {
@@ -87,6 +92,31 @@ impl Table {
         ensures { self.new ≡ [] }
     {
         self.count = 0;
+    }
+
+    /// Makes it the names that lines up to a number give, of another table.
+    pub(crate) fn take_over(
+        &mut self,
+        alloc: Global,
+        other: &Table,
+        number: usize,
+    ) -> Result<(), AllocError>
+        ensures { OnOk result (self.new ≡ names_up_to number other.now) }
+    {
+        self.restart();
+        for index in 0..other.symbols.len() {
+            let Some((name, symbol)) = other.symbols.get_index(index) else {
+                unreachable!();
+            };
+            if index >= other.count {
+                return Ok(());
+            }
+            if symbol.line > number {
+                return Ok(());
+            }
+            self.define(alloc, name, *symbol)?;
+        }
+        Ok(())
     }
 
     /// The value and the line of a name.
@@ -126,14 +156,59 @@ impl Table {
         self.value(name)
     }
 
-    /// An index at which `value_near` finds a name at once, if the name is there.
-    pub(crate) fn index_near(&self, hint: usize, name: &[u8]) -> usize {
-        if hint < self.symbols.len() && is_key_at(&self.symbols, hint, name) {
-            return hint;
-        }
+    /// The number of a name in the table, counted from 1; 0 where it isn't there.
+    pub(crate) fn number_of(&self, name: &[u8]) -> usize
+        ensures { result ≡ number_of (names_in self.now) name.now }
+    {
         match self.symbols.get_index_of(name) {
-            Some(index) => index,
-            None => hint,
+            Some(index) => { if index < self.count { index + 1 } else { 0 } }
+            None => 0,
+        }
+    }
+
+    /// Whether both tables have the same names, in the same order.
+    pub(crate) fn has_same_names(&self, other: &Table) -> bool
+        ensures { result ≡ true → names_in self.now ≡ names_in other.now }
+    {
+        if self.count != other.count {
+            return false;
+        }
+        for index in 0..self.count {
+            if !self.has_same_name_at(other, index) {
+                return false;
+            }
+        }
+        true
+    }
+
+    /// Whether both tables have the same name at an index.
+    fn has_same_name_at(&self, other: &Table, index: usize) -> bool
+        requires mine { index < length self.now }
+        requires others { index < length other.now }
+        ensures { result ≡ true → slice_get (names_in self.now) index ≡ slice_get (names_in other.now) index }
+    {
+        match (
+            self.symbols.get_index(index),
+            other.symbols.get_index(index),
+        ) {
+            (Some((name, _)), Some((other_name, _))) => name.as_slice() == other_name.as_slice(),
+            _ => unreachable!(),
+        }
+    }
+
+    /// Whether both tables have the same value at an index.
+    pub(crate) fn is_unmoved_at(&self, other: &Table, index: usize) -> bool
+        requires mine { index < length self.now }
+        requires others { index < length other.now }
+        ensures same { (mine others : Name × Symbol) → slice_get self.now index ≡ Some mine → slice_get other.now index ≡ Some others → result ≡ true → mine.1.value ≡ others.1.value }
+        ensures differs { (mine others : Name × Symbol) → slice_get self.now index ≡ Some mine → slice_get other.now index ≡ Some others → result ≡ false → mine.1.value ≢ others.1.value }
+    {
+        match (
+            self.symbols.get_index(index),
+            other.symbols.get_index(index),
+        ) {
+            (Some((_, symbol)), Some((_, other_symbol))) => symbol.value == other_symbol.value,
+            _ => unreachable!(),
         }
     }
 

@@ -6,7 +6,7 @@ ghost use Rattle.chip_asm.specs.inner.Bare.{IsBare};
 ghost use Rattle.chip_asm.specs.Layout.{body_of};
 ghost use Rattle.chip_asm.specs.inner.Recode.{has_code};
 ghost use Rattle.chip_asm.specs.inner.Records.{IsPlaceWithin, lines_after, readings_in};
-ghost use Rattle.chip_asm.specs.inner.Traits.{is_bare_line, uses_name, traits_of};
+ghost use Rattle.chip_asm.specs.inner.Traits.{is_bare_line, uses_name, is_steady, traits_of};
 ghost use Rattle.chip_asm.specs.declared.kept_line.KeptLine.{KeptLine};
 
 use crate::edit::Edit;
@@ -23,6 +23,8 @@ pub(crate) struct Traits {
     pub(crate) is_coded: bool,
     /// Whether an expression of it has a name.
     pub(crate) has_names: bool,
+    /// Whether it opens no block, ends no source and switches no alignment.
+    pub(crate) is_steady: bool,
 }
 
 fn is_bare(line: &Line) -> bool
@@ -50,6 +52,19 @@ pub(crate) fn has_code(line: &Line) -> bool
     )
 }
 
+/// Whether the line opens no block, ends no source and switches no alignment.
+fn is_steady(line: &Line) -> bool
+    ensures { result ≡ is_steady (body_of (seen_line line.now)) }
+{
+    !matches!(
+        line,
+        Line::Read {
+            body: Body::Ifdef(_) | Body::Ifund(_) | Body::End | Body::Align(_),
+            ..
+        }
+    )
+}
+
 /// The traits of a line.
 pub(crate) fn traits_of(line: &Line) -> Traits
     ensures { result ≡ traits_of (seen_line line.now) }
@@ -58,6 +73,7 @@ pub(crate) fn traits_of(line: &Line) -> Traits
         is_bare: is_bare(line),
         is_coded: has_code(line),
         has_names: uses(line, 0).is_some(),
+        is_steady: is_steady(line),
     }
 }
 

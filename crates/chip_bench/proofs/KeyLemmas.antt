@@ -1,5 +1,5 @@
 -- The key events of a file, one line after another.
-use Rattle.std.proofs.Common.{◌≡◌, ℕ, ◌+◌, ◌<◌, List, [], length, map, Option, Some, None, refl, ap, sym, ◌∙◌}
+use Rattle.std.proofs.Common.{◌≡◌, ℕ, ◌+◌, ◌<◌, List, [], length, map, Option, Some, None, ap, sym, ◌∙◌}
 use Rattle.std.specs.List.{after_first}
 use Rattle.chip_asm.specs.Lines.{first_text, is_newline, lines_of}
 use Rattle.chip_asm.proofs.CutSteps.{lines-next}

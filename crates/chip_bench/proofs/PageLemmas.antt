@@ -3,7 +3,7 @@ use Rattle.std.proofs.Common.{◌≡◌, ℕ, ◌<◌, List, [], ◌++◌, codes
 use Rattle.std.proofs.lemmas.List.{append-nil}
 use Rattle.std.specs.Borrow.{Bor}
 use Rattle.std.specs.List.{after_first, find, flat_map}
-use Rattle.chip_asm.specs.Lines.{first_text, is_newline, lines_of}
+use Rattle.chip_asm.specs.Lines.{first_text, is_newline}
 use Rattle.chip_asm.proofs.CutSteps.{lines-next}
 use Rattle.chip_bench.specs.Pages.{IsContents, IsPageText, contents_text, example_text, has_code, indented, indented_line, page_of, page_text, title_line}
 use Rattle.chip_bench.specs.declared.pages.Page.{Page}

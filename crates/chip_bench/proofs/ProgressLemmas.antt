@@ -1,5 +1,5 @@
 -- How far a script has been carried out, after one more byte, after more bytes, and at the end.
-use Rattle.std.proofs.Common.{◌≡◌, ◌≢◌, ◌⊎◌, inl, inr, ⊎_elim, ℕ, ◌+◌, ◌-◌, ◌<◌, ◌≤◌, ◌==◌, min, Bool, true, false, cond, List, [], ◌∷◌, ◌++◌, length, take, drop, Option, Some, None, Result, Ok, Err, OnOk, refl, sym, ◌∙◌, ap, subst, append_assoc, arith}
+use Rattle.std.proofs.Common.{◌≡◌, ◌⊎◌, inl, inr, ⊎_elim, ℕ, ◌+◌, ◌-◌, ◌<◌, ◌≤◌, ◌==◌, min, Bool, true, false, cond, List, [], ◌∷◌, ◌++◌, length, take, drop, Option, Some, None, Result, Ok, Err, OnOk, refl, sym, ◌∙◌, ap, subst, append_assoc, arith}
 use Rattle.std.specs.Io.KnownBytes.{Appends}
 use Rattle.std.specs.List.{list_any}
 use Rattle.std.specs.Str.Lines.{strip_carriage_return}
@@ -54,32 +54,57 @@ take_part_more u part = ⊎_elim
 kept_length : {start : Session} {before given : List ℕ} {old : Conversation} {held : Option (List ℕ)} → Reached start before given old held → length old.line.items ≤ KEPT_LEN
 kept_length {given = given} r = omega (arith, ap length r.line, length-take KEPT_LEN (unfinished_line given))
 
+-- no more than all of a list is taken
+pub take_min : (k : ℕ) (xs : List ℕ) → take (min k (length xs)) xs ≡ take k xs
+take_min k xs = ⊎_elim
+    (λ (less : k < length xs). let same : min k (length xs) ≡ k = omega arith in ap (λ n. take n xs) same)
+    (λ (all : length xs ≤ k). let same : min k (length xs) ≡ length xs = omega arith in ap (λ n. take n xs) same ∙ take_all (length xs) xs (omega arith) ∙ sym (take_all k xs all))
+    (cases_lt k (length xs))
+
 -- what is kept of a line and of bytes after it
 pub kept_more : (line part : List ℕ) (n : ℕ) → length line ≤ KEPT_LEN → n ≡ min (KEPT_LEN - length line) (length part) → line ++ take n part ≡ take KEPT_LEN (line ++ part)
 kept_more line part n short is =
     let room : KEPT_LEN ≡ length line + (KEPT_LEN - length line) = omega arith in
     ap (λ l. line ++ l) (ap (λ k. take k part) is ∙ take_min (KEPT_LEN - length line) part)
     ∙ sym (take-append-add line part (KEPT_LEN - length line)) ∙ ap (λ k. take k (line ++ part)) (sym room)
-  where
-    take_min : (k : ℕ) (xs : List ℕ) → take (min k (length xs)) xs ≡ take k xs
-    take_min k xs = ⊎_elim
-        (λ (less : k < length xs). let same : min k (length xs) ≡ k = omega arith in ap (λ n. take n xs) same)
-        (λ (all : length xs ≤ k). let same : min k (length xs) ≡ length xs = omega arith in ap (λ n. take n xs) same ∙ take_all (length xs) xs (omega arith) ∙ sym (take_all k xs all))
-        (cases_lt k (length xs))
+
+-- where the bytes of a script have led, with the bytes of an unfinished line
+record Partway (start : Session) (before given : List ℕ) (session : Session) (line : List ℕ) (complete taken : ℕ) (holds : Option (List ℕ)) : Type 0 where
+  session_is : session ≡ session_after start (complete_lines given)
+  line_is : line ≡ take KEPT_LEN (unfinished_line given)
+  complete_is : complete ≡ length (complete_lines given)
+  taken_is : taken ≡ length given
+  within : WithinBounds given
+  told : holds ≡ Some (before ++ transcript_of start (complete_lines given))
+
+-- bytes of a line
+part_taken : {start : Session} {before given : List ℕ} {old : Conversation} {held : Option (List ℕ)} (part : List ℕ) → list_any is_newline part ≡ false →
+    old.taken + length part ≤ SCRIPT_BYTES → old.complete < SCRIPT_LINES → Reached start before given old held →
+    Partway start before (given ++ part) old.bench.session (take KEPT_LEN (old.line.items ++ part)) old.complete (old.taken + length part) held
+part_taken {start} {before} {given} {old} {held} part none few h r = record {
+  session_is = r.session ∙ ap (session_after start) (sym (complete_part part given none));
+  line_is = ap (λ l. take KEPT_LEN (l ++ part)) r.line ∙ take_part_more (unfinished_line given) part ∙ ap (take KEPT_LEN) (sym (unfinished_part part given none));
+  complete_is = r.complete ∙ ap length (sym (complete_part part given none));
+  taken_is = ap (λ n. n + length part) r.taken ∙ sym (length-append given part);
+  within = within_part given part none (subst (λ n. n + length part ≤ SCRIPT_BYTES) r.taken few) (subst (λ n. n < SCRIPT_LINES) r.complete h);
+  told = r.told ∙ ap (λ l. Some (before ++ transcript_of start l)) (sym (complete_part part given none));
+}
 
 -- bytes of a line that are kept
 pub carries_part : {old : Conversation} {held : Option (List ℕ)} (new : Conversation) (part : List ℕ) → list_any is_newline part ≡ false →
     old.taken + length part ≤ SCRIPT_BYTES → old.complete < SCRIPT_LINES →
     new.bench.session ≡ old.bench.session → (length old.line.items ≤ KEPT_LEN → new.line.items ≡ take KEPT_LEN (old.line.items ++ part)) →
     new.complete ≡ old.complete → new.taken ≡ old.taken + length part → Carries old held part (Ok tt) new held
-carries_part {old} {held} new part none few h bench kept complete taken start before given r = record {
-  session = bench ∙ r.session ∙ ap (session_after start) (sym (complete_part part given none));
-  line = kept (kept_length r) ∙ ap (λ l. take KEPT_LEN (l ++ part)) r.line ∙ take_part_more (unfinished_line given) part ∙ ap (take KEPT_LEN) (sym (unfinished_part part given none));
-  complete = complete ∙ r.complete ∙ ap length (sym (complete_part part given none));
-  taken = taken ∙ ap (λ n. n + length part) r.taken ∙ sym (length-append given part);
-  within = within_part given part none (subst (λ n. n + length part ≤ SCRIPT_BYTES) r.taken few) (subst (λ n. n < SCRIPT_LINES) r.complete h);
-  told = r.told ∙ ap (λ l. Some (before ++ transcript_of start l)) (sym (complete_part part given none));
-}
+carries_part {old} {held} new part none few h bench kept complete taken start before given r =
+    let p = part_taken part none few h r in
+    record {
+      session = bench ∙ p.session_is;
+      line = kept (kept_length r) ∙ p.line_is;
+      complete = complete ∙ p.complete_is;
+      taken = taken ∙ p.taken_is;
+      within = p.within;
+      told = p.told;
+    }
 
 -- the transcript of one more complete line
 transcript_newline : (start : Session) (before given : List ℕ) (bench : Session) → bench ≡ session_after start (complete_lines given) → (kept : List ℕ) → kept ≡ take KEPT_LEN (unfinished_line given) →
@@ -92,45 +117,46 @@ transcript_newline start before given bench e kept k =
     ∙ ap (transcript_of start) (sym (complete_newline given))
 
 -- a newline, after which the answer was written
-pub reached_newline : {start : Session} {before given : List ℕ} {old new : Conversation} {held holds : Option (List ℕ)} → Reached start before given old held →
-    old.taken < SCRIPT_BYTES → old.complete < SCRIPT_LINES →
-    Appends held holds (reply old.bench.session (strip_carriage_return old.line.items)) →
-    new.bench.session ≡ after old.bench.session (strip_carriage_return old.line.items) → new.line.items ≡ [] → new.complete ≡ old.complete + 1 → new.taken ≡ old.taken + 1 →
+reached_newline : {start : Session} {before given : List ℕ} {session : Session} {line : List ℕ} {complete taken : ℕ} {new : Conversation} {held holds : Option (List ℕ)} →
+    Partway start before given session line complete taken held → taken < SCRIPT_BYTES → complete < SCRIPT_LINES →
+    Appends held holds (reply session (strip_carriage_return line)) →
+    new.bench.session ≡ after session (strip_carriage_return line) → new.line.items ≡ [] → new.complete ≡ complete + 1 → new.taken ≡ taken + 1 →
     Reached start before (given ++ 10 ∷ []) new holds
-reached_newline {start} {before} {given} {old} {new} {held} {holds} r few h said bench line complete taken = record {
-  session = bench ∙ ap (λ s. after s (strip_carriage_return old.line.items)) r.session
-      ∙ ap (λ l. after (session_after start (complete_lines given)) (strip_carriage_return l)) r.line
+reached_newline {start} {before} {given} {session} {line} {complete} {taken} {new} {held} {holds} p few h said next_session next_line next_complete next_taken = record {
+  session = next_session ∙ ap (λ s. after s (strip_carriage_return line)) p.session_is
+      ∙ ap (λ l. after (session_after start (complete_lines given)) (strip_carriage_return l)) p.line_is
       ∙ after_stripped (session_after start (complete_lines given)) (unfinished_line given)
       ∙ sym (session_after_push start (complete_lines given) (strip_carriage_return (unfinished_line given)))
       ∙ ap (session_after start) (sym (complete_newline given));
-  line = line ∙ ap (take KEPT_LEN) (sym (unfinished_newline given));
-  complete = complete ∙ ap (λ n. n + 1) r.complete ∙ sym (ap length (complete_newline given) ∙ length-append (complete_lines given) (strip_carriage_return (unfinished_line given) ∷ []));
-  taken = taken ∙ ap (λ n. n + 1) r.taken ∙ sym (length-append given (10 ∷ []));
-  within = within_newline given 10 refl r.within (subst (λ n. n < SCRIPT_BYTES) r.taken few) (subst (λ n. n < SCRIPT_LINES) r.complete h);
-  told = appends_known held holds _ _ r.told said ∙ ap Some (append_assoc before (transcript_of start (complete_lines given)) _ ∙ ap (λ t. before ++ t) (transcript_newline start before given old.bench.session r.session old.line.items r.line));
+  line = next_line ∙ ap (take KEPT_LEN) (sym (unfinished_newline given));
+  complete = next_complete ∙ ap (λ n. n + 1) p.complete_is ∙ sym (ap length (complete_newline given) ∙ length-append (complete_lines given) (strip_carriage_return (unfinished_line given) ∷ []));
+  taken = next_taken ∙ ap (λ n. n + 1) p.taken_is ∙ sym (length-append given (10 ∷ []));
+  within = within_newline given 10 refl p.within (subst (λ n. n < SCRIPT_BYTES) p.taken_is few) (subst (λ n. n < SCRIPT_LINES) p.complete_is h);
+  told = appends_known held holds _ _ p.told said ∙ ap Some (append_assoc before (transcript_of start (complete_lines given)) _ ∙ ap (λ t. before ++ t) (transcript_newline start before given session p.session_is line p.line_is));
 }
 
 -- a front of the answer, where the writer failed
-front_newline : {start : Session} {before given : List ℕ} {old : Conversation} {held holds : Option (List ℕ)} → Reached start before given old held →
-    ((front : List ℕ) × BeginsWith (reply old.bench.session (strip_carriage_return old.line.items)) front × Appends held holds front) →
+front_newline : {start : Session} {before given : List ℕ} {session : Session} {line : List ℕ} {complete taken : ℕ} {held holds : Option (List ℕ)} →
+    Partway start before given session line complete taken held →
+    ((front : List ℕ) × BeginsWith (reply session (strip_carriage_return line)) front × Appends held holds front) →
     StoppedAt stop.WriterFailed start before (given ++ 10 ∷ []) [] holds
-front_newline {start} {before} {given} {old} {held} {holds} r (front, (back, e), said) = (
+front_newline {start} {before} {given} {session} {line} {held = held} {holds} p (front, (back, e), said) = (
   transcript_of start (complete_lines given) ++ front,
-  (back, sym (transcript_newline start before given old.bench.session r.session old.line.items r.line) ∙ ap (λ t. transcript_of start (complete_lines given) ++ t) e ∙ sym (append_assoc (transcript_of start (complete_lines given)) front back)),
-  appends_known held holds _ _ r.told said ∙ ap Some (append_assoc before (transcript_of start (complete_lines given)) front),
+  (back, sym (transcript_newline start before given session p.session_is line p.line_is) ∙ ap (λ t. transcript_of start (complete_lines given) ++ t) e ∙ sym (append_assoc (transcript_of start (complete_lines given)) front back)),
+  appends_known held holds _ _ p.told said ∙ ap Some (append_assoc before (transcript_of start (complete_lines given)) front),
 )
 
-pub went_newline : {start : Session} {before given : List ℕ} {old : Conversation} {held : Option (List ℕ)} (new : Conversation) (holds : Option (List ℕ)) (result : Result Unit Stop) → Reached start before given old held →
-    old.taken < SCRIPT_BYTES → old.complete < SCRIPT_LINES →
-    Says result held holds (reply old.bench.session (strip_carriage_return old.line.items)) →
-    OnOk result (new.bench.session ≡ after old.bench.session (strip_carriage_return old.line.items)) → OnOk result (new.line.items ≡ []) → OnOk result (new.complete ≡ old.complete + 1) → OnOk result (new.taken ≡ old.taken + 1) →
+went_newline : {start : Session} {before given : List ℕ} {session : Session} {line : List ℕ} {complete taken : ℕ} {held : Option (List ℕ)} (new : Conversation) (holds : Option (List ℕ)) (result : Result Unit Stop) →
+    Partway start before given session line complete taken held → taken < SCRIPT_BYTES → complete < SCRIPT_LINES →
+    Says result held holds (reply session (strip_carriage_return line)) →
+    OnOk result (new.bench.session ≡ after session (strip_carriage_return line)) → OnOk result (new.line.items ≡ []) → OnOk result (new.complete ≡ complete + 1) → OnOk result (new.taken ≡ taken + 1) →
     Went result start before (given ++ 10 ∷ []) new holds
-went_newline new holds (Ok _) r few h said bench line complete taken = reached_newline r few h said bench line complete taken
-went_newline {given = given} new holds (Err stop.WriterFailed) r few h said bench line complete taken =
-    record { done = given ++ 10 ∷ []; more = []; split = sym (append-nil (given ++ 10 ∷ [])); stopped = front_newline r said }
-went_newline {given = given} {held = held} new holds (Err stop.OutOfMemory) r few h said bench line complete taken =
-    record { done = given; more = 10 ∷ []; split = refl; stopped = keeps_known held holds _ r.told said }
-went_newline new holds (Err stop.TooMuchInput) r few h said bench line complete taken = absurd said
+went_newline new holds (Ok _) p few h said next_session next_line next_complete next_taken = reached_newline p few h said next_session next_line next_complete next_taken
+went_newline {given = given} new holds (Err stop.WriterFailed) p few h said next_session next_line next_complete next_taken =
+    record { done = given ++ 10 ∷ []; more = []; split = sym (append-nil (given ++ 10 ∷ [])); stopped = front_newline p said }
+went_newline {given = given} {held = held} new holds (Err stop.OutOfMemory) p few h said next_session next_line next_complete next_taken =
+    record { done = given; more = 10 ∷ []; split = refl; stopped = keeps_known held holds _ p.told said }
+went_newline new holds (Err stop.TooMuchInput) p few h said next_session next_line next_complete next_taken = absurd said
 
 pub complete_within : (xs : List ℕ) → length (complete_lines xs) ≤ length (lines xs)
 complete_within xs = omega (arith, ap length (lines_is xs), length-append (complete_lines xs) (last_line (unfinished_line xs)))
@@ -251,14 +277,6 @@ carries_front new holds piece n e one start before given r =
     subst (λ l. Stopped e start before (given ++ l) holds) (take-append-drop n piece)
     (carries_stop new holds (take n piece) (drop n piece) e one start before given r)
 
--- a line and the newline that ends it
-pub carries_line : {old : Conversation} {held : Option (List ℕ)} (mid new : Conversation) (holds : Option (List ℕ)) (bytes : List ℕ) (n : ℕ) (result : Result Unit Stop) →
-    n < length bytes → get_or bytes n 0 ≡ 10 → Carries old held (take n bytes) (Ok tt) mid held → Carries mid held (10 ∷ []) result new holds →
-    Carries old held (take (n + 1) bytes) result new holds
-carries_line mid new holds bytes n result lt newline one two start before given r =
-    subst (λ l. Went result start before (given ++ l) new holds) (sym (line_split bytes n lt newline))
-    (carries_more mid _ new holds (take n bytes) (10 ∷ []) result one two start before given r)
-
 -- a place of a newline, before which there is none
 record FirstNewline (bytes : List ℕ) (n : ℕ) : Type 0 where
   within : n < length bytes
@@ -284,20 +302,19 @@ carries_all new holds bytes all start before given r =
     subst (λ l. Reached start before (given ++ l) new holds) (sym (take_all (length bytes) bytes (omega arith))) (all start before given r)
 
 -- the bytes of a line, its newline, and the answer to it
-pub carries_answer : {old : Conversation} {held : Option (List ℕ)} (mid new : Conversation) (holds : Option (List ℕ)) (bytes : List ℕ) (n : ℕ) (result : Result Unit Stop) →
+pub carries_answer : {old : Conversation} {held : Option (List ℕ)} (new : Conversation) (holds : Option (List ℕ)) (bytes : List ℕ) (n : ℕ) (result : Result Unit Stop) →
     IsFirstByte (is_byte 10) bytes (Some n) → old.taken + length bytes ≤ SCRIPT_BYTES → old.complete < SCRIPT_LINES →
-    mid.bench.session ≡ old.bench.session → (length old.line.items ≤ KEPT_LEN → mid.line.items ≡ take KEPT_LEN (old.line.items ++ take n bytes)) →
-    mid.complete ≡ old.complete → mid.taken ≡ old.taken + length (take n bytes) →
-    Says result held holds (reply mid.bench.session (strip_carriage_return mid.line.items)) →
-    OnOk result (new.bench.session ≡ after mid.bench.session (strip_carriage_return mid.line.items)) → OnOk result (new.line.items ≡ []) →
-    OnOk result (new.complete ≡ mid.complete + 1) → OnOk result (new.taken ≡ mid.taken + 1) → Carries old held (take (n + 1) bytes) result new holds
-carries_answer {old} {held} mid new holds bytes n result found few h bench kept complete taken said next_bench next_line next_complete next_taken =
+    (length old.line.items ≤ KEPT_LEN → Says result held holds (reply old.bench.session (strip_carriage_return (take KEPT_LEN (old.line.items ++ take n bytes))))) →
+    (length old.line.items ≤ KEPT_LEN → OnOk result (new.bench.session ≡ after old.bench.session (strip_carriage_return (take KEPT_LEN (old.line.items ++ take n bytes))))) →
+    OnOk result (new.line.items ≡ []) → OnOk result (new.complete ≡ old.complete + 1) → OnOk result (new.taken ≡ old.taken + length (take n bytes) + 1) →
+    Carries old held (take (n + 1) bytes) result new holds
+carries_answer {old} {held} new holds bytes n result found few h said next_session next_line next_complete next_taken start before given r =
     let first = first_newline bytes n found in
     let within : n < length bytes = first.within in
     let part : length (take n bytes) ≡ n = length-take n bytes ∙ min_left n (length bytes) (omega arith) in
-    carries_line mid new holds bytes n result within first.newline
-    (carries_part mid (take n bytes) first.none (omega arith) h bench kept complete taken)
-    (λ start before given r. went_newline new holds result r (omega arith) (omega arith) said next_bench next_line next_complete next_taken)
+    let p = part_taken (take n bytes) first.none (omega arith) h r in
+    subst (λ l. Went result start before l new holds) (append_assoc given (take n bytes) (10 ∷ []) ∙ ap (λ l. given ++ l) (sym (line_split bytes n within first.newline)))
+    (went_newline new holds result p (omega arith) h (said (kept_length r)) (next_session (kept_length r)) next_line next_complete next_taken)
   where
     min_left : (a b : ℕ) → a ≤ b → min a b ≡ a
     min_left a b le = omega arith

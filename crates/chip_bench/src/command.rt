@@ -1,5 +1,5 @@
 //! The commands of a script.
-ghost use Rattle.std.specs.Prelude.{◌≡◌, ◌≤◌, ◌^◌, ◌++◌, length, true, None};
+ghost use Rattle.std.specs.Prelude.{◌≡◌, ◌≤◌, ◌^◌, ◌++◌, length, None, Some, if◌then◌else◌};
 ghost use Rattle.std.specs.Char.{digit_value, is_digit};
 ghost use Rattle.std.specs.Str.Parse.{digits_value};
 ghost use Rattle.std.specs.List.{list_all, before_first, after_first, position_or_len};
@@ -322,29 +322,28 @@ fn numeral(digits: &[u8], base: u32, most: usize) -> Option<u32>
     requires some { 1 ≤ base }
     ensures { result ≡ numeral base most digits.now }
 {
-    if digits.is_empty() || digits.len() > most || !are_digits(digits, base) {
+    if digits.is_empty() || digits.len() > most {
         return None;
     }
-    Some(value_of(digits, base))
+    value_of(digits, base)
 }
 
-fn are_digits(text: &[u8], base: u32) -> bool
-    ensures { result ≡ list_all (λ byte. is_digit byte base) text.now }
-{
-    text.iter().all(|byte| digit_value(*byte) < base)
-}
-
-fn value_of(digits: &[u8], base: u32) -> u32
+// The number that digits write in a base, where all are digits of it.
+fn value_of(digits: &[u8], base: u32) -> Option<u32>
     requires some { 1 ≤ base }
-    requires digits { list_all (λ byte. is_digit byte base) digits.now ≡ true }
     requires room { base ^ length digits.now ≤ 2 ^ 32 }
-    ensures { result ≡ digits_value base digits.now }
+    ensures { result ≡ (if list_all (λ byte. is_digit byte base) digits.now
+        then Some (digits_value base digits.now) else None) }
 {
     let mut value = 0;
-    for digit in digits {
-        value = value * base + digit_value(*digit);
+    for byte in digits {
+        let digit = digit_value(*byte);
+        if digit >= base {
+            return None;
+        }
+        value = value * base + digit;
     }
-    value
+    Some(value)
 }
 
 // The value of a digit in any base up to 36, and 36 of what is no digit.

@@ -228,8 +228,7 @@ impl Conversation {
             self.keep(bytes)?;
             return Ok(bytes.len());
         };
-        self.keep(&bytes[..len])?;
-        self.complete_line(alloc, writer)?;
+        self.complete_line(alloc, &bytes[..len], writer)?;
         Ok(len + 1)
     }
 
@@ -248,12 +247,61 @@ impl Conversation {
         Ok(())
     }
 
-    // Answers the line that a newline has just ended.
+    // Answers the line that a newline has just ended, of which these are the last bytes. A line that
+    // stands whole in its piece isn't copied.
     fn complete_line<W: Write>(
         &mut self,
         alloc: Global,
+        part: &[u8],
         writer: &mut Counted<W>,
     ) -> Result<(), Stop>
+        requires complete { self.old.complete < SCRIPT_LINES }
+        requires taken { self.old.taken + length part.now < SCRIPT_BYTES }
+        ensures said { length self.old.line.items ≤ KEPT_LEN
+            → Says result (W.contents writer.old.inner) (W.contents writer.new.inner)
+            (reply self.old.bench.session (strip_carriage_return (take KEPT_LEN (self.old.line.items ++ part.now)))) }
+        ensures bench { length self.old.line.items ≤ KEPT_LEN → OnOk result (self.new.bench.session
+            ≡ after self.old.bench.session (strip_carriage_return (take KEPT_LEN (self.old.line.items ++ part.now)))) }
+        ensures line { OnOk result (self.new.line.items ≡ []) }
+        ensures complete { OnOk result (self.new.complete ≡ self.old.complete + 1) }
+        ensures taken { OnOk result (self.new.taken ≡ self.old.taken + length part.now + 1) }
+        ensures failures { writer.new.failures ≡ failures_after result writer.old.failures }
+    {
+        if self.line.is_empty() {
+            return self.answer_whole(alloc, part, writer);
+        }
+        self.keep(part)?;
+        self.answer_kept(alloc, writer)
+    }
+
+    // Answers a line that stands whole in its piece, where no bytes of it are kept.
+    fn answer_whole<W: Write>(
+        &mut self,
+        alloc: Global,
+        whole: &[u8],
+        writer: &mut Counted<W>,
+    ) -> Result<(), Stop>
+        requires complete { self.old.complete < SCRIPT_LINES }
+        requires taken { self.old.taken + length whole.now < SCRIPT_BYTES }
+        requires line { self.old.line.items ≡ [] }
+        ensures said { Says result (W.contents writer.old.inner) (W.contents writer.new.inner)
+            (reply self.old.bench.session (strip_carriage_return (take KEPT_LEN whole.now))) }
+        ensures bench { OnOk result (self.new.bench.session
+            ≡ after self.old.bench.session (strip_carriage_return (take KEPT_LEN whole.now))) }
+        ensures line { self.new.line.items ≡ [] }
+        ensures complete { OnOk result (self.new.complete ≡ self.old.complete + 1) }
+        ensures taken { OnOk result (self.new.taken ≡ self.old.taken + length whole.now + 1) }
+        ensures failures { writer.new.failures ≡ failures_after result writer.old.failures }
+    {
+        let line = without_carriage_return(kept_part(whole));
+        say(alloc, &mut self.bench, line, &mut self.answer, writer)?;
+        self.complete += 1;
+        self.taken += whole.len() as u32 + 1;
+        Ok(())
+    }
+
+    // Answers the line of which all bytes are kept, and keeps none any more.
+    fn answer_kept<W: Write>(&mut self, alloc: Global, writer: &mut Counted<W>) -> Result<(), Stop>
         requires complete { self.old.complete < SCRIPT_LINES }
         requires taken { self.old.taken < SCRIPT_BYTES }
         ensures said { Says result (W.contents writer.old.inner) (W.contents writer.new.inner)
@@ -346,6 +394,13 @@ fn respond(
         Refusal::EditMemory | Refusal::AnswerMemory => Err(AllocError),
         _ => refuse(answer, refusal.code()),
     }
+}
+
+// The first bytes of a line, as many as tell one that is too long.
+fn kept_part(line: &[u8]) -> &[u8]
+    ensures { result.now ≡ take KEPT_LEN line.now }
+{
+    &line[..line.len().min(KEPT_LEN)]
 }
 
 pub(crate) fn refuse(answer: &mut Vec<u8>, code: &[u8]) -> Result<(), AllocError>

@@ -36,8 +36,23 @@ fn write_hex(bytes: &[u8], digits: &mut [u8])
     }
 }
 
-/// The hexadecimal digits, for where one is made after another.
-const DIGITS: [u8; 16] = *b"0123456789abcdef";
+/// The two hexadecimal digits of each byte, at twice its place, for where one is made after another.
+const DIGIT_PAIRS: [u8; 512] = *b"000102030405060708090a0b0c0d0e0f\
+    101112131415161718191a1b1c1d1e1f\
+    202122232425262728292a2b2c2d2e2f\
+    303132333435363738393a3b3c3d3e3f\
+    404142434445464748494a4b4c4d4e4f\
+    505152535455565758595a5b5c5d5e5f\
+    606162636465666768696a6b6c6d6e6f\
+    707172737475767778797a7b7c7d7e7f\
+    808182838485868788898a8b8c8d8e8f\
+    909192939495969798999a9b9c9d9e9f\
+    a0a1a2a3a4a5a6a7a8a9aaabacadaeaf\
+    b0b1b2b3b4b5b6b7b8b9babbbcbdbebf\
+    c0c1c2c3c4c5c6c7c8c9cacbcccdcecf\
+    d0d1d2d3d4d5d6d7d8d9dadbdcdddedf\
+    e0e1e2e3e4e5e6e7e8e9eaebecedeeef\
+    f0f1f2f3f4f5f6f7f8f9fafbfcfdfeff";
 
 /// The hexadecimal digit of a number below 16, by arithmetic alone, so that many are made at once.
 #[inline(always)]
@@ -121,10 +136,10 @@ fn write_spaced(bytes: &[u8], text: &mut [u8])
     ensures { text.new ≡ spaced hex_byte bytes.now }
 {
     'bytes: for i in 0..bytes.len() {
-        let byte = bytes[i];
+        let pair = 2 * bytes[i] as usize;
         text[3 * i] = b' ';
-        text[3 * i + 1] = DIGITS[(byte / 16) as usize];
-        text[3 * i + 2] = DIGITS[(byte % 16) as usize];
+        text[3 * i + 1] = DIGIT_PAIRS[pair];
+        text[3 * i + 2] = DIGIT_PAIRS[pair + 1];
     }
 }
 

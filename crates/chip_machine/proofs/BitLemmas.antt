@@ -2,7 +2,8 @@
 use Rattle.std.proofs.Common.{◌≡◌, ℕ, ◌+◌, ◌-◌, ◌*◌, ◌/◌, ◌%◌, ◌^◌, ◌<◌, ◌≤◌, Bool, true, false, not, ◌&&◌, ◌==◌, nat_eq, min, refl, sym, ap, ◌∙◌, arith, add-zero, subst, ◌⊎◌, inl, inr, nat_le, ⊎_elim, bit_and, get_or}
 use Rattle.std.specs.Int.{bit_at}
 use Rattle.std.specs.Prelude.{bit_xor}
-use Rattle.std.proofs.lemmas.Nat.{shr-shr, shl-shr, shl_whole, and_le_r, pow_pos, shr_split}
+use Rattle.std.proofs.lemmas.Nat.{shr-shr, shl-shr, shl_whole, and_le_r, pow_pos, pow-add, shr_split}
+use Rattle.std.proofs.Math.Nat.{mul_assoc}
 use Rattle.std.proofs.lemmas.Nat.Bits.{bit_at_and, bit_at_xor, bit_at-zero, bit_at-lt, bit_at_above, bit_at_cat_low, bit_at_cat_high, same_from_bits_below}
 use Rattle.std.proofs.lemmas.Bool.{false≢true, cases_lt, cases_Bool, eqb-true, eqb-false, eq-eqb, ne_eqb, not-false, cases_eq, and_left, lt-leb, le-leb}
 use Rattle.chip_machine.specs.declared.doubled.TheConstants.{DOUBLED}
@@ -47,10 +48,21 @@ module _ (bits start column : ℕ) (fits : bits < 2 ^ 16) (on_screen : column < 
   stripe_right out = whole ∙ bit_at_cat_low bits 112 0 (start + (127 - column)) (omega arith) ∙ bit_at-zero _
 
 -- the shift by its part under 64, where the bits are put into the half in which they start
-pub placed_left : (bits start : ℕ) → start < 64 → bits * 2 ^ 112 % 2 ^ 128 / 2 ^ (start % 64) ≡ bits * 2 ^ 112 % 2 ^ 128 / 2 ^ start
-placed_left bits start left =
+pub placed_within : (bits start : ℕ) → bits < 2 ^ 16 → start + 16 ≤ 64 → bits * 2 ^ 48 % 2 ^ 64 / 2 ^ (start % 64) * 2 ^ 64 % 2 ^ 128 ≡ bits * 2 ^ 112 % 2 ^ 128 / 2 ^ start
+placed_within bits start fits left =
+    let rest = 48 - start in
     let e : start % 64 ≡ start = omega arith in
-    ap (λ n. bits * 2 ^ 112 % 2 ^ 128 / 2 ^ n) e
+    let all : 48 ≡ rest + start = omega arith in
+    let more : 112 ≡ rest + 64 + start = omega arith in
+    let short : bits * 2 ^ 48 ≡ bits * 2 ^ rest * 2 ^ start = ap (λ n. bits * 2 ^ n) all ∙ ap (λ n. bits * n) (pow-add 2 rest start) ∙ sym (mul_assoc bits (2 ^ rest) (2 ^ start)) in
+    let long : bits * 2 ^ 112 ≡ bits * 2 ^ (rest + 64) * 2 ^ start = ap (λ n. bits * 2 ^ n) more ∙ ap (λ n. bits * n) (pow-add 2 (rest + 64) start) ∙ sym (mul_assoc bits (2 ^ (rest + 64)) (2 ^ start)) in
+    ap (λ n. n / 2 ^ (start % 64) * 2 ^ 64 % 2 ^ 128) (shl_whole bits 16 48 64 fits (omega arith) ∙ short)
+    ∙ ap (λ n. bits * 2 ^ rest * 2 ^ start / 2 ^ n * 2 ^ 64 % 2 ^ 128) e
+    ∙ ap (λ n. n * 2 ^ 64 % 2 ^ 128) (shl-shr (bits * 2 ^ rest) start)
+    ∙ ap (λ n. n % 2 ^ 128) (mul_assoc bits (2 ^ rest) (2 ^ 64) ∙ ap (λ n. bits * n) (sym (pow-add 2 rest 64)))
+    ∙ shl_whole bits 16 (rest + 64) 128 fits (omega arith)
+    ∙ sym (shl-shr (bits * 2 ^ (rest + 64)) start)
+    ∙ ap (λ n. n / 2 ^ start) (sym long ∙ sym (shl_whole bits 16 112 128 fits (omega arith)))
 
 pub placed_right : (bits start : ℕ) → bits < 2 ^ 16 → 64 ≤ start → start < 128 → bits * 2 ^ 48 % 2 ^ 128 / 2 ^ (start % 64) ≡ bits * 2 ^ 112 % 2 ^ 128 / 2 ^ start
 placed_right bits start fits right on_screen =

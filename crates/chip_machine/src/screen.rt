@@ -5,10 +5,11 @@ ghost use Rattle.std.specs.FinSet as set;
 ghost use Rattle.chip_machine.specs.Points.{Points, points_code, is_lit, IsOnScreen, symmetric_difference, meets};
 ghost use Rattle.chip_machine.specs.inner.Stored.{in_rows, lights, differ, any_below};
 ghost use Rattle.chip_machine.specs.Sprite.{covers, scale};
-ghost use Rattle.chip_machine.specs.inner.SpriteBytes.{StartsRight, covers_by_length, covered_by_length};
+ghost use Rattle.chip_machine.specs.inner.SpriteBytes.{LiesIn, first_column, covers_by_length, covered_by_length};
 ghost use Rattle.chip_machine.specs.Scroll.{scrolled_down, scrolled_right, scrolled_left};
 
-use crate::sprite::{HEIGHT, WIDTH, covered_bits, lines_under, scale_of, starts_right};
+use crate::limits::SPRITE_BYTES;
+use crate::sprite::{HEIGHT, Half, WIDTH, covered_bits, half_of, lines_under, scale_of};
 use std::alloc::{AllocError, Global};
 use std::marker::Model;
 
@@ -179,20 +180,37 @@ fn toggle(rows: &mut [u128], high: bool, x: u8, y: u8, sprite: &[u8]) -> bool
     ensures turned { (row column : ℕ) → row < 64 → column < 128 → lights (slice_index rows.new row) column ≡ differ (lights (slice_index rows.old row) column) (covers_by_length high x y sprite.now column row) }
     ensures hit { result ≡ any_below (λ row. any_below (λ column. lights (slice_index rows.old row) column && covers_by_length high x y sprite.now column row) 128) 64 }
 {
-    // A loop for each size and half: there both are constants, which is faster than one loop for all.
-    match (high, starts_right(high, x)) {
-        (true, true) => toggle_lines(rows, true, true, x, y, sprite),
-        (true, false) => toggle_lines(rows, true, false, x, y, sprite),
-        (false, true) => toggle_lines(rows, false, true, x, y, sprite),
-        (false, false) => toggle_lines(rows, false, false, x, y, sprite),
+    // A loop for each half, size and width: there all are constants, which is faster than one for all.
+    match half_of(high, x) {
+        Half::Left => toggle_in(rows, high, Half::Left, x, y, sprite),
+        Half::Middle => toggle_in(rows, high, Half::Middle, x, y, sprite),
+        Half::Right => toggle_in(rows, high, Half::Right, x, y, sprite),
     }
 }
 
-/// Turns them line by line. `right` says whether the sprite starts in the right half.
+/// Turns them, for a sprite whose columns lie in this half. The same call stands twice, since each is
+/// compiled for its own width.
 #[inline(always)]
-fn toggle_lines(rows: &mut [u128], high: bool, right: bool, x: u8, y: u8, sprite: &[u8]) -> bool
+fn toggle_in(rows: &mut [u128], high: bool, half: Half, x: u8, y: u8, sprite: &[u8]) -> bool
     requires size { length rows.old ≡ 64 }
-    requires half { IsTrue right ↔ StartsRight high x }
+    requires half { LiesIn half (first_column high x) }
+    ensures turned { (row column : ℕ) → row < 64 → column < 128 → lights (slice_index rows.new row) column ≡ differ (lights (slice_index rows.old row) column) (covers_by_length high x y sprite.now column row) }
+    ensures hit { result ≡ any_below (λ row. any_below (λ column. lights (slice_index rows.old row) column && covers_by_length high x y sprite.now column row) 128) 64 }
+{
+    if !high {
+        toggle_lines(rows, false, half, x, y, sprite)
+    } else if sprite.len() == SPRITE_BYTES {
+        toggle_lines(rows, true, half, x, y, sprite)
+    } else {
+        toggle_lines(rows, true, half, x, y, sprite)
+    }
+}
+
+/// Turns them line by line, for a sprite whose columns lie in this half.
+#[inline(always)]
+fn toggle_lines(rows: &mut [u128], high: bool, half: Half, x: u8, y: u8, sprite: &[u8]) -> bool
+    requires size { length rows.old ≡ 64 }
+    requires half { LiesIn half (first_column high x) }
     ensures turned { (row column : ℕ) → row < 64 → column < 128 → lights (slice_index rows.new row) column ≡ differ (lights (slice_index rows.old row) column) (covers_by_length high x y sprite.now column row) }
     ensures hit { result ≡ any_below (λ row. any_below (λ column. lights (slice_index rows.old row) column && covers_by_length high x y sprite.now column row) 128) 64 }
 {
@@ -200,7 +218,7 @@ fn toggle_lines(rows: &mut [u128], high: bool, right: bool, x: u8, y: u8, sprite
     let (first, end) = lines_under(high, y, sprite);
     let mut hit = false;
     for line in first..end {
-        let stripe = covered_bits(high, right, x, y, sprite, line);
+        let stripe = covered_bits(high, half, x, y, sprite, line);
         hit |= turn(rows, scale * line, scale, stripe);
     }
     hit

@@ -1,10 +1,10 @@
 //! The stored points that a sprite covers, as bits of the screen's rows.
 
-ghost use Rattle.std.specs.Prelude.{◌≡◌, ℕ, ◌+◌, ◌-◌, ◌*◌, ◌/◌, ◌%◌, ◌<◌, ◌≤◌, false, ◌==◌, slice_index, ◌^◌, ◌↔◌, IsTrue, length};
+ghost use Rattle.std.specs.Prelude.{◌≡◌, ℕ, ◌+◌, ◌-◌, ◌*◌, ◌/◌, ◌%◌, ◌<◌, ◌≤◌, false, ◌==◌, slice_index, ◌^◌, length};
 ghost use Rattle.std.specs.Int.{bit_at};
 ghost use Rattle.chip_machine.specs.inner.Stored.{lights};
 ghost use Rattle.chip_machine.specs.Sprite.{covers, is_set, scale, sprite_bytes};
-ghost use Rattle.chip_machine.specs.inner.SpriteBytes.{StartsRight, covers_by_length, row_bytes_by_length};
+ghost use Rattle.chip_machine.specs.inner.SpriteBytes.{LiesIn, first_column, covers_by_length, row_bytes_by_length};
 
 use crate::doubled::DOUBLED;
 use crate::limits::SPRITE_BYTES;
@@ -70,24 +70,36 @@ pub(crate) fn lines_under(high: bool, y: u8, sprite: &[u8]) -> (usize, usize)
     (first, end.min(height))
 }
 
-/// Whether a sprite starts in the right half of the stored columns.
-pub(crate) fn starts_right(high: bool, x: u8) -> bool
-    ensures { IsTrue result ↔ StartsRight high x }
-{
-    let scale = scale_of(high);
-    WIDTH / 2 <= scale * (x as usize % (WIDTH / scale))
+/// Where the sixteen columns that a row of a sprite has at most lie among the stored ones: a loop for
+/// each of these reads and writes no more than it has to.
+#[derive(Clone, Copy)]
+pub(crate) enum Half {
+    /// All of them in the left half.
+    Left,
+    /// They begin in the left half, and may reach into the right one.
+    Middle,
+    /// They begin in the right half.
+    Right,
 }
 
-/// The bits that a sprite covers in each row of a line. `right` says whether it starts in the right half.
-pub(crate) fn covered_bits(
-    high: bool,
-    right: bool,
-    x: u8,
-    y: u8,
-    sprite: &[u8],
-    line: usize,
-) -> u128
-    requires half { IsTrue right ↔ StartsRight high x }
+/// Where the columns of a sprite lie.
+pub(crate) fn half_of(high: bool, x: u8) -> Half
+    ensures { LiesIn result (first_column high x) }
+{
+    let scale = scale_of(high);
+    let start = scale * (x as usize % (WIDTH / scale));
+    if start >= WIDTH / 2 {
+        Half::Right
+    } else if start + 16 <= WIDTH / 2 {
+        Half::Left
+    } else {
+        Half::Middle
+    }
+}
+
+/// The bits that a sprite, whose columns lie in this half, covers in each row of a line.
+pub(crate) fn covered_bits(high: bool, half: Half, x: u8, y: u8, sprite: &[u8], line: usize) -> u128
+    requires half { LiesIn half (first_column high x) }
     requires below_the_top { y % (64 / scale high) ≤ line }
     requires on_screen { line < 64 }
     ensures { (column row : ℕ) → column < 128 → scale high * line ≤ row → row < scale high * line + scale high → lights result column ≡ covers_by_length high x y sprite.now column row }
@@ -96,20 +108,20 @@ pub(crate) fn covered_bits(
     let left = x as usize % (WIDTH / scale);
     let top = y as usize % (HEIGHT / scale);
     let pattern = pattern_at(high, sprite, line - top);
-    placed(pattern, right, scale * left)
+    placed(pattern, half, scale * left)
 }
 
-/// Sixteen columns, the first of them at `start`, as far as they are on the screen. `right` says whether that is in the
-/// right half: so the shift is by under 64 columns, which is faster than one by any number.
-fn placed(columns: u16, right: bool, start: usize) -> u128
+/// Sixteen columns, the first of them at `start`, as far as they are on the screen. Each shift is by
+/// under 64 columns, which is faster than one by any number.
+fn placed(columns: u16, half: Half, start: usize) -> u128
     requires on_screen { start < 128 }
-    requires half { IsTrue right ↔ (64 ≤ start) }
+    requires half { LiesIn half start }
     ensures { result ≡ columns * 2 ^ 112 % 2 ^ 128 / 2 ^ start }
 {
-    if right {
-        (u128::from(columns) << 48) >> (start % 64)
-    } else {
-        (u128::from(columns) << 112) >> (start % 64)
+    match half {
+        Half::Left => u128::from((u64::from(columns) << 48) >> (start % 64)) << 64,
+        Half::Middle => (u128::from(columns) << 112) >> (start % 64),
+        Half::Right => (u128::from(columns) << 48) >> (start % 64),
     }
 }
 

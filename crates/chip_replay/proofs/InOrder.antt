@@ -2,11 +2,12 @@
 use Rattle.std.proofs.Common.{◌≡◌, ◌≢◌, ℕ, suc, ◌+◌, ◌-◌, ◌*◌, ◌<◌, ◌≤◌, Bool, true, false, cond, eqb, ◌&&◌, List, [], ◌∷◌, ◌++◌, length, take, drop, set, get_or, Some, None, is_some, refl, sym, ap, ◌∙◌, arith, ◌⊎◌, inl, inr, length-drop, get_or-drop, get_or-set_same, get_or-set_other, length-set, length-take}
 use Rattle.std.proofs.lemmas.Bool.{cases_eq, cases_lt, false≢true}
 use Rattle.std.proofs.lemmas.Bool.Decides.{nat_tests}
-use Rattle.std.proofs.lemmas.List.{take-append-drop, get_or-take, take-set, drop-set-lt}
+use Rattle.std.proofs.lemmas.List.{take-append-drop, get_or-take}
 use Rattle.std.proofs.lemmas.List.Edits.{length-insert, get_or-insert_below, get_or-insert_at, get_or-insert_above, length-remove, get_or-remove_below, get_or-remove_above}
 use Rattle.std.proofs.lemmas.List.{get_or_default}
 use Rattle.std.proofs.Math.Seq.{drop-cons}
 use Rattle.std.specs.List.{insert, remove}
+use Rattle.chip_replay.proofs.Pages.{split_set}
 use Rattle.chip_replay.specs.Changes.{rank, IsInOrder, IsFirstFrom, change_at}
 use Rattle.chip_replay.specs.declared.by_step.Event.{Event}
 
@@ -32,14 +33,6 @@ by_step s k e test = grind (arith, nat_tests)
 by_key : (s k : ℕ) (e : Event) → is_event e s k ≡ true → k ≡ e.key
 by_key s k e test = grind (arith, nat_tests)
 
-split_set : (es : List Event) (i : ℕ) (e : Event) → i < length es → set es i e ≡ take i es ++ e ∷ drop (suc i) es
-split_set es i e l =
-    sym (take-append-drop i (set es i e))
-    ∙ ap (λ xs. take i (set es i e) ++ xs) (drop-cons (set es i e) i e (omega (arith, length-set es i e)))
-    ∙ ap (λ xs. xs ++ get_or (set es i e) i e ∷ drop (suc i) (set es i e)) (take-set es i e)
-    ∙ ap (λ x. take i es ++ x ∷ drop (suc i) (set es i e)) (get_or-set_same es i e e l)
-    ∙ ap (λ xs. take i es ++ e ∷ xs) (drop-set-lt (suc i) es i e (omega arith))
-
 -- no event of the key's at the step
 pub change_none : (es : List Event) (s k : ℕ) → ((i : ℕ) (d : Event) → i < length es → s ≡ (get_or es i d).step → k ≢ (get_or es i d).key) → change_at es s k ≡ None
 change_none [] s k other = refl
@@ -57,10 +50,6 @@ skipped (e ∷ xs) ys s k other =
 behind : (xs ys zs : List Event) (s k : ℕ) → change_at ys s k ≡ change_at zs s k → change_at (xs ++ ys) s k ≡ change_at (xs ++ zs) s k
 behind [] ys zs s k same = same
 behind (e ∷ xs) ys zs s k same = ap (cond (is_event e s k) (Some e.down)) (behind xs ys zs s k same)
-
--- what was read at a place stands there, whatever stands past the end
-pub read_at : (es : List Event) (i : ℕ) (e : Event) → i < length es → e ≡ get_or es i e → (d : Event) → get_or es i d ≡ e
-read_at es i e l read d = get_or_default es i d e l ∙ sym read
 
 module _ (es : List Event) (order : IsInOrder es) where
   -- the event at a place
@@ -80,6 +69,14 @@ module _ (es : List Event) (order : IsInOrder es) where
 
   pub steps_rise : (i j : ℕ) (d : Event) → i < j → j < length es → (get_or es i d).step ≤ (get_or es j d).step
   steps_rise i j d l lj = omega (arith, order.rising i j d l lj, order.keys i d (omega arith), order.keys j d lj)
+
+  -- a part of the events
+  pub part_in_order : (xs : List Event) (n : ℕ) → n + length xs ≤ length es → ((i : ℕ) (d : Event) → i < length xs → get_or es (n + i) d ≡ get_or xs i d) → IsInOrder xs
+  part_in_order xs n fits same =
+      record {
+        rising = λ i j d l lj. omega (arith, order.rising (n + i) (n + j) d (omega (arith, l)) (omega (arith, lj, fits)), ap rank (same i d (omega (arith, l, lj))), ap rank (same j d lj));
+        keys = λ i d l. omega (arith, order.keys (n + i) d (omega (arith, l, fits)), ap (λ (e : Event). e.key) (same i d l));
+      }
 
   -- a place that parts the events at a step
   pub is_first : (step place : ℕ) → place ≤ length es → ((d : Event) → 0 < place → (get_or es (place - 1) d).step < step) → ((d : Event) → place < length es → step ≤ (get_or es place d).step) → IsFirstFrom es step place

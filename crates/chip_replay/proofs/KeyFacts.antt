@@ -1,7 +1,8 @@
 -- Facts on masks of keys.
-use Rattle.std.proofs.Common.{◌≡◌, ℕ, zero, suc, ◌+◌, ◌<◌, ◌≤◌, ◌^◌, Bool, true, false, cond, ltb, leb, eqb, ◌&&◌, List, Option, Some, None, is_some, unwrap_or, ◌≢◌, refl, sym, ap, ◌∙◌, arith}
+use Rattle.std.proofs.Common.{◌≡◌, ℕ, zero, suc, ◌+◌, ◌<◌, ◌≤◌, ◌^◌, Bool, true, false, cond, ltb, leb, eqb, ◌&&◌, List, length, set, slice_index_or, inl, inr, get_or-set_same, get_or-set_other, Option, Some, None, is_some, unwrap_or, ◌≢◌, refl, sym, ap, ◌∙◌, arith}
 use Rattle.std.specs.FinMap as map
 use Rattle.std.proofs.lemmas.Bool.Decides.{nat_tests}
+use Rattle.std.proofs.lemmas.Bool.{cases_eq}
 use Rattle.std.proofs.Math.Nat.{pow-suc}
 use Rattle.std.proofs.Math.Pow.{pow_mono}
 use Rattle.std.specs.Ordering.{eq_by_cmp, is_eq}
@@ -84,6 +85,21 @@ pub mask-same : (p q : ℕ → Bool) (n : ℕ) → ((k : ℕ) → k < n → p k 
 mask-same p q zero same = refl
 mask-same p q (suc n) same =
     ap (λ m. m + cond (p n) (2 ^ n) 0) (mask-same p q n (λ k l. same k (omega arith))) ∙ ap (λ b. mask q n + cond b (2 ^ n) 0) (same n (omega arith))
+
+-- after a place of a table is set, its bit is as set and not as it was
+pub mask-set : (xs : List Bool) (i : ℕ) (b : Bool) (n : ℕ) → i < length xs → i < n → mask (λ k. slice_index_or (set xs i b) k false) n + cond (slice_index_or xs i false) (2 ^ i) 0 ≡ mask (λ k. slice_index_or xs k false) n + cond b (2 ^ i) 0
+mask-set xs i b zero inside l = absurd (omega arith)
+mask-set xs i b (suc n) inside l =
+    elim (cases_eq i n) [
+      | inl e ↦ (
+          let below : mask (λ k. slice_index_or (set xs i b) k false) n ≡ mask (λ k. slice_index_or xs k false) n = mask-same _ _ n (λ k lk. get_or-set_other xs i k b false (λ q. omega (arith, q, e))) in
+          let here : slice_index_or (set xs i b) n false ≡ b = ap (λ j. slice_index_or (set xs i b) j false) (sym e) ∙ get_or-set_same xs i b false inside in
+          omega (arith, below, ap (λ t. cond t (2 ^ n) 0) here, ap (λ j. cond (slice_index_or xs j false) (2 ^ j) 0) e, ap (λ j. cond b (2 ^ j) 0) e))
+      | inr other ↦ (
+          let rest = mask-set xs i b n inside (omega (arith, other)) in
+          let same : slice_index_or (set xs i b) n false ≡ slice_index_or xs n false = get_or-set_other xs i n b false (λ q. other (sym q)) in
+          omega (arith, rest, ap (λ t. cond t (2 ^ n) 0) same))
+    ]
 
 apart : (q m : Moment) → q ≢ m → eq_by_cmp moment_cmp q m ≡ false
 apart q m n =

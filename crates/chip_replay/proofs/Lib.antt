@@ -9,5 +9,7 @@ pub mod Places
 pub mod KeyFacts
 pub mod Moments
 pub mod LastEvent
+pub mod Pages
+pub mod PlaceIn
 pub mod InOrder
 pub mod ByStep

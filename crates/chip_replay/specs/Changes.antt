@@ -3,15 +3,25 @@
 --     rank           the number of an event's step and key in that order
 --     IsInOrder      events are in that order, and each has one of the 16 keys
 --     IsFirstFrom    a place parts events into those before a step and the others
+--     all_events     the events of some pages
+--     count_before   how many events the pages before one have
+--     index_of       where the event at a place in the pages stands among all of them
+--     IsPage         a page is neither empty nor too large
+--     IsPlace        a place is that of an event, or past all pages
+--     HasRoom        an event can be put at a place of a page
 --     change_at      what the events say of a key at a step
 --     was_down       whether a key was down before a step's events
 --     KnowsKeys      what is known of the keys when a step begins
 --     SaysTheSame    two lists of events say the same
 --     HoldsKeys      what is known of the keys in a step, and in the steps up to the next event
-use Rattle.std.specs.Prelude.{◌≡◌, ℕ, ◌+◌, ◌*◌, ◌<◌, ◌≤◌, ◌==◌, ◌&&◌, zero, suc, Bool, false, List, [], ◌∷◌, length, Option, None, Some, slice_index_or, min, if◌then◌else◌}
+use Rattle.std.specs.Prelude.{◌≡◌, ℕ, ◌+◌, ◌*◌, ◌<◌, ◌≤◌, ◌==◌, ◌&&◌, zero, suc, Bool, false, List, [], ◌∷◌, length, take, Option, None, Some, slice_index_or, min, if◌then◌else◌}
+use Rattle.std.specs.List.{flat_map}
+use Rattle.std.specs.Global.{Vec}
 use Rattle.chip_replay.specs.Mask.{mask}
 use Rattle.chip_replay.specs.Keys.{Events, event_at, is_down}
 use Rattle.chip_replay.specs.declared.by_step.Event.{Event}
+use Rattle.chip_replay.specs.declared.by_step.Place.{Place}
+use Rattle.chip_replay.specs.declared.by_step.TheConstants.{PAGE_EVENTS}
 use Rattle.chip_replay.specs.declared.keys.Holding.{Holding}
 
 abbrev pub rank : Event → ℕ
@@ -27,6 +37,27 @@ pub record IsFirstFrom (events : List Event) (step place : ℕ) : Type 0 where
   pub at_most : place ≤ length events
   pub before : (i : ℕ) (d : Event) → i < place → (slice_index_or events i d).step < step
   pub after : (i : ℕ) (d : Event) → place ≤ i → i < length events → step ≤ (slice_index_or events i d).step
+
+-- one page after another
+abbrev pub all_events : List (Vec Event) → List Event
+all_events pages = flat_map (λ page. page.items) pages
+
+abbrev pub count_before : List (Vec Event) → ℕ → ℕ
+count_before pages n = length (all_events (take n pages))
+
+abbrev pub index_of : List (Vec Event) → Place → ℕ
+index_of pages place = count_before pages place.page + place.index
+
+abbrev pub IsPage : Vec Event → Type 0
+IsPage page = (0 < length page.items) × (length page.items ≤ PAGE_EVENTS)
+
+abbrev pub IsPlace : List (Vec Event) → Place → Type 0
+IsPlace pages place = (d : Vec Event) → place.page < length pages → place.index < length (slice_index_or pages place.page d).items
+
+abbrev pub HasRoom : List (Vec Event) → Place → Type 0
+HasRoom pages place = (place.page < length pages)
+    × ((d : Vec Event) → (place.index ≤ length (slice_index_or pages place.page d).items)
+    × (length (slice_index_or pages place.page d).items < PAGE_EVENTS))
 
 -- what the first event of the key's at the step says, if there is one
 abbrev pub change_at : List Event → ℕ → ℕ → Option Bool

@@ -1,10 +1,17 @@
 //! The events of the keys by their steps.
 
-ghost use Rattle.std.specs.Prelude.{◌≡◌, ℕ, ◌+◌, ◌*◌, ◌<◌, ◌≤◌, ◌==◌, ◌&&◌, [], length, None, Some, IsTrue, IsSome, OnOk, OnErr, if◌then◌else◌, slice_index_or};
-ghost use Rattle.chip_replay.specs.Changes.{change_at, rank, IsInOrder, IsFirstFrom};
+ghost use Rattle.std.specs.Prelude.{◌≡◌, ℕ, ◌+◌, ◌*◌, ◌<◌, ◌≤◌, ◌==◌, ◌&&◌, [], ◌∷◌, ◌++◌, length, None, Some, IsTrue, IsSome, IfOk, OnOk, OnErr, if◌then◌else◌, slice_index_or};
+ghost use Rattle.std.specs.List.{All, insert, remove};
+ghost use Rattle.chip_replay.specs.Changes.{change_at, rank, all_events, count_before, index_of, IsInOrder, IsFirstFrom, IsPage, IsPlace, HasRoom};
 
-use crate::limits::KEY_COUNT;
+use crate::limits::{KEY_COUNT, LAST_STEP};
 use std::alloc::{AllocError, Global};
+
+/// The most events of a page.
+const PAGE_EVENTS: usize = 128;
+
+/// The events of a full page that stay in it when it is parted.
+const HALF_PAGE: usize = PAGE_EVENTS / 2;
 
 /// A key goes down, or up, at a step.
 #[derive(Clone, Copy)]
@@ -15,37 +22,120 @@ pub(crate) struct Event {
     pub(crate) down: bool,
 }
 
-/// The events in the order of their steps, and in a step of their keys.
+/// Where an event stands.
+#[derive(Clone, Copy)]
+pub(crate) struct Place {
+    page: usize,
+    /// Among the events of the page.
+    index: usize,
+}
+
+impl Place {
+    /// That of the first event.
+    pub(crate) const FIRST: Place = Place { page: 0, index: 0 };
+}
+
+/// The events in the order of their steps, and in a step of their keys. They stand in pages, so that an edit
+/// moves the events of one page alone.
 #[derive(Drop)]
 pub(crate) struct Steps {
-    pub(crate) events: Vec<Event>,
+    pub(crate) pages: Vec<Vec<Event>>,
+    ghost paged: { All IsPage pages.items },
 }
 
 impl Steps {
     /// No events.
     pub(crate) fn new(alloc: Global) -> Self
-        ensures { result.events.items ≡ [] }
+        ensures { all_events result.pages.items ≡ [] }
     {
         Steps {
-            events: Vec::new(alloc),
+            pages: Vec::new(alloc),
+        }
+    }
+
+    /// The step of the event at a place, and `LAST_STEP + 1` past the last one.
+    pub(crate) fn step_at(&self, place: Place) -> u32
+        requires { IsPlace self.now.pages.items place }
+        ensures there { (d : Event) → index_of self.now.pages.items place < length (all_events self.now.pages.items)
+            → result ≡ (slice_index_or (all_events self.now.pages.items) (index_of self.now.pages.items place) d).step }
+        ensures past { length (all_events self.now.pages.items) ≤ index_of self.now.pages.items place
+            → result ≡ LAST_STEP + 1 }
+    {
+        if place.page < self.pages.len() {
+            self.pages[place.page][place.index].step
+        } else {
+            LAST_STEP + 1
+        }
+    }
+
+    /// The event at a place.
+    pub(crate) fn event(&self, place: Place) -> Event
+        requires place { IsPlace self.now.pages.items place }
+        requires there { index_of self.now.pages.items place < length (all_events self.now.pages.items) }
+        ensures { (d : Event) → slice_index_or (all_events self.now.pages.items) (index_of self.now.pages.items place) d
+            ≡ result }
+    {
+        self.pages[place.page][place.index]
+    }
+
+    /// The place after that of an event.
+    pub(crate) fn next(&self, place: Place) -> Place
+        requires place { IsPlace self.now.pages.items place }
+        requires there { index_of self.now.pages.items place < length (all_events self.now.pages.items) }
+        ensures place { IsPlace self.now.pages.items result }
+        ensures next { index_of self.now.pages.items result ≡ index_of self.now.pages.items place + 1 }
+    {
+        let events = &self.pages[place.page];
+        if place.index + 1 < events.len() {
+            Place {
+                page: place.page,
+                index: place.index + 1,
+            }
+        } else {
+            Place {
+                page: place.page + 1,
+                index: 0,
+            }
         }
     }
 
     /// The place of the first event that is not before a key's at a step.
-    fn place(&self, step: u32, key: u8) -> usize
-        requires { IsInOrder self.now.events.items }
-        ensures at_most { result ≤ length self.now.events.items }
-        ensures before { (i : ℕ) (d : Event) → i < result
-            → rank (slice_index_or self.now.events.items i d) < step * 16 + key }
-        ensures after { (i : ℕ) (d : Event) → result ≤ i → i < length self.now.events.items
-            → step * 16 + key ≤ rank (slice_index_or self.now.events.items i d) }
+    fn place(&self, step: u32, key: u8) -> Place
+        requires { IsInOrder (all_events self.now.pages.items) }
+        ensures place { IsPlace self.now.pages.items result }
+        ensures at_most { index_of self.now.pages.items result ≤ length (all_events self.now.pages.items) }
+        ensures before { (i : ℕ) (d : Event) → i < index_of self.now.pages.items result
+            → rank (slice_index_or (all_events self.now.pages.items) i d) < step * 16 + key }
+        ensures after { (i : ℕ) (d : Event) → index_of self.now.pages.items result ≤ i
+            → i < length (all_events self.now.pages.items)
+            → step * 16 + key ≤ rank (slice_index_or (all_events self.now.pages.items) i d) }
     {
         let wanted = rank(step, key);
+        let page = self.page(wanted);
+        if page == self.pages.len() {
+            return Place { page, index: 0 };
+        }
+        Place {
+            page,
+            index: index_in(&self.pages[page], wanted),
+        }
+    }
+
+    /// The first page that has an event whose rank is not below one.
+    fn page(&self, wanted: u64) -> usize
+        requires { IsInOrder (all_events self.now.pages.items) }
+        ensures at_most { result ≤ length self.now.pages.items }
+        ensures before { (i : ℕ) (d : Event) → i < count_before self.now.pages.items result
+            → rank (slice_index_or (all_events self.now.pages.items) i d) < wanted }
+        ensures after { (i : ℕ) (d : Event) → result < length self.now.pages.items
+            → count_before self.now.pages.items (result + 1) ≤ i + 1 → i < length (all_events self.now.pages.items)
+            → wanted ≤ rank (slice_index_or (all_events self.now.pages.items) i d) }
+    {
         let mut low = 0;
-        let mut high = self.events.len();
+        let mut high = self.pages.len();
         while low < high {
             let middle = low + (high - low) / 2;
-            let event = self.events[middle];
+            let event = self.last_of(middle);
             if rank(event.step, event.key) < wanted {
                 low = middle + 1;
             } else {
@@ -55,10 +145,23 @@ impl Steps {
         low
     }
 
+    /// The last event of a page.
+    fn last_of(&self, page: usize) -> Event
+        requires { page < length self.now.pages.items }
+        ensures some { count_before self.now.pages.items page < count_before self.now.pages.items (page + 1) }
+        ensures within { count_before self.now.pages.items (page + 1) ≤ length (all_events self.now.pages.items) }
+        ensures last { (i : ℕ) (d : Event) → i + 1 ≡ count_before self.now.pages.items (page + 1)
+            → slice_index_or (all_events self.now.pages.items) i d ≡ result }
+    {
+        let events = &self.pages[page];
+        events[events.len() - 1]
+    }
+
     /// The place of the first event that is not before a step's. `guess` is tried before it is looked for.
-    pub(crate) fn first_from(&self, step: u32, guess: usize) -> usize
-        requires { IsInOrder self.now.events.items }
-        ensures { IsFirstFrom self.now.events.items step result }
+    pub(crate) fn first_from(&self, step: u32, guess: Place) -> Place
+        requires { IsInOrder (all_events self.now.pages.items) }
+        ensures place { IsPlace self.now.pages.items result }
+        ensures first { IsFirstFrom (all_events self.now.pages.items) step (index_of self.now.pages.items result) }
     {
         if self.is_first_from(guess, step) {
             guess
@@ -67,62 +170,161 @@ impl Steps {
         }
     }
 
-    /// Whether a place is that of the first event that is not before a step's.
-    fn is_first_from(&self, place: usize, step: u32) -> bool
-        requires { IsInOrder self.now.events.items }
-        ensures { IsTrue result → IsFirstFrom self.now.events.items step place }
+    /// Whether a place is that of an event, the first one that is not before a step's.
+    fn is_first_from(&self, place: Place, step: u32) -> bool
+        requires { IsInOrder (all_events self.now.pages.items) }
+        ensures place { IsTrue result → IsPlace self.now.pages.items place }
+        ensures first { IsTrue result
+            → IsFirstFrom (all_events self.now.pages.items) step (index_of self.now.pages.items place) }
     {
-        if place > self.events.len() {
+        if place.page >= self.pages.len() {
             return false;
         }
-        if place > 0 && self.events[place - 1].step >= step {
+        let events = &self.pages[place.page];
+        if place.index >= events.len() || events[place.index].step < step {
             return false;
         }
-        place == self.events.len() || self.events[place].step >= step
+        if place.index > 0 {
+            return events[place.index - 1].step < step;
+        }
+        place.page == 0 || self.last_of(place.page - 1).step < step
     }
 
-    /// Adds an event where its key has none at its step. Errors: memory ran out, and nothing is changed.
+    /// Adds an event where its key has none at its step. Errors: memory ran out, and the events stay.
     pub(crate) fn insert(&mut self, event: Event) -> Result<(), AllocError>
         requires key { event.key < KEY_COUNT }
-        requires in_order { IsInOrder self.old.events.items }
-        requires absent { change_at self.old.events.items event.step event.key ≡ None }
-        ensures in_order { IsInOrder self.new.events.items }
-        ensures ok { OnOk result ((s k : ℕ) → change_at self.new.events.items s k
-            ≡ (if s == event.step && k == event.key then Some event.down else change_at self.old.events.items s k)) }
-        ensures err { OnErr result (self.new.events.items ≡ self.old.events.items) }
+        requires in_order { IsInOrder (all_events self.old.pages.items) }
+        requires absent { change_at (all_events self.old.pages.items) event.step event.key ≡ None }
+        ensures in_order { IsInOrder (all_events self.new.pages.items) }
+        ensures ok { OnOk result ((s k : ℕ) → change_at (all_events self.new.pages.items) s k
+            ≡ (if s == event.step && k == event.key then Some event.down
+            else change_at (all_events self.old.pages.items) s k)) }
+        ensures err { OnErr result (all_events self.new.pages.items ≡ all_events self.old.pages.items) }
     {
         let place = self.place(event.step, event.key);
-        match self.events.insert(place, event) {
-            Ok(()) => Ok(()),
-            Err(_) => Err(AllocError),
+        self.insert_at(place, event)?;
+        Ok(())
+    }
+
+    /// Adds an event in front of the one at a place, or behind all. Errors: memory ran out, and the events stay.
+    fn insert_at(&mut self, place: Place, event: Event) -> Result<(), AllocError>
+        requires place { IsPlace self.old.pages.items place }
+        requires at_most { index_of self.old.pages.items place ≤ length (all_events self.old.pages.items) }
+        ensures ok { OnOk result (all_events self.new.pages.items
+            ≡ insert (all_events self.old.pages.items) (index_of self.old.pages.items place) event) }
+        ensures err { OnErr result (all_events self.new.pages.items ≡ all_events self.old.pages.items) }
+    {
+        if place.page >= self.pages.len() {
+            return self.push(event);
         }
+        let place = self.with_room(place)?;
+        self.pages[place.page].insert(place.index, event)?;
+        Ok(())
+    }
+
+    /// The place in a page with room for an event; a full page is parted into two. Errors: memory ran out.
+    fn with_room(&mut self, place: Place) -> Result<Place, AllocError>
+        requires page { place.page < length self.old.pages.items }
+        requires place { IsPlace self.old.pages.items place }
+        ensures same { all_events self.new.pages.items ≡ all_events self.old.pages.items }
+        ensures room { IfOk result (λ p. HasRoom self.new.pages.items p) }
+        ensures index { IfOk result (λ p. index_of self.new.pages.items p ≡ index_of self.old.pages.items place) }
+    {
+        if self.pages[place.page].len() < PAGE_EVENTS {
+            return Ok(place);
+        }
+        self.pages.reserve(1)?;
+        let later = self.pages[place.page].split_off(HALF_PAGE)?;
+        // There is room for it.
+        self.pages.insert(place.page + 1, later)?;
+        if place.index <= HALF_PAGE {
+            Ok(place)
+        } else {
+            Ok(Place {
+                page: place.page + 1,
+                index: place.index - HALF_PAGE,
+            })
+        }
+    }
+
+    /// Adds an event after all others. Errors: memory ran out, and the events stay.
+    fn push(&mut self, event: Event) -> Result<(), AllocError>
+        ensures ok { OnOk result (all_events self.new.pages.items ≡ all_events self.old.pages.items ++ event ∷ []) }
+        ensures err { OnErr result (all_events self.new.pages.items ≡ all_events self.old.pages.items) }
+    {
+        let count = self.pages.len();
+        if count > 0 && self.pages[count - 1].len() < PAGE_EVENTS {
+            self.pages[count - 1].push(event)?;
+            return Ok(());
+        }
+        let mut page = Vec::new(*self.pages.allocator());
+        page.push(event)?;
+        self.pages.push(page)?;
+        Ok(())
     }
 
     /// Changes what the event of a key at a step says.
     pub(crate) fn replace(&mut self, event: Event)
         requires key { event.key < KEY_COUNT }
-        requires in_order { IsInOrder self.old.events.items }
-        requires there { IsSome (change_at self.old.events.items event.step event.key) }
-        ensures in_order { IsInOrder self.new.events.items }
-        ensures set { (s k : ℕ) → change_at self.new.events.items s k
-            ≡ (if s == event.step && k == event.key then Some event.down else change_at self.old.events.items s k) }
+        requires in_order { IsInOrder (all_events self.old.pages.items) }
+        requires there { IsSome (change_at (all_events self.old.pages.items) event.step event.key) }
+        ensures in_order { IsInOrder (all_events self.new.pages.items) }
+        ensures set { (s k : ℕ) → change_at (all_events self.new.pages.items) s k
+            ≡ (if s == event.step && k == event.key then Some event.down
+            else change_at (all_events self.old.pages.items) s k) }
     {
         let place = self.place(event.step, event.key);
-        self.events[place] = event;
+        self.pages[place.page][place.index] = event;
     }
 
     /// Takes out the event of a key at a step.
     pub(crate) fn remove(&mut self, step: u32, key: u8)
         requires key { key < KEY_COUNT }
-        requires in_order { IsInOrder self.old.events.items }
-        requires there { IsSome (change_at self.old.events.items step key) }
-        ensures in_order { IsInOrder self.new.events.items }
-        ensures set { (s k : ℕ) → change_at self.new.events.items s k
-            ≡ (if s == step && k == key then None else change_at self.old.events.items s k) }
+        requires in_order { IsInOrder (all_events self.old.pages.items) }
+        requires there { IsSome (change_at (all_events self.old.pages.items) step key) }
+        ensures in_order { IsInOrder (all_events self.new.pages.items) }
+        ensures set { (s k : ℕ) → change_at (all_events self.new.pages.items) s k
+            ≡ (if s == step && k == key then None else change_at (all_events self.old.pages.items) s k) }
     {
         let place = self.place(step, key);
-        self.events.remove(place);
+        self.remove_at(place);
     }
+
+    /// Takes out the event at a place, and its page where it has no other.
+    fn remove_at(&mut self, place: Place)
+        requires place { IsPlace self.old.pages.items place }
+        requires there { index_of self.old.pages.items place < length (all_events self.old.pages.items) }
+        ensures { all_events self.new.pages.items
+            ≡ remove (all_events self.old.pages.items) (index_of self.old.pages.items place) }
+    {
+        if self.pages[place.page].len() == 1 {
+            self.pages.remove(place.page);
+        } else {
+            self.pages[place.page].remove(place.index);
+        }
+    }
+}
+
+/// The first event in a page that is not below a rank.
+fn index_in(events: &[Event], wanted: u64) -> usize
+    requires { IsInOrder events.now }
+    ensures at_most { result ≤ length events.now }
+    ensures before { (i : ℕ) (d : Event) → i < result → rank (slice_index_or events.now i d) < wanted }
+    ensures after { (i : ℕ) (d : Event) → result ≤ i → i < length events.now
+        → wanted ≤ rank (slice_index_or events.now i d) }
+{
+    let mut low = 0;
+    let mut high = events.len();
+    while low < high {
+        let middle = low + (high - low) / 2;
+        let event = events[middle];
+        if rank(event.step, event.key) < wanted {
+            low = middle + 1;
+        } else {
+            high = middle;
+        }
+    }
+    low
 }
 
 /// The number of a step and key in the order of the events.

@@ -1,9 +1,9 @@
 //! The events of the keys.
 
-ghost use Rattle.std.specs.Prelude.{◌≡◌, ℕ, ◌<◌, ◌≤◌, false, MatchOption, IsOkUnless, OnOk, OnErr, slice_index_or};
+ghost use Rattle.std.specs.Prelude.{◌≡◌, ℕ, ◌<◌, ◌≤◌, false, MatchOption, IsOkUnless, OnOk, OnErr, slice_index_or, slice_set};
 ghost use Rattle.chip_replay.specs.Mask.{mask};
 
-use crate::by_step::{Event, Steps};
+use crate::by_step::{Event, Place, Steps};
 use crate::limits::{KEY_COUNT, KEYS, LAST_STEP, MOST_EVENTS};
 use std::alloc::{AllocError, Global};
 use std::collections::BTreeMap;
@@ -52,7 +52,7 @@ pub(crate) struct Holding {
     /// The first step whose events this says nothing of.
     pub(crate) until: u32,
     /// Where its events begin among those in order, unless an event was added or taken out since.
-    pub(crate) place: usize,
+    pub(crate) place: Place,
 }
 
 impl Holding {
@@ -61,7 +61,7 @@ impl Holding {
         keys: 0,
         down: [false; KEY_COUNT],
         until: 0,
-        place: 0,
+        place: Place::FIRST,
     };
 }
 
@@ -78,7 +78,7 @@ impl Model for Keys {
     ghost use Rattle.std.specs.Prelude.{◌≡◌, length};
     ghost use Rattle.std.specs.FinMap as map;
     ghost use Rattle.chip_replay.specs.Keys.{Events, coded_events, moment_cmp};
-    ghost use Rattle.chip_replay.specs.Changes.{SaysTheSame, IsInOrder};
+    ghost use Rattle.chip_replay.specs.Changes.{SaysTheSame, IsInOrder, all_events};
 
     ghost Value = { Events };
 
@@ -87,8 +87,8 @@ impl Model for Keys {
     ghost view = { λ k. map.from_entries k.events.entries };
 
     ghost invariant = { λ k. (map.len (map.from_entries {R = moment_cmp} k.events.entries) ≡ length k.events.entries)
-        × SaysTheSame (map.from_entries k.events.entries) k.steps.events.items
-        × IsInOrder k.steps.events.items };
+        × SaysTheSame (map.from_entries k.events.entries) (all_events k.steps.pages.items)
+        × IsInOrder (all_events k.steps.pages.items) };
 }
 
 impl Keys {
@@ -149,7 +149,7 @@ impl Keys {
             keys: mask_of(&down),
             down,
             until: step,
-            place: 0,
+            place: Place::FIRST,
         }
     }
 
@@ -174,21 +174,21 @@ impl Keys {
         requires known { KnowsKeys self.now step known }
         ensures { HoldsKeys self.now step result }
     {
-        let events = &self.steps.events;
+        let steps = &self.steps;
+        let mut keys = known.keys;
         let mut down = known.down;
-        let mut place = self.steps.first_from(known.until, known.place);
-        while place < events.len() && events[place].step <= step {
-            let event = events[place];
-            down[event.key as usize] = event.down;
-            place += 1;
+        let mut place = steps.first_from(known.until, known.place);
+        let mut until = steps.step_at(place);
+        while until <= step {
+            let event = steps.event(place);
+            let key = event.key as usize;
+            keys = with_key(keys, &down, key, event.down);
+            down[key] = event.down;
+            place = steps.next(place);
+            until = steps.step_at(place);
         }
-        let until = if place < events.len() {
-            events[place].step
-        } else {
-            LAST_STEP + 1
-        };
         Holding {
-            keys: mask_of(&down),
+            keys,
             down,
             until,
             place,
@@ -297,6 +297,21 @@ impl Keys {
         } else {
             Some(KeyFault::NoEvent)
         }
+    }
+}
+
+/// The mask of these keys after one of them went down or up.
+#[inline(always)]
+fn with_key(keys: u16, down: &[bool; KEY_COUNT], key: usize, is_down: bool) -> u16
+    requires key { key < KEY_COUNT }
+    requires mask { keys ≡ mask (λ k. slice_index_or down.now k false) 16 }
+    ensures { result ≡ mask (λ k. slice_index_or (slice_set down.now key is_down) k false) 16 }
+{
+    let bit = 1 << key;
+    match (down[key], is_down) {
+        (false, true) => keys + bit,
+        (true, false) => keys - bit,
+        (false, false) | (true, true) => keys,
     }
 }
 

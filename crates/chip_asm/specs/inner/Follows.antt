@@ -1,5 +1,6 @@
 -- What the running state of the pass means: it stands after these lines (own).
-use Rattle.std.specs.Prelude.{◌≡◌, ℕ, ◌+◌, ℤ, Bool, ◌&&◌, List, reverse, map, if◌then◌else◌, unsigned_abs}
+use Rattle.std.specs.Prelude.{◌≡◌, ℕ, ◌+◌, ℤ, Bool, not, ◌&&◌, List, reverse, map, if◌then◌else◌, unsigned_abs}
+use Rattle.std.specs.List.{list_all}
 use Rattle.chip_lang.specs.Line.{Body, align}
 use Rattle.chip_asm.specs.Layout.{Placed, is_if, address, is_aligning, has_ended, enclosing, holds, has_else, symbols, is_org_body}
 use Rattle.chip_asm.specs.declared.block.Block.{Block}
@@ -20,6 +21,8 @@ pub record Follows (pass : Pass) (before : List Placed) : Type 0 where
   pub ended : pass.ended ≡ has_ended before
   pub open_blocks : pass.blocks.items ≡ reverse (map (block_of before) (enclosing before))
   pub names : pass.names ≡ symbols before
+  -- what is live where no block is turned or closed
+  pub live : pass.live ≡ (not pass.ended && list_all (λ b. b.holds) pass.blocks.items)
 
 abbrev pub next_address : Bool → ℕ → Body → ℤ → ℕ → ℕ
 next_address accepted here body value size = if accepted && is_org_body body then unsigned_abs value else here + size

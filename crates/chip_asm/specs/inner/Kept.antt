@@ -10,6 +10,7 @@ use Rattle.chip_asm.specs.Layout.{body_of, placed}
 use Rattle.chip_asm.specs.inner.Layouts.{IsLayoutOf, placements_of}
 use Rattle.chip_asm.specs.Program.{faults_of_lines, byte_at}
 use Rattle.chip_asm.specs.inner.Records.{reading_in, readings_in, texts_in}
+use Rattle.chip_asm.specs.inner.Hints.{names_in, hint_in}
 use Rattle.chip_asm.specs.inner.Traits.{traits_of}
 use Rattle.chip_asm.specs.inner.Recode.{has_code, is_placed_at, code_among, code_at}
 
@@ -36,6 +37,7 @@ pub record IsKept (kept : Kept) : Type 0 where
   pub long : 0 < length kept.lines.items → vec_len kept.image ≡ IMAGE_BYTES
   pub counted : kept.faults ≡ length (faults_of_lines (readings_in kept.lines.items))
   pub traits : kept.traits.items ≡ map traits_of (readings_in kept.lines.items)
+  pub hints : kept.hints.items ≡ map (hint_in (names_in kept.layout.names)) (readings_in kept.lines.items)
 
 -- the new codes stand in the place of the kept ones, and nothing else changed
 pub record IsMerged (kept : List KeptLine) (fresh : List (ℕ × Coded)) (lines : List KeptLine) : Type 0 where

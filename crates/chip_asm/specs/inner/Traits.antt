@@ -1,9 +1,9 @@
 -- What is kept of a line apart from it, so that steps over all lines needn't look into most of them (own).
-use Rattle.std.specs.Prelude.{Bool, false, None, Some, is_some, slice_get}
-use Rattle.chip_lang.specs.Line.{Reading, bad, read}
+use Rattle.std.specs.Prelude.{Bool, false, not, ◌&&◌, None, Some, is_some, slice_get}
+use Rattle.chip_lang.specs.Line.{Body, Reading, bad, read}
 use Rattle.chip_lang.specs.Uses.{names_used}
 use Rattle.chip_asm.specs.inner.Bare.{is_bare}
-use Rattle.chip_asm.specs.Layout.{body_of}
+use Rattle.chip_asm.specs.Layout.{body_of, is_if_body, is_end_body, is_align_body}
 use Rattle.chip_asm.specs.inner.Recode.{has_code}
 use Rattle.chip_asm.specs.declared.traits.Traits.{Traits}
 
@@ -17,5 +17,9 @@ is_bare_line (read (Some name) body) = false
 abbrev pub uses_name : Reading → Bool
 uses_name line = is_some (slice_get (names_used line) 0)
 
+-- it opens no block, ends no source and switches no alignment
+abbrev pub is_steady : Body → Bool
+is_steady body = not (is_if_body body) && not (is_end_body body) && not (is_align_body body)
+
 abbrev pub traits_of : Reading → Traits
-traits_of line = record { is_bare = is_bare_line line; is_coded = has_code (body_of line); has_names = uses_name line }
+traits_of line = record { is_bare = is_bare_line line; is_coded = has_code (body_of line); has_names = uses_name line; is_steady = is_steady (body_of line) }

@@ -1,9 +1,11 @@
 -- A sprite as the code draws it, by its bytes alone.
 -- Source: own.
-use Rattle.std.specs.Prelude.{ℕ, ◌*◌, ◌/◌, ◌%◌, ◌≤◌, Bool, ◌&&◌, ◌==◌, List, length, if◌then◌else◌}
+use Rattle.std.specs.Prelude.{ℕ, ◌+◌, ◌*◌, ◌/◌, ◌%◌, ◌<◌, ◌≤◌, Bool, ◌&&◌, ◌==◌, List, length, if◌then◌else◌}
 use Rattle.chip_machine.specs.declared.limits.TheConstants.{SPRITE_BYTES}
 use Rattle.chip_machine.specs.Points.{Points, points_where}
 use Rattle.chip_machine.specs.Sprite.{covers, scale}
+use Rattle.chip_machine.specs.declared.sprite.Half.{Half}
+use Rattle.chip_machine.specs.declared.sprite.Half.TheVariants.{Left, Middle, Right}
 
 -- the bytes in a row: in the high size so many bytes are sixteen rows
 unfoldable pub row_bytes_by_length : Bool → List ℕ → ℕ
@@ -15,6 +17,12 @@ covers_by_length high x y sprite = covers high x y (row_bytes_by_length high spr
 abbrev pub covered_by_length : Bool → ℕ → ℕ → List ℕ → Points
 covered_by_length high x y sprite = points_where (covers_by_length high x y sprite)
 
--- a sprite drawn at x starts in the right half of the stored columns: the code draws each half by a loop of its own
-abbrev pub StartsRight : Bool → ℕ → Type 0
-StartsRight high x = 64 ≤ scale high * (x % (128 / scale high))
+-- the stored column at which a sprite drawn at x begins
+abbrev pub first_column : Bool → ℕ → ℕ
+first_column high x = scale high * (x % (128 / scale high))
+
+-- where sixteen columns from one on lie: the code draws each half by a loop of its own
+abbrev pub LiesIn : Half → ℕ → Type 0
+LiesIn Left start = start + 16 ≤ 64
+LiesIn Middle start = start < 64
+LiesIn Right start = 64 ≤ start

@@ -39,6 +39,20 @@ write_line-requires-clause-high c =
     let high : c.index.result.now.here + c.index.result.now.size ≤ MEMORY_BYTES = rw a.placement a.within.1 in
     omega (arith, high, c.loop-place.auto.image, c.requires.long)
 
+pub overflow_cast-placement : goal.overflow_cast-placement
+overflow_cast-placement c =
+    let a : About c.args.lines.now c.index.result.now c.index-lines-place.result c.loop-place.place
+    = about c.args.lines.now c.args.layout.now c.requires.laid_out c.requires.current c.loop-place.place c.index.result.now c.index-lines-place.result c.loop-place-test.true c.index.ensures c.index-lines-place.is in
+    let high : c.index.result.now.here + c.index.result.now.size ≤ MEMORY_BYTES = rw a.placement a.within.1 in
+    omega (arith, high)
+
+pub overflow_cast-placement-in-loop-place : goal.overflow_cast-placement-in-loop-place
+overflow_cast-placement-in-loop-place c =
+    let a : About c.args.lines.now c.index.result.now c.index-lines-place.result c.loop-place.place
+    = about c.args.lines.now c.args.layout.now c.requires.laid_out c.requires.current c.loop-place.place c.index.result.now c.index-lines-place.result c.loop-place-test.true c.index.ensures c.index-lines-place.is in
+    let high : c.index.result.now.here + c.index.result.now.size ≤ MEMORY_BYTES = rw a.placement a.within.1 in
+    omega (arith, high)
+
 pub returns-clause-counted : goal.returns-clause-counted
 returns-clause-counted c = c.loop-place.invariant.1 ∙ ap length (faults-all c.args.lines.now c.loop-place.place (omega arith))
 

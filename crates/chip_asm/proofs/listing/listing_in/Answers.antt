@@ -1,4 +1,5 @@
-use Rattle.std.proofs.Common.{◌≡◌, ◌∙◌, ◌++◌, ap, sym, arith}
+use Rattle.std.proofs.Common.{◌≡◌, ◌∙◌, ◌++◌, ◌+◌, ◌≤◌, ap, sym, arith}
+use Rattle.chip_lang.specs.declared.limits.TheConstants.{MEMORY_BYTES}
 use Rattle.chip_asm.specs.Layout.{body_of}
 use Rattle.chip_asm.specs.Listing.{shown, field_shown, more_shown}
 use Rattle.chip_asm.specs.inner.Records.{reading_in}
@@ -30,6 +31,15 @@ loop-place-preserved c =
     ∙ ap (λ m. listed c.args.lines.now c.loop-place.place ++ shown q.number q.live q.here (field_shown (kept_fault q kept) q.live (body_of (reading_in kept)) q.here q.value q.size (kept_bytes kept)) m c.get.result.now) more_is
     ∙ ap (λ t. listed c.args.lines.now c.loop-place.place ++ shown q.number q.live q.here (field_shown (kept_fault q kept) q.live (body_of (reading_in kept)) q.here q.value q.size (kept_bytes kept)) (more_shown (kept_fault q kept) q.size) t) c.get.ensures
     ∙ sym (listed-more c.args.lines.now q kept c.loop-place.place a c.loop-place-test.true c.index-lines-place.is)
+
+pub overflow_cast-placement : goal.overflow_cast-placement
+overflow_cast-placement c =
+    let q : Placement = c.index.result.now in
+    let kept : KeptLine = c.index-lines-place.result in
+    let a : About c.args.lines.now q kept c.loop-place.place
+    = about c.args.lines.now c.args.layout.now c.requires.laid_out c.requires.current c.loop-place.place q kept c.loop-place-test.true c.index.ensures c.index-lines-place.is in
+    let high : q.here + q.size ≤ MEMORY_BYTES = rw a.placement a.within.1 in
+    omega (arith, high)
 
 pub returns : goal.returns
 returns c = c.loop-place.invariant ∙ listed-all c.args.lines.now c.loop-place.place (omega arith)

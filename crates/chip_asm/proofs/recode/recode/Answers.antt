@@ -1,9 +1,10 @@
-use Rattle.std.proofs.Common.{◌≡◌, ◌∙◌, ◌+◌, ◌<◌, ◌≤◌, ap, refl, arith, length, List, cond, take}
+use Rattle.std.proofs.Common.{◌≡◌, ◌∙◌, ◌+◌, ◌<◌, ◌≤◌, ap, refl, arith, length, List, cond, take, get_or, slice_get, Some}
 use Rattle.std.specs.List.{enumerate_from}
-use Rattle.std.proofs.lemmas.List.{take_all, map-append}
+use Rattle.std.proofs.lemmas.List.{take_all}
 use Rattle.std.proofs.lemmas.List.FromFn.{length-enumerate_from}
-use Rattle.chip_lang.specs.Line.{Reading}
-use Rattle.chip_lang.specs.SeenLine.{seen_line}
+use Rattle.std.proofs.lemmas.Option.{slice_get-get_or}
+use Rattle.chip_lang.specs.Line.{Reading, bad}
+use Rattle.chip_lang.specs.declared.fault.Fault.TheVariants.{UnclosedIf}
 use Rattle.chip_asm.specs.inner.Records.{lines_after, readings_in, place_before}
 use Rattle.chip_asm.specs.inner.Recode.{new_code, codes_placed, is_encoded_again}
 use Rattle.chip_asm.proofs.Edited.{length-readings_after}
@@ -14,14 +15,16 @@ pub returns-in_err-push_code_if-clause-encoded : goal.returns-in_err-push_code_i
 returns-in_err-push_code_if-clause-encoded c = λ before old.
     let all : List Reading = readings_in (lines_after c.args.lines.now c.args.edit.now) in
     let inside : c.loop-place.place < length all = omega (arith, length-readings_after c.args.lines.now c.args.edit.now c.requires.within, c.count_after-count.ensures) in
-    let again = c.is_encoded_again-again.ensures before all old c.requires.new in
-    let grown : c.push_code_if.new.meter.encoded ≤ c.loop-place.meter.encoded + cond (is_encoded_again before all (place_before c.args.edit.now) (c.loop-place.place, seen_line c.line_after-line.result.now)) 1 0
+    let line : Reading = get_or all c.loop-place.place (bad UnclosedIf) in
+    let at : slice_get all c.loop-place.place ≡ Some line = slice_get-get_or all c.loop-place.place (bad UnclosedIf) inside in
+    let again = c.is_encoded_again-again.ensures before all line at old c.requires.new in
+    let grown : c.push_code_if.new.meter.encoded ≤ c.loop-place.meter.encoded + cond (is_encoded_again before all (place_before c.args.edit.now) (c.loop-place.place, line)) 1 0
     = rw (← again) c.push_code_if.ensures.encoded in
     omega (
       arith,
       c.loop-place.invariant.1 before old,
       grown,
-      count-numbered (is_encoded_again before all (place_before c.args.edit.now)) all c.loop-place.place (seen_line c.line_after-line.result.now) inside c.line_after-line.ensures,
+      count-numbered (is_encoded_again before all (place_before c.args.edit.now)) all c.loop-place.place line inside at,
       count_by-take (is_encoded_again before all (place_before c.args.edit.now)) (enumerate_from 0 all) (c.loop-place.place + 1),
     )
 
@@ -31,17 +34,19 @@ returns-in_err-push_code_if-clause-parsed c = c.push_code_if.ensures.parsed ∙ 
 pub loop-place-preserved : goal.loop-place-preserved
 loop-place-preserved c =
     let all : List Reading = readings_in (lines_after c.args.lines.now c.args.edit.now) in
-    let inside : c.loop-place.place < length all = omega (arith, length-readings_after c.args.lines.now c.args.edit.now c.requires.within, c.count_after-count.ensures) in (
+    let inside : c.loop-place.place < length all = omega (arith, length-readings_after c.args.lines.now c.args.edit.now c.requires.within, c.count_after-count.ensures) in
+    let line : Reading = get_or all c.loop-place.place (bad UnclosedIf) in
+    let at : slice_get all c.loop-place.place ≡ Some line = slice_get-get_or all c.loop-place.place (bad UnclosedIf) inside in (
       (λ before old.
-          let again = c.is_encoded_again-again.ensures before all old c.requires.new in
-          c.in_ok-push_code_if.ensures.codes
-          ∙ (rw (c.loop-place.invariant.0 before old, again, c.requires.new.names, take-numbered all c.loop-place.place (seen_line c.line_after-line.result.now) inside c.line_after-line.ensures)
-          (code-pushed before all (place_before c.args.edit.now) (take c.loop-place.place (enumerate_from 0 all)) c.loop-place.place (seen_line c.line_after-line.result.now) _ refl))),
+          let again = c.is_encoded_again-again.ensures before all line at old c.requires.new in
+          c.in_ok-push_code_if.ensures.codes line at
+          ∙ (rw (c.loop-place.invariant.0 before old, again, c.requires.new.names, take-numbered all c.loop-place.place line inside at)
+          (code-pushed before all (place_before c.args.edit.now) (take c.loop-place.place (enumerate_from 0 all)) c.loop-place.place line _ refl))),
       (λ before old.
-          let again = c.is_encoded_again-again.ensures before all old c.requires.new in
-          let grown : c.push_code_if.new.meter.encoded ≤ c.loop-place.meter.encoded + cond (is_encoded_again before all (place_before c.args.edit.now) (c.loop-place.place, seen_line c.line_after-line.result.now)) 1 0
+          let again = c.is_encoded_again-again.ensures before all line at old c.requires.new in
+          let grown : c.push_code_if.new.meter.encoded ≤ c.loop-place.meter.encoded + cond (is_encoded_again before all (place_before c.args.edit.now) (c.loop-place.place, line)) 1 0
           = rw (← again) c.push_code_if.ensures.encoded in
-          omega (arith, c.loop-place.invariant.1 before old, grown, count-numbered (is_encoded_again before all (place_before c.args.edit.now)) all c.loop-place.place (seen_line c.line_after-line.result.now) inside c.line_after-line.ensures)),
+          omega (arith, c.loop-place.invariant.1 before old, grown, count-numbered (is_encoded_again before all (place_before c.args.edit.now)) all c.loop-place.place line inside at)),
       c.push_code_if.ensures.parsed ∙ c.loop-place.invariant.2,
       omega (arith, c.loop-place.invariant.3, c.push_code_if.ensures.not_lowered),
     )

@@ -1,4 +1,4 @@
-use Rattle.std.proofs.Common.{◌≡◌, ◌∙◌, ◌+◌, ◌-◌, ◌<◌, arith, sym, refl, ap, drop, get_or, vec_len, subst, List, ℕ}
+use Rattle.std.proofs.Common.{◌≡◌, ◌∙◌, ◌+◌, ◌-◌, arith, sym, refl, drop, get_or, vec_len, ℕ}
 use Rattle.chip_lang.specs.declared.code.Coded.{Coded}
 use Rattle.chip_asm.specs.inner.Kept.{IsMerged}
 use Rattle.chip_asm.proofs.KeptWrites.{merged-new, popped}

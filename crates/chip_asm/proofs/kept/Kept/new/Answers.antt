@@ -25,4 +25,5 @@ returns-clause-kept c =
       long = λ some. absurd (omega arith);
       counted = rw c.new.ensures.items no_faults;
       traits = rw (c.new.ensures.items, c.new-6.ensures.items) refl;
+      hints = rw (c.new.ensures.items, c.new-4.ensures.items) refl;
     }

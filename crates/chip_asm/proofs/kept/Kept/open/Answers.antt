@@ -1,7 +1,9 @@
-use Rattle.std.proofs.Common.{◌∙◌, ap, sym, subst, length, [], Some}
+use Rattle.std.proofs.Common.{◌∙◌, subst, [], Some}
 use Rattle.chip_asm.specs.inner.Layouts.{IsLayoutOf}
 use Rattle.chip_asm.specs.inner.Records.{readings_in}
+use Rattle.chip_asm.proofs.Resumed.{continues-none}
 use Rattle.chip_asm.proofs.EditTexts.{traits-all}
+use Rattle.chip_asm.proofs.HintSteps.{none-hinted, no-names}
 use Rattle.chip_asm.proofs.KeptAfter.{currents, within-codes, had-none}
 use Rattle.chip_asm.proofs.kept.Kept.open.Goals as goal
 
@@ -25,3 +27,12 @@ prepare-requires-clause-traits c = c.in_ok-kept.ensures ∙ (rw c.deref.ensures.
 pub returns-clause-encoded : goal.returns-clause-encoded
 returns-clause-encoded c =
     c.prepare.ensures.encoded [] (subst (λ lines. IsLayoutOf c.new-kept.result.layout (readings_in lines)) c.new-kept.ensures.none c.new-kept.ensures.kept.laid_out)
+
+pub prepare-requires-clause-continues : goal.prepare-requires-clause-continues
+prepare-requires-clause-continues c =
+    continues-none c.new-kept.result.layout _ (subst (λ lines. IsLayoutOf c.new-kept.result.layout (readings_in lines)) c.new-kept.ensures.none c.new-kept.ensures.kept.laid_out)
+
+pub prepare-requires-clause-hints : goal.prepare-requires-clause-hints
+prepare-requires-clause-hints c =
+    let none = subst (λ lines. IsLayoutOf c.new-kept.result.layout (readings_in lines)) c.new-kept.ensures.none c.new-kept.ensures.kept.laid_out in
+    c.in_ok-kept-2.ensures ∙ (rw c.deref-2.ensures.value (none-hinted c.new-kept.result.layout.names c.args.lines.items (none.names ∙ no-names)))

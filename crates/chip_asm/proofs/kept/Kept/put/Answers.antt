@@ -59,7 +59,7 @@ returns-clause-kept c =
     (λ k.
     ap (λ xs. get_or xs k 0) (refilled c.args.self.now.image.len c.write_line.new.image c.args.self.now.image.items long)
     ∙ (rw (← c.kept_bytes.ensures, ← c.deref_mut.ensures.value) (c.write_line.ensures k)))
-    refl faults (ap (λ t. set c.args.self.now.traits.items c.args.at t) c.traits_of.ensures)
+    refl faults (ap (λ t. set c.args.self.now.traits.items c.args.at t) c.traits_of.ensures) (ap (λ h. set c.args.self.now.hints.items c.args.at h) c.hint_of.ensures)
 
 pub returns-clause-changed : goal.returns-clause-changed
 returns-clause-changed c =
@@ -77,6 +77,34 @@ overflow_sub-first c =
 
 pub overflow_add-result : goal.overflow_add-result
 overflow_add-result c =
+    let x : Exchange c.args.self.now.lines.items c.args.at c.index.result.now c.index-2.result.now c.args.added
+    = exchange c.args.self.now.lines.items c.args.at c.args.self.now.layout c.index.result.now c.index-2.result.now c.args.added c.requires.kept.laid_out c.requires.kept.current (omega (arith, c.args.self.now.lines.ok.0))
+    c.index.ensures c.index-2.ensures c.requires.same c.requires.coded in
+    omega (arith, x.high)
+
+pub overflow_cast-placement : goal.overflow_cast-placement
+overflow_cast-placement c =
+    let x : Exchange c.args.self.now.lines.items c.args.at c.index.result.now c.index-2.result.now c.args.added
+    = exchange c.args.self.now.lines.items c.args.at c.args.self.now.layout c.index.result.now c.index-2.result.now c.args.added c.requires.kept.laid_out c.requires.kept.current (omega (arith, c.args.self.now.lines.ok.0))
+    c.index.ensures c.index-2.ensures c.requires.same c.requires.coded in
+    omega (arith, x.high)
+
+pub overflow_cast-placement-2 : goal.overflow_cast-placement-2
+overflow_cast-placement-2 c =
+    let x : Exchange c.args.self.now.lines.items c.args.at c.index.result.now c.index-2.result.now c.args.added
+    = exchange c.args.self.now.lines.items c.args.at c.args.self.now.layout c.index.result.now c.index-2.result.now c.args.added c.requires.kept.laid_out c.requires.kept.current (omega (arith, c.args.self.now.lines.ok.0))
+    c.index.ensures c.index-2.ensures c.requires.same c.requires.coded in
+    omega (arith, x.high)
+
+pub overflow_cast-first : goal.overflow_cast-first
+overflow_cast-first c =
+    let x : Exchange c.args.self.now.lines.items c.args.at c.index.result.now c.index-2.result.now c.args.added
+    = exchange c.args.self.now.lines.items c.args.at c.args.self.now.layout c.index.result.now c.index-2.result.now c.args.added c.requires.kept.laid_out c.requires.kept.current (omega (arith, c.args.self.now.lines.ok.0))
+    c.index.ensures c.index-2.ensures c.requires.same c.requires.coded in
+    omega (arith, x.high)
+
+pub overflow_cast-result : goal.overflow_cast-result
+overflow_cast-result c =
     let x : Exchange c.args.self.now.lines.items c.args.at c.index.result.now c.index-2.result.now c.args.added
     = exchange c.args.self.now.lines.items c.args.at c.args.self.now.layout c.index.result.now c.index-2.result.now c.args.added c.requires.kept.laid_out c.requires.kept.current (omega (arith, c.args.self.now.lines.ok.0))
     c.index.ensures c.index-2.ensures c.requires.same c.requires.coded in

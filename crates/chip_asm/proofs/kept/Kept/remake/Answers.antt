@@ -1,5 +1,6 @@
-use Rattle.std.proofs.Common.{◌≡◌, ◌∙◌, length, ap, sym, subst}
+use Rattle.std.proofs.Common.{◌≡◌, ◌∙◌, length, ap, subst}
 use Rattle.chip_asm.specs.inner.Records.{readings_in, lines_after, place_before, IsPlaceWithin}
+use Rattle.chip_asm.proofs.Resumed.{continues-edited}
 use Rattle.chip_asm.proofs.KeptAfter.{currents, within-codes, had-codes}
 use Rattle.chip_asm.proofs.KeptSteps.{kept-same}
 use Rattle.chip_asm.proofs.ChangedBytes.{all-places}
@@ -23,7 +24,12 @@ settle-requires-clause-current c =
 
 pub returns-in_err-prepared-clause-kept : goal.returns-in_err-prepared-clause-kept
 returns-in_err-prepared-clause-kept c =
-    kept-same c.args.self.now c.prepare.new.self c.requires.kept c.prepare.ensures.lines c.prepare.ensures.layout c.prepare.ensures.faults c.prepare.ensures.image c.prepare.ensures.short c.prepare.ensures.long c.prepare.ensures.traits
+    kept-same c.args.self.now c.prepare.new.self c.requires.kept c.prepare.ensures.lines c.prepare.ensures.layout c.prepare.ensures.faults c.prepare.ensures.image c.prepare.ensures.short c.prepare.ensures.long c.prepare.ensures.traits c.prepare.ensures.hints
 
 pub returns-clause-changed : goal.returns-clause-changed
 returns-clause-changed c = all-places (readings_in c.args.self.now.lines.items) (readings_in c.settle.new.self.lines.items)
+
+pub prepare-requires-clause-continues : goal.prepare-requires-clause-continues
+prepare-requires-clause-continues c =
+    let within : IsPlaceWithin (length c.args.self.now.lines.items) c.args.edit = subst (λ n. IsPlaceWithin n c.args.edit) c.args.self.now.lines.ok.0 c.requires.within in
+    continues-edited c.args.self.now.layout c.args.self.now.lines.items c.args.edit c.requires.kept.laid_out within

@@ -1,4 +1,4 @@
-use Rattle.std.proofs.Common.{◌≡◌, ◌∙◌, true, ◌&&◌, is_none, if◌then◌else◌, ap, arith, refl, w32, to_z, of_z}
+use Rattle.std.proofs.Common.{◌≡◌, ◌∙◌, true, ◌&&◌, is_none, if◌then◌else◌, ap, sym, arith, refl, w32, to_z, of_z}
 use Rattle.std.proofs.lemmas.Int.{to_z-of_z}
 use Rattle.std.proofs.lemmas.Bool.{and_parts}
 use Rattle.chip_lang.specs.SeenLine.{seen_line}
@@ -11,7 +11,7 @@ returns-clause-placed c = λ before f n.
     let same : to_z w32 (of_z w32 c.or_zero-value.result) ≡ c.or_zero-value.result = grind (arith, to_z-of_z) in
     let read : c.value_at-read.result ≡ value_at (symbols before) (body_of (seen_line c.args.line.now)) = c.value_at-read.ensures ∙ (rw (f.names, c.body_or-body.ensures) refl) in
     let size : c.size_of-size.result ≡ (if c.is_live-live.result && is_none c.fault_of-fault.result then full_size (is_aligning before) c.args.self.now.here (body_of (seen_line c.args.line.now)) c.or_zero-value.result else 0)
-    = c.size_of-size.ensures ∙ (rw (same, c.is_passed.ensures, f.aligning, c.body_or-body.ensures) refl) in
+    = c.size_of-size.ensures.size ∙ (rw (same, c.is_passed.ensures, f.aligning, c.body_or-body.ensures) refl) in
     rw same
     (placement-at before (seen_line c.args.line.now) c.args.number c.is_if.result c.is_live-live.result c.args.self.now.here c.fault_of-fault.result c.or_zero-value.result c.size_of-size.result
     n (c.is_if.ensures ∙ ap is_if_body c.body_or-body.ensures)
@@ -20,6 +20,12 @@ returns-clause-placed c = λ before f n.
     (c.or_zero-value.ensures ∙ ap value_or_zero read)
     (c.fault_of-fault.ensures.fault before f read)
     size)
+
+pub size_of-size-requires : goal.size_of-size-requires
+size_of-size-requires c = λ placed.
+    let same : to_z w32 (of_z w32 c.or_zero-value.result) ≡ c.or_zero-value.result = grind (arith, to_z-of_z) in
+    let parts : (c.is_live-live.result ≡ true) × (is_none c.fault_of-fault.result ≡ true) = and_parts _ _ (sym c.is_passed.ensures ∙ placed) in
+    rw (same, c.body_or-body.ensures) (fits_at _ _ _ c.value_at-read.result c.or_zero-value.result c.or_zero-value.ensures (c.fault_of-fault.ensures.fits parts.0 (none_from _ parts.1)))
 
 pub returns-clause-fits : goal.returns-clause-fits
 returns-clause-fits c = λ placed.

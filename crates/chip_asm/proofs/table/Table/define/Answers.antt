@@ -4,7 +4,6 @@ use Rattle.std.specs.Map.{lookup}
 use Rattle.std.specs.Global.{Vec}
 use Rattle.indexmap.specs.IndexMap.{set_value_at}
 use Rattle.indexmap.proofs.CallerLemmas.{insert_entry-new, index_map_len-with_value_at}
-use Rattle.chip_asm.specs.declared.table.Symbol.{Symbol}
 use Rattle.chip_asm.specs.Names.{lookup_name}
 use Rattle.chip_asm.proofs.TableSteps.{seen, lookup-first, set-taken, new-taken}
 use Rattle.chip_asm.proofs.table.Table.define.Goals as goal

@@ -1,32 +1,49 @@
-use Rattle.std.proofs.Common.{◌+◌, ◌-◌, ◌/◌, ◌<◌, length, ap, arith}
-use Rattle.chip_replay.specs.Changes.{rank}
-use Rattle.chip_replay.proofs.InOrder.{read_at, below_all, above_all}
+use Rattle.std.proofs.Common.{◌<◌, length, sym, ap, subst, arith}
+use Rattle.std.specs.Global.{Vec}
+use Rattle.chip_replay.specs.Changes.{IsInOrder}
+use Rattle.chip_replay.specs.declared.by_step.Event.{Event}
+use Rattle.chip_replay.proofs.Pages.{read_at}
+use Rattle.chip_replay.proofs.PlaceIn.{page_in_order, place_inside, place_within, before_place, after_place}
 use Rattle.chip_replay.proofs.by_step.Steps.place.Goals as goal
 
-pub loop-low-preserved-then-rank-wanted : goal.loop-low-preserved-then-rank-wanted
-loop-low-preserved-then-rank-wanted c =
-    let es = c.args.self.now.events.items in
-    let middle = c.loop-low.low + (c.loop-low.high - c.loop-low.low) / 2 in
-    let before = c.loop-low.invariant in
-    let inside : middle < length es = omega (arith, before.within, c.loop-low-test.true) in
-    let there = read_at es middle c.index-event.result.now inside c.index-event.ensures in
-    record {
-      parted = omega (arith, c.loop-low-test.true);
-      within = before.within;
-      before = below_all es c.requires middle c.rank-wanted.result inside (λ d. omega (arith, ap rank (there d), c.rank.ensures, c.if-rank-wanted.true));
-      after = before.after;
-    }
+pub index_in-requires : goal.index_in-requires
+index_in-requires c =
+    let pages = c.args.self.now.pages.items in
+    let within : c.page-page.result < length pages = omega (arith, c.if-page-len.false, c.len.ensures, c.args.self.now.pages.ok.0, c.page-page.ensures.at_most) in
+    subst IsInOrder (sym c.deref.ensures.value) (page_in_order pages c.requires c.page-page.result c.index.result.now within c.index.ensures)
 
-pub loop-low-preserved : goal.loop-low-preserved
-loop-low-preserved c =
-    let es = c.args.self.now.events.items in
-    let middle = c.loop-low.low + (c.loop-low.high - c.loop-low.low) / 2 in
-    let before = c.loop-low.invariant in
-    let inside : middle < length es = omega (arith, before.within, c.loop-low-test.true) in
-    let there = read_at es middle c.index-event.result.now inside c.index-event.ensures in
-    record {
-      parted = omega arith;
-      within = omega (arith, inside);
-      before = before.before;
-      after = above_all es c.requires middle c.rank-wanted.result (λ d. omega (arith, ap rank (there d), c.rank.ensures, c.if-rank-wanted.false));
-    }
+pub returns-clause-place : goal.returns-clause-place
+returns-clause-place c = λ d l.
+    let pages = c.args.self.now.pages.items in
+    let page = c.index.result.now in
+    let within : c.page-page.result < length pages = omega (arith, c.if-page-len.false, c.len.ensures, c.args.self.now.pages.ok.0, c.page-page.ensures.at_most) in
+    let some : 0 < length page.items = omega (arith, (c.args.self.now.paged c.page-page.result page within).0, ap (λ (p : Vec Event). length p.items) c.index.ensures) in
+    let found = c.index_in.ensures in
+    omega (arith, place_inside pages c.requires c.page-page.result page within c.index.ensures c.rank-wanted.result c.index_in.result c.page-page.ensures.before c.page-page.ensures.after some c.deref.result.now c.deref.ensures.value found.at_most found.before found.after, ap (λ (p : Vec Event). length p.items) (read_at pages c.page-page.result page within c.index.ensures d))
+
+pub returns-clause-at_most : goal.returns-clause-at_most
+returns-clause-at_most c =
+    let pages = c.args.self.now.pages.items in
+    let page = c.index.result.now in
+    let within : c.page-page.result < length pages = omega (arith, c.if-page-len.false, c.len.ensures, c.args.self.now.pages.ok.0, c.page-page.ensures.at_most) in
+    let some : 0 < length page.items = omega (arith, (c.args.self.now.paged c.page-page.result page within).0, ap (λ (p : Vec Event). length p.items) c.index.ensures) in
+    let found = c.index_in.ensures in
+    place_within pages c.requires c.page-page.result page within c.index.ensures c.rank-wanted.result c.index_in.result c.page-page.ensures.before c.page-page.ensures.after some c.deref.result.now c.deref.ensures.value found.at_most found.before found.after
+
+pub returns-clause-before : goal.returns-clause-before
+returns-clause-before c = λ i d l.
+    let pages = c.args.self.now.pages.items in
+    let page = c.index.result.now in
+    let within : c.page-page.result < length pages = omega (arith, c.if-page-len.false, c.len.ensures, c.args.self.now.pages.ok.0, c.page-page.ensures.at_most) in
+    let some : 0 < length page.items = omega (arith, (c.args.self.now.paged c.page-page.result page within).0, ap (λ (p : Vec Event). length p.items) c.index.ensures) in
+    let found = c.index_in.ensures in
+    omega (arith, before_place pages c.requires c.page-page.result page within c.index.ensures c.rank-wanted.result c.index_in.result c.page-page.ensures.before c.page-page.ensures.after some c.deref.result.now c.deref.ensures.value found.at_most found.before found.after i d l, c.rank-wanted.ensures)
+
+pub returns-clause-after : goal.returns-clause-after
+returns-clause-after c = λ i d l li.
+    let pages = c.args.self.now.pages.items in
+    let page = c.index.result.now in
+    let within : c.page-page.result < length pages = omega (arith, c.if-page-len.false, c.len.ensures, c.args.self.now.pages.ok.0, c.page-page.ensures.at_most) in
+    let some : 0 < length page.items = omega (arith, (c.args.self.now.paged c.page-page.result page within).0, ap (λ (p : Vec Event). length p.items) c.index.ensures) in
+    let found = c.index_in.ensures in
+    omega (arith, after_place pages c.requires c.page-page.result page within c.index.ensures c.rank-wanted.result c.index_in.result c.page-page.ensures.before c.page-page.ensures.after some c.deref.result.now c.deref.ensures.value found.at_most found.before found.after i d l li, c.rank-wanted.ensures)

@@ -1,24 +1,30 @@
-use Rattle.std.proofs.Common.{◌≡◌, length, subst, sym, ap, ◌∙◌, arith}
-use Rattle.chip_replay.specs.Changes.{IsInOrder, change_at}
+use Rattle.std.proofs.Common.{subst, sym, ap, ◌∙◌}
+use Rattle.chip_replay.specs.Changes.{IsInOrder, change_at, all_events, index_of}
 use Rattle.chip_replay.proofs.InOrder.{at_place, removed, remove_in_order}
 use Rattle.chip_replay.proofs.by_step.Steps.remove.Goals as goal
 
-pub remove-requires : goal.remove-requires
-remove-requires c =
+pub remove_at-requires-clause-there : goal.remove_at-requires-clause-there
+remove_at-requires-clause-there c =
+    let pages = c.args.self.now.pages.items in
     let found = c.place-place.ensures in
-    let full : c.args.self.now.events.len ≡ length c.args.self.now.events.items = c.args.self.now.events.ok.0 in
-    omega (arith, (at_place c.args.self.now.events.items c.requires.in_order c.args.step c.args.key c.place-place.result found.at_most found.before found.after c.requires.there).0)
+    (at_place (all_events pages) c.requires.in_order c.args.step c.args.key (index_of pages c.place-place.result) found.at_most found.before found.after c.requires.there).0
 
 pub returns-clause-in_order : goal.returns-clause-in_order
 returns-clause-in_order c =
+    let pages = c.args.self.now.pages.items in
+    let es = all_events pages in
+    let place = index_of pages c.place-place.result in
     let found = c.place-place.ensures in
-    let there = at_place c.args.self.now.events.items c.requires.in_order c.args.step c.args.key c.place-place.result found.at_most found.before found.after c.requires.there in
-    subst IsInOrder (sym c.remove.ensures.items)
-    (remove_in_order c.args.self.now.events.items c.requires.in_order c.args.step c.args.key c.place-place.result found.at_most found.before found.after there.0)
+    let there = at_place es c.requires.in_order c.args.step c.args.key place found.at_most found.before found.after c.requires.there in
+    subst IsInOrder (sym c.remove_at.ensures)
+    (remove_in_order es c.requires.in_order c.args.step c.args.key place found.at_most found.before found.after there.0)
 
 pub returns-clause-set : goal.returns-clause-set
 returns-clause-set c = λ s k.
+    let pages = c.args.self.now.pages.items in
+    let es = all_events pages in
+    let place = index_of pages c.place-place.result in
     let found = c.place-place.ensures in
-    let there = at_place c.args.self.now.events.items c.requires.in_order c.args.step c.args.key c.place-place.result found.at_most found.before found.after c.requires.there in
-    ap (λ xs. change_at xs s k) c.remove.ensures.items
-    ∙ removed c.args.self.now.events.items c.requires.in_order c.args.step c.args.key c.place-place.result found.at_most found.before found.after there.0 there.1 c.requires.key s k
+    let there = at_place es c.requires.in_order c.args.step c.args.key place found.at_most found.before found.after c.requires.there in
+    ap (λ xs. change_at xs s k) c.remove_at.ensures
+    ∙ removed es c.requires.in_order c.args.step c.args.key place found.at_most found.before found.after there.0 there.1 c.requires.key s k

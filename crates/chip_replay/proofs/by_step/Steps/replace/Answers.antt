@@ -1,24 +1,54 @@
-use Rattle.std.proofs.Common.{◌≡◌, length, refl, arith}
+use Rattle.std.proofs.Common.{◌<◌, length, refl, subst, sym, ap, ◌∙◌, arith}
+use Rattle.std.specs.Global.{Vec}
+use Rattle.std.specs.Vec.{with_item}
+use Rattle.chip_replay.specs.Changes.{IsInOrder, change_at, all_events, index_of}
+use Rattle.chip_replay.specs.declared.by_step.Event.{Event}
 use Rattle.chip_replay.proofs.InOrder.{at_place, replaced, set_in_order}
+use Rattle.chip_replay.proofs.Pages.{list_inside, flat_set}
 use Rattle.chip_replay.proofs.by_step.Steps.replace.Goals as goal
 
 pub index_mut-requires : goal.index_mut-requires
 index_mut-requires c =
-    let e = c.args.event in
+    let pages = c.args.self.now.pages.items in
+    let place = c.place-place.result in
     let found = c.place-place.ensures in
-    let full : c.args.self.now.events.len ≡ length c.args.self.now.events.items = c.args.self.now.events.ok.0 in
-    omega (arith, (at_place c.args.self.now.events.items c.requires.in_order e.step e.key c.place-place.result found.at_most found.before found.after c.requires.there).0)
+    let there = at_place (all_events pages) c.requires.in_order c.args.event.step c.args.event.key (index_of pages place) found.at_most found.before found.after c.requires.there in
+    omega (arith, list_inside (λ (p : Vec Event). p.items) pages place.page place.index there.0, c.args.self.now.pages.ok.0)
+
+pub index_mut-requires-2 : goal.index_mut-requires-2
+index_mut-requires-2 c =
+    let pages = c.args.self.now.pages.items in
+    let place = c.place-place.result in
+    let page = c.index_mut.result.now in
+    let found = c.place-place.ensures in
+    let there = at_place (all_events pages) c.requires.in_order c.args.event.step c.args.event.key (index_of pages place) found.at_most found.before found.after c.requires.there in
+    let within = list_inside (λ (p : Vec Event). p.items) pages place.page place.index there.0 in
+    omega (arith, found.place page within, ap (λ (p : Vec Event). length p.items) c.index_mut.ensures.value, page.ok.0)
 
 pub returns-clause-in_order : goal.returns-clause-in_order
 returns-clause-in_order c =
+    let pages = c.args.self.now.pages.items in
+    let es = all_events pages in
     let e = c.args.event in
+    let place = c.place-place.result in
+    let page = c.index_mut.result.now in
     let found = c.place-place.ensures in
-    let there = at_place c.args.self.now.events.items c.requires.in_order e.step e.key c.place-place.result found.at_most found.before found.after c.requires.there in
-    set_in_order c.args.self.now.events.items c.requires.in_order e.step e.key c.place-place.result found.at_most found.before found.after e refl refl c.requires.key there.0 there.1
+    let there = at_place es c.requires.in_order e.step e.key (index_of pages place) found.at_most found.before found.after c.requires.there in
+    let within = list_inside (λ (p : Vec Event). p.items) pages place.page place.index there.0 in
+    let inside : place.index < length page.items = omega (arith, found.place page within, ap (λ (p : Vec Event). length p.items) c.index_mut.ensures.value) in
+    subst IsInOrder (sym (flat_set (λ (p : Vec Event). p.items) pages place.page page within c.index_mut.ensures.value place.index (with_item page place.index e) e inside refl))
+    (set_in_order es c.requires.in_order e.step e.key (index_of pages place) found.at_most found.before found.after e refl refl c.requires.key there.0 there.1)
 
 pub returns-clause-set : goal.returns-clause-set
 returns-clause-set c = λ s k.
+    let pages = c.args.self.now.pages.items in
+    let es = all_events pages in
     let e = c.args.event in
+    let place = c.place-place.result in
+    let page = c.index_mut.result.now in
     let found = c.place-place.ensures in
-    let there = at_place c.args.self.now.events.items c.requires.in_order e.step e.key c.place-place.result found.at_most found.before found.after c.requires.there in
-    replaced c.args.self.now.events.items c.requires.in_order e.step e.key c.place-place.result found.at_most found.before found.after there.0 there.1 c.requires.key e refl refl s k
+    let there = at_place es c.requires.in_order e.step e.key (index_of pages place) found.at_most found.before found.after c.requires.there in
+    let within = list_inside (λ (p : Vec Event). p.items) pages place.page place.index there.0 in
+    let inside : place.index < length page.items = omega (arith, found.place page within, ap (λ (p : Vec Event). length p.items) c.index_mut.ensures.value) in
+    ap (λ es. change_at es s k) (flat_set (λ (p : Vec Event). p.items) pages place.page page within c.index_mut.ensures.value place.index (with_item page place.index e) e inside refl)
+    ∙ replaced es c.requires.in_order e.step e.key (index_of pages place) found.at_most found.before found.after there.0 there.1 c.requires.key e refl refl s k

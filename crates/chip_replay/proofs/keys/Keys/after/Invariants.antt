@@ -1,16 +1,23 @@
-use Rattle.std.proofs.Common.{◌≡◌, ◌-◌, ℕ, ◌<◌, ◌≤◌, length, slice_index_or}
+use Rattle.std.proofs.Common.{◌≡◌, ◌+◌, ◌-◌, ℕ, ◌<◌, ◌≤◌, false, length, slice_index_or}
+use Rattle.chip_replay.specs.Mask.{mask}
+use Rattle.chip_replay.specs.Limits.{last_step}
+use Rattle.chip_replay.specs.Changes.{all_events, index_of, IsPlace}
 use Rattle.chip_replay.specs.declared.by_step.Event.{Event}
 use Rattle.chip_replay.proofs.ByStep.{IsUpTo}
 use Rattle.chip_replay.proofs.keys.Keys.after.Given as goal
 
-abbrev pub invariant-loop-place : goal.invariant-loop-place
-invariant-loop-place l =
+abbrev pub invariant-loop-until : goal.invariant-loop-until
+invariant-loop-until l =
     record {
       size : length l.down ≡ 16;
-      within : l.place ≤ length l.events.items;
-      early : (i : ℕ) (d : Event) → i < l.place → (slice_index_or l.events.items i d).step ≤ l.step;
-      up_to : IsUpTo l.self l.events.items l.fn.known.until l.place l.down;
+      as_mask : l.keys ≡ mask (λ k. slice_index_or l.down k false) 16;
+      place : IsPlace l.steps.pages.items l.place;
+      within : index_of l.steps.pages.items l.place ≤ length (all_events l.steps.pages.items);
+      next : (d : Event) → index_of l.steps.pages.items l.place < length (all_events l.steps.pages.items) → l.until ≡ (slice_index_or (all_events l.steps.pages.items) (index_of l.steps.pages.items l.place) d).step;
+      past : length (all_events l.steps.pages.items) ≤ index_of l.steps.pages.items l.place → l.until ≡ last_step + 1;
+      early : (i : ℕ) (d : Event) → i < index_of l.steps.pages.items l.place → (slice_index_or (all_events l.steps.pages.items) i d).step ≤ l.step;
+      up_to : IsUpTo l.self (all_events l.steps.pages.items) l.fn.known.until (index_of l.steps.pages.items l.place) l.down;
     }
 
-abbrev pub decreases-loop-place : goal.decreases-loop-place
-decreases-loop-place l = length l.events.items - l.place
+abbrev pub decreases-loop-until : goal.decreases-loop-until
+decreases-loop-until l = length (all_events l.steps.pages.items) - index_of l.steps.pages.items l.place

@@ -2,6 +2,7 @@ use Rattle.std.proofs.Common.{◌≡◌, ◌+◌, ◌<◌, None, cond, length, i
 use Rattle.std.specs.FinMap as map
 use Rattle.chip_replay.specs.declared.keys.Moment.{Moment}
 use Rattle.chip_replay.specs.Keys.{Events, event_at, edit_fault}
+use Rattle.chip_replay.specs.Changes.{all_events}
 use Rattle.chip_replay.proofs.Moments.{one_removed, len_removed}
 use Rattle.chip_replay.proofs.KeyFacts.{says_set, event_at-remove, there_if_no_fault, key_if_no_fault}
 use Rattle.chip_replay.proofs.keys.Keys.delete.Goals as goal
@@ -22,7 +23,7 @@ invariant_of-self c =
     let later : Events = map.from_entries fs in
     let is : later ≡ map.remove before m = one_removed es fs m c.remove.ensures.updates.0 in (
       len_removed es fs m is c.self.invariant.0 (ap (λ o. length fs + cond (is_some o) 1 0) (sym c.remove.ensures.value) ∙ c.remove.ensures.len),
-      says_set before later c.self.inside.steps.events.items c.remove-2.new.self.events.items c.args.step c.args.key _ c.self.invariant.1 c.remove-2.ensures.set
+      says_set before later (all_events c.self.inside.steps.pages.items) (all_events c.remove-2.new.self.pages.items) c.args.step c.args.key _ c.self.invariant.1 c.remove-2.ensures.set
           (λ s k. ap (λ (e : Events). event_at e s k) is ∙ event_at-remove before c.args.step c.args.key s k),
       c.remove-2.ensures.in_order,
     )

@@ -1,0 +1,22 @@
+use Rattle.std.proofs.Common.{◌∙◌, ◌<◌, ap, map, length, List, arith, refl}
+use Rattle.std.proofs.lemmas.List.{map-append, take_all}
+use Rattle.chip_lang.specs.Line.{Reading}
+use Rattle.chip_lang.specs.SeenLine.{seen_line}
+use Rattle.chip_asm.specs.inner.Hints.{names_in, hint_in}
+use Rattle.chip_asm.specs.inner.Records.{lines_after, readings_in}
+use Rattle.chip_asm.proofs.Edited.{length-readings_after}
+use Rattle.chip_asm.proofs.LayoutSteps.{take-next}
+use Rattle.chip_asm.proofs.hints.hints_of_all.Goals as goal
+
+pub loop-place-preserved : goal.loop-place-preserved
+loop-place-preserved c =
+    let all : List Reading = readings_in (lines_after c.args.lines.now c.args.edit.now) in
+    let inside : c.loop-place.place < length all = omega (arith, length-readings_after c.args.lines.now c.args.edit.now c.requires.within, c.count_after-place-end.ensures) in
+    let more = take-next all c.loop-place.place (seen_line c.line_after-line.result.now) inside c.line_after-line.ensures in
+    c.in_ok-push.ensures.items ∙ (rw (more, map-append, c.loop-place.invariant, c.hint_of.ensures) refl)
+
+pub returns : goal.returns
+returns c =
+    let all : List Reading = readings_in (lines_after c.args.lines.now c.args.edit.now) in
+    let whole = take_all c.loop-place.place all (omega (arith, length-readings_after c.args.lines.now c.args.edit.now c.requires.within, c.count_after-place-end.ensures)) in
+    c.loop-place.invariant ∙ ap (map (hint_in (names_in c.args.names.now))) whole
