@@ -1,10 +1,11 @@
 -- The key events in the order of their steps, entry by entry.
-use Rattle.std.proofs.Common.{◌≡◌, ◌≢◌, ℕ, zero, suc, ◌+◌, ◌-◌, ◌<◌, ◌≤◌, Bool, false, add-one, List, length, set, get_or, slice_index_or, Option, Some, None, refl, sym, ap, ◌∙◌, subst, arith, inl, inr, get_or-set_same, get_or-set_other}
+use Rattle.std.proofs.Common.{◌≡◌, ◌≢◌, ℕ, zero, suc, ◌+◌, ◌-◌, ◌<◌, ◌≤◌, Bool, false, add-one, List, [], ◌∷◌, length, length-set, set, get_or, slice_index_or, Option, Some, None, refl, sym, ap, ◌∙◌, subst, arith, inl, inr, get_or-set_same, get_or-set_other}
 use Rattle.std.proofs.lemmas.Bool.{cases_eq, cases_lt}
+use Rattle.std.proofs.lemmas.List.{get_or_default}
 use Rattle.std.specs.Prelude.{IfSome, min}
 use Rattle.chip_replay.proofs.LastEvent.{is_down-stays, is_down-none, is_down-last}
 use Rattle.chip_replay.proofs.InOrder.{change_none, change_there, steps_rise}
-use Rattle.chip_replay.specs.Changes.{IsInOrder, IsFirstFrom, SaysTheSame, change_at, was_down, KnowsKeys, HoldsKeys}
+use Rattle.chip_replay.specs.Changes.{IsInOrder, IsFirstFrom, SaysTheSame, after_events, change_at, was_down, KnowsKeys, HoldsKeys}
 use Rattle.chip_replay.specs.History.{IsHolding}
 use Rattle.chip_replay.specs.declared.by_step.Event.{Event}
 use Rattle.chip_replay.specs.declared.keys.Holding.{Holding}
@@ -61,6 +62,20 @@ is_down-was_down : (events : Events) (k from s : ℕ) → from ≤ s + 1 → ((r
 is_down-was_down events k zero s l none = is_down-none events k s (λ r lr. none r (omega arith) lr)
 is_down-was_down events k (suc from) s l none = is_down-stays events k from s (omega arith) (λ r lf lr. none r (omega arith) lr)
 
+pub length-after : (down : List Bool) (es : List Event) (n : ℕ) → length (after_events down es n) ≡ length down
+length-after down es zero = refl
+length-after down [] (suc n) = refl
+length-after down (e ∷ es) (suc n) = length-after (set down e.key e.down) es n ∙ length-set down e.key e.down
+
+-- the last of the first events sets its key after the others
+after_suc : (down : List Bool) (es : List Event) (n : ℕ) (d : Event) → n < length es → after_events down es (suc n) ≡ set (after_events down es n) (get_or es n d).key (get_or es n d).down
+after_suc down [] n d l = absurd (omega (arith, l))
+after_suc down (e ∷ es) zero d l = refl
+after_suc down (e ∷ es) (suc n) d l = after_suc (set down e.key e.down) es n d (omega (arith, l))
+
+pub after_more : (down : List Bool) (es : List Event) (n : ℕ) (d : Event) → n < length es → after_events down es (n + 1) ≡ set (after_events down es n) (get_or es n d).key (get_or es n d).down
+after_more down es n d l = ap (after_events down es) (add-one n) ∙ after_suc down es n d l
+
 -- what a table says after the events in order up to a place: each key is so in a step up to which those are, and none of its later ones
 abbrev pub IsUpTo : Events → List Event → ℕ → ℕ → List Bool → Type 0
 IsUpTo events es from place down =
@@ -106,6 +121,20 @@ module _ (events : Events) (es : List Event) (order : IsInOrder es) (same : Says
         ])
         ∙ sym (get_or-set_other down e.key k e.down false other))
   ]
+
+  -- the events of a part that stands at the place are passed, up to one of them
+  pub up_to_passed : (from place : ℕ) (down : List Bool) (part : List Event) (n : ℕ) → place + length part ≤ length es → ((i : ℕ) (d : Event) → i < length part → get_or es (place + i) d ≡ get_or part i d) → n ≤ length part → length down ≡ 16 → IsUpTo events es from place down → IsUpTo events es from (place + n) (after_events down part n)
+  up_to_passed from place down part zero within there l size before = subst (λ p. IsUpTo events es from p down) (omega arith) before
+  up_to_passed from place down part (suc n) within there l size before =
+      let none : Event = record { step = 0; key = 0; down = false } in
+      let e = get_or part n none in
+      let inside : n < length part = omega (arith, l) in
+      let at : (d : Event) → get_or es (place + n) d ≡ e = λ d. there n d inside ∙ get_or_default part n d none inside in
+      let earlier = up_to_passed from place down part n within there (omega (arith, l)) size before in
+      let passed = up_to_more from (place + n) (after_events down part n) e (omega (arith, inside, within)) at (length-after down part n ∙ size) earlier in
+      let next : place + n + 1 ≡ place + suc n = omega arith in
+      subst (λ p. IsUpTo events es from p (after_events down part (suc n))) next
+      (subst (λ xs. IsUpTo events es from (place + n + 1) xs) (sym (after_suc down part n none inside)) passed)
 
   -- no event that isn't passed is in the steps up to the next one's
   pub up_to_holds : (from place step until : ℕ) (down : List Bool) → from ≤ step → IsUpTo events es from place down → ((i : ℕ) (d : Event) → i < place → (get_or es i d).step ≤ step) → ((i : ℕ) (d : Event) → place ≤ i → i < length es → until ≤ (get_or es i d).step) → (s k : ℕ) → step ≤ s → s < until → k < 16 → is_down events k s ≡ slice_index_or down k false

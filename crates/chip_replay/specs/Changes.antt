@@ -9,12 +9,13 @@
 --     IsPage         a page is neither empty nor too large
 --     IsPlace        a place is that of an event, or past all pages
 --     HasRoom        an event can be put at a place of a page
+--     after_events   what a table of the keys says after the first of some events
 --     change_at      what the events say of a key at a step
 --     was_down       whether a key was down before a step's events
 --     KnowsKeys      what is known of the keys when a step begins
 --     SaysTheSame    two lists of events say the same
 --     HoldsKeys      what is known of the keys in a step, and in the steps up to the next event
-use Rattle.std.specs.Prelude.{◌≡◌, ℕ, ◌+◌, ◌*◌, ◌<◌, ◌≤◌, ◌==◌, ◌&&◌, zero, suc, Bool, false, List, [], ◌∷◌, length, take, Option, None, Some, slice_index_or, min, if◌then◌else◌}
+use Rattle.std.specs.Prelude.{◌≡◌, ℕ, ◌+◌, ◌*◌, ◌<◌, ◌≤◌, ◌==◌, ◌&&◌, zero, suc, Bool, false, List, [], ◌∷◌, length, take, Option, None, Some, slice_index_or, slice_set, min, if◌then◌else◌}
 use Rattle.std.specs.List.{flat_map}
 use Rattle.std.specs.Global.{Vec}
 use Rattle.chip_replay.specs.Mask.{mask}
@@ -58,6 +59,12 @@ abbrev pub HasRoom : List (Vec Event) → Place → Type 0
 HasRoom pages place = (place.page < length pages)
     × ((d : Vec Event) → (place.index ≤ length (slice_index_or pages place.page d).items)
     × (length (slice_index_or pages place.page d).items < PAGE_EVENTS))
+
+-- each of the first events sets its key
+abbrev pub after_events : List Bool → List Event → ℕ → List Bool
+after_events down es zero = down
+after_events down [] (suc n) = down
+after_events down (e ∷ es) (suc n) = after_events (slice_set down e.key e.down) es n
 
 -- what the first event of the key's at the step says, if there is one
 abbrev pub change_at : List Event → ℕ → ℕ → Option Bool

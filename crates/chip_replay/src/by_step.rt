@@ -2,6 +2,7 @@
 
 ghost use Rattle.std.specs.Prelude.{◌≡◌, ℕ, ◌+◌, ◌*◌, ◌<◌, ◌≤◌, ◌==◌, ◌&&◌, [], ◌∷◌, ◌++◌, length, None, Some, IsTrue, IsSome, IfOk, OnOk, OnErr, if◌then◌else◌, slice_index_or};
 ghost use Rattle.std.specs.List.{All, insert, remove};
+ghost use Rattle.std.specs.Global.{Vec};
 ghost use Rattle.chip_replay.specs.Changes.{change_at, rank, all_events, count_before, index_of, IsInOrder, IsFirstFrom, IsPage, IsPlace, HasRoom};
 
 use crate::limits::{KEY_COUNT, LAST_STEP};
@@ -68,28 +69,36 @@ impl Steps {
         }
     }
 
-    /// The event at a place.
-    pub(crate) fn event(&self, place: Place) -> Event
+    /// The events of a page from one on.
+    pub(crate) fn rest_of_page(&self, place: Place) -> &[Event]
         requires place { IsPlace self.now.pages.items place }
         requires there { index_of self.now.pages.items place < length (all_events self.now.pages.items) }
-        ensures { (d : Event) → slice_index_or (all_events self.now.pages.items) (index_of self.now.pages.items place) d
-            ≡ result }
+        ensures length { (d : Vec Event) → place.index + length result.now
+            ≡ length (slice_index_or self.now.pages.items place.page d).items }
+        ensures some { 0 < length result.now }
+        ensures within { index_of self.now.pages.items place + length result.now
+            ≤ length (all_events self.now.pages.items) }
+        ensures same { (i : ℕ) (d : Event) → i < length result.now
+            → slice_index_or (all_events self.now.pages.items) (index_of self.now.pages.items place + i) d
+            ≡ slice_index_or result.now i d }
     {
-        self.pages[place.page][place.index]
+        &self.pages[place.page][place.index..]
     }
 
-    /// The place after that of an event.
-    pub(crate) fn next(&self, place: Place) -> Place
-        requires place { IsPlace self.now.pages.items place }
-        requires there { index_of self.now.pages.items place < length (all_events self.now.pages.items) }
+    /// The place so many events after one in its page: of the next page's first event where these are all of the rest.
+    pub(crate) fn later(&self, place: Place, count: usize) -> Place
+        requires page { place.page < length self.now.pages.items }
+        requires within { (d : Vec Event)
+            → place.index + count ≤ length (slice_index_or self.now.pages.items place.page d).items }
         ensures place { IsPlace self.now.pages.items result }
-        ensures next { index_of self.now.pages.items result ≡ index_of self.now.pages.items place + 1 }
+        ensures later { index_of self.now.pages.items result ≡ index_of self.now.pages.items place + count }
     {
         let events = &self.pages[place.page];
-        if place.index + 1 < events.len() {
+        let index = place.index + count;
+        if index < events.len() {
             Place {
                 page: place.page,
-                index: place.index + 1,
+                index,
             }
         } else {
             Place {

@@ -1,6 +1,7 @@
 //! The events of the keys.
 
-ghost use Rattle.std.specs.Prelude.{◌≡◌, ℕ, ◌<◌, ◌≤◌, false, MatchOption, IsOkUnless, OnOk, OnErr, slice_index_or, slice_set};
+ghost use Rattle.std.specs.Prelude.{◌≡◌, ℕ, ◌<◌, ◌≤◌, false, length, MatchOption, IsOkUnless, OnOk, OnErr, slice_index_or, slice_set};
+ghost use Rattle.chip_replay.specs.Changes.{after_events};
 ghost use Rattle.chip_replay.specs.Mask.{mask};
 
 use crate::by_step::{Event, Place, Steps};
@@ -180,11 +181,9 @@ impl Keys {
         let mut place = steps.first_from(known.until, known.place);
         let mut until = steps.step_at(place);
         while until <= step {
-            let event = steps.event(place);
-            let key = event.key as usize;
-            keys = with_key(keys, &down, key, event.down);
-            down[key] = event.down;
-            place = steps.next(place);
+            let events = steps.rest_of_page(place);
+            let passed = pass(events, step, &mut keys, &mut down);
+            place = steps.later(place, passed);
             until = steps.step_at(place);
         }
         Holding {
@@ -300,6 +299,29 @@ impl Keys {
     }
 }
 
+/// Takes over what the events up to a step say, which are the first ones, and answers how many they are.
+#[inline(always)]
+fn pass(events: &[Event], step: u32, keys: &mut u16, down: &mut [bool; KEY_COUNT]) -> usize
+    requires keys { (i : ℕ) (d : Event) → i < length events.now → (slice_index_or events.now i d).key < KEY_COUNT }
+    requires size { length down.old ≡ KEY_COUNT }
+    requires mask { keys.old ≡ mask (λ k. slice_index_or down.old k false) 16 }
+    ensures at_most { result ≤ length events.now }
+    ensures early { (i : ℕ) (d : Event) → i < result → (slice_index_or events.now i d).step ≤ step }
+    ensures next { (d : Event) → result < length events.now → step < (slice_index_or events.now result d).step }
+    ensures down { down.new ≡ after_events down.old events.now result }
+    ensures mask { keys.new ≡ mask (λ k. slice_index_or down.new k false) 16 }
+{
+    let mut passed = 0;
+    while passed < events.len() && events[passed].step <= step {
+        let event = events[passed];
+        let key = event.key as usize;
+        *keys = with_key(*keys, down, key, event.down);
+        down[key] = event.down;
+        passed += 1;
+    }
+    passed
+}
+
 /// The mask of these keys after one of them went down or up.
 #[inline(always)]
 fn with_key(keys: u16, down: &[bool; KEY_COUNT], key: usize, is_down: bool) -> u16
@@ -307,12 +329,7 @@ fn with_key(keys: u16, down: &[bool; KEY_COUNT], key: usize, is_down: bool) -> u
     requires mask { keys ≡ mask (λ k. slice_index_or down.now k false) 16 }
     ensures { result ≡ mask (λ k. slice_index_or (slice_set down.now key is_down) k false) 16 }
 {
-    let bit = 1 << key;
-    match (down[key], is_down) {
-        (false, true) => keys + bit,
-        (true, false) => keys - bit,
-        (false, false) | (true, true) => keys,
-    }
+    keys - (u16::from(down[key]) << key) + (u16::from(is_down) << key)
 }
 
 /// A mask with key k at bit k.

@@ -1,26 +1,32 @@
-use Rattle.std.proofs.Common.{◌≡◌, ◌<◌, ◌^◌, true, false, cond, set, slice_index_or, ap, arith}
+use Rattle.std.proofs.Common.{◌≡◌, ℕ, ◌*◌, ◌%◌, ◌<◌, ◌≤◌, ◌^◌, Bool, true, false, cond, set, slice_index_or, ap, arith, ◌∙◌}
+use mir.Val.{bool_byte}
 use Rattle.chip_replay.specs.Mask.{mask}
 use Rattle.chip_replay.proofs.KeyFacts.{mask-lt, mask-set, pow-small}
 use Rattle.chip_replay.proofs.keys.with_key.Goals as goal
 
+digit : (b : Bool) (m : ℕ) → m ≤ 32768 → bool_byte b * m % 65536 ≡ cond b m 0
+digit true m l = omega (arith, l)
+digit false m l = omega arith
+
+was : (r : ℕ) (b : Bool) (key : ℕ) → key < 16 → r ≡ bool_byte b → r * 2 ^ key % 65536 ≡ cond b (2 ^ key) 0
+was r b key l is = ap (λ n. n * 2 ^ key % 65536) is ∙ digit b (2 ^ key) (pow-small key l)
+
+pub overflow_sub-result : goal.overflow_sub-result
+overflow_sub-result c =
+    let lower = mask-set c.args.down.now c.args.key false 16 (omega (arith, c.told-down, c.requires.key)) c.requires.key in
+    omega (arith, lower, c.requires.mask, was c.from.result _ c.args.key c.requires.key c.from.ensures)
+
 pub overflow_add-result : goal.overflow_add-result
 overflow_add-result c =
-    let small = pow-small c.args.key c.requires.key in
-    let after = mask-set c.args.down.now c.args.key true 16 (omega (arith, c.told-down, c.requires.key)) c.requires.key in
-    let bound : mask (λ k. slice_index_or (set c.args.down.now c.args.key true) k false) 16 < 65536 = mask-lt (λ k. slice_index_or (set c.args.down.now c.args.key true) k false) 16 in
-    let up : cond (slice_index_or c.args.down.now c.args.key false) (2 ^ c.args.key) 0 ≡ 0 = ap (λ b. cond b (2 ^ c.args.key) 0) c.in-false-true.is-0 in
-    omega (arith, small, after, bound, up, c.requires.mask)
+    let down = c.args.down.now in
+    let later = mask-set down c.args.key c.args.is_down 16 (omega (arith, c.told-down, c.requires.key)) c.requires.key in
+    let bound : mask (λ k. slice_index_or (set down c.args.key c.args.is_down) k false) 16 < 65536 = mask-lt (λ k. slice_index_or (set down c.args.key c.args.is_down) k false) 16 in
+    let lower = mask-set down c.args.key false 16 (omega (arith, c.told-down, c.requires.key)) c.requires.key in
+    omega (arith, lower, later, bound, c.requires.mask, was c.from.result _ c.args.key c.requires.key c.from.ensures, was c.from-2.result _ c.args.key c.requires.key c.from-2.ensures)
 
-pub returns-in-true-false : goal.returns-in-true-false
-returns-in-true-false c =
-    let small = pow-small c.args.key c.requires.key in
-    let after = mask-set c.args.down.now c.args.key false 16 (omega (arith, c.told-down, c.requires.key)) c.requires.key in
-    let down : cond (slice_index_or c.args.down.now c.args.key false) (2 ^ c.args.key) 0 ≡ 2 ^ c.args.key = ap (λ b. cond b (2 ^ c.args.key) 0) c.in-true-false.is-0 in
-    rw c.in-true-false.is-1 (omega (arith, small, after, down, c.requires.mask))
-
-pub returns-in-false-true : goal.returns-in-false-true
-returns-in-false-true c =
-    let small = pow-small c.args.key c.requires.key in
-    let after = mask-set c.args.down.now c.args.key true 16 (omega (arith, c.told-down, c.requires.key)) c.requires.key in
-    let up : cond (slice_index_or c.args.down.now c.args.key false) (2 ^ c.args.key) 0 ≡ 0 = ap (λ b. cond b (2 ^ c.args.key) 0) c.in-false-true.is-0 in
-    rw c.in-false-true.is-1 (omega (arith, small, after, up, c.requires.mask))
+pub returns : goal.returns
+returns c =
+    let down = c.args.down.now in
+    let later = mask-set down c.args.key c.args.is_down 16 (omega (arith, c.told-down, c.requires.key)) c.requires.key in
+    let lower = mask-set down c.args.key false 16 (omega (arith, c.told-down, c.requires.key)) c.requires.key in
+    omega (arith, lower, later, c.requires.mask, was c.from.result _ c.args.key c.requires.key c.from.ensures, was c.from-2.result _ c.args.key c.requires.key c.from-2.ensures)
