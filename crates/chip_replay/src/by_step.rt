@@ -109,6 +109,8 @@ impl Steps {
     }
 
     /// The place of the first event that is not before a key's at a step.
+    #[cold]
+    #[inline(never)]
     fn place(&self, step: u32, key: u8) -> Place
         requires { IsInOrder (all_events self.now.pages.items) }
         ensures place { IsPlace self.now.pages.items result }

@@ -162,36 +162,30 @@ impl Keys {
         ensures { HoldsKeys self.now step known.new }
     {
         if step >= known.until {
-            *known = self.after(*known, step);
+            self.pass_events(known, step);
         }
     }
 
-    /// The keys that are down in a step and from there on, by those that were down before the events of an
-    /// earlier one, or of this one.
+    /// From the keys that were down before the events of an earlier step, or of this one, to those that are
+    /// down in it and from there on.
     #[inline(never)]
-    fn after(&self, known: Holding, step: u32) -> Holding
+    fn pass_events(&self, known: &mut Holding, step: u32)
         requires in_range { step < LAST_STEP }
-        requires passed { known.until ≤ step }
-        requires known { KnowsKeys self.now step known }
-        ensures { HoldsKeys self.now step result }
+        requires passed { known.old.until ≤ step }
+        requires known { KnowsKeys self.now step known.old }
+        ensures { HoldsKeys self.now step known.new }
     {
         let steps = &self.steps;
-        let mut keys = known.keys;
-        let mut down = known.down;
         let mut place = steps.first_from(known.until, known.place);
         let mut until = steps.step_at(place);
         while until <= step {
             let events = steps.rest_of_page(place);
-            let passed = pass(events, step, &mut keys, &mut down);
+            let passed = pass(events, step, &mut known.keys, &mut known.down);
             place = steps.later(place, passed);
             until = steps.step_at(place);
         }
-        Holding {
-            keys,
-            down,
-            until,
-            place,
-        }
+        known.until = until;
+        known.place = place;
     }
 
     /// Adds an event: the key goes down, or up, at the step. Errors, the first that holds: the step is
@@ -311,14 +305,16 @@ fn pass(events: &[Event], step: u32, keys: &mut u16, down: &mut [bool; KEY_COUNT
     ensures down { down.new ≡ after_events down.old events.now result }
     ensures mask { keys.new ≡ mask (λ k. slice_index_or down.new k false) 16 }
 {
+    let mut mask = *keys;
     let mut passed = 0;
     while passed < events.len() && events[passed].step <= step {
         let event = events[passed];
         let key = event.key as usize;
-        *keys = with_key(*keys, down, key, event.down);
+        mask = with_key(mask, down, key, event.down);
         down[key] = event.down;
         passed += 1;
     }
+    *keys = mask;
     passed
 }
 

@@ -26,7 +26,7 @@ loop-passed-preserved c =
     record {
       at_most = omega (arith, inside);
       size = length-set c.loop-passed.down e.key e.down ∙ before.size;
-      as_mask = c.with_key.ensures;
+      as_mask = c.with_key-mask.ensures;
       early = λ i d l. elim (cases_lt i passed) [
         | inl a ↦ before.early i d a
         | inr a ↦ (

@@ -9,7 +9,7 @@ invariant-loop-passed l =
     record {
       at_most : l.passed ≤ length l.events;
       size : length l.down ≡ 16;
-      as_mask : l.keys ≡ mask (λ k. slice_index_or l.down k false) 16;
+      as_mask : l.mask ≡ mask (λ k. slice_index_or l.down k false) 16;
       early : (i : ℕ) (d : Event) → i < l.passed → (slice_index_or l.events i d).step ≤ l.step;
       down : l.down ≡ after_events l.fn.down l.events l.passed;
     }

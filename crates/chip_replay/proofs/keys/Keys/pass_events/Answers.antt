@@ -5,7 +5,7 @@ use Rattle.chip_replay.specs.Changes.{all_events, index_of}
 use Rattle.chip_replay.specs.declared.by_step.Event.{Event}
 use Rattle.chip_replay.proofs.InOrder.{steps_rise}
 use Rattle.chip_replay.proofs.ByStep.{length-after, up_to_first, up_to_passed, up_to_holds}
-use Rattle.chip_replay.proofs.keys.Keys.after.Goals as goal
+use Rattle.chip_replay.proofs.keys.Keys.pass_events.Goals as goal
 
 pub loop-until-init : goal.loop-until-init
 loop-until-init c =
@@ -22,8 +22,8 @@ loop-until-init c =
       next = c.step_at-until.ensures.there;
       past = c.step_at-until.ensures.past;
       early = λ i d l. omega (arith, found.before i d l, c.requires.passed);
-      up_to = up_to_first c.args.self.now es c.self.invariant.2 says c.args.known.until place c.args.known.down found
-          (λ k l. c.requires.known.before c.args.known.until k (omega (arith, c.requires.passed)) (omega arith) l);
+      up_to = up_to_first c.args.self.now es c.self.invariant.2 says c.args.known.now.until place c.args.known.now.down found
+          (λ k l. c.requires.known.before c.args.known.now.until k (omega (arith, c.requires.passed)) (omega arith) l);
     }
 
 pub pass-passed-requires-clause-keys : goal.pass-passed-requires-clause-keys
@@ -46,7 +46,7 @@ loop-until-preserved c =
     let says = λ (s k : ℕ) (lk : k < 16). c.self.invariant.1 s k lk ∙ ap (λ (e : Events). event_at e s k) c.self.view_is in
     let next : index_of pages c.later-place.result ≡ place + passed = c.later-place.ensures.later in
     record {
-      size = ap length pass.down ∙ length-after c.loop-until.down events passed ∙ before.size;
+      size = ap length pass.down ∙ length-after c.loop-until.known.down events passed ∙ before.size;
       as_mask = pass.mask;
       place = c.later-place.ensures.place;
       within = omega (arith, part.within, pass.at_most, next);
@@ -59,7 +59,7 @@ loop-until-preserved c =
             let at : place + (i - place) ≡ i = omega (arith, a) in
             omega (arith, pass.early (i - place) d among, ap (λ (x : Event). x.step) (part.same (i - place) d (omega (arith, among, pass.at_most))), ap (λ n. (slice_index_or es n d).step) at))
       ];
-      up_to = rw (next, pass.down) (up_to_passed c.args.self.now es c.self.invariant.2 says c.args.known.until place c.loop-until.down events passed part.within part.same pass.at_most before.size before.up_to);
+      up_to = rw (next, pass.down) (up_to_passed c.args.self.now es c.self.invariant.2 says c.args.known.now.until place c.loop-until.known.down events passed part.within part.same pass.at_most before.size before.up_to);
     }
 
 -- the event at the place is one of those that are passed
@@ -96,7 +96,7 @@ returns c =
       within = omega (arith, c.loop-until-test.false);
       size = before.size;
       as_mask = before.as_mask;
-      stays = up_to_holds c.args.self.now es c.self.invariant.2 says c.args.known.until place c.args.step c.loop-until.until c.loop-until.down c.requires.passed before.up_to before.early (λ i d l li. elim (cases_lt place i) [
+      stays = up_to_holds c.args.self.now es c.self.invariant.2 says c.args.known.now.until place c.args.step c.loop-until.until c.loop-until.known.down c.requires.passed before.up_to before.early (λ i d l li. elim (cases_lt place i) [
         | inl a ↦ omega (arith, steps_rise es c.self.invariant.2 place i d a li, before.next d (omega (arith, a, li)))
         | inr a ↦ (let same : place ≡ i = omega (arith, a, l) in omega (arith, before.next d (omega (arith, same, li)), ap (λ n. (slice_index_or es n d).step) same))
       ]);
