@@ -205,7 +205,7 @@ pub(crate) fn recode(
     ensures not_lowered { meter.old.encoded ≤ meter.new.encoded }
     ensures parsed { meter.new.parsed ≡ meter.old.parsed }
 {
-    let unmoved = old.names.has_same_values(&new.names);
+    let unmoved = same_names && old.names.has_same_values(&new.names);
     let count = count_after(lines.len(), edit);
     let mut codes = Vec::new(alloc);
     for place in 0..count {
