@@ -58,11 +58,18 @@ take-given zero (x ∷ xs) = refl
 take-given (suc i) [] = refl
 take-given (suc i) (x ∷ xs) = ap (λ l. x ∷ l) (take-given i xs)
 
--- the name with its value, of an entry at a place
-pub valued-at : (entries : List (Vec ℕ × Symbol)) (names : List (Name × Symbol)) (i : ℕ) (entry : Vec ℕ × Symbol) → map seen entries ≡ names → Some entry ≡ slice_get entries i → slice_get (valued names) i ≡ Some (entry.0.items, entry.1.value)
-valued-at entries names i entry view is =
-    let there : slice_get names i ≡ Some (seen entry) = ap (λ t. slice_get t i) (sym view) ∙ slice_get-map seen entries i ∙ ap (option_map seen) (sym is) in
-    slice_get-map (λ e. (e.0, e.1.value)) names i ∙ ap (option_map (λ (e : Name × Symbol). (e.0, e.1.value))) there
+-- the name with its value at a place of two tables with the same names, where it has the same value there
+pub valued-same : (old new : List (Name × Symbol)) (i : ℕ) (a b : Name × Symbol) → map (λ e. e.0) old ≡ map (λ e. e.0) new → slice_get old i ≡ Some a → slice_get new i ≡ Some b → a.1.value ≡ b.1.value
+    → slice_get (valued old) i ≡ slice_get (valued new) i
+valued-same old new i a b names before after value =
+    let was : slice_get (map (λ (e : Name × Symbol). e.0) old) i ≡ Some a.0 = slice_get-map (λ (e : Name × Symbol). e.0) old i ∙ ap (option_map (λ (e : Name × Symbol). e.0)) before in
+    let is : slice_get (map (λ (e : Name × Symbol). e.0) new) i ≡ Some b.0 = slice_get-map (λ (e : Name × Symbol). e.0) new i ∙ ap (option_map (λ (e : Name × Symbol). e.0)) after in
+    let name : a.0 ≡ b.0 = ap (λ o. unwrap_or o a.0) (sym was ∙ ap (λ ns. slice_get ns i) names ∙ is) in
+    slice_get-map (λ e. (e.0, e.1.value)) old i
+    ∙ ap (option_map (λ (e : Name × Symbol). (e.0, e.1.value))) before
+    ∙ ap (λ n. Some (n, a.1.value)) name
+    ∙ ap (λ v. Some (b.0, v)) value
+    ∙ sym (slice_get-map (λ e. (e.0, e.1.value)) new i ∙ ap (option_map (λ (e : Name × Symbol). (e.0, e.1.value))) after)
 
 -- lists that agree on their first elements, and on the next one, agree on one more
 pub take-same : {A : Type 0} (i : ℕ) (xs ys : List A) → take i xs ≡ take i ys → slice_get xs i ≡ slice_get ys i → take (i + 1) xs ≡ take (i + 1) ys
@@ -71,16 +78,9 @@ take-same i xs ys h e =
     let same = take-given i xs ∙ ap (λ o. take i xs ++ option_to_list o) e ∙ ap (λ l. l ++ option_to_list (slice_get ys i)) h ∙ sym (take-given i ys) in
     rw more same
 
--- there are as many names as entries
-pub length-valued : (entries : List (Vec ℕ × Symbol)) (names : List (Name × Symbol)) → map seen entries ≡ names → length (valued names) ≡ length entries
-length-valued entries names view = length-map names (λ (e : Name × Symbol). (e.0, e.1.value)) ∙ ap length (sym view) ∙ length-map entries seen
-
--- names with values that are one have one name, and one value
-pub same-parts : {n m : Name} {v w : ℤ} → ◌≡◌ {A = Option (Name × ℤ)} (Some (n, v)) (Some (m, w)) → (n ≡ m) × (v ≡ w)
-same-parts {n} {m} {v} {w} e =
-    let name : n ≡ m = ap (λ (o : Option (Name × ℤ)). (unwrap_or o (n, v)).0) e in
-    let value : v ≡ w = ap (λ (o : Option (Name × ℤ)). (unwrap_or o (n, v)).1) e in
-    (name, value)
+-- there are as many names with values as names
+pub length-valued : (names : List (Name × Symbol)) → length (valued names) ≡ length names
+length-valued names = length-map names (λ (e : Name × Symbol). (e.0, e.1.value))
 
 -- what stands at a place of the first elements
 pub taken-at : {X : Type 0} (n i : ℕ) (xs : List X) → i < n → slice_get (take n xs) i ≡ slice_get xs i

@@ -1,5 +1,5 @@
 //! A change of one line, seen before it is made.
-ghost use Rattle.std.specs.Prelude.{◌≡◌, ◌<◌, ◌≤◌, length, slice_get, slice_set, Some, vec_len, vec_capacity};
+ghost use Rattle.std.specs.Prelude.{◌≡◌, ◌<◌, ◌≤◌, length, slice_get, slice_set, insert, remove, IfOk, Some, vec_len, vec_capacity};
 ghost use Rattle.chip_asm.specs.inner.Records.{IsPlaceWithin, lines_after, readings_in, count_after, place_before};
 ghost use Rattle.chip_asm.specs.inner.Resume.{first_changed};
 ghost use Rattle.chip_lang.specs.SeenLine.{seen_line};
@@ -7,6 +7,7 @@ ghost use Rattle.chip_lang.specs.SeenLine.{seen_line};
 use crate::kept_line::KeptLine;
 use crate::limits::MOST_LINES;
 use chip_lang::Line;
+use std::alloc::{AllocError, Global};
 
 /// A change of one line; places count from 0.
 #[derive(Drop)]
@@ -128,4 +129,36 @@ pub(crate) fn replace_line(lines: &mut Vec<KeptLine>, at: usize, added: KeptLine
     ensures { lines.new.items ≡ slice_set lines.old.items at added }
 {
     lines[at] = added;
+}
+
+/// A copy of some items, with one more before the one at a place.
+pub(crate) fn with_item<T: Copy>(
+    alloc: Global,
+    items: &[T],
+    at: usize,
+    added: T,
+) -> Result<Vec<T>, AllocError>
+    requires { at ≤ length items.now }
+    ensures { IfOk result (λ made. made.items ≡ insert items.now at added) }
+{
+    let mut made = Vec::with_capacity(alloc, items.len().saturating_add(1))?;
+    made.extend_from_slice(&items[..at])?;
+    made.push(added)?;
+    made.extend_from_slice(&items[at..])?;
+    Ok(made)
+}
+
+/// A copy of some items, without the one at a place.
+pub(crate) fn without_item<T: Copy>(
+    alloc: Global,
+    items: &[T],
+    at: usize,
+) -> Result<Vec<T>, AllocError>
+    requires { at < length items.now }
+    ensures { IfOk result (λ made. made.items ≡ remove items.now at) }
+{
+    let mut made = Vec::with_capacity(alloc, items.len())?;
+    made.extend_from_slice(&items[..at])?;
+    made.extend_from_slice(&items[at + 1..])?;
+    Ok(made)
 }

@@ -6,7 +6,7 @@ ghost use Rattle.chip_asm.specs.inner.Records.{IsPlaceWithin, lines_after, readi
 ghost use Rattle.chip_lang.specs.SeenLine.{seen_line};
 ghost use Rattle.chip_asm.specs.declared.kept_line.KeptLine.{KeptLine};
 
-use crate::edit::{Edit, count_after, line_after};
+use crate::edit::{Edit, count_after, line_after, with_item, without_item};
 use crate::kept_line::KeptLine;
 use crate::limits::MOST_LINES;
 use crate::table::Table;
@@ -68,21 +68,15 @@ fn edited_hints(
     ensures { (lines : List KeptLine) → hints.now ≡ map (hint_in (names_in names.now)) (readings_in lines)
         → IfOk result (λ after. after.items ≡ map (hint_in (names_in names.now)) (readings_in (lines_after lines edit.now))) }
 {
-    let mut after = Vec::from_slice(alloc, hints)?;
     match edit {
-        Edit::Insert(at, added) => {
-            after.insert(*at, hint_of(names, &added.line))?;
-            Ok(after)
-        }
+        Edit::Insert(at, added) => with_item(alloc, hints, *at, hint_of(names, &added.line)),
         Edit::Replace(at, added) => {
+            let mut after = Vec::from_slice(alloc, hints)?;
             after[*at] = hint_of(names, &added.line);
             Ok(after)
         }
-        Edit::Delete(at) => {
-            let _ = after.remove(*at);
-            Ok(after)
-        }
-        Edit::Keep => Ok(after),
+        Edit::Delete(at) => without_item(alloc, hints, *at),
+        Edit::Keep => Vec::from_slice(alloc, hints),
     }
 }
 

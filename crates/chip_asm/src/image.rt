@@ -1,5 +1,5 @@
 //! The image, and the faults of lines, from what is kept.
-ghost use Rattle.std.specs.Prelude.{◌≡◌, ℕ, ◌+◌, ◌-◌, ◌<◌, ◌≤◌, ◌&&◌, nat_le, nat_lt, length, slice_index, if◌then◌else◌, option_map, IfOk, OnOk, ◌++◌, option_to_list, map, vec_len};
+ghost use Rattle.std.specs.Prelude.{◌≡◌, ℕ, ◌+◌, ◌-◌, ◌<◌, ◌≤◌, ◌&&◌, nat_le, nat_lt, length, slice_index, if◌then◌else◌, option_map, IfOk, OnOk, ◌++◌, ◌∷◌, [], option_to_list, map, vec_len};
 ghost use Rattle.chip_asm.specs.Layout.{body_of, placed};
 ghost use Rattle.chip_asm.specs.inner.Layouts.{IsLayoutOf};
 ghost use Rattle.chip_asm.specs.Program.{faults_of_lines, byte_at, fault_of_line};
@@ -85,6 +85,19 @@ pub(crate) fn byte_or_zero(bytes: &[u8], index: usize) -> u8
     }
 }
 
+/// Writes the two bytes of an instruction at its address.
+fn write_word(image: &mut [u8], here: usize, high: u8, low: u8)
+    requires low { IMAGE_START ≤ here }
+    requires high { here + 2 ≤ length image.old + IMAGE_START }
+    requires memory { length image.old + IMAGE_START ≤ MEMORY_BYTES }
+    ensures { (index : ℕ) → slice_index image.new index
+        ≡ (if nat_le here (IMAGE_START + index) && nat_lt (IMAGE_START + index) (here + 2) then slice_index (high ∷ low ∷ []) (IMAGE_START + index - here) else slice_index image.old index) }
+{
+    let first = here - IMAGE_START;
+    image[first] = high;
+    image[first + 1] = low;
+}
+
 /// Writes the bytes of a line at its address, and zeros up to its size.
 pub(crate) fn write_line(image: &mut [u8], here: usize, size: usize, bytes: &[u8])
     requires low { IMAGE_START ≤ here }
@@ -93,6 +106,10 @@ pub(crate) fn write_line(image: &mut [u8], here: usize, size: usize, bytes: &[u8
     ensures { (index : ℕ) → slice_index image.new index
         ≡ (if nat_le here (IMAGE_START + index) && nat_lt (IMAGE_START + index) (here + size) then slice_index bytes.now (IMAGE_START + index - here) else slice_index image.old index) }
 {
+    if let ([high, low], 2) = (bytes, size) {
+        write_word(image, here, *high, *low);
+        return;
+    }
     for index in 0..size {
         image[here - IMAGE_START + index] = byte_or_zero(bytes, index);
     }

@@ -121,20 +121,25 @@ fn push_code_if(
     lines: &[KeptLine],
     edit: &Edit,
     place: usize,
-    names: &Hinted<'_>,
+    names: &Table,
+    hint: usize,
 ) -> Result<(), AllocError>
     requires within { IsPlaceWithin (length lines.now) edit.now }
     requires few { place ≤ MOST_LINES }
     requires place { place < count_of_after (length lines.now) edit.now }
     ensures codes { (line : Reading) → slice_get (readings_in (lines_after lines.now edit.now)) place ≡ Some line
-        → OnOk result (codes.new.items ≡ codes.old.items ++ option_to_list (if wanted then Some (place, code_of line (values_of names.now.table.now)) else None)) }
+        → OnOk result (codes.new.items ≡ codes.old.items ++ option_to_list (if wanted then Some (place, code_of line (values_of names.now)) else None)) }
     ensures encoded { meter.new.encoded ≤ meter.old.encoded + (if wanted then 1 else 0) }
     ensures not_lowered { meter.old.encoded ≤ meter.new.encoded }
     ensures parsed { meter.new.parsed ≡ meter.old.parsed }
 {
     if wanted {
         let line = line_after(lines, edit, place);
-        let code = encode(alloc, meter, line, names)?;
+        let names = Hinted {
+            table: names,
+            index: hint.saturating_sub(1),
+        };
+        let code = encode(alloc, meter, line, &names)?;
         codes.push((place, code))?;
     }
     Ok(())
@@ -200,7 +205,7 @@ pub(crate) fn recode(
     ensures not_lowered { meter.old.encoded ≤ meter.new.encoded }
     ensures parsed { meter.new.parsed ≡ meter.old.parsed }
 {
-    let unmoved = old.names.has_same_values(&new.names);
+    let unmoved = same_names && old.names.has_same_values(&new.names);
     let count = count_after(lines.len(), edit);
     let mut codes = Vec::new(alloc);
     for place in 0..count {
@@ -216,11 +221,9 @@ pub(crate) fn recode(
             same_names,
             hint,
         );
-        let names = Hinted {
-            table: &new.names,
-            index: hint.saturating_sub(1),
-        };
-        push_code_if(again, alloc, meter, &mut codes, lines, edit, place, &names)?;
+        push_code_if(
+            again, alloc, meter, &mut codes, lines, edit, place, &new.names, hint,
+        )?;
     }
     Ok(codes)
 }

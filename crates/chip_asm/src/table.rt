@@ -249,38 +249,17 @@ impl Table {
         }
     }
 
-    /// Whether both tables have the same names with the same values, in the same order.
+    /// Whether the values are the same too, where both tables have the same names in the same order.
     pub(crate) fn has_same_values(&self, other: &Table) -> bool
-        ensures same { result ≡ true → values_of self.now ≡ values_of other.now }
-        ensures differs { result ≡ false → valued self.now ≢ valued other.now }
+        requires same_names { names_in self.now ≡ names_in other.now }
+        ensures { result ≡ true → values_of self.now ≡ values_of other.now }
     {
-        if self.count != other.count {
-            return false;
-        }
         for index in 0..self.count {
-            if !self.has_same_value_at(other, index) {
+            if !self.is_unmoved_at(other, index) {
                 return false;
             }
         }
         true
-    }
-
-    /// Whether both tables have the same name with the same value at an index.
-    fn has_same_value_at(&self, other: &Table, index: usize) -> bool
-        requires mine { index < length self.now }
-        requires others { index < length other.now }
-        ensures same { result ≡ true → slice_get (valued self.now) index ≡ slice_get (valued other.now) index }
-        ensures differs { result ≡ false → slice_get (valued self.now) index ≢ slice_get (valued other.now) index }
-    {
-        match (
-            self.symbols.get_index(index),
-            other.symbols.get_index(index),
-        ) {
-            (Some((name, symbol)), Some((other_name, other_symbol))) => {
-                symbol.value == other_symbol.value && name.as_slice() == other_name.as_slice()
-            }
-            _ => unreachable!(),
-        }
     }
 
     /// Adds a name that is not there yet, after the others.

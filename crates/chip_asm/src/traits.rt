@@ -9,7 +9,7 @@ ghost use Rattle.chip_asm.specs.inner.Records.{IsPlaceWithin, lines_after, readi
 ghost use Rattle.chip_asm.specs.inner.Traits.{is_bare_line, uses_name, is_steady, traits_of};
 ghost use Rattle.chip_asm.specs.declared.kept_line.KeptLine.{KeptLine};
 
-use crate::edit::Edit;
+use crate::edit::{Edit, with_item, without_item};
 use crate::kept_line::KeptLine;
 use chip_lang::{Body, Line, uses};
 use std::alloc::{AllocError, Global};
@@ -110,20 +110,14 @@ pub(crate) fn traits_after(
     ensures { (lines : List KeptLine) → traits.now ≡ map traits_of (readings_in lines)
         → IfOk result (λ after. after.items ≡ map traits_of (readings_in (lines_after lines edit.now))) }
 {
-    let mut after = Vec::from_slice(alloc, traits)?;
     match edit {
-        Edit::Insert(at, added) => {
-            after.insert(*at, traits_of(&added.line))?;
-            Ok(after)
-        }
+        Edit::Insert(at, added) => with_item(alloc, traits, *at, traits_of(&added.line)),
         Edit::Replace(at, added) => {
+            let mut after = Vec::from_slice(alloc, traits)?;
             after[*at] = traits_of(&added.line);
             Ok(after)
         }
-        Edit::Delete(at) => {
-            let _ = after.remove(*at);
-            Ok(after)
-        }
-        Edit::Keep => Ok(after),
+        Edit::Delete(at) => without_item(alloc, traits, *at),
+        Edit::Keep => Vec::from_slice(alloc, traits),
     }
 }
