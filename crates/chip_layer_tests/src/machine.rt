@@ -2,12 +2,12 @@
 
 use chip_lang::number::Reg;
 use chip_machine::{Machine, Profile, StartError, Stop, Touch};
-use std::alloc::Global;
+use std::alloc::{AllocError, Global};
 use std::test::Fail;
 
 mod instructions;
 mod profiles;
-mod programs;
+pub(crate) mod programs;
 
 /// A machine with a program at 512 and the tape a5 5a.
 pub(crate) fn loaded(alloc: Global, words: &[u16]) -> Result<Machine, Fail> {
@@ -16,12 +16,24 @@ pub(crate) fn loaded(alloc: Global, words: &[u16]) -> Result<Machine, Fail> {
 
 /// The same of either profile.
 pub(crate) fn loaded_as(alloc: Global, words: &[u16], profile: Profile) -> Result<Machine, Fail> {
-    let mut image = Vec::new(alloc);
-    for word in words {
-        image.push((*word >> 8) as u8)?;
-        image.push((*word & 255) as u8)?;
-    }
+    let image = bytes_of(alloc, words)?;
     Ok(Machine::start(alloc, &image, &[0xa5, 0x5a], profile)?)
+}
+
+/// The bytes of words.
+fn bytes_of(alloc: Global, words: &[u16]) -> Result<Vec<u8>, AllocError> {
+    let mut bytes = Vec::new(alloc);
+    for word in words {
+        bytes.extend_from_slice(&word.to_be_bytes())?;
+    }
+    Ok(bytes)
+}
+
+/// The same, after so many steps with no key down.
+fn after(alloc: Global, words: &[u16], steps: u32) -> Result<Machine, Fail> {
+    let mut machine = loaded(alloc, words)?;
+    run(&mut machine, steps, 0);
+    Ok(machine)
 }
 
 /// Makes steps with these keys down, of which each tenth ticks.
@@ -92,9 +104,7 @@ fn has_screen(machine: &Machine, top: usize, lit: &[u128]) -> bool {
 
 /// Whether a program leads to such a screen.
 fn shows(alloc: Global, words: &[u16], steps: u32, top: usize, lit: &[u128]) -> Result<bool, Fail> {
-    let mut machine = loaded(alloc, words)?;
-    run(&mut machine, steps, 0);
-    Ok(has_screen(&machine, top, lit))
+    Ok(has_screen(&after(alloc, words, steps)?, top, lit))
 }
 
 /// The rows of the digit 0 in the low size, by its full rows and its hollow ones.
@@ -247,9 +257,7 @@ fn timers_tick_to_zero(rt: HostRuntime) -> Result<(), Fail> {
 
 /// How many random bytes were drawn.
 fn draws_after(alloc: Global, words: &[u16], steps: u32) -> Result<u64, Fail> {
-    let mut machine = loaded(alloc, words)?;
-    run(&mut machine, steps, 0);
-    Ok(u64::from(machine.draws()))
+    Ok(u64::from(after(alloc, words, steps)?.draws()))
 }
 
 #[test]
@@ -302,15 +310,17 @@ fn has_rows(machine: &Machine) -> bool {
     (0..64).all(|row| machine.row(row) == row_bits(machine, row)) && machine.row(64) == 0
 }
 
+/// Whether the sprite of the test below has its first row where it should.
+fn has_sprite(machine: &Machine) -> bool {
+    row_bits(machine, 17) == 0 && row_bits(machine, 18) == 0xff << 102
+}
+
 #[test]
 fn lent_parts(rt: HostRuntime) -> Result<(), Fail> {
-    let mut machine = loaded(rt.alloc(), &[0x6009, 0xf075, 0x2206, 0xd005])?;
-    run(&mut machine, 4, 0);
-    assert!(rt; registers(&machine) == [9, 0, 0, 0, 0]);
-    assert!(rt; has_frames(&machine, 1, 0x206));
+    let machine = after(rt.alloc(), &[0x6009, 0xf075, 0x2206, 0xd005], 4)?;
+    assert!(rt; registers(&machine) == [9, 0, 0, 0, 0] && has_frames(&machine, 1, 0x206));
     assert!(rt; has_flags(&machine, [9, 0, 0, 0, 0, 0, 0, 0]));
-    assert!(rt; has_bytes(&machine, 0x200, &[0x60, 0x09]));
-    assert!(rt; row_bits(&machine, 17) == 0 && row_bits(&machine, 18) == 0xff << 102);
+    assert!(rt; has_bytes(&machine, 0x200, &[0x60, 0x09]) && has_sprite(&machine));
     assert!(rt; has_rows(&machine));
     Ok(())
 }
@@ -385,19 +395,23 @@ fn step_with_keys_is_noted(rt: HostRuntime) -> Result<(), Fail> {
 }
 
 /// Gives a machine the state of another one.
-fn take_state(machine: &mut Machine, other: &Machine) -> Result<(), Fail> {
-    Ok(machine.copy_from(other)?)
+fn take_state(machine: &mut Machine, other: &Machine) -> Result<(), AllocError> {
+    machine.copy_from(other)
+}
+
+/// Whether a machine has the state of the other one in the test below.
+fn has_state(machine: &Machine) -> bool {
+    registers(machine) == [7, 0, 0, 0, 0]
+        && machine.pc() == 0x204
+        && has_bytes(machine, 0x200, &[0x60, 7, 0xd0, 5])
+        && row_bits(machine, 14) == 0xff << 106
 }
 
 #[test]
 fn state_is_copied_in_place(rt: HostRuntime) -> Result<(), Fail> {
     let mut machine = loaded(rt.alloc(), &[0x6009])?;
-    let mut other = loaded(rt.alloc(), &[0x6007, 0xd005])?;
-    run(&mut other, 2, 0);
-    take_state(&mut machine, &other)?;
-    assert!(rt; registers(&machine) == [7, 0, 0, 0, 0]);
-    assert!(rt; machine.pc() == 0x204 && has_bytes(&machine, 0x200, &[0x60, 7, 0xd0, 5]));
-    assert!(rt; row_bits(&machine, 14) == 0xff << 106);
+    take_state(&mut machine, &after(rt.alloc(), &[0x6007, 0xd005], 2)?)?;
+    assert!(rt; has_state(&machine));
     Ok(())
 }
 
