@@ -110,8 +110,12 @@ fn push_code(alloc: Global, text: &mut String, line: &Line) -> Result<(), AllocE
 
 /// What a line says, in one text.
 fn answer(alloc: Global, line: &[u8]) -> Result<String, AllocError> {
+    answer_of(alloc, &read(alloc, line)?)
+}
+
+fn answer_of(alloc: Global, line: &Line) -> Result<String, AllocError> {
     let mut text = String::new(alloc);
-    push_line(alloc, &mut text, &read(alloc, line)?)?;
+    push_line(alloc, &mut text, line)?;
     Ok(text)
 }
 
@@ -365,9 +369,14 @@ fn has_names(line: &Line) -> bool {
         && ends_before(line, 3)
 }
 
+/// Whether it is so of a line as it is read.
+fn names_are_found(alloc: Global, line: &[u8]) -> Result<bool, AllocError> {
+    Ok(has_names(&read(alloc, line)?))
+}
+
 #[test]
 fn names_of_a_line(rt: HostRuntime) -> Result<(), Fail> {
-    assert!(rt; has_names(&read(rt.alloc(), b"a: DB 1 + x, -(y * x)")?));
+    assert!(rt; names_are_found(rt.alloc(), b"a: DB 1 + x, -(y * x)")?);
     Ok(())
 }
 
@@ -476,19 +485,20 @@ const SUM: Long = Long {
     last: "",
 };
 
-/// A long line as it is read.
-fn read_long(alloc: Global, long: Long) -> Result<Line, AllocError> {
-    read(alloc, &long.text(alloc)?)
-}
-
 /// Whether a line uses A as the last of 5,001 names.
 fn has_many_names(line: &Line) -> bool {
     has_use(line, 5_000, b"A") && ends_before(line, 5_001)
 }
 
+/// Whether it is so of a line as it is read.
+fn many_names_are_found(alloc: Global, line: &[u8]) -> Result<bool, AllocError> {
+    Ok(has_many_names(&read(alloc, line)?))
+}
+
 #[test]
 fn names_of_a_long_line_fit_the_stack(rt: HostRuntime) -> Result<(), Fail> {
-    assert!(rt; has_many_names(&read_long(rt.alloc(), SUM)?));
+    let line = SUM.text(rt.alloc())?;
+    assert!(rt; many_names_are_found(rt.alloc(), &line)?);
     Ok(())
 }
 

@@ -157,17 +157,19 @@ pub(crate) fn has_addresses(touch: &Touch, word: u16, from: u16, count: u16) -> 
         && touch.get(touch.len()).is_none()
 }
 
+/// Whether the next step touches its word and 32 bytes, which are as many as there is room for.
+fn touches_34(machine: &mut Machine) -> bool {
+    let mut touch = Touch::new();
+    machine.step(0, false, &mut touch);
+    let is_so = machine.high() && has_addresses(&touch, 0x204, 482, 32);
+    is_so && has_room(&mut touch) == (false, true)
+}
+
 #[test]
 fn large_sprite_touches_34_addresses(rt: HostRuntime) -> Result<(), Fail> {
     let words = [0x00ff, 0xa1e2, 0xd010];
     assert!(rt; shows(rt.alloc(), &words, 3, 15, &[0xff << 112])?);
-    let mut machine = loaded(rt.alloc(), &words)?;
-    run(&mut machine, 2, 0);
-    let mut touch = Touch::new();
-    machine.step(0, false, &mut touch);
-    assert!(rt; machine.high());
-    assert!(rt; has_addresses(&touch, 0x204, 482, 32));
-    assert!(rt; has_room(&mut touch) == (false, true));
+    assert!(rt; touches_34(&mut after(rt.alloc(), &words, 2)?));
     Ok(())
 }
 
@@ -286,14 +288,18 @@ fn seventeenth_call_stops(rt: HostRuntime) -> Result<(), Fail> {
     Ok(())
 }
 
+/// Whether the first digit of each size stands in its place, and zeros after the digits up to the end.
+fn has_digits(machine: &Machine) -> bool {
+    has_bytes(machine, 0, b"\xf0\x90\x90\x90\xf0")
+        && has_bytes(machine, 80, b"\x3c\x7e\xe7\xc3\xc3\xc3\xc3\xe7\x7e\x3c")
+        && has_bytes(machine, 180, b"\0")
+        && has_bytes(machine, 4095, b"\0")
+        && machine.byte_at(4096).is_none()
+}
+
 #[test]
 fn digits_stand_in_memory(rt: HostRuntime) -> Result<(), Fail> {
-    let machine = loaded(rt.alloc(), &[])?;
-    assert!(rt; has_bytes(&machine, 0, &[0xf0, 0x90, 0x90, 0x90, 0xf0]));
-    let large = [0x3c, 0x7e, 0xe7, 0xc3, 0xc3, 0xc3, 0xc3, 0xe7, 0x7e, 0x3c];
-    assert!(rt; has_bytes(&machine, 80, &large));
-    assert!(rt; has_bytes(&machine, 180, &[0]) && has_bytes(&machine, 4095, &[0]));
-    assert!(rt; machine.byte_at(4096).is_none());
+    assert!(rt; has_digits(&loaded(rt.alloc(), &[])?));
     Ok(())
 }
 
@@ -310,6 +316,14 @@ fn has_rows(machine: &Machine) -> bool {
     (0..64).all(|row| machine.row(row) == row_bits(machine, row)) && machine.row(64) == 0
 }
 
+/// Whether the registers, the frames, the flags and the memory are those of the test below.
+fn has_state_of_parts(machine: &Machine) -> bool {
+    registers(machine) == [9, 0, 0, 0, 0]
+        && has_frames(machine, 1, 0x206)
+        && has_flags(machine, [9, 0, 0, 0, 0, 0, 0, 0])
+        && has_bytes(machine, 0x200, &[0x60, 0x09])
+}
+
 /// Whether the sprite of the test below has its first row where it should.
 fn has_sprite(machine: &Machine) -> bool {
     row_bits(machine, 17) == 0 && row_bits(machine, 18) == 0xff << 102
@@ -318,10 +332,7 @@ fn has_sprite(machine: &Machine) -> bool {
 #[test]
 fn lent_parts(rt: HostRuntime) -> Result<(), Fail> {
     let machine = after(rt.alloc(), &[0x6009, 0xf075, 0x2206, 0xd005], 4)?;
-    assert!(rt; registers(&machine) == [9, 0, 0, 0, 0] && has_frames(&machine, 1, 0x206));
-    assert!(rt; has_flags(&machine, [9, 0, 0, 0, 0, 0, 0, 0]));
-    assert!(rt; has_bytes(&machine, 0x200, &[0x60, 0x09]) && has_sprite(&machine));
-    assert!(rt; has_rows(&machine));
+    assert!(rt; has_state_of_parts(&machine) && has_sprite(&machine) && has_rows(&machine));
     Ok(())
 }
 

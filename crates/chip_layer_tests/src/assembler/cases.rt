@@ -10,7 +10,7 @@ use crate::assembler::{
     replace, symbol_text, symbols_text,
 };
 use chip_asm::{OpenError, Refusal, Source};
-use std::alloc::Global;
+use std::alloc::{AllocError, Global};
 use std::process::Abort;
 use std::test::Fail;
 
@@ -50,13 +50,27 @@ fn answer_of(alloc: Global, source: &Source, word: &str, rest: &str) -> Result<S
 
 /// What a source says to a question about its work.
 fn answer_of_work(alloc: Global, source: &Source, word: &str, rest: &str) -> Result<String, Fail> {
-    let (parsed, encoded) = (parsed(source), encoded(source));
     match word {
-        "parsed" => Ok(parsed.to_string(alloc)?),
-        "work" => Ok(format!(in alloc; "{parsed} {encoded}")?),
-        "encoded" if encoded <= rest.parse::<u64>()? => Ok(String::from_str(alloc, "so")?),
-        _ => Ok(format!(in alloc; "{word}: {encoded}")?),
+        "parsed" => Ok(parsed(source).to_string(alloc)?),
+        "work" => Ok(work_text(alloc, source)?),
+        "encoded" => Ok(encoded_text(alloc, source, rest.parse::<u64>()?)?),
+        _ => Err(Fail::new("no such command")),
     }
+}
+
+/// How many lines were read and how many were encoded.
+fn work_text(alloc: Global, source: &Source) -> Result<String, AllocError> {
+    let (parsed, encoded) = (parsed(source), encoded(source));
+    format!(in alloc; "{parsed} {encoded}")
+}
+
+/// Whether at most so many lines were encoded, or how many.
+fn encoded_text(alloc: Global, source: &Source, most: u64) -> Result<String, AllocError> {
+    let encoded = encoded(source);
+    if encoded <= most {
+        return String::from_str(alloc, "so");
+    }
+    encoded.to_string(alloc)
 }
 
 /// The bytes that a text of an edit stands for.

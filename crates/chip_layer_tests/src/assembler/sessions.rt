@@ -98,10 +98,15 @@ fn joined(alloc: Global, texts: &[&[u8]]) -> Result<Vec<u8>, AllocError> {
     Ok(text)
 }
 
+/// The answers of a text.
+fn answers_of(alloc: Global, text: &[u8]) -> Result<Vec<u8>, Fail> {
+    let source = opened(alloc, text)?;
+    Ok(answers(alloc, &source)?)
+}
+
 /// The answers of these lines opened anew.
 fn fresh_answers(alloc: Global, texts: &[&[u8]]) -> Result<Vec<u8>, Fail> {
-    let source = opened(alloc, &joined(alloc, texts)?)?;
-    Ok(answers(alloc, &source)?)
+    answers_of(alloc, &joined(alloc, texts)?)
 }
 
 /// Whether a source answers as its lines opened anew do.

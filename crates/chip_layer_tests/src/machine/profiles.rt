@@ -127,11 +127,16 @@ fn stop_of_copy(machine: &Machine) -> Result<u8, AllocError> {
     Ok(stop_number(&copy))
 }
 
+/// Whether the other profile starts with the same memory, and its copy stops at a word that it has not.
+fn starts_alike(alloc: Global, schip: &Machine) -> Result<bool, Fail> {
+    let vip = loaded_as(alloc, &[0x0700], Profile::Vip)?;
+    Ok(is_same_memory(schip, &vip) && stop_of_copy(&vip)? == 2)
+}
+
 #[test]
 fn same_start(rt: HostRuntime) -> Result<(), Fail> {
     let schip = loaded_as(rt.alloc(), &[0x0700], Profile::Schip)?;
-    let vip = loaded_as(rt.alloc(), &[0x0700], Profile::Vip)?;
-    assert!(rt; is_same_memory(&schip, &vip) && stop_of_copy(&vip)? == 2);
+    assert!(rt; starts_alike(rt.alloc(), &schip)?);
     Ok(())
 }
 
