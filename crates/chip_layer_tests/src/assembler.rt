@@ -57,11 +57,11 @@ pub(crate) fn image(source: &Source) -> Option<&[u8]> {
     source.image()
 }
 
-fn fault(source: &Source, line: usize) -> Option<Fault> {
+pub(crate) fn fault(source: &Source, line: usize) -> Option<Fault> {
     source.fault(line)
 }
 
-fn faults(alloc: Global, source: &Source) -> Result<Vec<(usize, Fault)>, AllocError> {
+pub(crate) fn faults(alloc: Global, source: &Source) -> Result<Vec<(usize, Fault)>, AllocError> {
     source.faults(alloc)
 }
 
@@ -69,7 +69,7 @@ fn symbol(source: &Source, name: &[u8]) -> Option<Symbol> {
     source.symbol(name)
 }
 
-fn symbols(alloc: Global, source: &Source) -> Result<Vec<(Bytes, Symbol)>, AllocError> {
+pub(crate) fn symbols(alloc: Global, source: &Source) -> Result<Vec<(Bytes, Symbol)>, AllocError> {
     source.symbols(alloc)
 }
 
@@ -281,8 +281,7 @@ too many lines
 
 #[test]
 fn edits_are_answered(rt: HostRuntime) -> Result<(), Fail> {
-    assert_eq!(rt; carry_out(&rt, EDITS)?, 5);
-    Ok(())
+    carry_out(&rt, EDITS, 5)
 }
 
 const SOURCES: &str = "\
@@ -407,8 +406,7 @@ ok
 
 #[test]
 fn sources_are_answered(rt: HostRuntime) -> Result<(), Fail> {
-    assert_eq!(rt; carry_out(&rt, SOURCES)?, 12);
-    Ok(())
+    carry_out(&rt, SOURCES, 12)
 }
 
 /// A line in each row; after a tab its fault in a source of this line alone.
@@ -432,11 +430,15 @@ const FAULTS: &str = "\
     DB 256\tF10\n\
     X EQU 1 +\tF4";
 
+/// The fault of a source of one line.
+fn fault_of_line(alloc: Global, line: &[u8]) -> Result<String, Fail> {
+    fault_text(alloc, &opened(alloc, line)?, 1)
+}
+
 /// Whether the line of a row has its fault.
 fn has_fault(alloc: Global, row: &str) -> Result<bool, Fail> {
-    let (line, wanted) = row.split_once("\t").ok_or("no tab")?;
-    let source = opened(alloc, line.as_bytes())?;
-    Ok(fault_text(alloc, &source, 1)?.as_str() == wanted)
+    let (line, wanted) = row.split_once("\t").unwrap_or((row, "no tab"));
+    Ok(fault_of_line(alloc, line.as_bytes())?.as_str() == wanted)
 }
 
 #[test]
@@ -447,17 +449,31 @@ fn each_fault_has_its_line(rt: HostRuntime) -> Result<(), Fail> {
     Ok(())
 }
 
-/// Whether 200 blanks, these bytes and so many blanks are refused for the line of this number, or opened where that is 0.
-fn is_refused(alloc: Global, more: &[u8], blanks: u32, line: usize) -> Result<bool, Fail> {
-    let mut text = vec![in alloc; b' '; 200]?;
+/// Blanks, these bytes and blanks.
+fn blanks_round(
+    alloc: Global,
+    before: usize,
+    more: &[u8],
+    after: usize,
+) -> Result<Vec<u8>, AllocError> {
+    let mut text = vec![in alloc; b' '; before]?;
     text.extend_from_slice(more)?;
-    for _ in 0..blanks {
-        text.push(b' ')?;
-    }
-    Ok(match opened(alloc, &text) {
+    text.extend_from_slice(&vec![in alloc; b' '; after]?)?;
+    Ok(text)
+}
+
+/// Whether a text is refused for the line of this number, or opened where that is 0.
+fn is_refused_for(alloc: Global, text: &[u8], line: usize) -> bool {
+    match opened(alloc, text) {
         Ok(_) => line == 0,
         Err(why) => why == OpenError::LineTooLong(line),
-    })
+    }
+}
+
+/// Whether 200 blanks, these bytes and so many blanks are refused for the line of this number, or opened where that is 0.
+fn is_refused(alloc: Global, more: &[u8], blanks: usize, line: usize) -> Result<bool, AllocError> {
+    let text = blanks_round(alloc, 200, more, blanks)?;
+    Ok(is_refused_for(alloc, &text, line))
 }
 
 #[test]

@@ -21,6 +21,7 @@ use std::test::Fail;
 mod lines;
 mod places;
 
+use crate::machine::programs::parts_of;
 use lines::LINES;
 
 /// No names.
@@ -109,22 +110,38 @@ fn push_code(alloc: Global, text: &mut String, line: &Line) -> Result<(), AllocE
 
 /// What a line says, in one text.
 fn answer(alloc: Global, line: &[u8]) -> Result<String, AllocError> {
+    answer_of(alloc, &read(alloc, line)?)
+}
+
+fn answer_of(alloc: Global, line: &Line) -> Result<String, AllocError> {
     let mut text = String::new(alloc);
-    let line = read(alloc, line)?;
-    match &line {
-        Line::Bad(fault) => push_fault(alloc, &mut text, *fault)?,
+    push_line(alloc, &mut text, line)?;
+    Ok(text)
+}
+
+fn push_line(alloc: Global, text: &mut String, line: &Line) -> Result<(), AllocError> {
+    match line {
+        Line::Bad(fault) => push_fault(alloc, text, *fault),
         Line::Read { label, body } => {
-            match label {
-                Some(label) => push_bytes(&mut text, label.get())?,
-                None => text.push('-')?,
-            }
-            text.push(' ')?;
-            text.push_str(kind_of(body))?;
-            text.push(' ')?;
-            push_operand(alloc, &mut text, &line, body)?;
+            push_label(text, label)?;
+            push_kind(text, body)?;
+            push_operand(alloc, text, line, body)
         }
     }
-    Ok(text)
+}
+
+fn push_label(text: &mut String, label: &Option<Bytes>) -> Result<(), AllocError> {
+    match label {
+        Some(label) => push_bytes(text, label.get()),
+        None => text.push('-'),
+    }
+}
+
+/// The kind of a statement, between two blanks.
+fn push_kind(text: &mut String, body: &Body) -> Result<(), AllocError> {
+    text.push(' ')?;
+    text.push_str(kind_of(body))?;
+    text.push(' ')
 }
 
 /// What a statement's operand says.
@@ -151,14 +168,14 @@ fn says(alloc: Global, line: &[u8], wanted: &str) -> Result<bool, Fail> {
 #[test]
 fn lines_say_what_they_say_elsewhere(rt: HostRuntime) -> Result<(), Fail> {
     for row in LINES.lines() {
-        let (line, wanted) = row.split_once("\t").ok_or("no tab")?;
+        let (line, wanted) = row.split_once("\t").unwrap_or((row, "no tab"));
         assert!(rt; says(rt.alloc(), line.as_bytes(), wanted)?, "{row}");
     }
     Ok(())
 }
 
 /// Lines with other blanks than spaces, and with a byte that is no text.
-const OTHER_BYTES: [(&[u8], &str); 4] = [
+const OTHER_BYTES: &[(&[u8], &str)] = &[
     (b"LD\tV0\t,\t5", "- Code 6005"),
     (b"CLS\tCLS", "F4"),
     (b"\xa0CLS", "F1"),
@@ -210,48 +227,81 @@ fn every_word(rt: HostRuntime) -> Result<(), Fail> {
     Ok(())
 }
 
+/// The code of a text.
+fn code_of(alloc: Global, meter: &mut Meter, text: &[u8]) -> Result<Coded, AllocError> {
+    let line = read_line(alloc, meter, text)?;
+    encode(alloc, meter, &line, &NoNames)
+}
+
+/// Whether a code is these bytes.
+fn is_code(code: &Coded, bytes: &[u8]) -> bool {
+    match code {
+        Coded::Bytes(found) => found.get() == bytes,
+        Coded::Faulty(_) => false,
+    }
+}
+
+/// The text of a word, without its clauses.
+fn shown(alloc: Global, w: u16) -> Result<String, AllocError> {
+    show(alloc, w)
+}
+
+/// Whether a word has an instruction.
+fn is_decoded(w: u16) -> bool {
+    decode(w).is_some()
+}
+
+/// Whether the text of a word is one of data where it has to be, and has the word as its code.
+fn gives_back(alloc: Global, meter: &mut Meter, w: u16) -> Result<bool, AllocError> {
+    let text = shown(alloc, w)?;
+    let code = code_of(alloc, meter, text.as_bytes())?;
+    let is_data = text.as_str().starts_with("DW");
+    Ok(is_data != is_decoded(w) && is_code(&code, &w.to_be_bytes()))
+}
+
 #[test]
 fn source_texts_give_their_words(rt: HostRuntime) -> Result<(), Fail> {
     let mut meter = Meter::new();
     for w in 0..=65535u16 {
-        let text = show(rt.alloc(), w)?;
-        assert_eq!(rt;
-            text.as_str().starts_with("DW"),
-            decode(w).is_none(),
-            "{text}"
-        );
-        let line = read_line(rt.alloc(), &mut meter, text.as_bytes())?;
-        let Coded::Bytes(code) = encode(rt.alloc(), &mut meter, &line, &NoNames)? else {
-            assert!(rt; false, "{text}");
-            return Ok(());
-        };
-        assert_eq!(rt; code.get(), w.to_be_bytes().as_slice(), "{text}");
+        assert!(rt; gives_back(rt.alloc(), &mut meter, w)?, "{w:04x}");
     }
-    assert_eq!(rt; meter.parsed, 65536);
-    assert_eq!(rt; meter.encoded, 65536);
+    assert!(rt; meter.parsed == 65536 && meter.encoded == 65536);
     Ok(())
+}
+
+const SOURCE_TEXTS: &str = "\
+00ca SCD 10
+00c9 SCD 9
+00e0 CLS
+1202 JP #202
+6005 LD V0, #05
+8ab6 SHR VA, VB
+8a06 SHR VA
+b00f JP V0, #00f
+dab0 DRW VA, VB, 0
+f355 LD [I], V3
+0123 DW #0123
+ffff DW #ffff
+";
+
+/// The text of a word, put into a text of its own.
+fn pushed(alloc: Global, w: u16) -> Result<String, AllocError> {
+    let mut text = String::new(alloc);
+    push_shown(&mut text, w)?;
+    Ok(text)
+}
+
+/// Whether a word has this text, as a new one and put into another.
+fn has_text(alloc: Global, w: u16, wanted: &str) -> Result<bool, AllocError> {
+    Ok(shown(alloc, w)?.as_str() == wanted && pushed(alloc, w)?.as_str() == wanted)
 }
 
 #[test]
 fn source_texts(rt: HostRuntime) -> Result<(), Fail> {
-    for (word, want) in [
-        (0x00CA, "SCD 10"),
-        (0x00C9, "SCD 9"),
-        (0x00E0, "CLS"),
-        (0x1202, "JP #202"),
-        (0x6005, "LD V0, #05"),
-        (0x8AB6, "SHR VA, VB"),
-        (0x8A06, "SHR VA"),
-        (0xB00F, "JP V0, #00f"),
-        (0xDAB0, "DRW VA, VB, 0"),
-        (0xF355, "LD [I], V3"),
-        (0x0123, "DW #0123"),
-        (0xFFFF, "DW #ffff"),
-    ] {
-        assert_eq!(rt; show(rt.alloc(), word)?.as_str(), want);
-        let mut text = String::new(rt.alloc());
-        push_shown(&mut text, word)?;
-        assert_eq!(rt; text.as_str(), want);
+    for row in SOURCE_TEXTS.lines() {
+        let (word, wanted) = row.split_once(" ").unwrap_or((row, ""));
+        let word = u16::from_str_radix(word, 16)?;
+        assert!(rt; has_text(rt.alloc(), word, wanted)?, "{row}");
     }
     Ok(())
 }
@@ -264,27 +314,31 @@ fn has_token(found: &[Token], place: usize, kind: Kind, start: usize, end: usize
     }
 }
 
+/// Whether these are the tokens of the line below.
+fn are_tokens(found: &[Token]) -> bool {
+    found.len() == 4
+        && has_token(found, 0, Kind::Word, 0, 1)
+        && has_token(found, 1, Kind::Sign(b':'), 1, 2)
+        && has_token(found, 2, Kind::Word, 3, 5)
+        && has_token(found, 3, Kind::Number(15), 6, 9)
+}
+
 #[test]
 fn tokens_of_a_line(rt: HostRuntime) -> Result<(), Fail> {
-    let found = tokens(rt.alloc(), b"P: DB #0f ;x")?;
-    assert_eq!(rt; found.len(), 4);
-    assert!(rt; has_token(&found, 0, Kind::Word, 0, 1));
-    assert!(rt; has_token(&found, 1, Kind::Sign(b':'), 1, 2));
-    assert!(rt; has_token(&found, 2, Kind::Word, 3, 5));
-    assert!(rt; has_token(&found, 3, Kind::Number(15), 6, 9));
+    assert!(rt; are_tokens(&tokens(rt.alloc(), b"P: DB #0f ;x")?));
     Ok(())
+}
+
+/// Whether a fault has this sentence.
+fn has_sentence(alloc: Global, fault: Fault, wanted: &str) -> Result<bool, AllocError> {
+    Ok(fault.to_string(alloc)?.as_str() == wanted)
 }
 
 #[test]
 fn faults_have_a_sentence(rt: HostRuntime) -> Result<(), Fail> {
-    assert_eq!(rt;
-        Fault::BadCharacter.to_string(rt.alloc())?.as_str(),
-        "bad character"
-    );
-    assert_eq!(rt;
-        Fault::NotInProfile.to_string(rt.alloc())?.as_str(),
-        "not in this profile"
-    );
+    let alloc = rt.alloc();
+    assert!(rt; has_sentence(alloc, Fault::BadCharacter, "bad character")?);
+    assert!(rt; has_sentence(alloc, Fault::NotInProfile, "not in this profile")?);
     Ok(())
 }
 
@@ -306,12 +360,23 @@ fn ends_before(line: &Line, place: usize) -> bool {
     uses(line, place).is_none() && agree_on(line, &NoNames, &NoNames)
 }
 
+/// Whether a line defines A, and uses X, Y and X.
+fn has_names(line: &Line) -> bool {
+    is_name(defines(line), b"A")
+        && has_use(line, 0, b"X")
+        && has_use(line, 1, b"Y")
+        && has_use(line, 2, b"X")
+        && ends_before(line, 3)
+}
+
+/// Whether it is so of a line as it is read.
+fn names_are_found(alloc: Global, line: &[u8]) -> Result<bool, AllocError> {
+    Ok(has_names(&read(alloc, line)?))
+}
+
 #[test]
 fn names_of_a_line(rt: HostRuntime) -> Result<(), Fail> {
-    let line = read(rt.alloc(), b"a: DB 1 + x, -(y * x)")?;
-    assert!(rt; is_name(defines(&line), b"A"));
-    assert!(rt; has_use(&line, 0, b"X") && has_use(&line, 1, b"Y") && has_use(&line, 2, b"X"));
-    assert!(rt; ends_before(&line, 3));
+    assert!(rt; names_are_found(rt.alloc(), b"a: DB 1 + x, -(y * x)")?);
     Ok(())
 }
 
@@ -360,22 +425,24 @@ X EQU !)!5000!(!!F4
 X EQU !,!10000!!!F4
 ";
 
+/// Whether a long line says this.
+fn long_says(alloc: Global, long: Long, wanted: &str) -> Result<bool, Fail> {
+    says(alloc, &long.text(alloc)?, wanted)
+}
+
 /// Whether the line that a row describes says what the row has.
 fn is_so(alloc: Global, row: &'static str) -> Result<bool, Fail> {
-    let mut parts = Vec::new(alloc);
-    for part in row.split("!") {
-        parts.push(part)?;
-    }
-    match parts.as_slice() {
+    match parts_of(alloc, row, "!")?.as_slice() {
         [first, part, count, second, last, wanted] => {
+            let count = count.parse::<u32>()?;
             let long = Long {
                 first: *first,
                 part: *part,
-                count: count.parse::<u32>()?,
+                count,
                 second: *second,
                 last: *last,
             };
-            says(alloc, &long.text(alloc)?, *wanted)
+            long_says(alloc, long, *wanted)
         }
         _ => Err(Fail::new("not so many parts")),
     }
@@ -389,32 +456,49 @@ fn long_lines_fit_the_stack(rt: HostRuntime) -> Result<(), Fail> {
     Ok(())
 }
 
+/// A list of one number, over and over.
+const LIST: Long = Long {
+    first: "DB 7",
+    part: ",7",
+    count: 5_000,
+    second: "",
+    last: "",
+};
+
+/// How long the answer to a long line is.
+fn said_length(alloc: Global, long: Long) -> Result<usize, AllocError> {
+    Ok(answer(alloc, &long.text(alloc)?)?.len())
+}
+
 #[test]
 fn long_lists_fit_the_stack(rt: HostRuntime) -> Result<(), Fail> {
-    let list = Long {
-        first: "DB 7",
-        part: ",7",
-        count: 5_000,
-        second: "",
-        last: "",
-    };
-    let said = answer(rt.alloc(), &list.text(rt.alloc())?)?;
-    assert!(rt; said.len() == 10_007);
+    assert!(rt; said_length(rt.alloc(), LIST)? == 10_007);
     Ok(())
+}
+
+/// A sum of one name, over and over.
+const SUM: Long = Long {
+    first: "DW A",
+    part: "+A",
+    count: 5_000,
+    second: "",
+    last: "",
+};
+
+/// Whether a line uses A as the last of 5,001 names.
+fn has_many_names(line: &Line) -> bool {
+    has_use(line, 5_000, b"A") && ends_before(line, 5_001)
+}
+
+/// Whether it is so of a line as it is read.
+fn many_names_are_found(alloc: Global, line: &[u8]) -> Result<bool, AllocError> {
+    Ok(has_many_names(&read(alloc, line)?))
 }
 
 #[test]
 fn names_of_a_long_line_fit_the_stack(rt: HostRuntime) -> Result<(), Fail> {
-    let sum = Long {
-        first: "DW A",
-        part: "+A",
-        count: 5_000,
-        second: "",
-        last: "",
-    };
-    let line = read(rt.alloc(), &sum.text(rt.alloc())?)?;
-    assert!(rt; has_use(&line, 5_000, b"A"));
-    assert!(rt; ends_before(&line, 5_001));
+    let line = SUM.text(rt.alloc())?;
+    assert!(rt; many_names_are_found(rt.alloc(), &line)?);
     Ok(())
 }
 

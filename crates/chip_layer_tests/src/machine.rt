@@ -2,12 +2,12 @@
 
 use chip_lang::number::Reg;
 use chip_machine::{Machine, Profile, StartError, Stop, Touch};
-use std::alloc::Global;
+use std::alloc::{AllocError, Global};
 use std::test::Fail;
 
 mod instructions;
 mod profiles;
-mod programs;
+pub(crate) mod programs;
 
 /// A machine with a program at 512 and the tape a5 5a.
 pub(crate) fn loaded(alloc: Global, words: &[u16]) -> Result<Machine, Fail> {
@@ -16,12 +16,24 @@ pub(crate) fn loaded(alloc: Global, words: &[u16]) -> Result<Machine, Fail> {
 
 /// The same of either profile.
 pub(crate) fn loaded_as(alloc: Global, words: &[u16], profile: Profile) -> Result<Machine, Fail> {
-    let mut image = Vec::new(alloc);
-    for word in words {
-        image.push((*word >> 8) as u8)?;
-        image.push((*word & 255) as u8)?;
-    }
+    let image = bytes_of(alloc, words)?;
     Ok(Machine::start(alloc, &image, &[0xa5, 0x5a], profile)?)
+}
+
+/// The bytes of words.
+fn bytes_of(alloc: Global, words: &[u16]) -> Result<Vec<u8>, AllocError> {
+    let mut bytes = Vec::new(alloc);
+    for word in words {
+        bytes.extend_from_slice(&word.to_be_bytes())?;
+    }
+    Ok(bytes)
+}
+
+/// The same, after so many steps with no key down.
+fn after(alloc: Global, words: &[u16], steps: u32) -> Result<Machine, Fail> {
+    let mut machine = loaded(alloc, words)?;
+    run(&mut machine, steps, 0);
+    Ok(machine)
 }
 
 /// Makes steps with these keys down, of which each tenth ticks.
@@ -92,9 +104,7 @@ fn has_screen(machine: &Machine, top: usize, lit: &[u128]) -> bool {
 
 /// Whether a program leads to such a screen.
 fn shows(alloc: Global, words: &[u16], steps: u32, top: usize, lit: &[u128]) -> Result<bool, Fail> {
-    let mut machine = loaded(alloc, words)?;
-    run(&mut machine, steps, 0);
-    Ok(has_screen(&machine, top, lit))
+    Ok(has_screen(&after(alloc, words, steps)?, top, lit))
 }
 
 /// The rows of the digit 0 in the low size, by its full rows and its hollow ones.
@@ -147,17 +157,19 @@ pub(crate) fn has_addresses(touch: &Touch, word: u16, from: u16, count: u16) -> 
         && touch.get(touch.len()).is_none()
 }
 
+/// Whether the next step touches its word and 32 bytes, which are as many as there is room for.
+fn touches_34(machine: &mut Machine) -> bool {
+    let mut touch = Touch::new();
+    machine.step(0, false, &mut touch);
+    let is_so = machine.high() && has_addresses(&touch, 0x204, 482, 32);
+    is_so && has_room(&mut touch) == (false, true)
+}
+
 #[test]
 fn large_sprite_touches_34_addresses(rt: HostRuntime) -> Result<(), Fail> {
     let words = [0x00ff, 0xa1e2, 0xd010];
     assert!(rt; shows(rt.alloc(), &words, 3, 15, &[0xff << 112])?);
-    let mut machine = loaded(rt.alloc(), &words)?;
-    run(&mut machine, 2, 0);
-    let mut touch = Touch::new();
-    machine.step(0, false, &mut touch);
-    assert!(rt; machine.high());
-    assert!(rt; has_addresses(&touch, 0x204, 482, 32));
-    assert!(rt; has_room(&mut touch) == (false, true));
+    assert!(rt; touches_34(&mut after(rt.alloc(), &words, 2)?));
     Ok(())
 }
 
@@ -247,9 +259,7 @@ fn timers_tick_to_zero(rt: HostRuntime) -> Result<(), Fail> {
 
 /// How many random bytes were drawn.
 fn draws_after(alloc: Global, words: &[u16], steps: u32) -> Result<u64, Fail> {
-    let mut machine = loaded(alloc, words)?;
-    run(&mut machine, steps, 0);
-    Ok(u64::from(machine.draws()))
+    Ok(u64::from(after(alloc, words, steps)?.draws()))
 }
 
 #[test]
@@ -278,14 +288,18 @@ fn seventeenth_call_stops(rt: HostRuntime) -> Result<(), Fail> {
     Ok(())
 }
 
+/// Whether the first digit of each size stands in its place, and zeros after the digits up to the end.
+fn has_digits(machine: &Machine) -> bool {
+    has_bytes(machine, 0, b"\xf0\x90\x90\x90\xf0")
+        && has_bytes(machine, 80, b"\x3c\x7e\xe7\xc3\xc3\xc3\xc3\xe7\x7e\x3c")
+        && has_bytes(machine, 180, b"\0")
+        && has_bytes(machine, 4095, b"\0")
+        && machine.byte_at(4096).is_none()
+}
+
 #[test]
 fn digits_stand_in_memory(rt: HostRuntime) -> Result<(), Fail> {
-    let machine = loaded(rt.alloc(), &[])?;
-    assert!(rt; has_bytes(&machine, 0, &[0xf0, 0x90, 0x90, 0x90, 0xf0]));
-    let large = [0x3c, 0x7e, 0xe7, 0xc3, 0xc3, 0xc3, 0xc3, 0xe7, 0x7e, 0x3c];
-    assert!(rt; has_bytes(&machine, 80, &large));
-    assert!(rt; has_bytes(&machine, 180, &[0]) && has_bytes(&machine, 4095, &[0]));
-    assert!(rt; machine.byte_at(4096).is_none());
+    assert!(rt; has_digits(&loaded(rt.alloc(), &[])?));
     Ok(())
 }
 
@@ -302,16 +316,23 @@ fn has_rows(machine: &Machine) -> bool {
     (0..64).all(|row| machine.row(row) == row_bits(machine, row)) && machine.row(64) == 0
 }
 
+/// Whether the registers, the frames, the flags and the memory are those of the test below.
+fn has_state_of_parts(machine: &Machine) -> bool {
+    registers(machine) == [9, 0, 0, 0, 0]
+        && has_frames(machine, 1, 0x206)
+        && has_flags(machine, [9, 0, 0, 0, 0, 0, 0, 0])
+        && has_bytes(machine, 0x200, &[0x60, 0x09])
+}
+
+/// Whether the sprite of the test below has its first row where it should.
+fn has_sprite(machine: &Machine) -> bool {
+    row_bits(machine, 17) == 0 && row_bits(machine, 18) == 0xff << 102
+}
+
 #[test]
 fn lent_parts(rt: HostRuntime) -> Result<(), Fail> {
-    let mut machine = loaded(rt.alloc(), &[0x6009, 0xf075, 0x2206, 0xd005])?;
-    run(&mut machine, 4, 0);
-    assert!(rt; registers(&machine) == [9, 0, 0, 0, 0]);
-    assert!(rt; has_frames(&machine, 1, 0x206));
-    assert!(rt; has_flags(&machine, [9, 0, 0, 0, 0, 0, 0, 0]));
-    assert!(rt; has_bytes(&machine, 0x200, &[0x60, 0x09]));
-    assert!(rt; row_bits(&machine, 17) == 0 && row_bits(&machine, 18) == 0xff << 102);
-    assert!(rt; has_rows(&machine));
+    let machine = after(rt.alloc(), &[0x6009, 0xf075, 0x2206, 0xd005], 4)?;
+    assert!(rt; has_state_of_parts(&machine) && has_sprite(&machine) && has_rows(&machine));
     Ok(())
 }
 
@@ -385,19 +406,23 @@ fn step_with_keys_is_noted(rt: HostRuntime) -> Result<(), Fail> {
 }
 
 /// Gives a machine the state of another one.
-fn take_state(machine: &mut Machine, other: &Machine) -> Result<(), Fail> {
-    Ok(machine.copy_from(other)?)
+fn take_state(machine: &mut Machine, other: &Machine) -> Result<(), AllocError> {
+    machine.copy_from(other)
+}
+
+/// Whether a machine has the state of the other one in the test below.
+fn has_state(machine: &Machine) -> bool {
+    registers(machine) == [7, 0, 0, 0, 0]
+        && machine.pc() == 0x204
+        && has_bytes(machine, 0x200, &[0x60, 7, 0xd0, 5])
+        && row_bits(machine, 14) == 0xff << 106
 }
 
 #[test]
 fn state_is_copied_in_place(rt: HostRuntime) -> Result<(), Fail> {
     let mut machine = loaded(rt.alloc(), &[0x6009])?;
-    let mut other = loaded(rt.alloc(), &[0x6007, 0xd005])?;
-    run(&mut other, 2, 0);
-    take_state(&mut machine, &other)?;
-    assert!(rt; registers(&machine) == [7, 0, 0, 0, 0]);
-    assert!(rt; machine.pc() == 0x204 && has_bytes(&machine, 0x200, &[0x60, 7, 0xd0, 5]));
-    assert!(rt; row_bits(&machine, 14) == 0xff << 106);
+    take_state(&mut machine, &after(rt.alloc(), &[0x6007, 0xd005], 2)?)?;
+    assert!(rt; has_state(&machine));
     Ok(())
 }
 

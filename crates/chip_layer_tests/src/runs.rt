@@ -166,19 +166,34 @@ fn edit(session: &mut Session, state: &mut u32) -> Result<(), Fail> {
     Ok(())
 }
 
+/// Makes some edits, and says whether the replay then answers as it should.
+fn goes_on(session: &mut Session, state: &mut u32) -> Result<bool, Fail> {
+    for _ in 0..next(state) % 4 {
+        edit(session, state)?;
+    }
+    let step = next(state) % STEPS;
+    answers_from(session, step)
+}
+
+/// Makes a session whose program is made already.
+fn carry_out_on(
+    rt: &impl Abort,
+    session: &mut Session,
+    state: &mut u32,
+    seed: u32,
+) -> Result<(), Fail> {
+    for command in 0..COMMANDS {
+        let is_so = goes_on(session, state)?;
+        assert!(rt; is_so, "command {command} of session {seed}");
+    }
+    Ok(())
+}
+
 /// Makes the session that this number begins.
 fn carry_out(rt: &(impl Abort + AllocGlobal), seed: u32) -> Result<(), Fail> {
     let mut state = seed;
     let mut session = opened(rt.alloc(), &mut state)?;
-    for command in 0..COMMANDS {
-        for _ in 0..next(&mut state) % 4 {
-            edit(&mut session, &mut state)?;
-        }
-        let step = next(&mut state) % STEPS;
-        let is_so = answers_from(&mut session, step)?;
-        assert!(rt; is_so, "command {command} of session {seed}");
-    }
-    Ok(())
+    carry_out_on(rt, &mut session, &mut state, seed)
 }
 
 #[test]

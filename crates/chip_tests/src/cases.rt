@@ -3,7 +3,7 @@
 //! A case begins with a line `== NAME`. Of the lines after it those after `| ` are the source's, and those after `> ` are
 //! commands; all others are answers. A line `tape HEX` gives the tape, which is `00` without it. After a line `-- PROFILE`
 //! come the commands and answers of a session of their own on the same source, for a machine of that profile.
-use chip_bench::{Counted, Settings, serve};
+use chip_bench::{Counted, SetError, Settings, serve};
 use chip_machine::Profile;
 use chip_replay::{LEAST_SPACING, MOST_SPACING};
 use std::alloc::{AllocError, Global};
@@ -17,6 +17,13 @@ pub(crate) struct Machinery {
     pub(crate) tape: Vec<u8>,
 }
 
+/// The settings with that spacing of the checkpoints.
+fn settings_of(alloc: Global, machinery: &Machinery, spacing: u32) -> Result<Settings, SetError> {
+    Settings::new(alloc, 10, &machinery.tape)?
+        .with_profile(machinery.profile)
+        .with_spacing(spacing)
+}
+
 /// What `serve` writes for a script on a source, at that spacing of the checkpoints.
 fn answers_at(
     alloc: Global,
@@ -25,9 +32,7 @@ fn answers_at(
     source: &[u8],
     script: &[u8],
 ) -> Result<Vec<u8>, Fail> {
-    let settings = Settings::new(alloc, 10, &machinery.tape)?
-        .with_profile(machinery.profile)
-        .with_spacing(spacing)?;
+    let settings = settings_of(alloc, machinery, spacing)?;
     let mut writer = Counted::new(Vec::new(alloc));
     serve(
         alloc,
@@ -96,19 +101,23 @@ impl Case {
         })
     }
 
+    /// Whether the session that was read is answered so.
+    fn is_answered(&self, alloc: Global) -> Result<bool, Fail> {
+        are_answers(
+            alloc,
+            &self.machinery,
+            self.source.as_bytes(),
+            self.script.as_bytes(),
+            self.expected.as_bytes(),
+        )
+    }
+
     /// Carries out the session that was read, if there is one, and forgets it.
     fn end_session(&mut self, rt: &(impl Abort + AllocGlobal)) -> Result<(), Fail> {
         if self.script.is_empty() {
             return Ok(());
         }
-        let is_answered = are_answers(
-            rt.alloc(),
-            &self.machinery,
-            self.source.as_bytes(),
-            self.script.as_bytes(),
-            self.expected.as_bytes(),
-        )?;
-        assert!(rt; is_answered, "at {}", self.name);
+        assert!(rt; self.is_answered(rt.alloc())?, "at {}", self.name);
         self.sessions = self.sessions.saturating_add(1);
         self.script.clear();
         self.expected.clear();
@@ -123,23 +132,29 @@ impl Case {
         Ok(())
     }
 
-    /// Reads a line that ends a session, if it is one.
-    fn has_ended(&mut self, rt: &(impl Abort + AllocGlobal), line: &str) -> Result<bool, Fail> {
+    /// Begins a session for a machine of that profile.
+    fn turn_to(&mut self, profile: &str) {
+        self.machinery.profile = if profile == "vip" {
+            Profile::Vip
+        } else {
+            Profile::Schip
+        };
+    }
+
+    /// Reads a line: one with a name or a profile ends the session before it.
+    fn read(&mut self, rt: &(impl Abort + AllocGlobal), line: &str) -> Result<(), Fail> {
         if let Some(name) = line.strip_prefix("== ") {
             self.end_session(rt)?;
-            self.begin(rt.alloc(), name)?;
-            return Ok(true);
+            return self.begin(rt.alloc(), name);
         }
-        if let Some(profile) = line.strip_prefix("-- ") {
-            self.end_session(rt)?;
-            self.machinery.profile = if profile == "vip" {
-                Profile::Vip
-            } else {
-                Profile::Schip
-            };
-            return Ok(true);
+        match line.strip_prefix("-- ") {
+            Some(profile) => {
+                self.end_session(rt)?;
+                self.turn_to(profile);
+                Ok(())
+            }
+            None => self.take(rt.alloc(), line),
         }
-        Ok(false)
     }
 
     /// Reads a line of the source, a command, an answer or a tape.
@@ -165,15 +180,28 @@ pub(crate) fn append(text: &mut String, line: &str) -> Result<(), Fail> {
     Ok(())
 }
 
-/// Carries out all cases of a text, and says how many sessions they have.
-pub(crate) fn carry_out(rt: &(impl Abort + AllocGlobal), text: &str) -> Result<u32, Fail> {
-    let alloc = rt.alloc();
-    let mut case = Case::new(alloc)?;
+/// Carries out all cases of a text from that one on.
+fn read_all(rt: &(impl Abort + AllocGlobal), case: &mut Case, text: &str) -> Result<(), Fail> {
     for line in text.lines() {
-        if !case.has_ended(rt, line)? {
-            case.take(alloc, line)?;
-        }
+        case.read(rt, line)?;
     }
-    case.end_session(rt)?;
+    case.end_session(rt)
+}
+
+/// Carries out all cases of a text, and says how many sessions they have.
+fn count_all(rt: &(impl Abort + AllocGlobal), text: &str) -> Result<u32, Fail> {
+    let mut case = Case::new(rt.alloc())?;
+    read_all(rt, &mut case, text)?;
     Ok(case.sessions)
+}
+
+/// Carries out all cases of a text, which have so many sessions.
+pub(crate) fn carry_out(
+    rt: &(impl Abort + AllocGlobal),
+    text: &str,
+    wanted: u32,
+) -> Result<(), Fail> {
+    let count = count_all(rt, text)?;
+    assert!(rt; count == wanted, "{count} sessions");
+    Ok(())
 }

@@ -79,8 +79,7 @@ no N8
 
 #[test]
 fn edits_are_answered(rt: HostRuntime) -> Result<(), Fail> {
-    assert_eq!(rt; carry_out(&rt, EDITS)?, 6);
-    Ok(())
+    carry_out(&rt, EDITS, 6)
 }
 
 const QUESTIONS: &str = "\
@@ -234,8 +233,7 @@ no C1
 
 #[test]
 fn questions_are_answered(rt: HostRuntime) -> Result<(), Fail> {
-    assert_eq!(rt; carry_out(&rt, QUESTIONS)?, 9);
-    Ok(())
+    carry_out(&rt, QUESTIONS, 9)
 }
 
 const REFUSALS: &str = "\
@@ -276,8 +274,7 @@ no Q3
 
 #[test]
 fn each_refusal_has_its_example(rt: HostRuntime) -> Result<(), Fail> {
-    assert_eq!(rt; carry_out(&rt, REFUSALS)?, 5);
-    Ok(())
+    carry_out(&rt, REFUSALS, 5)
 }
 
 /// A text of 201 bytes, and a line of 401.

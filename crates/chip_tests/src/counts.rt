@@ -262,11 +262,14 @@ impl Case {
         self.session.written() == self.expected.as_bytes()
     }
 
-    /// Begins the case of that name.
-    fn begin(&mut self, alloc: Global, name: &str) -> Result<(), Fail> {
+    /// Begins the case of that name, and says whether the case before it was answered as was read.
+    fn begin(&mut self, alloc: Global, name: &str) -> Result<bool, Fail> {
+        if !self.is_answered() {
+            return Ok(false);
+        }
         self.name = String::from_str(alloc, name)?;
         self.source.clear();
-        Ok(())
+        Ok(true)
     }
 
     /// Opens the source that was read.
@@ -304,40 +307,54 @@ impl Case {
             None => append(&mut self.expected, line),
         }
     }
+
+    /// Reads a line, and says whether what ends with it is as was read.
+    fn reads(&mut self, alloc: Global, line: &str) -> Result<bool, Fail> {
+        if let Some(name) = line.strip_prefix("== ") {
+            return self.begin(alloc, name);
+        }
+        if let Some(is_so) = self.counts_so(line)? {
+            return Ok(is_so);
+        }
+        self.take(alloc, line)?;
+        Ok(true)
+    }
+}
+
+/// Carries out all cases of a text from that one on.
+fn read_all(rt: &(impl Abort + AllocGlobal), case: &mut Case, text: &str) -> Result<(), Fail> {
+    for line in text.lines() {
+        assert!(rt; case.reads(rt.alloc(), line)?, "at {}: {line}", case.name);
+    }
+    assert!(rt; case.is_answered(), "at {}", case.name);
+    Ok(())
 }
 
 /// Carries out all cases of a text, and says how many sources were opened.
-fn carry_out(rt: &(impl Abort + AllocGlobal), text: &str) -> Result<u32, Fail> {
-    let alloc = rt.alloc();
-    let mut case = Case::new(alloc)?;
-    for line in text.lines() {
-        if let Some(name) = line.strip_prefix("== ") {
-            assert!(rt; case.is_answered(), "at {}", case.name);
-            case.begin(alloc, name)?;
-        } else if let Some(is_so) = case.counts_so(line)? {
-            assert!(rt; is_so, "at {}: {line}", case.name);
-        } else {
-            case.take(alloc, line)?;
-        }
-    }
-    assert!(rt; case.is_answered(), "at {}", case.name);
+fn count_all(rt: &(impl Abort + AllocGlobal), text: &str) -> Result<u32, Fail> {
+    let mut case = Case::new(rt.alloc())?;
+    read_all(rt, &mut case, text)?;
     Ok(case.opened)
+}
+
+/// Carries out all cases of a text, in which so many sources are opened.
+fn carry_out(rt: &(impl Abort + AllocGlobal), text: &str, wanted: u32) -> Result<(), Fail> {
+    let count = count_all(rt, text)?;
+    assert!(rt; count == wanted, "{count} sources");
+    Ok(())
 }
 
 #[test]
 fn lines_are_read_and_encoded_once(rt: HostRuntime) -> Result<(), Fail> {
-    assert_eq!(rt; carry_out(&rt, WORK)?, 2);
-    Ok(())
+    carry_out(&rt, WORK, 2)
 }
 
 #[test]
 fn steps_are_made_once(rt: HostRuntime) -> Result<(), Fail> {
-    assert_eq!(rt; carry_out(&rt, RUNS)?, 5);
-    Ok(())
+    carry_out(&rt, RUNS, 5)
 }
 
 #[test]
 fn steps_are_made_again_from_a_checkpoint(rt: HostRuntime) -> Result<(), Fail> {
-    assert_eq!(rt; carry_out(&rt, SPACINGS)?, 3);
-    Ok(())
+    carry_out(&rt, SPACINGS, 3)
 }

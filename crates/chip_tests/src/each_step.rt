@@ -23,37 +23,44 @@ fn answers_at(alloc: Global, step: u32) -> Result<String, Fail> {
     )?)
 }
 
-/// Asserts what the session says of a step.
-fn expect_at(
-    rt: &(impl Abort + AllocGlobal),
-    session: &mut Session,
-    step: u32,
-) -> Result<(), Fail> {
-    let alloc = rt.alloc();
+/// What the session says of a step.
+fn answers_of(alloc: Global, session: &mut Session, step: u32) -> Result<(), Fail> {
     let registers = format!(in alloc; "regs {step}")?;
     let word = format!(in alloc; "mem {step} #208 2")?;
-    let expected = answers_at(alloc, step)?;
     session.forget();
     session.carry_out(alloc, registers.as_bytes())?;
-    session.carry_out(alloc, word.as_bytes())?;
-    assert!(rt; session.written() == expected.as_bytes(), "at {step}");
+    session.carry_out(alloc, word.as_bytes())
+}
+
+/// Whether the session says of a step what it should.
+fn is_so_at(alloc: Global, session: &mut Session, step: u32) -> Result<bool, Fail> {
+    answers_of(alloc, session, step)?;
+    Ok(session.written() == answers_at(alloc, step)?.as_bytes())
+}
+
+/// Asserts it of each step.
+fn expect_in_order(rt: &(impl Abort + AllocGlobal), session: &mut Session) -> Result<(), Fail> {
+    for step in 0..=LAST {
+        assert!(rt; is_so_at(rt.alloc(), session, step)?, "at {step}");
+    }
+    Ok(())
+}
+
+/// Asserts it of each step, from the last one back.
+fn expect_backwards(rt: &(impl Abort + AllocGlobal), session: &mut Session) -> Result<(), Fail> {
+    for back in 0..=LAST {
+        let step = LAST.saturating_sub(back);
+        assert!(rt; is_so_at(rt.alloc(), session, step)?, "at {step}");
+    }
     Ok(())
 }
 
 #[test]
 fn each_step_is_told_in_order(rt: HostRuntime) -> Result<(), Fail> {
-    let mut session = Session::open(rt.alloc(), SOURCE, 1000)?;
-    for step in 0..=LAST {
-        expect_at(&rt, &mut session, step)?;
-    }
-    Ok(())
+    expect_in_order(&rt, &mut Session::open(rt.alloc(), SOURCE, 1000)?)
 }
 
 #[test]
 fn each_step_is_told_backwards(rt: HostRuntime) -> Result<(), Fail> {
-    let mut session = Session::open(rt.alloc(), SOURCE, 1000)?;
-    for back in 0..=LAST {
-        expect_at(&rt, &mut session, LAST.saturating_sub(back))?;
-    }
-    Ok(())
+    expect_backwards(&rt, &mut Session::open(rt.alloc(), SOURCE, 1000)?)
 }

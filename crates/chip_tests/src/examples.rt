@@ -70,8 +70,7 @@ flags 00 00 00 00 00 00 00 00 stack
 
 #[test]
 fn ball_bounces(rt: HostRuntime) -> Result<(), Fail> {
-    assert_eq!(rt; carry_out(&rt, BALL)?, 1);
-    Ok(())
+    carry_out(&rt, BALL, 1)
 }
 
 const GUESS: &str = "\
@@ -187,8 +186,7 @@ flags 00 00 00 00 00 00 00 00 stack
 
 #[test]
 fn player_guesses(rt: HostRuntime) -> Result<(), Fail> {
-    assert_eq!(rt; carry_out(&rt, GUESS)?, 1);
-    Ok(())
+    carry_out(&rt, GUESS, 1)
 }
 
 const SCROLLER: &str = "\
@@ -280,8 +278,7 @@ flags 00 00 00 00 00 00 00 00 stack
 
 #[test]
 fn sprites_scroll(rt: HostRuntime) -> Result<(), Fail> {
-    assert_eq!(rt; carry_out(&rt, SCROLLER)?, 1);
-    Ok(())
+    carry_out(&rt, SCROLLER, 1)
 }
 
 const PROFILES: &str = "\
@@ -495,6 +492,5 @@ flags 00 00 00 00 00 00 00 00 stack
 
 #[test]
 fn profiles_are_told_apart(rt: HostRuntime) -> Result<(), Fail> {
-    assert_eq!(rt; carry_out(&rt, PROFILES)?, 2);
-    Ok(())
+    carry_out(&rt, PROFILES, 2)
 }

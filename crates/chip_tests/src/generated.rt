@@ -78,16 +78,39 @@ fn source_of(alloc: Global, words: &[u32]) -> Result<String, Fail> {
     Ok(source)
 }
 
-/// A new session on the words and the key events.
-fn opened(alloc: Global, edited: &Edited, spacing: u32) -> Result<Session, Fail> {
-    let source = source_of(alloc, &edited.words)?;
-    let mut session = Session::open(alloc, source.as_bytes(), spacing)?;
-    for (step, key, is_down) in &edited.events {
-        let down = if *is_down { "down" } else { "up" };
-        let command = format!(in alloc; "kins {step} {key} {down}")?;
-        session.carry_out(alloc, command.as_bytes())?;
+/// Makes a key event in a session.
+fn put_event(
+    alloc: Global,
+    session: &mut Session,
+    (step, key, is_down): (u32, u32, bool),
+) -> Result<(), Fail> {
+    let down = if is_down { "down" } else { "up" };
+    let command = format!(in alloc; "kins {step} {key} {down}")?;
+    session.carry_out(alloc, command.as_bytes())
+}
+
+/// Makes the key events in a session, and forgets what was answered.
+fn put_events(
+    alloc: Global,
+    session: &mut Session,
+    events: &[(u32, u32, bool)],
+) -> Result<(), Fail> {
+    for event in events {
+        put_event(alloc, session, *event)?;
     }
     session.forget();
+    Ok(())
+}
+
+/// A new session on the words.
+fn session_on(alloc: Global, words: &[u32], spacing: u32) -> Result<Session, Fail> {
+    Session::open(alloc, source_of(alloc, words)?.as_bytes(), spacing)
+}
+
+/// A new session on the words and the key events.
+fn opened(alloc: Global, edited: &Edited, spacing: u32) -> Result<Session, Fail> {
+    let mut session = session_on(alloc, &edited.words, spacing)?;
+    put_events(alloc, &mut session, &edited.events)?;
     Ok(session)
 }
 
@@ -145,19 +168,33 @@ fn question(alloc: Global, state: &mut u32) -> Result<String, Fail> {
     })
 }
 
-/// Whether the session and a new one answer some question in the same way.
+/// What a new session answers.
+fn fresh_answer(alloc: Global, edited: &Edited, command: &[u8]) -> Result<Vec<u8>, Fail> {
+    answer_to(alloc, &mut opened(alloc, edited, 100_000)?, command)
+}
+
+/// Carries out a command, and says what it was answered.
+fn answer_to(alloc: Global, session: &mut Session, command: &[u8]) -> Result<Vec<u8>, Fail> {
+    session.forget();
+    session.carry_out(alloc, command)?;
+    Ok(Vec::from_slice(alloc, session.written())?)
+}
+
+/// Whether the session and a new one answer a question in the same way.
 fn answers_alike(
     alloc: Global,
     session: &mut Session,
     edited: &Edited,
-    state: &mut u32,
+    command: &[u8],
 ) -> Result<bool, Fail> {
-    let command = question(alloc, state)?;
-    let mut fresh = opened(alloc, edited, 100_000)?;
-    session.forget();
-    session.carry_out(alloc, command.as_bytes())?;
-    fresh.carry_out(alloc, command.as_bytes())?;
-    Ok(session.written() == fresh.written() && !session.written().starts_with(b"no "))
+    let answer = answer_to(alloc, session, command)?;
+    let is_refused = answer.as_slice().starts_with(b"no ");
+    Ok(!is_refused && fresh_answer(alloc, edited, command)?.as_slice() == answer.as_slice())
+}
+
+/// Whether a session takes an edit.
+fn takes(alloc: Global, session: &mut Session, command: &[u8]) -> Result<bool, Fail> {
+    Ok(answer_to(alloc, session, command)?.as_slice() == b"ok\n".as_slice())
 }
 
 /// Carries out the next command, and says whether it is answered as it should be.
@@ -170,11 +207,26 @@ fn goes_on(
     let command = match next(state) % 4 {
         0 => word_edit(alloc, edited, state)?,
         1 => key_edit(alloc, edited, state)?,
-        _ => return answers_alike(alloc, session, edited, state),
+        _ => {
+            let asked = question(alloc, state)?;
+            return answers_alike(alloc, session, edited, asked.as_bytes());
+        }
     };
-    session.forget();
-    session.carry_out(alloc, command.as_bytes())?;
-    Ok(session.written() == b"ok\n".as_slice())
+    takes(alloc, session, command.as_bytes())
+}
+
+/// Makes the commands of a session.
+fn carry_out_on(
+    rt: &(impl Abort + AllocGlobal),
+    session: &mut Session,
+    edited: &mut Edited,
+    (state, seed): (&mut u32, u32),
+) -> Result<(), Fail> {
+    for command in 0..COMMANDS {
+        let is_so = goes_on(rt.alloc(), session, edited, state)?;
+        assert!(rt; is_so, "command {command} of session {seed}");
+    }
+    Ok(())
 }
 
 /// Makes the session that this number begins.
@@ -182,11 +234,7 @@ fn carry_out(rt: &(impl Abort + AllocGlobal), seed: u32) -> Result<(), Fail> {
     let mut state = seed;
     let mut edited = some_words(rt.alloc(), &mut state)?;
     let mut session = opened(rt.alloc(), &edited, 1000)?;
-    for command in 0..COMMANDS {
-        let is_so = goes_on(rt.alloc(), &mut session, &mut edited, &mut state)?;
-        assert!(rt; is_so, "command {command} of session {seed}");
-    }
-    Ok(())
+    carry_out_on(rt, &mut session, &mut edited, (&mut state, seed))
 }
 
 #[test]

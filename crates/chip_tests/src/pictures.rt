@@ -53,29 +53,33 @@ fn writes_pictures(rt: HostRuntime) -> Result<(), Fail> {
     room.end()
 }
 
+const WAITING: &str = "run @wait.asm --steps 4 --keys @keys";
+
+// An error unless a run with key events prints registers that begin so.
+fn takes_keys(rt: &HostRuntime, room: &Room, keys: &[u8], start: &[u8]) -> Result<(), Fail> {
+    room.put("keys", keys)?;
+    let ran = room.run(rt, WAITING)?;
+    ensure(
+        ran.status == 0 && ran.output.as_slice().starts_with(start),
+        WAITING,
+    )
+}
+
+// An error unless a run refuses key events with that end of a line.
+fn refuses_keys(rt: &HostRuntime, room: &Room, keys: &[u8], end: &str) -> Result<(), Fail> {
+    room.put("keys", keys)?;
+    let path = room.path("keys")?;
+    let said = format!(in rt.alloc(); "chipbench: keys {path} {end}\n")?;
+    room.run(rt, WAITING)?.expect(2, b"", said.as_bytes())
+}
+
 #[test]
 fn takes_key_events_from_a_file(rt: HostRuntime) -> Result<(), Fail> {
     let room = Room::new(&rt, "keys")?;
     room.put("wait.asm", b"L: LD V1, K\nJP L\n")?;
-    room.put("keys", b"; two events\n2 5 down\r\n\n 3 #c down ; later")?;
-    let line = "run @wait.asm --steps 4 --keys @keys";
-    let ran = room.run(&rt, line)?;
-    ensure(
-        ran.status == 0 && ran.output.as_slice().starts_with(b"v 00 05 "),
-        line,
-    )?;
-    room.put("keys", b"2 5 down\n2 5 up\n")?;
-    let ran = room.run(&rt, line)?;
-    ensure(
-        ran.status == 2 && ran.output.is_empty(),
-        "the status of wrong keys",
-    )?;
-    let keys = room.path("keys")?;
-    let said = format!(in rt.alloc(); "chipbench: keys {keys} line 2: N7\n")?;
-    ensure(
-        ran.errors.as_slice() == said.as_bytes(),
-        "what is said of wrong keys",
-    )?;
+    let keys = b"; two events\n2 5 down\r\n\n 3 #c down ; later";
+    takes_keys(&rt, &room, keys, b"v 00 05 ")?;
+    refuses_keys(&rt, &room, b"2 5 down\n2 5 up\n", "line 2: N7")?;
     room.end()
 }
 

@@ -77,6 +77,5 @@ flags 00 00 00 00 00 00 00 00 stack
 
 #[test]
 fn profiles_depart_from_each_other(rt: HostRuntime) -> Result<(), Fail> {
-    assert_eq!(rt; carry_out(&rt, DEPARTURES)?, 10);
-    Ok(())
+    carry_out(&rt, DEPARTURES, 10)
 }

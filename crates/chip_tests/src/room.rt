@@ -30,6 +30,12 @@ impl<'a> Room<'a> {
         Ok(())
     }
 
+    /// Takes the folder away; an error unless there are so many names in it.
+    pub(crate) fn end_with(self, wanted: usize) -> Result<(), Fail> {
+        self.expect_names(wanted)?;
+        self.end()
+    }
+
     /// The path of a name in the folder. A name that begins with a slash is a path already.
     pub(crate) fn path(&self, name: &str) -> Result<String, Fail> {
         if name.starts_with("/") {
@@ -120,17 +126,32 @@ impl<'a> Room<'a> {
         Ok((told.uid(), told.ino(), told.nlink()))
     }
 
+    /// What a word stands for: after `@` a name in the folder.
+    fn meant(&self, word: &str) -> Result<String, Fail> {
+        match word.strip_prefix("@") {
+            Some(name) => self.path(name),
+            None => Ok(String::from_str(self.rt.alloc(), word)?),
+        }
+    }
+
+    /// The words of a line.
+    fn words(&self, line: &str) -> Result<Vec<String>, Fail> {
+        let mut words = Vec::new(self.rt.alloc());
+        for word in line.split(" ") {
+            words.push(self.meant(word)?)?;
+        }
+        Ok(words)
+    }
+
     /// A run of the program by the words of a line, on these files. A word after `@` is a name in the folder.
     pub(crate) fn run<F: Files>(&self, files: &F, line: &str) -> Result<Ran, Fail> {
-        let alloc = self.rt.alloc();
-        let mut words = Vec::new(alloc);
-        for word in line.split(" ") {
-            words.push(match word.strip_prefix("@") {
-                Some(name) => self.path(name)?,
-                None => String::from_str(alloc, word)?,
-            })?;
-        }
-        run_on(alloc, files, &words, b"")
+        let words = self.words(line)?;
+        run_on(self.rt.alloc(), files, &words, b"")
+    }
+
+    /// An error unless a run ends with the status.
+    pub(crate) fn expect_status(&self, line: &str, status: u8) -> Result<(), Fail> {
+        ensure(self.run(self.rt, line)?.status == status, line)
     }
 
     /// An error unless the run ends with the status, and prints these bytes and no fault.

@@ -172,8 +172,7 @@ flags 00 00 00 00 00 00 00 00 stack
 
 #[test]
 fn edits_and_keys_change_a_run(rt: HostRuntime) -> Result<(), Fail> {
-    assert_eq!(rt; carry_out(&rt, EDITS)?, 7);
-    Ok(())
+    carry_out(&rt, EDITS, 7)
 }
 
 const STEPS: &str = "\
@@ -249,8 +248,7 @@ no Q3
 
 #[test]
 fn steps_have_their_effects(rt: HostRuntime) -> Result<(), Fail> {
-    assert_eq!(rt; carry_out(&rt, STEPS)?, 6);
-    Ok(())
+    carry_out(&rt, STEPS, 6)
 }
 
 const STOPS: &str = "\
@@ -300,8 +298,7 @@ flags 00 00 00 00 00 00 00 00 stack
 
 #[test]
 fn machines_stop(rt: HostRuntime) -> Result<(), Fail> {
-    assert_eq!(rt; carry_out(&rt, STOPS)?, 6);
-    Ok(())
+    carry_out(&rt, STOPS, 6)
 }
 
 const SCREENS: &str = "\
@@ -404,8 +401,7 @@ low
 
 #[test]
 fn sprites_are_drawn(rt: HostRuntime) -> Result<(), Fail> {
-    assert_eq!(rt; carry_out(&rt, SCREENS)?, 6);
-    Ok(())
+    carry_out(&rt, SCREENS, 6)
 }
 
 const SOURCES: &str = "\
@@ -472,6 +468,5 @@ const SOURCES: &str = "\
 
 #[test]
 fn sources_are_assembled(rt: HostRuntime) -> Result<(), Fail> {
-    assert_eq!(rt; carry_out(&rt, SOURCES)?, 9);
-    Ok(())
+    carry_out(&rt, SOURCES, 9)
 }

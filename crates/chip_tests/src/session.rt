@@ -1,7 +1,25 @@
 //! A session that takes its commands as text. Its calls have no clauses, so that tests of many calls are proved fast.
-use chip_bench::{Bench, Command, Settings, read_command};
+use chip_bench::{Bench, Command, CommandFault, Edit, Question, Refusal, Settings, read_command};
 use std::alloc::Global;
 use std::test::Fail;
+
+// What a bench does, without its clauses.
+fn read(command: &[u8]) -> Result<Command<'_>, CommandFault> {
+    read_command(command)
+}
+
+fn ask(
+    alloc: Global,
+    bench: &mut Bench,
+    question: &Question,
+    written: &mut Vec<u8>,
+) -> Result<(), Refusal> {
+    bench.ask(alloc, question, written)
+}
+
+fn apply(alloc: Global, bench: &mut Bench, edit: &Edit<'_>) -> Result<(), Refusal> {
+    bench.apply(alloc, edit)
+}
 
 /// A session, and what a script of its commands would be answered.
 #[derive(Drop)]
@@ -64,11 +82,11 @@ impl Session {
 
     /// Carries out a command, and gives the code of its refusal.
     fn code_of(&mut self, alloc: Global, command: &[u8]) -> Result<Option<&'static [u8]>, Fail> {
-        let carried_out = match read_command(command) {
+        let carried_out = match read(command) {
             Err(fault) => return Ok(Some(fault.code())),
             Ok(Command::Blank) => return Ok(None),
-            Ok(Command::Ask(question)) => self.bench.ask(alloc, &question, &mut self.written),
-            Ok(Command::Edit(edit)) => match self.bench.apply(alloc, &edit) {
+            Ok(Command::Ask(question)) => ask(alloc, &mut self.bench, &question, &mut self.written),
+            Ok(Command::Edit(edit)) => match apply(alloc, &mut self.bench, &edit) {
                 Ok(()) => Ok(self.written.extend_from_slice(b"ok\n")?),
                 Err(refusal) => Err(refusal),
             },

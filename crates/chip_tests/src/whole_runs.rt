@@ -87,8 +87,8 @@ fn refuses_another_profile(rt: HostRuntime) -> Result<(), Fail> {
 fn runs_up_to_the_last_step(rt: HostRuntime) -> Result<(), Fail> {
     let room = Room::new(&rt, "last")?;
     room.put("source", LOOP.as_bytes())?;
-    assert_eq!(rt; room.run(&rt, "run @source --steps 1000000")?.status, 0);
-    assert_eq!(rt; room.run(&rt, "run @source --steps 1000001")?.status, 2);
+    room.expect_status("run @source --steps 1000000", 0)?;
+    room.expect_status("run @source --steps 1000001", 2)?;
     room.end()
 }
 
@@ -98,15 +98,20 @@ fn longest_source(alloc: Global) -> Result<String, AllocError> {
     line.repeat(alloc, 4000)
 }
 
+/// Puts the longest source, and that text after it.
+fn put_longest(alloc: Global, room: &Room<'_>, more: &str) -> Result<(), Fail> {
+    let mut text = longest_source(alloc)?;
+    text.push_str(more)?;
+    room.put("source", text.as_bytes())
+}
+
 /// The longest source, and then one byte more.
 #[test]
 fn reads_as_much_of_a_source_as_tells(rt: HostRuntime) -> Result<(), Fail> {
     let room = Room::new(&rt, "longest")?;
-    let mut text = longest_source(rt.alloc())?;
-    room.put("source", text.as_bytes())?;
-    assert_eq!(rt; room.run(&rt, "run @source --steps 0")?.status, 0);
-    text.push_str(";")?;
-    room.put("source", text.as_bytes())?;
+    put_longest(rt.alloc(), &room, "")?;
+    room.expect_status("run @source --steps 0", 0)?;
+    put_longest(rt.alloc(), &room, ";")?;
     room.expect("run @source --steps 0", 1, b"no O2\n")?;
     room.end()
 }
@@ -120,17 +125,21 @@ fn prints_a_source_of_an_image(rt: HostRuntime) -> Result<(), Fail> {
     room.end()
 }
 
-#[test]
-fn prints_no_source_of_an_image_that_is_too_long(rt: HostRuntime) -> Result<(), Fail> {
-    let room = Room::new(&rt, "long")?;
-    room.put("image", "\0".repeat(rt.alloc(), 3584)?.as_bytes())?;
-    assert_eq!(rt; room.run(&rt, "dis @image")?.status, 0);
-    room.put("image", "\0".repeat(rt.alloc(), 3585)?.as_bytes())?;
-    let run = room.run(&rt, "dis @image")?;
+/// An error unless an image is refused as too long.
+fn expect_too_long(rt: &HostRuntime, room: &Room<'_>) -> Result<(), Fail> {
     let path = room.path("image")?;
     let said = format!(in rt.alloc();
         "chipbench: cannot read {path}\nreason: it has over 3584 bytes\n"
     )?;
-    run.expect(3, b"", said.as_bytes())?;
+    room.run(rt, "dis @image")?.expect(3, b"", said.as_bytes())
+}
+
+#[test]
+fn prints_no_source_of_an_image_that_is_too_long(rt: HostRuntime) -> Result<(), Fail> {
+    let room = Room::new(&rt, "long")?;
+    room.put("image", "\0".repeat(rt.alloc(), 3584)?.as_bytes())?;
+    room.expect_status("dis @image", 0)?;
+    room.put("image", "\0".repeat(rt.alloc(), 3585)?.as_bytes())?;
+    expect_too_long(&rt, &room)?;
     room.end()
 }

@@ -202,27 +202,34 @@ debug --every 999
 debug --every 100001
 ";
 
+/// An error unless the words of a line are refused.
+fn expect_refused(rt: &HostRuntime, line: &str) -> Result<(), Fail> {
+    let run = run_line(rt.alloc(), rt, line)?;
+    ensure(run.status == 2 && run.output.is_empty(), line)?;
+    ensure(run.errors.as_slice().starts_with(b"error: "), line)
+}
+
 #[test]
 fn refuses_words(rt: HostRuntime) -> Result<(), Fail> {
     for line in NO_WORDS.lines() {
-        let run = run_line(rt.alloc(), &rt, line)?;
-        ensure(run.status == 2 && run.output.is_empty(), line)?;
-        ensure(run.errors.as_slice().starts_with(b"error: "), line)?;
+        expect_refused(&rt, line)?;
     }
     Ok(())
 }
 
+/// The status where the words can't be read for that reason, and what is said of it.
+fn refused(alloc: Global, reason: io::ErrorKind) -> (u8, Vec<u8>) {
+    let mut errors = Vec::new(alloc);
+    let status = refuse_words(alloc, &io::Error::from(reason), &mut errors);
+    (status, errors)
+}
+
 #[test]
 fn refuses_words_that_are_no_text(rt: HostRuntime) {
-    let alloc = rt.alloc();
-    let mut errors = Vec::new(alloc);
-    let no_text = io::Error::from(io::ErrorKind::InvalidData);
-    assert_eq!(rt; refuse_words(alloc, &no_text, &mut errors), 2);
-    assert!(rt; errors.as_slice().starts_with(b"error: invalid UTF-8"));
-    errors.clear();
-    let no_memory = io::Error::from(io::ErrorKind::OutOfMemory);
-    assert_eq!(rt; refuse_words(alloc, &no_memory, &mut errors), 4);
-    assert!(rt; errors.as_slice() == "chipbench: out of memory\n".as_bytes());
+    let (status, said) = refused(rt.alloc(), io::ErrorKind::InvalidData);
+    assert!(rt; status == 2 && said.as_slice().starts_with(b"error: invalid UTF-8"));
+    let (status, said) = refused(rt.alloc(), io::ErrorKind::OutOfMemory);
+    assert!(rt; status == 4 && said.as_slice() == b"chipbench: out of memory\n".as_slice());
 }
 
 /// The first line ends with a word of no bytes.
@@ -341,16 +348,20 @@ fn says_that_there_is_too_much_input(rt: HostRuntime) -> Result<(), Fail> {
     expect_hindered(&rt, &[], (too_much, all), text)
 }
 
+/// Puts a source of so many times that text.
+fn put_repeated(alloc: Global, room: &Room<'_>, text: &str, times: usize) -> Result<(), Fail> {
+    room.put("source", text.repeat(alloc, times)?.as_bytes())
+}
+
 #[test]
 fn says_why_a_source_does_not_open(rt: HostRuntime) -> Result<(), Fail> {
     let room = Room::new(&rt, "open")?;
-    room.put("source", "x".repeat(rt.alloc(), 201)?.as_bytes())?;
+    put_repeated(rt.alloc(), &room, "x", 201)?;
     room.expect("debug @source", 1, b"no O1\n")?;
     room.expect("asm @source @image", 1, b"no O1\n")?;
-    room.put("source", "\n".repeat(rt.alloc(), 4002)?.as_bytes())?;
+    put_repeated(rt.alloc(), &room, "\n", 4002)?;
     room.expect("list @source", 1, b"no O2\n")?;
-    room.expect_names(1)?;
-    room.end()
+    room.end_with(1)
 }
 
 const LISTING: &[u8] = b"   1 0200 6005          LD V0, 5

@@ -10,7 +10,7 @@ use crate::assembler::{
     replace, symbol_text, symbols_text,
 };
 use chip_asm::{OpenError, Refusal, Source};
-use std::alloc::Global;
+use std::alloc::{AllocError, Global};
 use std::process::Abort;
 use std::test::Fail;
 
@@ -50,12 +50,35 @@ fn answer_of(alloc: Global, source: &Source, word: &str, rest: &str) -> Result<S
 
 /// What a source says to a question about its work.
 fn answer_of_work(alloc: Global, source: &Source, word: &str, rest: &str) -> Result<String, Fail> {
-    let (parsed, encoded) = (parsed(source), encoded(source));
     match word {
-        "parsed" => Ok(parsed.to_string(alloc)?),
-        "work" => Ok(format!(in alloc; "{parsed} {encoded}")?),
-        "encoded" if encoded <= rest.parse::<u64>()? => Ok(String::from_str(alloc, "so")?),
-        _ => Ok(format!(in alloc; "{word}: {encoded}")?),
+        "parsed" => Ok(parsed(source).to_string(alloc)?),
+        "work" => Ok(work_text(alloc, source)?),
+        "encoded" => Ok(encoded_text(alloc, source, rest.parse::<u64>()?)?),
+        _ => Err(Fail::new("no such command")),
+    }
+}
+
+/// How many lines were read and how many were encoded.
+fn work_text(alloc: Global, source: &Source) -> Result<String, AllocError> {
+    let (parsed, encoded) = (parsed(source), encoded(source));
+    format!(in alloc; "{parsed} {encoded}")
+}
+
+/// Whether at most so many lines were encoded, or how many.
+fn encoded_text(alloc: Global, source: &Source, most: u64) -> Result<String, AllocError> {
+    let encoded = encoded(source);
+    if encoded <= most {
+        return String::from_str(alloc, "so");
+    }
+    encoded.to_string(alloc)
+}
+
+/// The bytes that a text of an edit stands for.
+fn bytes_of(text: &str) -> &[u8] {
+    match text {
+        "FULL" => &BLANKS[1..],
+        "BLANKS" => BLANKS.as_slice(),
+        _ => text.as_bytes(),
     }
 }
 
@@ -67,6 +90,7 @@ struct Case {
     source: Source,
     answered: String,
     expected: String,
+    count: u32,
 }
 
 /// Appends a line.
@@ -84,6 +108,7 @@ impl Case {
             source: Source::new(alloc),
             answered: String::new(alloc),
             expected: String::new(alloc),
+            count: 0,
         }
     }
 
@@ -92,10 +117,16 @@ impl Case {
         self.answered.as_str() == self.expected.as_str()
     }
 
+    /// Asserts it.
+    fn expect_answered(&self, rt: &impl Abort) {
+        assert!(rt; self.is_answered(), "at {}: {}", self.name, self.answered);
+    }
+
     /// Begins the case of that name.
     fn begin(&mut self, alloc: Global, name: &str) -> Result<(), Fail> {
         self.name = String::from_str(alloc, name)?;
         self.lines.clear();
+        self.count = self.count.saturating_add(1);
         Ok(())
     }
 
@@ -118,24 +149,25 @@ impl Case {
         Ok(())
     }
 
-    /// Makes an edit.
-    fn edit(&mut self, alloc: Global, word: &str, rest: &str) -> Result<(), Fail> {
-        let (number, text) = rest.split_once(" ").unwrap_or((rest, ""));
-        let line = number.parse::<usize>()?;
-        let text = match text {
-            "FULL" => &BLANKS[1..],
-            "BLANKS" => BLANKS.as_slice(),
-            _ => text.as_bytes(),
-        };
+    /// Makes an edit, and says how it was answered.
+    fn edited(&mut self, alloc: Global, word: &str, line: usize, text: &[u8]) -> &'static str {
         let made = match word {
             "ins" => insert(alloc, &mut self.source, line, text),
             "rep" => replace(alloc, &mut self.source, line, text),
             _ => delete(alloc, &mut self.source, line),
         };
         match made {
-            Ok(()) => append(&mut self.answered, "ok"),
-            Err(refusal) => append(&mut self.answered, name_of_refusal(&refusal)),
+            Ok(()) => "ok",
+            Err(refusal) => name_of_refusal(&refusal),
         }
+    }
+
+    /// Makes an edit.
+    fn edit(&mut self, alloc: Global, word: &str, rest: &str) -> Result<(), Fail> {
+        let (number, text) = rest.split_once(" ").unwrap_or((rest, ""));
+        let line = number.parse::<usize>()?;
+        let said = self.edited(alloc, word, line, bytes_of(text));
+        append(&mut self.answered, said)
     }
 
     /// Puts the listing into the answers.
@@ -170,22 +202,42 @@ impl Case {
             None => append(&mut self.expected, line),
         }
     }
+
+    /// Reads a line: one with a name ends the case before it.
+    fn read(&mut self, rt: &(impl Abort + AllocGlobal), line: &str) -> Result<(), Fail> {
+        match line.strip_prefix("== ") {
+            Some(name) => {
+                self.expect_answered(rt);
+                self.begin(rt.alloc(), name)
+            }
+            None => self.take(rt.alloc(), line),
+        }
+    }
+}
+
+/// Carries out all cases of a text from that one on.
+fn read_all(rt: &(impl Abort + AllocGlobal), case: &mut Case, text: &str) -> Result<(), Fail> {
+    for line in text.lines() {
+        case.read(rt, line)?;
+    }
+    case.expect_answered(rt);
+    Ok(())
 }
 
 /// Carries out all cases of a text, and says how many there are.
-pub(crate) fn carry_out(rt: &(impl Abort + AllocGlobal), text: &str) -> Result<u32, Fail> {
-    let alloc = rt.alloc();
-    let mut case = Case::new(alloc);
-    let mut count = 0u32;
-    for line in text.lines() {
-        if let Some(name) = line.strip_prefix("== ") {
-            assert!(rt; case.is_answered(), "at {}: {}", case.name, case.answered);
-            case.begin(alloc, name)?;
-            count = count.saturating_add(1);
-        } else {
-            case.take(alloc, line)?;
-        }
-    }
-    assert!(rt; case.is_answered(), "at {}: {}", case.name, case.answered);
-    Ok(count)
+fn count_all(rt: &(impl Abort + AllocGlobal), text: &str) -> Result<u32, Fail> {
+    let mut case = Case::new(rt.alloc());
+    read_all(rt, &mut case, text)?;
+    Ok(case.count)
+}
+
+/// Carries out the cases of a text, of which there are so many.
+pub(crate) fn carry_out(
+    rt: &(impl Abort + AllocGlobal),
+    text: &str,
+    wanted: u32,
+) -> Result<(), Fail> {
+    let count = count_all(rt, text)?;
+    assert!(rt; count == wanted, "{count} cases");
+    Ok(())
 }

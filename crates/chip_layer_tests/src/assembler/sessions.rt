@@ -1,8 +1,8 @@
 //! Sessions of edits: after each edit all answers are those of the lines opened anew.
-use crate::assembler::{delete, insert, opened, replace};
+use crate::assembler::{delete, faults, image, insert, listed, opened, replace, symbols};
 use chip_asm::Source;
 use chip_machine::limits::IMAGE_BYTES;
-use std::alloc::Global;
+use std::alloc::{AllocError, Global};
 use std::process::Abort;
 use std::test::Fail;
 
@@ -72,26 +72,47 @@ fn some_text(state: &mut u32) -> &'static [u8] {
     }
 }
 
+/// The faults and the names of a source, and whether it has an image.
+fn tables(alloc: Global, source: &Source) -> Result<String, AllocError> {
+    let faults = faults(alloc, source)?;
+    let symbols = symbols(alloc, source)?;
+    let has_image = image(source).is_some();
+    format!(in alloc; "{faults:?} {symbols:?} {has_image}")
+}
+
 /// All answers of a source but its work, one after another.
-fn answers(alloc: Global, source: &Source) -> Result<Vec<u8>, Fail> {
-    let mut answers = source.listing(alloc)?;
-    let faults = source.faults(alloc)?;
-    let symbols = source.symbols(alloc)?;
-    let has_image = source.image().is_some();
-    let others = format!(in alloc; "{faults:?} {symbols:?} {has_image}")?;
-    answers.extend_from_slice(others.as_bytes())?;
-    answers.extend_from_slice(source.image().unwrap_or_default())?;
+fn answers(alloc: Global, source: &Source) -> Result<Vec<u8>, AllocError> {
+    let mut answers = listed(alloc, source)?;
+    answers.extend_from_slice(tables(alloc, source)?.as_bytes())?;
+    answers.extend_from_slice(image(source).unwrap_or_default())?;
     Ok(answers)
 }
 
-/// The answers of these lines opened anew.
-fn fresh_answers(alloc: Global, texts: &[&[u8]]) -> Result<Vec<u8>, Fail> {
+/// The lines in one text.
+fn joined(alloc: Global, texts: &[&[u8]]) -> Result<Vec<u8>, AllocError> {
     let mut text = Vec::new(alloc);
     for line in texts {
         text.extend_from_slice(line)?;
         text.push(b'\n')?;
     }
-    answers(alloc, &opened(alloc, &text)?)
+    Ok(text)
+}
+
+/// The answers of a text.
+fn answers_of(alloc: Global, text: &[u8]) -> Result<Vec<u8>, Fail> {
+    let source = opened(alloc, text)?;
+    Ok(answers(alloc, &source)?)
+}
+
+/// The answers of these lines opened anew.
+fn fresh_answers(alloc: Global, texts: &[&[u8]]) -> Result<Vec<u8>, Fail> {
+    answers_of(alloc, &joined(alloc, texts)?)
+}
+
+/// Whether a source answers as its lines opened anew do.
+fn answers_alike(alloc: Global, source: &Source, texts: &[&[u8]]) -> Result<bool, Fail> {
+    let kept = answers(alloc, source)?;
+    Ok(kept.as_slice() == fresh_answers(alloc, texts)?.as_slice())
 }
 
 /// How many edits went each way.
@@ -139,22 +160,46 @@ fn edit_once(
     Ok(())
 }
 
-/// Makes a session of edits that this number begins, and compares all answers after each.
-fn session(rt: &(impl Abort + AllocGlobal), seed: u32, ways: &mut Ways) -> Result<(), Fail> {
-    let alloc = rt.alloc();
+/// What a session edits.
+#[derive(Drop)]
+struct Session {
+    source: Source,
+    texts: Vec<&'static [u8]>,
+}
+
+/// Makes an edit, and says whether the source then answers as its lines opened anew do.
+fn goes_on(
+    alloc: Global,
+    session: &mut Session,
+    state: &mut u32,
+    ways: &mut Ways,
+) -> Result<bool, Fail> {
+    edit_once(alloc, &mut session.source, &mut session.texts, state, ways)?;
+    answers_alike(alloc, &session.source, &session.texts)
+}
+
+/// Makes the edits of a session.
+fn carry_out(
+    rt: &(impl Abort + AllocGlobal),
+    session: &mut Session,
+    seed: u32,
+    ways: &mut Ways,
+) -> Result<(), Fail> {
     let mut state = seed;
-    let mut source = Source::new(alloc);
-    let mut texts = Vec::new(alloc);
     for edit in 0..EDITS {
-        edit_once(alloc, &mut source, &mut texts, &mut state, ways)?;
-        let kept = answers(alloc, &source)?;
-        let fresh = fresh_answers(alloc, &texts)?;
-        assert!(rt;
-            kept.as_slice() == fresh.as_slice(),
-            "edit {edit} of session {seed}"
-        );
+        let is_so = goes_on(rt.alloc(), session, &mut state, ways)?;
+        assert!(rt; is_so, "edit {edit} of session {seed}");
     }
     Ok(())
+}
+
+/// Makes a session of edits that this number begins, and compares all answers after each.
+fn make_session(rt: &(impl Abort + AllocGlobal), seed: u32, ways: &mut Ways) -> Result<(), Fail> {
+    let mut session = Session {
+        source: Source::new(rt.alloc()),
+        texts: Vec::new(rt.alloc()),
+    };
+    carry_out(rt, &mut session, seed, ways)
 }
 
 #[test]
@@ -166,21 +211,9 @@ fn answers_are_those_of_the_lines_opened_anew(rt: HostRuntime) -> Result<(), Fai
         deleted: 0,
     };
     for seed in 0..8 {
-        session(&rt, seed, &mut ways)?;
+        make_session(&rt, seed, &mut ways)?;
     }
-    let Ways {
-        rewritten,
-        remade,
-        inserted,
-        deleted,
-    } = ways;
-    assert!(rt;
-        rewritten > EDITS / 2 && remade > EDITS,
-        "{rewritten} rewritten, {remade} made anew"
-    );
-    assert!(rt;
-        inserted > EDITS / 4 && deleted > EDITS / 4,
-        "{inserted} inserted, {deleted} deleted"
-    );
+    assert!(rt; ways.rewritten > EDITS / 2 && ways.remade > EDITS);
+    assert!(rt; ways.inserted > EDITS / 4 && ways.deleted > EDITS / 4);
     Ok(())
 }

@@ -5,7 +5,7 @@ use std::alloc::Global;
 use std::test::Fail;
 
 /// A line, a fault of it, and a picture of its place: spaces, and a `^` for each byte. A place without bytes has no `^`.
-const PLACES: [(&str, Fault, &str); 19] = [
+const PLACES: &[(&str, Fault, &str)] = &[
     ("DB 1, ?", Fault::BadCharacter, "      ^"),
     ("DB 'ab", Fault::UnfinishedString, "   ^^^"),
     (
@@ -42,7 +42,7 @@ fn is_placed(alloc: Global, line: &str, fault: Fault, place: &str) -> Result<boo
 fn places_each_fault(rt: HostRuntime) -> Result<(), Fail> {
     let alloc = rt.alloc();
     for (line, fault, place) in PLACES {
-        assert!(rt; is_placed(alloc, line, fault, place)?, "{line}");
+        assert!(rt; is_placed(alloc, line, *fault, place)?, "{line}");
     }
     Ok(())
 }

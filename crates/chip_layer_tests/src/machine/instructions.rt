@@ -14,8 +14,7 @@ DRW; schip; 6105 6203 a050 d12a d12a; 5; 0; 00 05 03 00 01 20a 050 0
 
 #[test]
 fn screen_rows(rt: HostRuntime) -> Result<(), Fail> {
-    assert_eq!(rt; check_all(&rt, SCREEN)?, 6);
-    Ok(())
+    check_all(&rt, SCREEN, 6)
 }
 
 const JUMPS: &str = "\
@@ -32,8 +31,7 @@ JP V0; schip; 6202 b204 00fd 6101; 3; 0; 00 01 02 00 00 208 000 0
 
 #[test]
 fn jumps_and_skips(rt: HostRuntime) -> Result<(), Fail> {
-    assert_eq!(rt; check_all(&rt, JUMPS)?, 9);
-    Ok(())
+    check_all(&rt, JUMPS, 9)
 }
 
 const ARITHMETIC: &str = "\
@@ -53,8 +51,7 @@ SHL; schip; 60c1 6106 801e; 3; 0; 82 06 00 00 01 206 000 0
 
 #[test]
 fn arithmetic(rt: HostRuntime) -> Result<(), Fail> {
-    assert_eq!(rt; check_all(&rt, ARITHMETIC)?, 12);
-    Ok(())
+    check_all(&rt, ARITHMETIC, 12)
 }
 
 const INDEX: &str = "\
@@ -69,8 +66,7 @@ LD HF; schip; 6013 f030; 2; 0; 13 00 00 00 00 204 06e 0
 
 #[test]
 fn index_timers_and_tape(rt: HostRuntime) -> Result<(), Fail> {
-    assert_eq!(rt; check_all(&rt, INDEX)?, 7);
-    Ok(())
+    check_all(&rt, INDEX, 7)
 }
 
 const KEYS: &str = "\
@@ -83,8 +79,7 @@ LD K, none; schip; f00a 6101; 2; 0; 00 00 00 00 00 200 000 0
 
 #[test]
 fn keys(rt: HostRuntime) -> Result<(), Fail> {
-    assert_eq!(rt; check_all(&rt, KEYS)?, 5);
-    Ok(())
+    check_all(&rt, KEYS, 5)
 }
 
 const MEMORY: &str = "\
@@ -98,8 +93,7 @@ draw to the end; schip; affb d005; 2; 0; 00 00 00 00 00 204 ffb 0
 
 #[test]
 fn memory(rt: HostRuntime) -> Result<(), Fail> {
-    assert_eq!(rt; check_all(&rt, MEMORY)?, 6);
-    Ok(())
+    check_all(&rt, MEMORY, 6)
 }
 
 const STOPS: &str = "\
@@ -116,8 +110,7 @@ draw one too far; schip; affc d005; 2; 0; 00 00 00 00 00 202 ffc 6
 
 #[test]
 fn stops(rt: HostRuntime) -> Result<(), Fail> {
-    assert_eq!(rt; check_all(&rt, STOPS)?, 9);
-    Ok(())
+    check_all(&rt, STOPS, 9)
 }
 
 /// A digit that is drawn once and twice, a store over the next instruction, three random bytes, 16 calls and one more, a flag that is
@@ -135,6 +128,5 @@ saved flags; schip; 6009 f075; 2; 0; 09 00 00 00 00 204 000 0
 
 #[test]
 fn worked_programs(rt: HostRuntime) -> Result<(), Fail> {
-    assert_eq!(rt; check_all(&rt, WORKED)?, 8);
-    Ok(())
+    check_all(&rt, WORKED, 8)
 }

@@ -4,7 +4,7 @@ use crate::machine::programs::check_all;
 use crate::machine::{has_addresses, loaded_as, reg, row_bits, run, stop_number, touched};
 use chip_machine::profile::PROFILES;
 use chip_machine::{Machine, Profile, Touch};
-use std::alloc::Global;
+use std::alloc::{AllocError, Global};
 use std::test::Fail;
 
 const STORES: &str = "\
@@ -18,8 +18,7 @@ LD [I], V0 at the last byte; vip; afff f055; 2; 0; 00 00 00 00 00 204 1000 0
 
 #[test]
 fn stores_and_loads(rt: HostRuntime) -> Result<(), Fail> {
-    assert_eq!(rt; check_all(&rt, STORES)?, 6);
-    Ok(())
+    check_all(&rt, STORES, 6)
 }
 
 const SHIFTS: &str = "\
@@ -33,8 +32,7 @@ SHR V1; vip; 6005 6108 8106; 3; 0; 05 02 00 00 01 206 000 0
 
 #[test]
 fn shifts(rt: HostRuntime) -> Result<(), Fail> {
-    assert_eq!(rt; check_all(&rt, SHIFTS)?, 6);
-    Ok(())
+    check_all(&rt, SHIFTS, 6)
 }
 
 const JUMPS: &str = "\
@@ -46,8 +44,7 @@ JP V0, #206 with V0 and V2; vip; 6002 6204 b206; 3; 0; 02 00 04 00 00 208 000 0
 
 #[test]
 fn jumps(rt: HostRuntime) -> Result<(), Fail> {
-    assert_eq!(rt; check_all(&rt, JUMPS)?, 4);
-    Ok(())
+    check_all(&rt, JUMPS, 4)
 }
 
 const LOGIC: &str = "\
@@ -63,8 +60,7 @@ OR VF, V1, where VF is 0 last; vip; 6f05 6103 8f11; 3; 0; 00 03 00 00 00 206 000
 
 #[test]
 fn logic(rt: HostRuntime) -> Result<(), Fail> {
-    assert_eq!(rt; check_all(&rt, LOGIC)?, 8);
-    Ok(())
+    check_all(&rt, LOGIC, 8)
 }
 
 /// Whether a word is no instruction under the profile `vip`, and no byte but its own is touched.
@@ -93,8 +89,7 @@ DRW V0, V0, 0 past the end; vip; afff d000; 2; 0; 00 00 00 00 00 204 fff 0
 
 #[test]
 fn sixteen_rows(rt: HostRuntime) -> Result<(), Fail> {
-    assert_eq!(rt; check_all(&rt, PAST_THE_END)?, 2);
-    Ok(())
+    check_all(&rt, PAST_THE_END, 2)
 }
 
 /// Whether the last of four steps touches so many addresses, and leaves this flag and these bits in two rows of the screen.
@@ -123,25 +118,36 @@ fn is_same_memory(one: &Machine, other: &Machine) -> bool {
     (0..4096).all(|at| one.byte_at(at) == other.byte_at(at))
 }
 
-#[test]
-fn same_start(rt: HostRuntime) -> Result<(), Fail> {
-    let schip = loaded_as(rt.alloc(), &[0x0700], Profile::Schip)?;
-    let vip = loaded_as(rt.alloc(), &[0x0700], Profile::Vip)?;
-    assert!(rt; is_same_memory(&schip, &vip));
-    let mut copy = vip.copy_of()?;
+/// The number of the stop of a copy, after a step at another word.
+fn stop_of_copy(machine: &Machine) -> Result<u8, AllocError> {
+    let mut copy = machine.copy_of()?;
     copy.poke(0x201, 0xfd);
     copy.poke(0x200, 0);
     run(&mut copy, 1, 0);
-    assert!(rt; stop_number(&copy) == 2);
+    Ok(stop_number(&copy))
+}
+
+/// Whether the other profile starts with the same memory, and its copy stops at a word that it has not.
+fn starts_alike(alloc: Global, schip: &Machine) -> Result<bool, Fail> {
+    let vip = loaded_as(alloc, &[0x0700], Profile::Vip)?;
+    Ok(is_same_memory(schip, &vip) && stop_of_copy(&vip)? == 2)
+}
+
+#[test]
+fn same_start(rt: HostRuntime) -> Result<(), Fail> {
+    let schip = loaded_as(rt.alloc(), &[0x0700], Profile::Schip)?;
+    assert!(rt; starts_alike(rt.alloc(), &schip)?);
     Ok(())
+}
+
+/// Whether a profile has this name, and is found by it.
+fn is_named(profile: Profile, name: &str) -> bool {
+    profile.name() == name && Profile::from_name(name) == Some(profile)
 }
 
 #[test]
 fn names(rt: HostRuntime) {
-    assert_eq!(rt; PROFILES.as_slice(), ["schip", "vip"].as_slice());
-    assert_eq!(rt; Profile::Schip.name(), "schip");
-    assert_eq!(rt; Profile::Vip.name(), "vip");
-    assert_eq!(rt; Profile::from_name("schip"), Some(Profile::Schip));
-    assert_eq!(rt; Profile::from_name("vip"), Some(Profile::Vip));
-    assert_eq!(rt; Profile::from_name("Vip"), None);
+    assert!(rt; PROFILES.as_slice() == ["schip", "vip"].as_slice());
+    assert!(rt; is_named(Profile::Schip, "schip") && is_named(Profile::Vip, "vip"));
+    assert!(rt; Profile::from_name("Vip").is_none());
 }

@@ -5,7 +5,7 @@
 
 use crate::machine::{loaded_as, reg, run, stop_number};
 use chip_machine::{Machine, Profile};
-use std::alloc::Global;
+use std::alloc::{AllocError, Global};
 use std::process::Abort;
 use std::test::Fail;
 
@@ -30,49 +30,68 @@ fn words_of(alloc: Global, text: &str) -> Result<Vec<u16>, Fail> {
     Ok(words)
 }
 
-/// The parts of a row.
-fn parts_of(alloc: Global, row: &'static str) -> Result<Vec<&'static str>, Fail> {
+/// The parts of a row, by what stands between them.
+pub(crate) fn parts_of(
+    alloc: Global,
+    row: &'static str,
+    between: &'static str,
+) -> Result<Vec<&'static str>, AllocError> {
     let mut parts = Vec::new(alloc);
-    for part in row.split("; ") {
+    for part in row.split(between) {
         parts.push(part)?;
     }
     Ok(parts)
 }
 
-/// The state that words lead to.
+/// A machine with these words.
+fn machine_of(alloc: Global, profile: &str, words: &str) -> Result<Machine, Fail> {
+    match Profile::from_name(profile) {
+        Some(profile) => loaded_as(alloc, &words_of(alloc, words)?, profile),
+        None => Err(Fail::new("no such profile")),
+    }
+}
+
+/// The state after so many steps.
 fn state_after(
     alloc: Global,
-    profile: &str,
-    words: &str,
+    mut machine: Machine,
     steps: &str,
     keys: &str,
 ) -> Result<String, Fail> {
-    let profile = Profile::from_name(profile).ok_or("the profile")?;
-    let mut machine = loaded_as(alloc, &words_of(alloc, words)?, profile)?;
-    run(
-        &mut machine,
-        steps.parse::<u32>()?,
-        u16::from_str_radix(keys, 16)?,
-    );
+    let steps = steps.parse::<u32>()?;
+    let keys = u16::from_str_radix(keys, 16)?;
+    run(&mut machine, steps, keys);
     state_of(alloc, &machine)
 }
 
 /// Whether the program of a row leads to its state.
 fn is_so(alloc: Global, row: &'static str) -> Result<bool, Fail> {
-    match parts_of(alloc, row)?.as_slice() {
+    match parts_of(alloc, row, "; ")?.as_slice() {
         [_, profile, words, steps, keys, state] => {
-            Ok(state_after(alloc, profile, words, steps, keys)?.as_str() == *state)
+            let machine = machine_of(alloc, profile, words)?;
+            Ok(state_after(alloc, machine, steps, keys)?.as_str() == *state)
         }
         _ => Err(Fail::new("not so many parts")),
     }
 }
 
 /// Runs the program of each row, compares the state, and says how many there were.
-pub(crate) fn check_all(rt: &(impl Abort + AllocGlobal), rows: &'static str) -> Result<u32, Fail> {
+fn count_all(rt: &(impl Abort + AllocGlobal), rows: &'static str) -> Result<u32, Fail> {
     let mut count = 0u32;
     for row in rows.lines() {
         assert!(rt; is_so(rt.alloc(), row)?, "{row}");
         count = count.saturating_add(1);
     }
     Ok(count)
+}
+
+/// Runs the program of each of so many rows, and compares the state.
+pub(crate) fn check_all(
+    rt: &(impl Abort + AllocGlobal),
+    rows: &'static str,
+    wanted: u32,
+) -> Result<(), Fail> {
+    let count = count_all(rt, rows)?;
+    assert!(rt; count == wanted, "{count} rows");
+    Ok(())
 }

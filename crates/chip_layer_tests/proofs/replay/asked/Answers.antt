@@ -3,9 +3,9 @@ use Rattle.std.proofs.lemmas.List.{drop-replicate}
 use Rattle.chip_layer_tests.specs.Toy.{ToyState}
 use Rattle.chip_replay.specs.History.{History}
 use Rattle.chip_replay.specs.Limits.{image_start, memory_size}
-use Rattle.chip_layer_tests.proofs.replay.keeps_everything_at_an_empty_change.Goals as goal
+use Rattle.chip_layer_tests.proofs.replay.asked.Goals as goal
 
-pub image_changed_within-requires-clause-old_is_there : goal.image_changed_within-requires-clause-old_is_there
-image_changed_within-requires-clause-old_is_there g c =
+pub returns : goal.returns
+returns c =
     ap (λ (s : ToyState). drop image_start s.bytes) (c.at.follows.holds-at-none.same_start ∙ ap (λ (h : History ToyState). h.start) c.in_ok-replay.ensures ∙ c.in_ok-toy.ensures)
     ∙ drop-replicate {X = ℕ} image_start memory_size 0
