@@ -1,7 +1,7 @@
 //! Worked programs: each is given by its words, with the state after so many steps.
 
 use chip_lang::number::Reg;
-use chip_machine::{Machine, Profile, StartError, Stop, Touch};
+use chip_machine::{Machine, Profile, SameKeys, StartError, Stop, Touch};
 use std::alloc::{AllocError, Global};
 use std::test::Fail;
 
@@ -362,9 +362,10 @@ fn refused_starts(rt: HostRuntime) -> Result<(), Fail> {
     Ok(())
 }
 
-/// So many steps at once, of which the last ticks.
-fn steps(machine: &mut Machine, from: u16, count: u16, table: &mut [u32; 4096]) -> u32 {
-    machine.steps(true, u32::from(from), u32::from(count), table)
+/// Makes so many steps at once with key 3 down, of which each tenth ticks.
+fn steps(machine: &mut Machine, from: u16, count: u16, table: &mut [u32; 4096]) {
+    let mut keys = SameKeys(1 << 3);
+    machine.steps(&mut keys, 10, u32::from(from), u32::from(count), table);
 }
 
 /// Whether these addresses were touched first by these steps.
@@ -375,33 +376,37 @@ fn has_touched(table: &[u32; 4096], touched: &[(u16, u32)]) -> bool {
 }
 
 #[test]
-fn many_steps_end_where_the_keys_are_read(rt: HostRuntime) -> Result<(), Fail> {
+fn many_steps_at_once(rt: HostRuntime) -> Result<(), Fail> {
     let words = [0x6003, 0xf015, 0xa300, 0xf155, 0xe09e];
     let mut machine = loaded(rt.alloc(), &words)?;
     let mut table = [u32::MAX; 4096];
-    assert!(rt; steps(&mut machine, 7, 3, &mut table) == 3);
-    assert!(rt; timers(&machine) == (2, 0));
-    assert!(rt; steps(&mut machine, 10, 5, &mut table) == 1);
-    assert!(rt; timers(&machine) == (2, 0) && machine.pc() == 0x208);
+    steps(&mut machine, 7, 3, &mut table);
+    assert!(rt; timers(&machine) == (2, 0) && machine.pc() == 0x206);
+    steps(&mut machine, 10, 2, &mut table);
+    assert!(rt; timers(&machine) == (2, 0) && machine.pc() == 0x20c);
     assert!(rt; has_touched(&table, &[(0x200, 7), (0x201, 7), (0x206, 10), (0x207, 10)]));
-    assert!(rt; has_touched(&table, &[(0x300, 10), (0x301, 10)]));
-    assert!(rt; has_touched(&table, &[(0x302, u32::MAX), (0x208, u32::MAX)]));
+    assert!(rt;
+        has_touched(
+            &table,
+            &[(0x300, 10), (0x301, 10), (0x208, 11), (0x209, 11)]
+        )
+    );
+    assert!(rt; has_touched(&table, &[(0x302, u32::MAX), (0x20a, u32::MAX)]));
     Ok(())
 }
 
-/// Makes a step with key 3 down, which is noted under the number 7.
-fn note_step(machine: &mut Machine, table: &mut [u32; 4096]) {
-    machine.step_noted(1 << 3, false, 7, table);
-}
-
 #[test]
-fn step_with_keys_is_noted(rt: HostRuntime) -> Result<(), Fail> {
-    let mut machine = loaded(rt.alloc(), &[0x6003, 0xe09e])?;
-    run(&mut machine, 1, 0);
+fn a_stop_ends_many_steps(rt: HostRuntime) -> Result<(), Fail> {
+    let mut machine = loaded(rt.alloc(), &[0x6003, 0xf015, 0x00fd])?;
     let mut table = [u32::MAX; 4096];
-    note_step(&mut machine, &mut table);
-    assert!(rt; machine.pc() == 0x206);
-    assert!(rt; has_touched(&table, &[(0x201, u32::MAX), (0x202, 7), (0x203, 7)]));
+    steps(&mut machine, 17, 40, &mut table);
+    assert!(rt; timers(&machine) == (3, 0) && machine.stopped() == Some(Stop::Exit));
+    assert!(rt;
+        has_touched(
+            &table,
+            &[(0x202, 18), (0x204, 19), (0x205, 19), (0x206, u32::MAX)]
+        )
+    );
     Ok(())
 }
 

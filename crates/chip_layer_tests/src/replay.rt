@@ -6,7 +6,7 @@ ghost use Rattle.chip_replay.specs.Limits.{image_start};
 
 mod rows;
 
-use crate::replay::rows::{follow, follow_keys};
+use crate::replay::rows::follow;
 use chip_machine::Touch;
 use chip_machine::limits::MEMORY_BYTES;
 use chip_replay::{KeyFault, Keys, LEAST_SPACING, MOST_SPACING, Replay, Traced};
@@ -60,14 +60,12 @@ impl Toy {
 }
 
 impl Traced for Toy {
-    ghost use Rattle.std.specs.Prelude.{false, refl};
+    ghost use Rattle.std.specs.Prelude.{refl};
     ghost use Rattle.chip_layer_tests.specs.Toy.{IsToy, toy_memory, toy_with_memory, toy_touches, toy_after, toy_framed};
 
     ghost step_of = { toy_after };
 
     ghost touches = { toy_touches };
-
-    ghost reads_keys = { λ s. false };
 
     ghost memory = { toy_memory };
 
@@ -86,8 +84,6 @@ impl Traced for Toy {
     ghost proper_changed = { λ s m proper size. size };
 
     ghost step_keeps = { λ s keys tick proper. proper };
-
-    ghost keyless_step = { λ s keys tick keyless. refl };
 
     ghost frame_law = { toy_framed };
 
@@ -139,14 +135,12 @@ impl Model for Counting {
 }
 
 impl Traced for Counting {
-    ghost use Rattle.std.specs.Prelude.{false, refl};
+    ghost use Rattle.std.specs.Prelude.{refl};
     ghost use Rattle.chip_layer_tests.specs.Toy.{IsToy, toy_memory, toy_with_memory, toy_touches, toy_after, toy_framed};
 
     ghost step_of = { toy_after };
 
     ghost touches = { toy_touches };
-
-    ghost reads_keys = { λ s. false };
 
     ghost memory = { toy_memory };
 
@@ -165,8 +159,6 @@ impl Traced for Counting {
     ghost proper_changed = { λ s m proper size. size };
 
     ghost step_keeps = { λ s keys tick proper. proper };
-
-    ghost keyless_step = { λ s keys tick keyless. refl };
 
     ghost frame_law = { toy_framed };
 
@@ -463,7 +455,7 @@ held 1000000: 1025
 
 #[test]
 fn holds_keys_from_their_last_event(rt: HostRuntime) -> Result<(), Fail> {
-    follow_keys(&rt, &mut Keys::new(rt.alloc()), HELD)
+    follow(&rt, &mut Keys::new(rt.alloc()), HELD)
 }
 
 // Full are the events where the steps 1 to 9999 have one too.
@@ -485,5 +477,5 @@ insert 0 0 down: ok
 
 #[test]
 fn refuses_key_edits_in_order(rt: HostRuntime) -> Result<(), Fail> {
-    follow_keys(&rt, &mut Keys::new(rt.alloc()), FAULTS)
+    follow(&rt, &mut Keys::new(rt.alloc()), FAULTS)
 }

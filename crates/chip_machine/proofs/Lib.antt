@@ -2,7 +2,7 @@ pub mod BitLemmas
 pub mod Blocks
 pub mod Examples
 pub mod KeptParts
-pub mod KeyRows
+pub mod Keyless
 pub mod NextStep
 pub mod Notes
 pub mod PointLemmas
@@ -11,3 +11,4 @@ pub mod ScreenExamples
 pub mod Spans
 pub mod SpriteLemmas
 pub mod StartMemory
+pub mod Ticks

@@ -9,7 +9,7 @@
 --   Step      the table of the instructions, one step, and the addresses that it touches
 --   Touched   whether a step touches an address
 --   Keyless   which steps depend on the keys, and the law of those that don't
---   Block     some steps that don't read the keys
+--   Block     some steps, one after another
 --   Frame     the frame law
 --   ImageLaw  what the image is in the memory at the start
 --   Limits    the size of the memory and where the image stands

@@ -1,30 +1,36 @@
 //! The effect of one instruction.
 
-ghost use Rattle.std.specs.Prelude.{◌≡◌, ◌+◌, ◌<◌, ◌≤◌, [], length, OnOk, OnErr, IfOk, IfErr, Ok, Err};
+ghost use Rattle.std.specs.Prelude.{◌≡◌, ◌+◌, ◌-◌, ◌<◌, ◌≤◌, ◌^◌, [], length, OnOk, OnErr, IfOk, IfErr, Ok, Err};
 ghost use Rattle.chip_machine.specs.Step.{effect, effect_of_word, perform, accessed};
 ghost use Rattle.chip_machine.specs.Touched.{IsNoted, is_among};
 
+use crate::keys::HeldKeys;
 use crate::limits::{LAST_WORD, MEMORY_BYTES};
 use crate::processor::Processor;
 use crate::stop::Stop;
 use crate::touch::Span;
 use chip_lang::instr::Instr;
 
-/// Carries out an instruction, and says which bytes it accesses at I, or why the machine stops.
+/// Carries out an instruction in a step, and says which bytes it accesses at I, or why the machine stops.
 #[inline(always)]
-pub(crate) fn execute(
+pub(crate) fn execute<K: HeldKeys>(
     processor: &mut Processor,
     memory: &mut [u8],
     instr: Instr,
-    keys: u16,
+    keys: &mut K,
+    step: u32,
 ) -> Result<Span, Stop>
     requires size { length memory.old ≡ MEMORY_BYTES }
     requires pc { processor.old.pc ≤ LAST_WORD }
-    ensures ok { OnOk result (perform keys (record { core = processor.old; memory = memory.old }) (effect instr processor.old) ≡ Ok (record { core = processor.new; memory = memory.new })) }
-    ensures why { IfErr result (λ why. perform keys (record { core = processor.old; memory = memory.old }) (effect instr processor.old) ≡ Err why) }
+    requires in_range { step < 2 ^ 32 - 1 }
+    requires ready { K.is_ready keys.old step }
+    ensures ok { OnOk result (perform (K.held keys.old step) (record { core = processor.old; memory = memory.old }) (effect instr processor.old) ≡ Ok (record { core = processor.new; memory = memory.new })) }
+    ensures why { IfErr result (λ why. perform (K.held keys.old step) (record { core = processor.old; memory = memory.old }) (effect instr processor.old) ≡ Err why) }
     ensures same { OnErr result ((processor.new ≡ processor.old) × (memory.new ≡ memory.old)) }
     ensures touched { IfOk result (λ span. span ≡ accessed processor.old.index (effect instr processor.old)) }
     ensures untouched { OnErr result (accessed processor.old.index (effect instr processor.old) ≡ []) }
+    ensures keys { K.held keys.new ≡ K.held keys.old }
+    ensures ready { K.is_ready keys.old (step + 1) → K.is_ready keys.new (step + 1) }
 {
     match instr {
         Instr::ScrollDown(n) => processor.row_scroll_down(n)?,
@@ -56,10 +62,10 @@ pub(crate) fn execute(
         Instr::JumpOffset(address) => processor.row_jump_offset(address),
         Instr::Random(x, byte) => processor.row_random(x, byte),
         Instr::Draw(x, y, n) => return processor.row_draw(x, y, n, memory),
-        Instr::SkipIfKey(x) => processor.row_skip_if_key(x, keys),
-        Instr::SkipUnlessKey(x) => processor.row_skip_unless_key(x, keys),
+        Instr::SkipIfKey(x) => processor.row_skip_if_key(x, keys.at(step)),
+        Instr::SkipUnlessKey(x) => processor.row_skip_unless_key(x, keys.at(step)),
         Instr::ReadDelay(x) => processor.row_read_delay(x),
-        Instr::WaitKey(x) => processor.row_wait_key(x, keys),
+        Instr::WaitKey(x) => processor.row_wait_key(x, keys.at(step)),
         Instr::SetDelay(x) => processor.row_set_delay(x),
         Instr::SetSound(x) => processor.row_set_sound(x),
         Instr::AddIndex(x) => processor.row_add_index(x),

@@ -5,7 +5,7 @@ mod decoded;
 mod digits;
 mod doubled;
 mod execute;
-mod keys;
+pub mod keys;
 pub mod laws;
 pub mod limits;
 pub mod machine;
@@ -18,6 +18,7 @@ mod sprite;
 pub mod stop;
 pub mod touch;
 
+pub use keys::{HeldKeys, SameKeys};
 pub use machine::{Machine, StartError};
 pub use profile::Profile;
 pub use stop::Stop;

@@ -5,12 +5,12 @@ use Rattle.std.proofs.lemmas.List.{get_or_default}
 use Rattle.std.specs.Prelude.{IfSome, min}
 use Rattle.chip_replay.proofs.LastEvent.{is_down-stays, is_down-none, is_down-last}
 use Rattle.chip_replay.proofs.InOrder.{change_none, change_there, steps_rise}
-use Rattle.chip_replay.specs.Changes.{IsInOrder, IsFirstFrom, SaysTheSame, after_events, change_at, was_down, KnowsKeys, HoldsKeys}
-use Rattle.chip_replay.specs.History.{IsHolding}
+use Rattle.chip_replay.specs.inner.Changes.{IsInOrder, IsFirstFrom, SaysTheSame, after_events, change_at, was_down, KnowsKeys, HoldsKeys}
+use Rattle.chip_replay.specs.inner.Kept.{IsHolding}
 use Rattle.chip_replay.specs.declared.by_step.Event.{Event}
 use Rattle.chip_replay.specs.declared.keys.Holding.{Holding}
 use Rattle.chip_replay.specs.Mask.{mask}
-use Rattle.chip_replay.proofs.KeyFacts.{mask-same}
+use Rattle.chip_replay.proofs.KeyFacts.{mask-bits, mask-same}
 use Rattle.chip_replay.specs.Keys.{Events, event_at, is_down, held}
 
 -- one place more of a table is filled
@@ -24,15 +24,6 @@ set_more xs i x f inside below here k l =
 pub was_down-above : (events : Events) (key step : ℕ) → step ≢ 0 → was_down events key step ≡ is_down events key (step - 1)
 was_down-above events key zero n = absurd (n refl)
 was_down-above events key (suc step) n = let same : step ≡ suc step - 1 = omega arith in ap (is_down events key) same
-
--- what is known when a step begins is known when a later one begins
-pub knows_later : (events : Events) (s t : ℕ) (h : Holding) → KnowsKeys events s h → s ≤ t → KnowsKeys events t h
-knows_later events s t h knows l =
-    record {
-      size = knows.size;
-      as_mask = knows.as_mask;
-      before = λ r k lr lu lk. knows.before r k (omega arith) lu lk;
-    }
 
 -- what is known when a step begins holds in it, where no event is passed
 pub knows_holds : (events : Events) (s : ℕ) (h : Holding) → KnowsKeys events s h → s < h.until → HoldsKeys events s h
@@ -61,6 +52,21 @@ holds_held events s h holds = holds.as_mask ∙ mask-same _ _ 16 (λ k l. sym (h
 is_down-was_down : (events : Events) (k from s : ℕ) → from ≤ s + 1 → ((r : ℕ) → from ≤ r → r ≤ s → event_at events r k ≡ None) → is_down events k s ≡ was_down events k from
 is_down-was_down events k zero s l none = is_down-none events k s (λ r lr. none r (omega arith) lr)
 is_down-was_down events k (suc from) s l none = is_down-stays events k from s (omega arith) (λ r lf lr. none r (omega arith) lr)
+
+-- what is known by events that hold the same keys in each step
+was_same : (events later : Events) → held later ≡ held events → (k s : ℕ) → k < 16 → was_down later k s ≡ was_down events k s
+unfolding held
+was_same events later same k zero l = refl
+was_same events later same k (suc s) l =
+    mask-bits (λ key. is_down later key s) (λ key. is_down events key s) 16 (ap (λ (h : ℕ → ℕ). h s) same) k l
+
+pub knows_same : (events later : Events) (s : ℕ) (h : Holding) → held later ≡ held events → KnowsKeys later s h → KnowsKeys events s h
+knows_same events later s h same knows =
+    record {
+      size = knows.size;
+      as_mask = knows.as_mask;
+      before = λ r k lr lu lk. sym (was_same events later same k r lk) ∙ knows.before r k lr lu lk;
+    }
 
 pub length-after : (down : List Bool) (es : List Event) (n : ℕ) → length (after_events down es n) ≡ length down
 length-after down es zero = refl

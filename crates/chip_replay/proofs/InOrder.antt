@@ -8,7 +8,7 @@ use Rattle.std.proofs.lemmas.List.{get_or_default}
 use Rattle.std.proofs.Math.Seq.{drop-cons}
 use Rattle.std.specs.List.{insert, remove}
 use Rattle.chip_replay.proofs.Pages.{split_set}
-use Rattle.chip_replay.specs.Changes.{rank, IsInOrder, IsFirstFrom, change_at}
+use Rattle.chip_replay.specs.inner.Changes.{rank, IsInOrder, IsFirstFrom, change_at}
 use Rattle.chip_replay.specs.declared.by_step.Event.{Event}
 
 -- whether an event is a key's at a step

@@ -11,7 +11,7 @@ use Rattle.std.specs.declared.cmp.Ordering.TheVariants.{Less, Equal, Greater}
 use Rattle.chip_replay.specs.declared.keys.Moment.{Moment}
 use Rattle.chip_replay.specs.declared.by_step.Event.{Event}
 use Rattle.chip_replay.proofs.Moments.{exact_moments, moments_total}
-use Rattle.chip_replay.specs.Changes.{change_at, SaysTheSame}
+use Rattle.chip_replay.specs.inner.Changes.{change_at, SaysTheSame}
 use Rattle.chip_replay.specs.Mask.{mask}
 use Rattle.chip_replay.specs.Keys.{Events, held, is_down, event_at, moment_cmp, insert_fault, edit_fault}
 use Rattle.chip_replay.specs.declared.keys.KeyFault.{KeyFault}
@@ -85,6 +85,22 @@ pub mask-same : (p q : ℕ → Bool) (n : ℕ) → ((k : ℕ) → k < n → p k 
 mask-same p q zero same = refl
 mask-same p q (suc n) same =
     ap (λ m. m + cond (p n) (2 ^ n) 0) (mask-same p q n (λ k l. same k (omega arith))) ∙ ap (λ b. mask q n + cond b (2 ^ n) 0) (same n (omega arith))
+
+-- and only then
+top_bit : (a b : Bool) (m n t : ℕ) → m < t → n < t → m + cond a t 0 ≡ n + cond b t 0 → (a ≡ b) × (m ≡ n)
+top_bit true true m n t l h e = (refl, omega (arith, e))
+top_bit true false m n t l h e = absurd (omega (arith, e))
+top_bit false true m n t l h e = absurd (omega (arith, e))
+top_bit false false m n t l h e = (refl, omega (arith, e))
+
+pub mask-bits : (p q : ℕ → Bool) (n : ℕ) → mask p n ≡ mask q n → (k : ℕ) → k < n → p k ≡ q k
+mask-bits p q zero e k l = absurd (omega arith)
+mask-bits p q (suc n) e k l =
+    let top = top_bit (p n) (q n) (mask p n) (mask q n) (2 ^ n) (mask-lt p n) (mask-lt q n) e in
+    elim (cases_eq k n) [
+      | inl same ↦ ap p same ∙ top.0 ∙ sym (ap q same)
+      | inr other ↦ mask-bits p q n top.1 k (omega (arith, other))
+    ]
 
 -- after a place of a table is set, its bit is as set and not as it was
 pub mask-set : (xs : List Bool) (i : ℕ) (b : Bool) (n : ℕ) → i < length xs → i < n → mask (λ k. slice_index_or (set xs i b) k false) n + cond (slice_index_or xs i false) (2 ^ i) 0 ≡ mask (λ k. slice_index_or xs k false) n + cond b (2 ^ i) 0

@@ -10,7 +10,8 @@ use Rattle.chip_machine.specs.Touched.{touched}
 use Rattle.chip_machine.specs.inner.Exchanged.{length-exchanged, get_or-exchanged}
 use Rattle.chip_replay.proofs.TracedLaws.{IsTraced}
 use Rattle.chip_replay.specs.Frame.{AgreeOff, IsFramed}
-use Rattle.chip_replay.specs.Run.{run, ticks}
+use Rattle.chip_machine.specs.Block.{ticks}
+use Rattle.chip_replay.specs.Run.{run}
 use Rattle.chip_replay.specs.Image.{differs}
 use Rattle.chip_replay.specs.inner.Patch.{patched}
 use Rattle.chip_replay.specs.Limits.{image_room, image_start, memory_size}

@@ -2,7 +2,7 @@
 use Rattle.std.proofs.Common.{◌≡◌, ℕ, ◌+◌, ◌-◌, ◌<◌, ◌≤◌, false, List, length, get_or, ap, arith, inl, inr}
 use Rattle.std.specs.Global.{Vec}
 use Rattle.std.proofs.lemmas.Bool.{cases_lt}
-use Rattle.chip_replay.specs.Changes.{rank, all_events, count_before, IsInOrder}
+use Rattle.chip_replay.specs.inner.Changes.{rank, all_events, count_before, IsInOrder}
 use Rattle.chip_replay.specs.declared.by_step.Event.{Event}
 use Rattle.chip_replay.proofs.InOrder.{part_in_order, above_all}
 use Rattle.chip_replay.proofs.Pages.{element, count_more, count_within}

@@ -7,7 +7,7 @@ use Rattle.std.proofs.Math.Nat.{div-eq_of_lt}
 use Rattle.chip_replay.proofs.Spaced.{div_after, div_left, multiple_left}
 use Rattle.chip_replay.proofs.Changed.{first_cut}
 use Rattle.chip_replay.specs.Limits.{last_step, memory_size, never}
-use Rattle.chip_replay.specs.History.{IsFirst, AreFirst, IsSound}
+use Rattle.chip_replay.specs.inner.Kept.{IsFirst, AreFirst, IsSound}
 
 pub IsFirst-none : (p : ℕ → Bool) → IsFirst p 0 never
 IsFirst-none p = record { none_before = λ s l h. absurd (omega arith); passes = λ l. absurd (omega arith) }

@@ -6,15 +6,13 @@
 --     Image        an image in the memory, and the first step that a change of it affects
 --     Mask         the keys that are down as one number
 --     Keys         key events, which keys they hold down, and why an edit of them is refused
---     Changes      the key events in the order of their steps, and what is known of the keys in a step
---     History      what a replay is seen as, what it keeps, and what a question changes
---     inner        what the functions inside say, and the frame law of the machine in the form of the trait; a reader may skip it
+--     History      what a replay is seen as, and what a question changes
+--     inner        what is kept of a run and of the key events, what the functions inside say, and laws in the form of the trait; a reader may skip it
 pub mod Limits
 pub mod Frame
 pub mod Run
 pub mod Image
 pub mod Mask
 pub mod Keys
-pub mod Changes
 pub mod History
 pub mod inner

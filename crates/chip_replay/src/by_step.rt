@@ -3,9 +3,9 @@
 ghost use Rattle.std.specs.Prelude.{◌≡◌, ℕ, ◌+◌, ◌*◌, ◌<◌, ◌≤◌, ◌==◌, ◌&&◌, [], ◌∷◌, ◌++◌, length, None, Some, IsTrue, IsSome, IfOk, OnOk, OnErr, if◌then◌else◌, slice_index_or};
 ghost use Rattle.std.specs.List.{All, insert, remove};
 ghost use Rattle.std.specs.Global.{Vec};
-ghost use Rattle.chip_replay.specs.Changes.{change_at, rank, all_events, count_before, index_of, IsInOrder, IsFirstFrom, IsPage, IsPlace, HasRoom};
+ghost use Rattle.chip_replay.specs.inner.Changes.{change_at, rank, all_events, count_before, index_of, IsInOrder, IsFirstFrom, IsPage, IsPlace, HasRoom};
 
-use crate::limits::{KEY_COUNT, LAST_STEP};
+use crate::limits::{KEY_COUNT, NEVER};
 use std::alloc::{AllocError, Global};
 
 /// The most events of a page.
@@ -54,18 +54,18 @@ impl Steps {
         }
     }
 
-    /// The step of the event at a place, and `LAST_STEP + 1` past the last one.
+    /// The step of the event at a place, and `NEVER` past the last one.
     pub(crate) fn step_at(&self, place: Place) -> u32
         requires { IsPlace self.now.pages.items place }
         ensures there { (d : Event) → index_of self.now.pages.items place < length (all_events self.now.pages.items)
             → result ≡ (slice_index_or (all_events self.now.pages.items) (index_of self.now.pages.items place) d).step }
         ensures past { length (all_events self.now.pages.items) ≤ index_of self.now.pages.items place
-            → result ≡ LAST_STEP + 1 }
+            → result ≡ NEVER }
     {
         if place.page < self.pages.len() {
             self.pages[place.page][place.index].step
         } else {
-            LAST_STEP + 1
+            NEVER
         }
     }
 

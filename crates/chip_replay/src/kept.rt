@@ -3,14 +3,14 @@
 ghost use Rattle.std.specs.Prelude.{◌≡◌, ℕ, ◌+◌, ◌-◌, ◌*◌, ◌/◌, ◌<◌, ◌≤◌, ◌==◌, List, [], ◌∷◌, ◌++◌, length, min, max, IfOk, IfSome, OnOk, OnErr, if◌then◌else◌, slice_index, slice_index_or, slice_set, take, map, nat_lt, true, ◌⊎◌};
 ghost use Rattle.chip_replay.specs.Limits.{image_start, image_room};
 ghost use Rattle.chip_machine.specs.Touched.{touched};
-ghost use Rattle.chip_replay.specs.Run.{run, GoesOn};
+ghost use Rattle.chip_replay.specs.Run.{run};
 ghost use Rattle.chip_replay.specs.Keys.{Events, held};
-ghost use Rattle.chip_replay.specs.Changes.{KnowsKeys};
+ghost use Rattle.chip_replay.specs.inner.Changes.{KnowsKeys};
 ghost use Rattle.chip_replay.specs.Image.{differs, AgreeOutside};
 ghost use Rattle.chip_replay.specs.inner.Patch.{patched};
-ghost use Rattle.chip_replay.specs.History.{AreFirst, IsSound, IsLent, IsCutBack, IsHolding};
+ghost use Rattle.chip_replay.specs.inner.Kept.{AreFirst, IsSound, IsLent, IsCutBack, IsHolding};
 
-use crate::keys::{Holding, Keys};
+use crate::keys::{Cursor, Holding, Keys};
 use crate::limits::{IMAGE_START, LAST_STEP, MEMORY_BYTES, NEVER};
 use crate::traced::Traced;
 use std::alloc::{AllocError, Global};
@@ -90,62 +90,46 @@ impl<M: Traced> Kept<M> {
     {
         let mut at = self.set_out(start, keys, step)?;
         self.lent_step = None;
-        let mut to_tick = rate - at % rate;
-        let mut to_checkpoint = self.spacing - at % self.spacing;
         while at < step {
-            let most = (step - at).min(to_tick).min(to_checkpoint);
-            let made = self.go_on(keys, at, most, to_tick);
-            self.ran = self.ran.saturating_add(u64::from(made));
-            let next = at + made;
-            let due = made == to_checkpoint;
-            to_tick = left_after(to_tick, made, rate);
-            to_checkpoint = left_after(to_checkpoint, made, self.spacing);
-            if next > self.reach {
-                self.extend(next, due)?;
+            let to_checkpoint = self.spacing - at % self.spacing;
+            let count = to_checkpoint.min(step - at);
+            self.go_on(keys, rate, at, count);
+            self.ran = self.ran.saturating_add(u64::from(count));
+            at += count;
+            if at > self.reach {
+                self.extend(at, count == to_checkpoint)?;
             }
-            at = next;
         }
         self.lent_step = Some(step);
         Ok(())
     }
 
-    /// Makes some of the steps from one on, at least one and at most `most`, and answers how many. The
-    /// next tick comes with the last of `to_tick` steps.
-    #[inline(always)]
-    fn go_on(&mut self, keys: &Keys, at: u32, most: u32, to_tick: u32) -> u32
-        requires some { 0 < most }
-        requires up_to_tick { most ≤ to_tick }
-        requires in_range { at + most ≤ LAST_STEP }
+    /// Makes some steps, of which the lent state is before the first.
+    fn go_on(&mut self, keys: &Keys, rate: u32, at: u32, count: u32)
+        requires rate { 0 < rate }
+        requires in_range { at + count ≤ LAST_STEP }
         requires table { length self.old.first_touch.items ≡ MEMORY_BYTES }
         requires holding { KnowsKeys keys.now at self.old.holding }
-        ensures some { 0 < result }
-        ensures at_most { result ≤ most }
-        ensures state { (state : ℕ → M)
-            → GoesOn M.step_of (held keys.now) at most to_tick state
-            → self.old.lent ≡ state at
-            → self.new.lent ≡ state (at + result) }
-        ensures first { (state : ℕ → M) (reach : ℕ)
-            → GoesOn M.step_of (held keys.now) at most to_tick state
-            → self.old.lent ≡ state at
+        ensures state { (start : M)
+            → self.old.lent ≡ run M.step_of rate (held keys.now) start at
+            → self.new.lent ≡ run M.step_of rate (held keys.now) start (at + count) }
+        ensures first { (start : M) (reach : ℕ)
+            → self.old.lent ≡ run M.step_of rate (held keys.now) start at
             → at ≤ reach
-            → AreFirst (touched M.touches) state reach self.old.first_touch.items
-            → AreFirst (touched M.touches) state (max reach (at + result)) self.new.first_touch.items }
+            → AreFirst (touched M.touches) (run M.step_of rate (held keys.now) start) reach self.old.first_touch.items
+            → AreFirst (touched M.touches) (run M.step_of rate (held keys.now) start)
+            (max reach (at + count)) self.new.first_touch.items }
         ensures table { length self.new.first_touch.items ≡ MEMORY_BYTES }
-        ensures holding { KnowsKeys keys.now (at + result) self.new.holding }
+        ensures holding { KnowsKeys keys.now (at + count) self.new.holding }
         ensures others { self.new ≡ record self.old { lent = self.new.lent; holding = self.new.holding; first_touch = self.new.first_touch } }
     {
-        let made = self
-            .lent
-            .steps(most == to_tick, at, most, &mut self.first_touch);
-        if made == most {
-            return made;
-        }
-        let now = at + made;
-        keys.hold(&mut self.holding, now);
-        let tick = made + 1 == to_tick;
+        let mut cursor = Cursor {
+            keys,
+            holding: self.holding,
+        };
         let table = &mut self.first_touch;
-        self.lent.step_noted(self.holding.keys, tick, now, table);
-        made + 1
+        self.lent.steps(&mut cursor, rate, at, count, table);
+        self.holding = cursor.holding;
     }
 
     /// The run is known up to a later step, that of the lent state, whose first touches are noted: a
@@ -431,13 +415,4 @@ fn nearest<'a, M: Traced>(start: &'a M, checkpoints: &'a [M], place: usize) -> &
     } else {
         &checkpoints[place - 1]
     }
-}
-
-/// How many steps are left to the end of a period, or of the next one, after some of those that were.
-#[inline(always)]
-fn left_after(left: u32, made: u32, period: u32) -> u32
-    requires { made ≤ left }
-    ensures { result ≡ (if made == left then period else left - made) }
-{
-    if made == left { period } else { left - made }
 }

@@ -1,11 +1,12 @@
 //! The events of the keys.
 
 ghost use Rattle.std.specs.Prelude.{◌≡◌, ℕ, ◌<◌, ◌≤◌, false, length, MatchOption, IsOkUnless, OnOk, OnErr, slice_index_or, slice_set};
-ghost use Rattle.chip_replay.specs.Changes.{after_events};
+ghost use Rattle.chip_replay.specs.inner.Changes.{after_events};
 ghost use Rattle.chip_replay.specs.Mask.{mask};
 
 use crate::by_step::{Event, Place, Steps};
-use crate::limits::{KEY_COUNT, KEYS, LAST_STEP, MOST_EVENTS};
+use crate::limits::{KEY_COUNT, KEYS, LAST_STEP, MOST_EVENTS, NEVER};
+use chip_machine::keys::HeldKeys;
 use std::alloc::{AllocError, Global};
 use std::collections::BTreeMap;
 use std::marker::Model;
@@ -66,6 +67,31 @@ impl Holding {
     };
 }
 
+/// The keys in the steps of a run, by their events.
+#[derive(Drop)]
+pub(crate) struct Cursor<'a> {
+    pub(crate) keys: &'a Keys,
+    pub(crate) holding: Holding,
+}
+
+impl HeldKeys for Cursor<'_> {
+    ghost use Rattle.chip_replay.specs.Keys.{held};
+    ghost use Rattle.chip_replay.specs.inner.Changes.{KnowsKeys};
+    ghost use Rattle.chip_replay.specs.inner.Cursor.{knows_later};
+
+    ghost held = { λ c. held c.keys.now };
+
+    ghost is_ready = { λ c step. KnowsKeys c.keys.now step c.holding };
+
+    ghost ready_later = { λ c s t known later. knows_later c.keys.now s t c.holding known later };
+
+    #[inline(always)]
+    fn at(&mut self, step: u32) -> u16 {
+        self.keys.hold(&mut self.holding, step);
+        self.holding.keys
+    }
+}
+
 /// The events of the keys, each at a step: a key goes down or up, and stays so until its next event.
 #[derive(Drop)]
 pub struct Keys {
@@ -79,7 +105,7 @@ impl Model for Keys {
     ghost use Rattle.std.specs.Prelude.{◌≡◌, length};
     ghost use Rattle.std.specs.FinMap as map;
     ghost use Rattle.chip_replay.specs.Keys.{Events, coded_events, moment_cmp};
-    ghost use Rattle.chip_replay.specs.Changes.{SaysTheSame, IsInOrder, all_events};
+    ghost use Rattle.chip_replay.specs.inner.Changes.{SaysTheSame, IsInOrder, all_events};
 
     ghost Value = { Events };
 
@@ -95,7 +121,7 @@ impl Model for Keys {
 impl Keys {
     ghost use Rattle.std.specs.FinMap as map;
     ghost use Rattle.chip_replay.specs.Keys.{event_at, is_down, held, insert_fault, edit_fault};
-    ghost use Rattle.chip_replay.specs.Changes.{KnowsKeys, HoldsKeys};
+    ghost use Rattle.chip_replay.specs.inner.Changes.{KnowsKeys, HoldsKeys};
 
     /// No events: every key is up.
     pub fn new(alloc: Global) -> Self
@@ -157,7 +183,7 @@ impl Keys {
     /// From what is known of the keys when a step begins to those that are down in it.
     #[inline(always)]
     pub(crate) fn hold(&self, known: &mut Holding, step: u32)
-        requires in_range { step < LAST_STEP }
+        requires in_range { step < NEVER }
         requires known { KnowsKeys self.now step known.old }
         ensures { HoldsKeys self.now step known.new }
     {
@@ -170,7 +196,7 @@ impl Keys {
     /// down in it and from there on.
     #[inline(never)]
     fn pass_events(&self, known: &mut Holding, step: u32)
-        requires in_range { step < LAST_STEP }
+        requires in_range { step < NEVER }
         requires passed { known.old.until ≤ step }
         requires known { KnowsKeys self.now step known.old }
         ensures { HoldsKeys self.now step known.new }
@@ -297,7 +323,6 @@ impl Keys {
 #[inline(always)]
 fn pass(events: &[Event], step: u32, keys: &mut u16, down: &mut [bool; KEY_COUNT]) -> usize
     requires keys { (i : ℕ) (d : Event) → i < length events.now → (slice_index_or events.now i d).key < KEY_COUNT }
-    requires size { length down.old ≡ KEY_COUNT }
     requires mask { keys.old ≡ mask (λ k. slice_index_or down.old k false) 16 }
     ensures at_most { result ≤ length events.now }
     ensures early { (i : ℕ) (d : Event) → i < result → (slice_index_or events.now i d).step ≤ step }

@@ -1,6 +1,7 @@
 //! The machine as one that a replay can run.
 
 use crate::traced::Traced;
+use chip_machine::keys::HeldKeys;
 use chip_machine::machine::Machine;
 use chip_machine::touch::Touch;
 use std::alloc::AllocError;
@@ -9,15 +10,11 @@ impl Traced for Machine {
     ghost use Rattle.std.specs.Prelude.{refl};
     ghost use Rattle.chip_machine.specs.State.{IsProper, with_memory as machine_with_memory};
     ghost use Rattle.chip_machine.specs.Step.{step_of as machine_step, touches as machine_touches};
-    ghost use Rattle.chip_machine.specs.Keyless.{reads_keys as machine_reads_keys};
-    ghost use Rattle.chip_machine.specs.inner.KeylessTheorem.{keyless_step as machine_keyless_step};
     ghost use Rattle.chip_replay.specs.inner.MachineFrame.{memory_of, machine_framed, machine_step_keeps};
 
     ghost step_of = { machine_step };
 
     ghost touches = { machine_touches };
-
-    ghost reads_keys = { machine_reads_keys };
 
     ghost memory = { memory_of };
 
@@ -29,13 +26,16 @@ impl Traced for Machine {
         self.step(keys, tick, touch);
     }
 
-    fn step_noted(&mut self, keys: u16, tick: bool, number: u32, first_touch: &mut [u32]) {
-        self.step_noted(keys, tick, number, first_touch);
-    }
-
     #[inline(always)]
-    fn steps(&mut self, tick: bool, from: u32, count: u32, first_touch: &mut [u32]) -> u32 {
-        self.steps(tick, from, count, first_touch)
+    fn steps<K: HeldKeys>(
+        &mut self,
+        keys: &mut K,
+        rate: u32,
+        from: u32,
+        count: u32,
+        first_touch: &mut [u32],
+    ) {
+        self.steps(keys, rate, from, count, first_touch);
     }
 
     fn poke(&mut self, at: u16, byte: u8) {
@@ -65,8 +65,6 @@ impl Traced for Machine {
     ghost proper_changed = { λ s m proper size. record { memory_size = size } };
 
     ghost step_keeps = { machine_step_keeps };
-
-    ghost keyless_step = { machine_keyless_step };
 
     ghost frame_law = { machine_framed };
 }

@@ -37,7 +37,8 @@ impl<M: Traced> Model for Replay<M> {
     ghost use Rattle.chip_replay.specs.Keys.{held};
     ghost use Rattle.chip_replay.specs.Limits.{IsSpacing};
     ghost use Rattle.chip_machine.specs.Touched.{touched};
-    ghost use Rattle.chip_replay.specs.History.{History, history_code, IsSound, IsLent, IsHolding};
+    ghost use Rattle.chip_replay.specs.History.{History, history_code};
+    ghost use Rattle.chip_replay.specs.inner.Kept.{IsSound, IsLent, IsHolding};
 
     ghost Value = { History M };
 

@@ -1,12 +1,13 @@
 //! What a replay asks of a machine.
 
-ghost use Rattle.std.specs.Prelude.{◌≡◌, ◌==◌, ℕ, ◌+◌, ◌^◌, ◌<◌, ◌≤◌, ◌↔◌, Bool, false, ◌&&◌, List, All, Contains, IfOk, OnOk, OnErr, IsFalse, length, slice_index, slice_set};
-ghost use Rattle.chip_machine.specs.Block.{quiet, block, first_noted};
+ghost use Rattle.std.specs.Prelude.{◌≡◌, ℕ, ◌+◌, ◌^◌, ◌<◌, ◌≤◌, ◌↔◌, Bool, List, All, Contains, IfOk, OnOk, OnErr, IsFalse, length, slice_index, slice_set};
+ghost use Rattle.chip_machine.specs.Block.{block, first_noted};
 ghost use Rattle.chip_replay.specs.Frame.{AgreeOff, IsFramed};
 ghost use Rattle.chip_replay.specs.Limits.{memory_size};
 ghost use Rattle.chip_machine.specs.State.{exchanged};
-ghost use Rattle.chip_machine.specs.Touched.{touched, IsNoted};
+ghost use Rattle.chip_machine.specs.Touched.{touched};
 
+use chip_machine::keys::HeldKeys;
 use chip_machine::touch::Touch;
 use std::alloc::AllocError;
 
@@ -17,9 +18,6 @@ pub trait Traced: Drop + Sized {
 
     /// The addresses that the next step reads or writes.
     ghost touches: { Self → List ℕ };
-
-    /// Whether the next step depends on the keys.
-    ghost reads_keys: { Self → Bool };
 
     /// The bytes of the memory.
     ghost memory: { Self → List ℕ };
@@ -37,33 +35,36 @@ pub trait Traced: Drop + Sized {
         ensures touched { (at : ℕ) → Contains touch.new at ↔ Contains (touches self.old) at }
         ensures proper { is_proper self.new };
 
-    /// Makes a step as `step` does, and notes it: each address keeps in `first_touch` the lesser of
-    /// its number and the step's, if the step touched it.
-    fn step_noted(&mut self, keys: u16, tick: bool, number: u32, first_touch: &mut [u32])
-        requires { length first_touch.old ≡ memory_size }
-        ensures state { self.new ≡ step_of self.old keys tick }
-        ensures size { length first_touch.new ≡ memory_size }
-        ensures noted { IsNoted (touched touches self.old) number first_touch.old first_touch.new }
-    {
-        let mut touch = Touch::new();
-        self.step(keys, tick, &mut touch);
-        touch.note(first_touch, number);
-    }
-
-    /// Makes some of the next `count` steps, or none, and answers how many: none that reads the keys.
-    /// The first has the number `from`, and the last of all `count` ticks if `tick` says so. Each
-    /// address keeps in `first_touch` the least number of a step that touched it.
-    fn steps(&mut self, tick: bool, from: u32, count: u32, first_touch: &mut [u32]) -> u32
+    /// Makes the next `count` steps. The first has the number `from`; step t uses the keys held at t,
+    /// and the timers tick where t + 1 is a multiple of the rate. Each address keeps in `first_touch`
+    /// the least number of a step that touched it.
+    fn steps<K: HeldKeys>(
+        &mut self,
+        keys: &mut K,
+        rate: u32,
+        from: u32,
+        count: u32,
+        first_touch: &mut [u32],
+    )
+        requires rate { 0 < rate }
         requires table { length first_touch.old ≡ memory_size }
         requires in_range { from + count < 2 ^ 32 }
-        ensures at_most { result ≤ count }
-        ensures state { self.new ≡ block step_of self.old (tick && result == count) result }
-        ensures keyless { (n : ℕ) → n < result → reads_keys (quiet step_of self.old n) ≡ false }
+        requires ready { K.is_ready keys.old from }
+        ensures state { self.new ≡ block step_of rate (K.held keys.old) from self.old count }
         ensures size { length first_touch.new ≡ memory_size }
         ensures noted { (at : ℕ) → at < memory_size → slice_index first_touch.new at
-            ≡ first_noted step_of self.old (touched touches) from at (slice_index first_touch.old at) result }
+            ≡ first_noted step_of rate (K.held keys.old) from self.old (touched touches) at
+            (slice_index first_touch.old at) count }
+        ensures keys { K.held keys.new ≡ K.held keys.old }
+        ensures ready { K.is_ready keys.new (from + count) }
     {
-        0
+        let mut touch = Touch::new();
+        for made in 0..count {
+            let number = from + made;
+            let down = keys.at(number);
+            self.step(down, (number + 1) % rate == 0, &mut touch);
+            touch.note(first_touch, number);
+        }
     }
 
     /// Changes the byte at an address.
@@ -109,9 +110,6 @@ pub trait Traced: Drop + Sized {
 
     /// A step keeps a state proper.
     ghost step_keeps: { (s : Self) (keys : ℕ) (tick : Bool) → is_proper s → is_proper (step_of s keys tick) };
-
-    /// A step that doesn't read the keys is the same whichever are down.
-    ghost keyless_step: { (s : Self) (keys : ℕ) (tick : Bool) → reads_keys s ≡ false → step_of s keys tick ≡ step_of s 0 tick };
 
     /// A step neither depends on the bytes that it doesn't touch nor changes them.
     ghost frame_law: { (set : ℕ → Bool) (keys : ℕ) (tick : Bool) (a b : Self) → is_proper a → is_proper b → AgreeOff memory with_memory set a b → All (λ at. IsFalse (set at)) (touches a) → IsFramed memory with_memory (λ s. step_of s keys tick) touches set a b };

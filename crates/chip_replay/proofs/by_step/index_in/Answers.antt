@@ -1,6 +1,6 @@
 use Rattle.std.proofs.Common.{◌+◌, ◌-◌, ◌/◌, ◌<◌, false, length, ap, arith}
 use Rattle.std.proofs.lemmas.List.{get_or_default}
-use Rattle.chip_replay.specs.Changes.{rank}
+use Rattle.chip_replay.specs.inner.Changes.{rank}
 use Rattle.chip_replay.specs.declared.by_step.Event.{Event}
 use Rattle.chip_replay.proofs.InOrder.{below_all, above_all}
 use Rattle.chip_replay.proofs.by_step.index_in.Goals as goal

@@ -1,5 +1,5 @@
 use Rattle.std.proofs.Common.{◌≡◌, ℕ, ◌-◌, ◌<◌, ◌≤◌, false, length, slice_index_or}
-use Rattle.chip_replay.specs.Changes.{after_events}
+use Rattle.chip_replay.specs.inner.Changes.{after_events}
 use Rattle.chip_replay.specs.Mask.{mask}
 use Rattle.chip_replay.specs.declared.by_step.Event.{Event}
 use Rattle.chip_replay.proofs.keys.pass.Given as goal

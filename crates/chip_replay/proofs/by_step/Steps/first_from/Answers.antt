@@ -1,4 +1,4 @@
-use Rattle.chip_replay.specs.Changes.{all_events, index_of}
+use Rattle.chip_replay.specs.inner.Changes.{all_events, index_of}
 use Rattle.chip_replay.proofs.InOrder.{first_by_rank}
 use Rattle.chip_replay.proofs.by_step.Steps.first_from.Goals as goal
 

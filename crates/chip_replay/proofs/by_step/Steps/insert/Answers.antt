@@ -1,5 +1,5 @@
 use Rattle.std.proofs.Common.{refl, subst, sym, ap, ◌∙◌}
-use Rattle.chip_replay.specs.Changes.{IsInOrder, change_at, all_events, index_of}
+use Rattle.chip_replay.specs.inner.Changes.{IsInOrder, change_at, all_events, index_of}
 use Rattle.chip_replay.proofs.InOrder.{inserted, insert_in_order, none_at_place}
 use Rattle.chip_replay.proofs.by_step.Steps.insert.Goals as goal
 

@@ -3,7 +3,7 @@ use Rattle.std.specs.List.{insert}
 use Rattle.std.specs.Global.{Vec}
 use Rattle.std.proofs.lemmas.Result.{on_ok_weaker}
 use Rattle.std.proofs.lemmas.List.Edits.{insert_end}
-use Rattle.chip_replay.specs.Changes.{all_events, index_of}
+use Rattle.chip_replay.specs.inner.Changes.{all_events, index_of}
 use Rattle.chip_replay.specs.declared.by_step.Event.{Event}
 use Rattle.chip_replay.proofs.Pages.{flat_insert, flat_same, count_all}
 use Rattle.chip_replay.proofs.by_step.Steps.insert_at.Goals as goal

@@ -1,6 +1,6 @@
 use Rattle.std.proofs.Common.{◌≡◌, ◌+◌, ◌-◌, ◌<◌, length, ap, arith, leb-true, slice_index_or}
 use Rattle.std.specs.Global.{Vec}
-use Rattle.chip_replay.specs.Changes.{all_events, count_before, index_of}
+use Rattle.chip_replay.specs.inner.Changes.{all_events, count_before, index_of}
 use Rattle.chip_replay.specs.declared.by_step.Event.{Event}
 use Rattle.chip_replay.proofs.InOrder.{is_first}
 use Rattle.chip_replay.proofs.Pages.{element_at, count_within}

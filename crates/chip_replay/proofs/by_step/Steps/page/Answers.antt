@@ -1,5 +1,5 @@
 use Rattle.std.proofs.Common.{◌≡◌, ◌+◌, ◌-◌, ◌/◌, ap, arith}
-use Rattle.chip_replay.specs.Changes.{rank, all_events, count_before}
+use Rattle.chip_replay.specs.inner.Changes.{rank, all_events, count_before}
 use Rattle.chip_replay.proofs.InOrder.{below_all, above_all}
 use Rattle.chip_replay.proofs.by_step.Steps.page.Goals as goal
 

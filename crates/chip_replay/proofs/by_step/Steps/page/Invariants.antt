@@ -1,5 +1,5 @@
 use Rattle.std.proofs.Common.{◌+◌, ◌-◌, ℕ, ◌<◌, ◌≤◌, length, slice_index_or}
-use Rattle.chip_replay.specs.Changes.{rank, all_events, count_before}
+use Rattle.chip_replay.specs.inner.Changes.{rank, all_events, count_before}
 use Rattle.chip_replay.specs.declared.by_step.Event.{Event}
 use Rattle.chip_replay.proofs.by_step.Steps.page.Given as goal
 

@@ -1,6 +1,6 @@
 use Rattle.std.proofs.Common.{◌<◌, length, sym, ap, subst, arith}
 use Rattle.std.specs.Global.{Vec}
-use Rattle.chip_replay.specs.Changes.{IsInOrder}
+use Rattle.chip_replay.specs.inner.Changes.{IsInOrder}
 use Rattle.chip_replay.specs.declared.by_step.Event.{Event}
 use Rattle.chip_replay.proofs.Pages.{read_at}
 use Rattle.chip_replay.proofs.PlaceIn.{page_in_order, place_inside, place_within, before_place, after_place}

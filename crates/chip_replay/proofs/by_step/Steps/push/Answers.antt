@@ -1,6 +1,6 @@
 use Rattle.std.proofs.Common.{◌≡◌, ◌+◌, ◌-◌, ◌<◌, length, slice_set, arith, rules}
 use Rattle.std.specs.Global.{Vec}
-use Rattle.chip_replay.specs.Changes.{all_events}
+use Rattle.chip_replay.specs.inner.Changes.{all_events}
 use Rattle.chip_replay.specs.declared.by_step.Event.{Event}
 use Rattle.chip_replay.proofs.Pages.{flat_push, flat_same}
 use Rattle.chip_replay.proofs.by_step.Steps.push.Goals as goal

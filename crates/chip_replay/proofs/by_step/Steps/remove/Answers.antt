@@ -1,5 +1,5 @@
 use Rattle.std.proofs.Common.{subst, sym, ap, ◌∙◌}
-use Rattle.chip_replay.specs.Changes.{IsInOrder, change_at, all_events, index_of}
+use Rattle.chip_replay.specs.inner.Changes.{IsInOrder, change_at, all_events, index_of}
 use Rattle.chip_replay.proofs.InOrder.{at_place, removed, remove_in_order}
 use Rattle.chip_replay.proofs.by_step.Steps.remove.Goals as goal
 

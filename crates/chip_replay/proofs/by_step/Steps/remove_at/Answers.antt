@@ -1,6 +1,6 @@
 use Rattle.std.proofs.Common.{◌<◌, length, ap, ◌∙◌, arith}
 use Rattle.std.specs.Global.{Vec}
-use Rattle.chip_replay.specs.Changes.{all_events}
+use Rattle.chip_replay.specs.inner.Changes.{all_events}
 use Rattle.chip_replay.specs.declared.by_step.Event.{Event}
 use Rattle.chip_replay.proofs.Pages.{list_inside, flat_remove, flat_removed}
 use Rattle.chip_replay.proofs.by_step.Steps.remove_at.Goals as goal

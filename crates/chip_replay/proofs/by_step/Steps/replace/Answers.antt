@@ -1,7 +1,7 @@
 use Rattle.std.proofs.Common.{◌<◌, length, refl, subst, sym, ap, ◌∙◌, arith}
 use Rattle.std.specs.Global.{Vec}
 use Rattle.std.specs.Vec.{with_item}
-use Rattle.chip_replay.specs.Changes.{IsInOrder, change_at, all_events, index_of}
+use Rattle.chip_replay.specs.inner.Changes.{IsInOrder, change_at, all_events, index_of}
 use Rattle.chip_replay.specs.declared.by_step.Event.{Event}
 use Rattle.chip_replay.proofs.InOrder.{at_place, replaced, set_in_order}
 use Rattle.chip_replay.proofs.Pages.{list_inside, flat_set}

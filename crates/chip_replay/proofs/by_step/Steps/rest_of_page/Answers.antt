@@ -1,7 +1,7 @@
 use Rattle.std.proofs.Common.{◌≡◌, ◌+◌, ◌-◌, ◌<◌, ◌∙◌, ℕ, List, length, take, drop, slice_index_or, sym, ap, arith}
 use Rattle.std.proofs.lemmas.List.{take_all, length-drop, get_or-drop}
 use Rattle.std.specs.Global.{Vec}
-use Rattle.chip_replay.specs.Changes.{all_events}
+use Rattle.chip_replay.specs.inner.Changes.{all_events}
 use Rattle.chip_replay.specs.declared.by_step.Event.{Event}
 use Rattle.chip_replay.proofs.Pages.{list_inside, element, count_within}
 use Rattle.chip_replay.proofs.by_step.Steps.rest_of_page.Goals as goal

@@ -1,7 +1,7 @@
 use Rattle.std.proofs.Common.{◌≡◌, ◌<◌, ◌++◌, length, take, ap, ◌∙◌, arith}
 use Rattle.std.specs.Global.{Vec}
 use Rattle.std.proofs.lemmas.List.{take-append-drop}
-use Rattle.chip_replay.specs.Changes.{all_events}
+use Rattle.chip_replay.specs.inner.Changes.{all_events}
 use Rattle.chip_replay.specs.declared.by_step.Event.{Event}
 use Rattle.chip_replay.proofs.Pages.{flat_parted}
 use Rattle.chip_replay.proofs.by_step.Steps.with_room.Goals as goal

@@ -1,9 +1,9 @@
-use Rattle.std.proofs.Common.{◌≡◌, ◌+◌, ◌-◌, ◌%◌, ◌≤◌, None}
+use Rattle.std.proofs.Common.{◌≡◌, ◌+◌, ◌-◌, ◌≤◌, None}
 use Rattle.chip_machine.specs.Touched.{touched}
 use Rattle.chip_replay.specs.Run.{run}
 use Rattle.chip_replay.specs.Keys.{held}
-use Rattle.chip_replay.specs.Changes.{KnowsKeys}
-use Rattle.chip_replay.specs.History.{IsSound}
+use Rattle.chip_replay.specs.inner.Changes.{KnowsKeys}
+use Rattle.chip_replay.specs.inner.Kept.{IsSound}
 use Rattle.chip_replay.proofs.kept.Kept.go_to.Given as goal
 
 abbrev pub invariant-loop-at : goal.invariant-loop-at
@@ -13,8 +13,6 @@ invariant-loop-at g l =
     record {
       spacing : l.self.spacing ≡ l.fn.self.spacing;
       sound : IsSound l.self.spacing m.is_proper (touched m.touches) state l.self.checkpoints.items l.self.first_touch.items l.self.reach;
-      to_tick : l.to_tick ≡ l.rate - l.at % l.rate;
-      to_checkpoint : l.to_checkpoint ≡ l.self.spacing - l.at % l.self.spacing;
       within : l.at ≤ l.step;
       state : l.self.lent ≡ state l.at;
       void : l.self.lent_step ≡ None;

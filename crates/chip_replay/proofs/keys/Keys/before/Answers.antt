@@ -1,5 +1,5 @@
 use Rattle.std.proofs.Common.{◌≡◌, ◌-◌, ◌∙◌, length-set, sym, ap, arith}
-use Rattle.chip_replay.specs.Changes.{was_down}
+use Rattle.chip_replay.specs.inner.Changes.{was_down}
 use Rattle.chip_replay.specs.Keys.{is_down}
 use Rattle.chip_replay.proofs.ByStep.{set_more, was_down-above}
 use Rattle.chip_replay.proofs.keys.Keys.before.Goals as goal

@@ -2,7 +2,7 @@ use Rattle.std.proofs.Common.{◌≡◌, ◌+◌, ◌<◌, None, cond, length, i
 use Rattle.std.specs.FinMap as map
 use Rattle.chip_replay.specs.declared.keys.Moment.{Moment}
 use Rattle.chip_replay.specs.Keys.{Events, event_at, edit_fault}
-use Rattle.chip_replay.specs.Changes.{all_events}
+use Rattle.chip_replay.specs.inner.Changes.{all_events}
 use Rattle.chip_replay.proofs.Moments.{one_removed, len_removed}
 use Rattle.chip_replay.proofs.KeyFacts.{says_set, event_at-remove, there_if_no_fault, key_if_no_fault}
 use Rattle.chip_replay.proofs.keys.Keys.delete.Goals as goal

@@ -1,7 +1,7 @@
 use Rattle.std.proofs.Common.{◌≡◌, ℕ, ◌+◌, ◌-◌, ◌<◌, false, ◌∙◌, length, slice_index_or, ap, inl, inr, arith}
 use Rattle.std.proofs.lemmas.Bool.{cases_lt}
 use Rattle.chip_replay.specs.Keys.{Events, event_at}
-use Rattle.chip_replay.specs.Changes.{all_events, index_of}
+use Rattle.chip_replay.specs.inner.Changes.{all_events, index_of}
 use Rattle.chip_replay.specs.declared.by_step.Event.{Event}
 use Rattle.chip_replay.proofs.InOrder.{steps_rise}
 use Rattle.chip_replay.proofs.ByStep.{length-after, up_to_first, up_to_passed, up_to_holds}

@@ -1,7 +1,7 @@
-use Rattle.std.proofs.Common.{◌≡◌, ◌+◌, ◌-◌, ℕ, ◌<◌, ◌≤◌, false, length, slice_index_or}
+use Rattle.std.proofs.Common.{◌≡◌, ◌-◌, ℕ, ◌<◌, ◌≤◌, false, length, slice_index_or}
 use Rattle.chip_replay.specs.Mask.{mask}
-use Rattle.chip_replay.specs.Limits.{last_step}
-use Rattle.chip_replay.specs.Changes.{all_events, index_of, IsPlace}
+use Rattle.chip_replay.specs.Limits.{never}
+use Rattle.chip_replay.specs.inner.Changes.{all_events, index_of, IsPlace}
 use Rattle.chip_replay.specs.declared.by_step.Event.{Event}
 use Rattle.chip_replay.proofs.ByStep.{IsUpTo}
 use Rattle.chip_replay.proofs.keys.Keys.pass_events.Given as goal
@@ -14,7 +14,7 @@ invariant-loop-until l =
       place : IsPlace l.steps.pages.items l.place;
       within : index_of l.steps.pages.items l.place ≤ length (all_events l.steps.pages.items);
       next : (d : Event) → index_of l.steps.pages.items l.place < length (all_events l.steps.pages.items) → l.until ≡ (slice_index_or (all_events l.steps.pages.items) (index_of l.steps.pages.items l.place) d).step;
-      past : length (all_events l.steps.pages.items) ≤ index_of l.steps.pages.items l.place → l.until ≡ last_step + 1;
+      past : length (all_events l.steps.pages.items) ≤ index_of l.steps.pages.items l.place → l.until ≡ never;
       early : (i : ℕ) (d : Event) → i < index_of l.steps.pages.items l.place → (slice_index_or (all_events l.steps.pages.items) i d).step ≤ l.step;
       up_to : IsUpTo l.self (all_events l.steps.pages.items) l.fn.known.until (index_of l.steps.pages.items l.place) l.known.down;
     }

@@ -1,7 +1,8 @@
 use Rattle.std.proofs.Common.{◌≡◌, ℕ, ◌+◌, ◌<◌, ◌≤◌, min, true, ap, ◌∙◌, subst, refl, slice_index, drop, ◌⊎◌, arith}
 use Rattle.chip_replay.specs.Keys.{held}
 use Rattle.chip_replay.specs.Image.{differs, with_image, affected}
-use Rattle.chip_replay.specs.History.{History, IsSound, IsCutBack}
+use Rattle.chip_replay.specs.History.{History}
+use Rattle.chip_replay.specs.inner.Kept.{IsSound, IsCutBack}
 use Rattle.chip_machine.specs.Touched.{touched}
 use Rattle.chip_replay.specs.Run.{run}
 use Rattle.chip_replay.proofs.TracedLaws.{IsTraced}

@@ -2,7 +2,7 @@ use Rattle.std.proofs.Common.{ℕ, ◌<◌, min, ap, ◌∙◌, subst, arith}
 use Rattle.chip_replay.specs.Keys.{held, is_down, Events}
 use Rattle.chip_machine.specs.Touched.{touched}
 use Rattle.chip_replay.specs.Run.{run}
-use Rattle.chip_replay.specs.History.{IsSound, IsCutBack}
+use Rattle.chip_replay.specs.inner.Kept.{IsSound, IsCutBack}
 use Rattle.chip_replay.proofs.KeyFacts.{held-insert, is_down-insert}
 use Rattle.chip_replay.proofs.ByStep.{holding_cut}
 use Rattle.chip_replay.proofs.Changed.{sound_keys, lent_keys, step_kept}

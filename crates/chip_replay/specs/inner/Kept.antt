@@ -1,0 +1,43 @@
+-- What is kept of a run.
+-- Source: own.
+--     IsFirst          the first step below n that passes a test, or a number that is no step
+--     AreFirst         for each address the first step below n that touches it, or no step
+--     IsSound          the checkpoints and the first touches are those of a run
+--     IsLent           the state that was lent is that of its step
+--     IsCutBack        a step stays if it is no later than the steps that are still known
+--     IsHolding        the keys that are known of its step are held
+use Rattle.std.specs.Prelude.{◌≡◌, ℕ, ◌+◌, ◌*◌, ◌/◌, ◌<◌, ◌≤◌, Bool, true, List, length, slice_index, slice_index_or, Option, Some, IfSome}
+use Rattle.chip_replay.specs.Limits.{last_step, memory_size, never}
+use Rattle.chip_replay.specs.Keys.{Events}
+use Rattle.chip_replay.specs.inner.Changes.{KnowsKeys}
+use Rattle.chip_replay.specs.declared.keys.Holding.{Holding}
+
+-- v is the least step below n that passes, or no step if none does
+pub record IsFirst (p : ℕ → Bool) (n v : ℕ) : Type 0 where
+  pub none_before : (s : ℕ) → s < n → p s ≡ true → v ≤ s
+  pub passes : v < never → (v < n) × (p v ≡ true)
+
+-- a table has for each address the least step below n that touches it, or no step if none does
+abbrev pub AreFirst : {M : Type 0} → (M → ℕ → Bool) → (ℕ → M) → ℕ → List ℕ → Type 0
+AreFirst touched state n first_touch = (at : ℕ) → at < memory_size → IsFirst (λ s. touched (state s) at) n (slice_index first_touch at)
+
+-- the checkpoints, one each p steps, and the step that first touched each address, of the steps of a run below reach
+pub record IsSound {M : Type 0} (p : ℕ) (proper : M → Type 0) (touched : M → ℕ → Bool) (state : ℕ → M) (checkpoints : List M) (first_touch : List ℕ) (reach : ℕ) : Type 0 where
+  pub proper_start : proper (state 0)
+  pub in_range : reach ≤ last_step
+  pub each_spacing : length checkpoints ≡ reach / p
+  pub checkpoint : (i : ℕ) (d : M) → i < length checkpoints → slice_index_or checkpoints i d ≡ state ((i + 1) * p)
+  pub each_address : length first_touch ≡ memory_size
+  pub first : AreFirst touched state reach first_touch
+
+-- the lent state is that of its step, if it has one
+abbrev pub IsLent : {M : Type 0} → (ℕ → M) → ℕ → M → Option ℕ → Type 0
+IsLent state reach lent step = IfSome step (λ t. (t ≤ reach) × (lent ≡ state t))
+
+-- a step, if there still is one, stays, and is no later than the steps that are still known where fewer are
+abbrev pub IsCutBack : ℕ → ℕ → Option ℕ → Option ℕ → Type 0
+IsCutBack reach later step kept = IfSome kept (λ t. (step ≡ Some t) × (t ≤ reach → t ≤ later))
+
+-- what is known of the keys is known of the lent state's step, if it has one
+abbrev pub IsHolding : Events → Option ℕ → Holding → Type 0
+IsHolding events step h = IfSome step (λ t. KnowsKeys events t h)
