@@ -6,7 +6,7 @@ ghost use Rattle.chip_replay.specs.Limits.{image_start};
 
 mod rows;
 
-use crate::replay::rows::follow;
+use crate::replay::rows::{follow, follow_keys};
 use chip_machine::Touch;
 use chip_machine::limits::MEMORY_BYTES;
 use chip_replay::{KeyFault, Keys, LEAST_SPACING, MOST_SPACING, Replay, Traced};
@@ -455,7 +455,7 @@ held 1000000: 1025
 
 #[test]
 fn holds_keys_from_their_last_event(rt: HostRuntime) -> Result<(), Fail> {
-    follow(&rt, &mut Keys::new(rt.alloc()), HELD)
+    follow_keys(&rt, &mut Keys::new(rt.alloc()), HELD)
 }
 
 // Full are the events where the steps 1 to 9999 have one too.
@@ -477,5 +477,5 @@ insert 0 0 down: ok
 
 #[test]
 fn refuses_key_edits_in_order(rt: HostRuntime) -> Result<(), Fail> {
-    follow(&rt, &mut Keys::new(rt.alloc()), FAULTS)
+    follow_keys(&rt, &mut Keys::new(rt.alloc()), FAULTS)
 }

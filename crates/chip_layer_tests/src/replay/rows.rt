@@ -41,7 +41,7 @@ fn held_text(alloc: Global, keys: &Keys, step: u32) -> Result<String, Fail> {
 
 /// A step, a key, and whether it is down from then on.
 #[derive(Clone, Copy)]
-pub(crate) struct Event {
+struct Event {
     step: u32,
     key: u32,
     down: bool,
@@ -58,11 +58,8 @@ fn event_of(text: &str) -> Result<Event, Fail> {
     })
 }
 
-/// What is edited, and asked.
-pub(crate) trait Events {
-    /// The answer to what stands in front of a row's colon.
-    fn answer(&mut self, alloc: Global, asked: &str) -> Result<String, Fail>;
-
+/// What is edited.
+trait Events {
     fn insert_event(&mut self, event: Event) -> Result<(), KeyFault>;
 
     fn replace_event(&mut self, event: Event) -> Result<(), KeyFault>;
@@ -71,16 +68,6 @@ pub(crate) trait Events {
 }
 
 impl Events for Replay<Toy> {
-    fn answer(&mut self, alloc: Global, asked: &str) -> Result<String, Fail> {
-        let (word, rest) = asked.split_once(" ").unwrap_or((asked, ""));
-        match word {
-            "at" => sum_text(alloc, self, rest.parse::<u32>()?),
-            "counts" => counts_text(alloc, self),
-            "held" => held_text(alloc, self.keys(), rest.parse::<u32>()?),
-            _ => edit_text(alloc, self, word, rest),
-        }
-    }
-
     fn insert_event(&mut self, event: Event) -> Result<(), KeyFault> {
         self.insert_key(event.step, event.key, event.down)
     }
@@ -95,14 +82,6 @@ impl Events for Replay<Toy> {
 }
 
 impl Events for Keys {
-    fn answer(&mut self, alloc: Global, asked: &str) -> Result<String, Fail> {
-        let (word, rest) = asked.split_once(" ").unwrap_or((asked, ""));
-        match word {
-            "held" => held_text(alloc, self, rest.parse::<u32>()?),
-            _ => edit_text(alloc, self, word, rest),
-        }
-    }
-
     fn insert_event(&mut self, event: Event) -> Result<(), KeyFault> {
         self.insert(event.step, event.key, event.down)
     }
@@ -161,20 +140,58 @@ fn edit_text<E: Events>(
     Ok(String::from_str(alloc, said)?)
 }
 
-/// Whether the answer is as a row has it.
-fn is_so<E: Events>(alloc: Global, events: &mut E, row: &str) -> Result<bool, Fail> {
-    let (asked, wanted) = row.split_once(": ").unwrap_or((row, ""));
-    Ok(events.answer(alloc, asked)?.as_str() == wanted)
+/// What a replay answers.
+fn answer(alloc: Global, replay: &mut Replay<Toy>, asked: &str) -> Result<String, Fail> {
+    let (word, rest) = asked.split_once(" ").unwrap_or((asked, ""));
+    match word {
+        "at" => sum_text(alloc, replay, rest.parse::<u32>()?),
+        "counts" => counts_text(alloc, replay),
+        "held" => held_text(alloc, replay.keys(), rest.parse::<u32>()?),
+        _ => edit_text(alloc, replay, word, rest),
+    }
 }
 
-/// Asserts that each answer is as its row has it.
-pub(crate) fn follow<E: Events>(
+/// What key events answer.
+fn answer_of_keys(alloc: Global, keys: &mut Keys, asked: &str) -> Result<String, Fail> {
+    let (word, rest) = asked.split_once(" ").unwrap_or((asked, ""));
+    match word {
+        "held" => held_text(alloc, keys, rest.parse::<u32>()?),
+        _ => edit_text(alloc, keys, word, rest),
+    }
+}
+
+/// Whether a replay answers as a row has it.
+fn is_so(alloc: Global, replay: &mut Replay<Toy>, row: &str) -> Result<bool, Fail> {
+    let (asked, wanted) = row.split_once(": ").unwrap_or((row, ""));
+    Ok(answer(alloc, replay, asked)?.as_str() == wanted)
+}
+
+/// Whether key events answer as a row has it.
+fn is_so_of_keys(alloc: Global, keys: &mut Keys, row: &str) -> Result<bool, Fail> {
+    let (asked, wanted) = row.split_once(": ").unwrap_or((row, ""));
+    Ok(answer_of_keys(alloc, keys, asked)?.as_str() == wanted)
+}
+
+/// Asserts that a replay answers each row as the row has it.
+pub(crate) fn follow(
     rt: &(impl Abort + AllocGlobal),
-    events: &mut E,
+    replay: &mut Replay<Toy>,
     rows: &str,
 ) -> Result<(), Fail> {
     for row in rows.lines() {
-        assert!(rt; is_so(rt.alloc(), events, row)?, "{row}");
+        assert!(rt; is_so(rt.alloc(), replay, row)?, "{row}");
+    }
+    Ok(())
+}
+
+/// Asserts that key events answer each row as the row has it.
+pub(crate) fn follow_keys(
+    rt: &(impl Abort + AllocGlobal),
+    keys: &mut Keys,
+    rows: &str,
+) -> Result<(), Fail> {
+    for row in rows.lines() {
+        assert!(rt; is_so_of_keys(rt.alloc(), keys, row)?, "{row}");
     }
     Ok(())
 }

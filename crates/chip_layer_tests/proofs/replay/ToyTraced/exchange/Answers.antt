@@ -1,5 +1,4 @@
-use Rattle.std.proofs.Common.{◌≡◌, ℕ, ◌+◌, List, take, set, get_or, refl, sym, ap, ◌∙◌, arith}
-use Rattle.chip_machine.specs.State.{exchanged}
+use Rattle.std.proofs.Common.{ℕ, ◌+◌, List, set, get_or, refl, sym, ap, ◌∙◌}
 use Rattle.chip_machine.specs.inner.Exchanged.{exchanged_none, exchanged_skip, exchanged_more, chosen-new}
 use Rattle.chip_layer_tests.specs.Toy.{ToyState}
 use Rattle.chip_layer_tests.proofs.replay.ToyTraced.exchange.Goals as goal
