@@ -12,6 +12,7 @@ use crate::kept_line::{KeptLine, read_kept};
 use crate::limits::{LINE_BYTES, MOST_LINES};
 use crate::refusal::OpenError;
 use chip_lang::Meter;
+use memchr::memchr;
 use std::alloc::{AllocError, Global};
 
 /// How many bytes stand before the first newline, or how many there are.
@@ -19,12 +20,10 @@ fn line_length(bytes: &[u8]) -> usize
     ensures length { result ≡ position_or_len is_newline bytes.now }
     ensures bound { result ≤ length bytes.now }
 {
-    for index in 0..bytes.len() {
-        if bytes[index] == b'\n' {
-            return index;
-        }
+    match memchr(b'\n', bytes) {
+        Some(index) => index,
+        None => bytes.len(),
     }
-    bytes.len()
 }
 
 /// A text without the carriage return at its end, if it has one.

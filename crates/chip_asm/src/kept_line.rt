@@ -26,7 +26,7 @@ pub(crate) fn read_kept(
     ensures counted { meter.new ≡ record meter.old { parsed = one_more meter.old.parsed } }
 {
     let line = read_line(alloc, meter, text)?;
-    let text = Bytes::new(Vec::from_slice(alloc, text)?);
+    let text = Bytes::from_slice(alloc, text)?;
     Ok(KeptLine {
         text,
         line,

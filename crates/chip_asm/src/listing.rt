@@ -15,20 +15,24 @@ use crate::kept_line::KeptLine;
 use crate::layout::Layout;
 use crate::placement::Placement;
 use chip_lang::{Body, Fault, Line};
+use itoa::Buffer;
 use std::alloc::{AllocError, Global};
+
+// As many spaces as a field of a listing has places at most.
+const SPACES: [u8; 12] = [b' '; 12];
 
 /// Appends spaces.
 fn push_spaces(out: &mut Vec<u8>, count: usize) -> Result<(), AllocError>
+    requires { count ≤ 12 }
     ensures { OnOk result (out.new.items ≡ out.old.items ++ replicate count 32) }
 {
-    for _index in 0..count {
-        out.push(b' ')?;
-    }
+    out.extend_from_slice(&SPACES[..count])?;
     Ok(())
 }
 
 /// Appends a text at the right of so many places.
 fn push_right(out: &mut Vec<u8>, places: usize, text: &[u8]) -> Result<(), AllocError>
+    requires { places ≤ 12 }
     ensures { OnOk result (out.new.items ≡ out.old.items ++ at_right places text.now) }
 {
     push_spaces(out, places.saturating_sub(text.len()))?;
@@ -37,16 +41,16 @@ fn push_right(out: &mut Vec<u8>, places: usize, text: &[u8]) -> Result<(), Alloc
 }
 
 /// Appends a number in decimal, at the right of four places.
-fn push_number(out: &mut Vec<u8>, alloc: Global, number: usize) -> Result<(), AllocError>
+fn push_number(out: &mut Vec<u8>, number: usize) -> Result<(), AllocError>
     ensures { OnOk result (out.new.items ≡ out.old.items ++ at_right 4 (decimal number)) }
 {
-    let digits = number.to_string(alloc)?;
-    push_right(out, 4, digits.as_bytes())?;
-    Ok(())
+    let mut digits = Buffer::new();
+    push_right(out, 4, digits.format(number).as_bytes())
 }
 
 /// Appends a text at the left of so many places.
 fn push_left(out: &mut Vec<u8>, places: usize, text: &[u8]) -> Result<(), AllocError>
+    requires { places ≤ 12 }
     ensures { OnOk result (out.new.items ≡ out.old.items ++ at_left places text.now) }
 {
     out.extend_from_slice(text)?;
@@ -70,9 +74,7 @@ fn hex_digit(digit: usize) -> u8
 fn push_byte(out: &mut Vec<u8>, number: usize) -> Result<(), AllocError>
     ensures { OnOk result (out.new.items ≡ out.old.items ++ hex_byte number) }
 {
-    out.push(hex_digit(number / 16 % 16))?;
-    out.push(hex_digit(number % 16))?;
-    Ok(())
+    out.extend_from_slice(&[hex_digit(number / 16 % 16), hex_digit(number % 16)])
 }
 
 /// Appends the address of a line.
@@ -80,13 +82,14 @@ fn push_address(out: &mut Vec<u8>, live: bool, here: usize) -> Result<(), AllocE
     ensures { OnOk result (out.new.items ≡ out.old.items ++ address_shown live here) }
 {
     if live {
-        out.push(hex_digit(here / 4096 % 16))?;
-        out.push(hex_digit(here / 256 % 16))?;
-        push_byte(out, here)?;
-        return Ok(());
+        return out.extend_from_slice(&[
+            hex_digit(here / 4096 % 16),
+            hex_digit(here / 256 % 16),
+            hex_digit(here / 16 % 16),
+            hex_digit(here % 16),
+        ]);
     }
-    out.extend_from_slice(b"----")?;
-    Ok(())
+    out.extend_from_slice(b"----")
 }
 
 /// Appends so many of the first bytes, with zeros past the last one.
@@ -127,18 +130,17 @@ fn value_given(line: &Line, value: i32) -> i32
 }
 
 /// Appends the value that a definition gives.
-fn push_value(alloc: Global, out: &mut Vec<u8>, value: i32) -> Result<(), AllocError>
+fn push_value(out: &mut Vec<u8>, value: i32) -> Result<(), AllocError>
     ensures { OnOk result (out.new.items ≡ out.old.items ++ (codes "=" ++ signed_decimal value)) }
 {
+    let mut digits = Buffer::new();
     out.push(b'=')?;
-    out.extend_from_slice(value.to_string(alloc)?.as_bytes())?;
-    Ok(())
+    out.extend_from_slice(digits.format(value).as_bytes())
 }
 
 /// Appends what stands in the field of a line.
 fn push_field(
     out: &mut Vec<u8>,
-    alloc: Global,
     fault: Option<Fault>,
     placement: &Placement,
     kept: &KeptLine,
@@ -147,16 +149,16 @@ fn push_field(
         ≡ out.old.items ++ field_shown fault placement.now.live (body_of (reading_in kept.now)) placement.now.here placement.now.value placement.now.size (kept_bytes kept.now)) }
 {
     if let Some(fault) = fault {
+        let mut digits = Buffer::new();
         out.push(b'F')?;
-        out.extend_from_slice(fault.number().to_string(alloc)?.as_bytes())?;
-        return Ok(());
+        return out.extend_from_slice(digits.format(fault.number()).as_bytes());
     }
     if !placement.live {
         return Ok(());
     }
     if is_definition(&kept.line) {
         let value = value_given(&kept.line, placement.value);
-        push_value(alloc, out, value)?;
+        push_value(out, value)?;
         return Ok(());
     }
     push_bytes(out, (placement.size as usize).min(6), kept_bytes(kept))?;
@@ -178,7 +180,6 @@ fn more_sign(fault: Option<Fault>, size: usize) -> u8
 #[tactic(auto, unfolding(crate::specs::Listing::shown))]
 fn push_line(
     out: &mut Vec<u8>,
-    alloc: Global,
     placement: &Placement,
     field: &[u8],
     more: u8,
@@ -186,7 +187,7 @@ fn push_line(
 ) -> Result<(), AllocError>
     ensures { OnOk result (out.new.items ≡ out.old.items ++ shown placement.now.number placement.now.live placement.now.here field.now more text.now) }
 {
-    push_number(out, alloc, placement.number as usize)?;
+    push_number(out, placement.number as usize)?;
     out.push(b' ')?;
     push_address(out, placement.live, placement.here as usize)?;
     out.push(b' ')?;
@@ -229,16 +230,9 @@ pub(crate) fn listing_in(
         let kept = &lines[place];
         let fault = kept_fault(&placement, kept);
         field.clear();
-        push_field(&mut field, alloc, fault, &placement, kept)?;
+        push_field(&mut field, fault, &placement, kept)?;
         let more = more_sign(fault, placement.size as usize);
-        push_line(
-            &mut listing,
-            alloc,
-            &placement,
-            &field,
-            more,
-            kept.text.get(),
-        )?;
+        push_line(&mut listing, &placement, &field, more, kept.text.get())?;
     }
     Ok(listing)
 }

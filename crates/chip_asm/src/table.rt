@@ -5,6 +5,7 @@ ghost use Rattle.chip_lang.specs.Line.{upper};
 ghost use Rattle.chip_lang.specs.Value.{value_of_name};
 ghost use Rattle.chip_asm.specs.Names.{lookup_name, valued, values_of};
 
+use chip_lang::short_bytes::upper;
 use chip_lang::{Bytes, Names};
 use indexmap::IndexMap;
 use std::alloc::{AllocError, Global};
@@ -17,16 +18,6 @@ pub struct Symbol {
     pub value: i32,
     /// The number of the line, counted from 1.
     pub line: usize,
-}
-
-/// A byte in upper case.
-fn upper(byte: u8) -> u8
-    ensures { result ≡ upper byte }
-{
-    match byte {
-        b'a'..=b'z' => byte - 32,
-        _ => byte,
-    }
 }
 
 /// Whether a text in either case spells a name.
@@ -244,7 +235,7 @@ impl Table {
         ensures { IfOk result (λ entry. slice_get self.now index ≡ Some entry) }
     {
         match self.symbols.get_index(index) {
-            Some((name, symbol)) => Ok((Bytes::new(Vec::from_slice(alloc, name)?), *symbol)),
+            Some((name, symbol)) => Ok((Bytes::from_slice(alloc, name)?, *symbol)),
             None => unreachable!(),
         }
     }

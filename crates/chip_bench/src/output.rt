@@ -27,6 +27,7 @@ use chip_machine::limits::IMAGE_BYTES;
 use chip_views::{check_text, source_of_image};
 use std::alloc::Global;
 use std::io::{Read, Write};
+use std::mem;
 
 /// `debug`: a session on standard input and output.
 pub(crate) fn answer_script<'a, I: Read, O: Write>(
@@ -66,7 +67,12 @@ pub(crate) fn image_or_faults<'a, O: Write>(
         }
     };
     match opened.image() {
-        Some(image) => Ok(Some(Vec::from_slice(alloc, image)?)),
+        Some(image) => {
+            let image = Vec::from_slice(alloc, image)?;
+            // The program ends soon, and its memory goes back at once.
+            mem::forget(opened);
+            Ok(Some(image))
+        }
         None => {
             print_faults(alloc, &opened, output)?;
             Ok(None)
@@ -84,7 +90,12 @@ pub(crate) fn list_source<'a, O: Write>(
         (printed_of (open_fault source.now) (listing_of_lines (lines source.now))) result }
 {
     match Source::open(alloc, source) {
-        Ok(opened) => print_listing(alloc, &opened, output),
+        Ok(opened) => {
+            let ending = print_listing(alloc, &opened, output)?;
+            // The program ends here, and its memory goes back at once.
+            mem::forget(opened);
+            Ok(ending)
+        }
         Err(error) => refuse_source(error, output),
     }
 }

@@ -165,14 +165,8 @@ are_from (suc n) line place p q =
 pub these_tokens : (line : List ℕ) → AreTokens line 0 (tokens_of line)
 these_tokens line = are_from (length line) line 0 (omega arith) (omega arith)
 
-placed : (line : List ℕ) (ts : List Token) → ts ≡ tokens_of line → AreTokens line 0 ts
+pub placed : (line : List ℕ) (ts : List Token) → ts ≡ tokens_of line → AreTokens line 0 ts
 placed line ts e = subst (AreTokens line 0) (sym e) (these_tokens line)
-
--- the tokens up to the end, or up to a comment
-pub placed_over : (line : List ℕ) (ts : List Token) (place : ℕ) → place ≤ length line → (place < length line → get_or line place 0 ≡ 59) →
-    ts ++ tokens_from place 0 (drop place line) ≡ tokens_of line → AreTokens line 0 ts
-placed_over line ts place p h e =
-    placed line ts (sym (append-nil ts) ∙ ap (λ rest. ts ++ rest) (sym (over line place (over_at line place p h))) ∙ e)
 
 -- ---- where tokens lie
 

@@ -2,5 +2,6 @@
 pub mod ByDigits
 pub mod InstrForm
 pub mod NamedRow
+pub mod Scanned
 pub mod Seen
 pub mod SeenShape

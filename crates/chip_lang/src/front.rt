@@ -12,6 +12,7 @@ use crate::expr::{Expr, Operator, Prefix};
 use crate::form::is_mnemonic;
 use crate::keyword::{directive_of, register_of, special_of};
 use crate::lexeme::Lexeme;
+use crate::short_bytes::ShortBytes;
 use std::alloc::{AllocError, Global};
 
 fn prefix_of(sign: u8) -> Option<Prefix>
@@ -92,7 +93,7 @@ pub fn closed(inside: Expr, tokens: &[Lexeme]) -> Option<(Expr, &[Lexeme])>
 }
 
 /// A text of one byte, as a number.
-pub fn text_atom<'a>(text: &Bytes, tokens: &'a [Lexeme]) -> Option<(Expr, &'a [Lexeme])>
+pub fn text_atom<'a>(text: &ShortBytes, tokens: &'a [Lexeme]) -> Option<(Expr, &'a [Lexeme])>
     ensures value { seen result ≡ one_byte text.now tokens.now }
     ensures shorter { IfSome result (λ x. length x.1.now ≤ length tokens.now) }
 {
@@ -115,7 +116,7 @@ pub fn text_number(text: &[u8]) -> Option<Expr>
 /// A name that isn't reserved.
 pub fn name_atom<'a>(
     alloc: Global,
-    word: &Bytes,
+    word: &ShortBytes,
     tokens: &'a [Lexeme],
 ) -> Result<Option<(Expr, &'a [Lexeme])>, AllocError>
     ensures value { IfOk result (λ found. seen found ≡ (if is_reserved word.now then None else Some (name word.now, tokens.now))) }

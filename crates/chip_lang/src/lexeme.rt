@@ -1,37 +1,48 @@
 //! Tokens with what they hold.
 
-ghost use Rattle.std.specs.Prelude.{◌≡◌, IfOk, map, length, ◌-◌, ◌≤◌, slice_range};
-ghost use Rattle.chip_lang.specs.Line.{upper, lexeme_of, lexemes_of, is_the, is_sign_of};
+ghost use Rattle.std.specs.Prelude.{◌≡◌, IfOk, OnOk, length, ◌-◌, ◌≤◌, slice_range, ◌++◌, ◌∷◌, []};
+ghost use Rattle.chip_lang.specs.Line.{lexeme_of, lexemes_of, is_the, is_sign_of};
 
-use crate::bytes::Bytes;
 use crate::fault::Fault;
-use crate::token::{Kind, Token, tokens};
+use crate::short_bytes::ShortBytes;
+use crate::token::{Kind, Token, USUAL_TOKENS, token_from};
 use std::alloc::{AllocError, Global};
 
 /// A token with its content: a word in upper case, a number, the bytes of a text, or a sign.
 #[derive(Debug, Drop)]
 pub enum Lexeme {
     /// A word in upper case.
-    Word(Bytes),
+    Word(ShortBytes),
     /// A number.
     Number(i32),
     /// The bytes between the quotes.
-    Text(Bytes),
+    Text(ShortBytes),
     /// A sign, by its byte.
     Sign(u8),
     /// No token, with its fault.
     Bad(Fault),
 }
 
+fn push_lexeme(lexemes: &mut Vec<Lexeme>, lexeme: Lexeme) -> Result<(), AllocError>
+    ensures { OnOk result (lexemes.new.items ≡ lexemes.old.items ++ lexeme ∷ []) }
+{
+    if lexemes.is_empty() {
+        lexemes.reserve(USUAL_TOKENS)?;
+    }
+    lexemes.push(lexeme)?;
+    Ok(())
+}
+
 /// The tokens of a line with what they hold.
 pub fn lexemes(alloc: Global, line: &[u8]) -> Result<Vec<Lexeme>, AllocError>
     ensures { IfOk result (λ lexemes. lexemes.items ≡ lexemes_of line.now) }
 {
-    let tokens = tokens(alloc, line)?;
-    let mut lexemes = Vec::with_capacity(alloc, tokens.len())?;
-    for token in &tokens {
-        let lexeme = lexeme_of(alloc, line, *token)?;
-        lexemes.push(lexeme)?;
+    let mut lexemes = Vec::new(alloc);
+    let mut place = 0;
+    while let Some(token) = token_from(line, place) {
+        let lexeme = lexeme_of(alloc, line, token)?;
+        push_lexeme(&mut lexemes, lexeme)?;
+        place = token.end;
     }
     Ok(lexemes)
 }
@@ -44,32 +55,15 @@ pub(crate) fn lexeme_of(alloc: Global, line: &[u8], token: Token) -> Result<Lexe
 {
     let bytes = &line[token.start..token.end];
     match token.kind {
-        Kind::Word => Ok(Lexeme::Word(in_upper_case(alloc, bytes)?)),
+        Kind::Word => Ok(Lexeme::Word(ShortBytes::in_upper_case(alloc, bytes)?)),
         Kind::Number(number) => Ok(Lexeme::Number(number)),
         Kind::Text => {
-            let text = Bytes::from_slice(alloc, between_quotes(bytes))?;
+            let text = ShortBytes::from_slice(alloc, between_quotes(bytes))?;
             Ok(Lexeme::Text(text))
         }
         Kind::Sign(sign) => Ok(Lexeme::Sign(sign)),
         Kind::Bad(fault) => Ok(Lexeme::Bad(fault)),
     }
-}
-
-fn upper(byte: u8) -> u8
-    ensures { result ≡ upper byte }
-{
-    if b'a' <= byte && byte <= b'z' {
-        byte - 32
-    } else {
-        byte
-    }
-}
-
-fn in_upper_case(alloc: Global, word: &[u8]) -> Result<Bytes, AllocError>
-    ensures { IfOk result (λ bytes. bytes ≡ map upper word.now) }
-{
-    let bytes = word.iter().map(|byte| upper(*byte)).collect(alloc)?;
-    Ok(Bytes::new(bytes))
 }
 
 /// The bytes of a text without its quotes.

@@ -24,6 +24,7 @@ pub mod number;
 mod operands;
 mod parse;
 mod shape;
+pub mod short_bytes;
 mod source_text;
 mod statement;
 pub mod token;

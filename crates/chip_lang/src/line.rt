@@ -17,6 +17,7 @@ use crate::lexeme::{Lexeme, is_sign_of, lexemes};
 use crate::limits::OPEN_PARENTHESES;
 use crate::meter::Meter;
 use crate::shape::{Shape, defines_bad_name, first_name, front_directive, shape_of, statement_of};
+use crate::short_bytes::ShortBytes;
 use crate::statement::{body_of_shape, is_outside, is_skipped};
 use std::alloc::{AllocError, Global};
 
@@ -153,7 +154,7 @@ fn begins_with_unknown_word(front: Option<Directive>, statement: &[Lexeme]) -> b
     }
 }
 
-fn owned(alloc: Global, name: Option<&Bytes>) -> Result<Option<Bytes>, AllocError>
+fn owned(alloc: Global, name: Option<&ShortBytes>) -> Result<Option<Bytes>, AllocError>
     ensures { IfOk result (λ copy. copy ≡ option_copied name.entry) }
 {
     match name {

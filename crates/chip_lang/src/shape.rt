@@ -6,24 +6,24 @@ ghost use Rattle.std.specs.Option.{option_copied};
 ghost use Rattle.chip_lang.specs.Line.{is_equ, after_label, shape_of, is_bad_name, statement_of, front_directive, by_define, names_of, first_name};
 ghost use Rattle.chip_lang.specs.inner.SeenShape.{seen_shape};
 
-use crate::bytes::Bytes;
 use crate::directive::Directive;
 use crate::front::is_reserved;
 use crate::keyword::directive_of;
 use crate::lexeme::{Lexeme, is_sign_of, is_the};
 use crate::limits::NAME_BYTES;
+use crate::short_bytes::ShortBytes;
 
 /// What a line is, by its tokens.
 #[derive(Drop)]
 pub(crate) enum Shape<'a> {
     /// A definition: its name, and what follows EQU or `=`.
     Definition {
-        name: &'a Bytes,
+        name: &'a ShortBytes,
         value: &'a [Lexeme],
     },
     /// A statement, after a label if there is one.
     Statement {
-        label: Option<&'a Bytes>,
+        label: Option<&'a ShortBytes>,
         tokens: &'a [Lexeme],
     },
 }
@@ -52,7 +52,7 @@ pub(crate) fn shape_of(tokens: &[Lexeme]) -> Shape<'_>
 }
 
 /// What a word, a colon and these tokens are.
-fn after_label<'a>(name: &'a Bytes, rest: &'a [Lexeme]) -> Shape<'a>
+fn after_label<'a>(name: &'a ShortBytes, rest: &'a [Lexeme]) -> Shape<'a>
     ensures { seen_shape result ≡ after_label name.now rest.now }
 {
     match rest {
@@ -95,7 +95,7 @@ pub(crate) fn statement_of<'a>(shape: &Shape<'a>) -> &'a [Lexeme]
 }
 
 /// The word after a DEFINE that begins a statement.
-fn name_after_define(front: Option<Directive>, tokens: &[Lexeme]) -> Option<&Bytes>
+fn name_after_define(front: Option<Directive>, tokens: &[Lexeme]) -> Option<&ShortBytes>
     ensures { option_to_list (option_copied result) ≡ by_define front tokens.now }
 {
     match (front, tokens) {
@@ -118,7 +118,7 @@ pub(crate) fn defines_bad_name(shape: &Shape, front: Option<Directive>) -> bool
     }
 }
 
-fn is_bad_option(name: Option<&Bytes>) -> bool
+fn is_bad_option(name: Option<&ShortBytes>) -> bool
     ensures { result ≡ list_any is_bad_name (option_to_list (option_copied name.entry)) }
 {
     match name {
@@ -128,7 +128,7 @@ fn is_bad_option(name: Option<&Bytes>) -> bool
 }
 
 /// The name that a line defines. `front` is the directive at the front of its statement.
-pub(crate) fn first_name<'a>(shape: &Shape<'a>, front: Option<Directive>) -> Option<&'a Bytes>
+pub(crate) fn first_name<'a>(shape: &Shape<'a>, front: Option<Directive>) -> Option<&'a ShortBytes>
     requires front { front ≡ front_directive (statement_of (seen_shape shape.now)) }
     ensures { option_copied result ≡ first_name (names_of (seen_shape shape.now)) }
 {

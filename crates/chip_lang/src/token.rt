@@ -1,9 +1,10 @@
 //! Tokens of a line.
 
-ghost use Rattle.std.specs.Prelude.{◌≡◌, ◌<◌, ◌≤◌, ◌+◌, ◌↔◌, ◌^◌, IfOk, IsTrue, length, take_while, fold, not, List, ◌∷◌, [], ◌++◌, drop, slice_index, vec_len, ℕ, ◌==◌, OnOk};
+ghost use Rattle.std.specs.Prelude.{◌≡◌, ◌<◌, ◌≤◌, ◌+◌, ◌↔◌, ◌^◌, IfOk, IsTrue, length, take_while, fold, not, List, ◌∷◌, [], ◌++◌, drop, slice_index, vec_len, ℕ, ◌==◌, OnOk, IfSome};
 ghost use Rattle.std.specs.List.{list_all, prefix_len};
-ghost use Rattle.chip_lang.specs.Token.{is_blank, is_digit, is_octal, is_hexadecimal, is_binary, is_name_byte, is_run_byte, is_name_start, is_sign, is_digit_of, digit_value, with_digit, number_of, kind_of_number, kind_of_digits, text_at, token_at, tokens_of};
+ghost use Rattle.chip_lang.specs.Token.{is_blank, is_digit, is_octal, is_hexadecimal, is_binary, is_name_byte, is_run_byte, is_name_start, is_sign, is_digit_of, digit_value, with_digit, number_of, kind_of_number, kind_of_digits, text_at, token_at, tokens_from, tokens_of};
 ghost use Rattle.chip_lang.specs.Scan.{AreTokens};
+ghost use Rattle.chip_lang.specs.inner.Scanned.{with_rest};
 
 use crate::fault::Fault;
 use std::alloc::{AllocError, Global};
@@ -263,8 +264,35 @@ fn token_at(first: u8, bytes: &[u8]) -> (Kind, usize)
     }
 }
 
-// Room for the tokens of most lines, taken with the first one.
-const USUAL_TOKENS: usize = 12;
+/// The first token that stands at a place or after it; none where only blanks or a comment follow.
+pub(crate) fn token_from(line: &[u8], from: usize) -> Option<Token>
+    requires { from ≤ length line.now }
+    ensures rest { tokens_from from 0 (drop from line.now) ≡ with_rest line.now result }
+    ensures rises { IfSome result (λ token. token.start < token.end) }
+    ensures later { IfSome result (λ token. from < token.end) }
+    ensures inside { IfSome result (λ token. token.end ≤ length line.now) }
+{
+    let mut place = from;
+    while place < line.len() {
+        let first = line[place];
+        if first == b';' {
+            return None;
+        }
+        if !is_blank(first) {
+            let (kind, length) = token_at(first, &line[place + 1..]);
+            return Some(Token {
+                kind,
+                start: place,
+                end: place + length,
+            });
+        }
+        place += 1;
+    }
+    None
+}
+
+/// Room for the tokens of most lines, taken with the first one.
+pub(crate) const USUAL_TOKENS: usize = 12;
 
 fn push_token(tokens: &mut Vec<Token>, token: Token) -> Result<(), AllocError>
     ensures { OnOk result (tokens.new.items ≡ tokens.old.items ++ token ∷ []) }
@@ -283,23 +311,9 @@ pub fn tokens(alloc: Global, line: &[u8]) -> Result<Vec<Token>, AllocError>
 {
     let mut tokens = Vec::new(alloc);
     let mut place = 0;
-    while place < line.len() {
-        let first = line[place];
-        if first == b';' {
-            return Ok(tokens);
-        }
-        if is_blank(first) {
-            place += 1;
-        } else {
-            let (kind, length) = token_at(first, &line[place + 1..]);
-            let token = Token {
-                kind,
-                start: place,
-                end: place + length,
-            };
-            push_token(&mut tokens, token)?;
-            place += length;
-        }
+    while let Some(token) = token_from(line, place) {
+        push_token(&mut tokens, token)?;
+        place = token.end;
     }
     Ok(tokens)
 }
