@@ -1,7 +1,6 @@
 use Rattle.std.proofs.Common.{◌++◌, ◌∙◌, ap, sym}
 use Rattle.std.proofs.lemmas.List.{append-nil}
 use Rattle.chip_lang.proofs.TokenList.{placed}
-use Rattle.chip_lang.specs.inner.Scanned.{with_rest}
 use Rattle.chip_lang.proofs.token.tokens.Goals as goal
 
 pub returns-clause-placed : goal.returns-clause-placed
