@@ -1,12 +1,16 @@
 -- What the first pass finds of a line of which it asks only the size.
-use Rattle.std.proofs.Common.{◌≡◌, ℕ, ◌+◌, ℤ, pos, Bool, true, false, cond, ◌&&◌, ◌||◌, is_none, if◌then◌else◌, List, [], ◌∷◌, ◌++◌, refl, ap, sym, ◌∙◌, arith, None, Some, nat_lt, option_to_list, length, unsigned_abs}
-use Rattle.chip_lang.specs.declared.fault.Fault.TheVariants.{PastMemory}
+use Rattle.std.proofs.Common.{◌≡◌, ℕ, ◌+◌, ℤ, pos, Bool, true, false, cond, ◌&&◌, ◌||◌, is_none, is_some, subst, if◌then◌else◌, List, [], ◌∷◌, ◌++◌, refl, ap, sym, ◌∙◌, arith, Option, None, Some, nat_lt, option_to_list, length, unsigned_abs}
+use Rattle.chip_lang.specs.declared.fault.Fault.TheVariants.{DefinedTwice, PastMemory}
+use Rattle.chip_lang.specs.declared.fault.Fault.{Fault}
 use Rattle.chip_lang.specs.declared.limits.TheConstants.{MEMORY_BYTES}
+use Rattle.chip_lang.specs.Uses.{name_defined}
 use Rattle.chip_lang.specs.Line.{Body, empty, code, Reading, bad, read}
 use Rattle.chip_asm.specs.declared.pass.Pass.{Pass}
 use Rattle.chip_asm.specs.declared.placement.Placement.{Placement}
-use Rattle.chip_asm.specs.inner.Bare.{is_bare, IsBare, fault_of_bare, size_of_bare}
-use Rattle.chip_asm.specs.Layout.{Placed, place, placed, body_of, is_live, first_fault, fault_of_value, full_size, own_size, symbols, is_aligning, address, value_at, value_or_zero, is_if_body, is_side_or_end, symbol_given}
+use Rattle.chip_asm.specs.declared.table.Symbol.{Symbol}
+use Rattle.chip_asm.specs.Names.{Name}
+use Rattle.chip_asm.specs.inner.Bare.{is_bare, IsBare, fault_of_bare}
+use Rattle.chip_asm.specs.Layout.{Placed, place, placed, body_of, is_live, first_fault, fault_of_value, full_size, own_size, symbols, is_aligning, address, value_at, value_or_zero, is_if_body, is_redefinition, is_side_or_end, symbol_given, value_given}
 use Rattle.chip_asm.specs.inner.Follows.{Follows, placement_of}
 use Rattle.chip_asm.specs.inner.Placements.{is_placed}
 use Rattle.chip_asm.specs.inner.Recode.{has_code}
@@ -15,19 +19,24 @@ use Rattle.chip_asm.proofs.Placing.{length-placed}
 use Rattle.chip_asm.proofs.NextLine.{placement-at, follows-push, Advances}
 
 -- such a line is an instruction where it has bytes, and else empty
-pub bare-coded : (line : Reading) → is_bare_line line ≡ true → has_code (body_of line) ≡ true → IsBare line 2
+pub bare-coded : (line : Reading) → is_bare_line line ≡ true → has_code (body_of line) ≡ true → IsBare line (name_defined line) 2
 bare-coded (bad fault) b c = cc
-bare-coded (read None (code form operands)) b c = record { nameless = refl; bare = refl; sized = refl; small = omega arith }
-bare-coded (read None empty) b c = cc
-bare-coded (read None _) b c = cc
-bare-coded (read (Some name) body) b c = cc
+bare-coded (read name (code form operands)) b c = record { named = refl; bare = refl; sized = refl; small = omega arith }
+bare-coded (read name empty) b c = cc
+bare-coded (read name _) b c = cc
 
-pub bare-empty : (line : Reading) → is_bare_line line ≡ true → has_code (body_of line) ≡ false → IsBare line 0
+pub bare-empty : (line : Reading) → is_bare_line line ≡ true → has_code (body_of line) ≡ false → IsBare line (name_defined line) 0
 bare-empty (bad fault) b c = cc
-bare-empty (read None empty) b c = record { nameless = refl; bare = refl; sized = refl; small = omega arith }
-bare-empty (read None (code form operands)) b c = cc
-bare-empty (read None _) b c = cc
-bare-empty (read (Some name) body) b c = cc
+bare-empty (read name empty) b c = record { named = refl; bare = refl; sized = refl; small = omega arith }
+bare-empty (read name (code form operands)) b c = cc
+bare-empty (read name _) b c = cc
+
+pub unnamed : (line : Reading) (size : ℕ) → IsBare line (name_defined line) size → is_some (name_defined line) ≡ false → IsBare line None size
+unnamed line size b n = subst (λ name. IsBare line name size) (none (name_defined line) n) b
+  where
+    none : (name : Option Name) → is_some name ≡ false → name ≡ None
+    none None h = refl
+    none (Some name) h = cc
 
 -- such a line isn't padded
 bare-size : (aligning : Bool) (here : ℕ) (body : Body) → is_bare body ≡ true → full_size aligning here body (pos 0) ≡ own_size body (pos 0)
@@ -41,12 +50,14 @@ past : (aligning : Bool) (here : ℕ) (body : Body) (b : is_bare body ≡ true) 
 past aligning here body b = ap (λ n. nat_lt MEMORY_BYTES (here + n)) (bare-size aligning here body b)
 
 -- the fault of such a line
-bare-fault : (before : List Placed) (body : Body) → is_bare body ≡ true
-    → first_fault before (read None body) ≡ cond (nat_lt MEMORY_BYTES (address before + own_size body (pos 0))) (Some PastMemory) None
+bare-fault : (before : List Placed) (name : Option Name) (body : Body) → is_bare body ≡ true
+    → first_fault before (read name body)
+    ≡ cond (is_redefinition (symbols before) name) (Some DefinedTwice) (cond (nat_lt MEMORY_BYTES (address before + own_size body (pos 0))) (Some PastMemory) None)
 unfolding first_fault fault_of_value value_at
-bare-fault before empty b = ap (λ t. cond t (Some PastMemory) None) (past (is_aligning before) (address before) empty b)
-bare-fault before (code form operands) b = ap (λ t. cond t (Some PastMemory) None) (past (is_aligning before) (address before) (code form operands) b)
-bare-fault before _ b = cc
+bare-fault before name empty b = ap (λ t. cond (is_redefinition (symbols before) name) (Some DefinedTwice) (cond t (Some PastMemory) None)) (past (is_aligning before) (address before) empty b)
+bare-fault before name (code form operands) b =
+    ap (λ t. cond (is_redefinition (symbols before) name) (Some DefinedTwice) (cond t (Some PastMemory) None)) (past (is_aligning before) (address before) (code form operands) b)
+bare-fault before name _ b = cc
 
 no-value : (before : List Placed) (body : Body) → is_bare body ≡ true → pos 0 ≡ value_or_zero (value_at (symbols before) body)
 unfolding value_at
@@ -71,46 +82,72 @@ live-elsewhere before (code form operands) b = refl
 live-elsewhere before _ b = cc
 
 -- the placement of such a line
-pub bare-placed : (pass : Pass) (lines : List Reading) (line : Reading) (number size : ℕ) (live : Bool) → IsBare line size → number ≡ length lines + 1 → Follows pass (placed lines)
-    → live ≡ is_live (placed lines) empty
-    → (let made : Placement = record { number = number; is_if = false; live = live; here = pass.here; fault = fault_of_bare live pass.here size; value = pos 0; size = size_of_bare live pass.here size } in made ≡ placement_of (place (placed lines) line))
-bare-placed pass lines line number size live b n f l =
-    placement-at before line number false live pass.here (fault_of_bare live pass.here size) (pos 0) (size_of_bare live pass.here size)
+pub bare-placed : (pass : Pass) (lines : List Reading) (line : Reading) (name : Option Name) (number size : ℕ) (live twice : Bool) → IsBare line name size → number ≡ length lines + 1
+    → Follows pass (placed lines) → live ≡ is_live (placed lines) empty → twice ≡ is_redefinition pass.names name
+    → (let made : Placement
+    = record {
+      number = number;
+      is_if = false;
+      live = live;
+      here = pass.here;
+      fault = fault_of_bare live twice pass.here size;
+      value = pos 0;
+      size = if live && is_none (fault_of_bare live twice pass.here size) then size else 0;
+    } in made ≡ placement_of (place (placed lines) line))
+bare-placed pass lines line name number size live twice b n f l t =
+    placement-at before line number false live pass.here (fault_of_bare live twice pass.here size) (pos 0) (if live && is_none (fault_of_bare live twice pass.here size) then size else 0)
     (n ∙ ap (λ k. k + 1) (sym (length-placed lines))) (no-if (body_of line) b.bare) (l ∙ live-elsewhere before (body_of line) b.bare) f.at_address (no-value before (body_of line) b.bare)
-    (faults live) (sizes live (nat_lt MEMORY_BYTES (pass.here + size)))
+    (faults live) (sizes live (fault_of_bare live twice pass.here size))
   where
     before : List Placed
     before = placed lines
 
-    found : first_fault before line ≡ cond (nat_lt MEMORY_BYTES (pass.here + size)) (Some PastMemory) None
-    found = ap (first_fault before) b.nameless ∙ bare-fault before (body_of line) b.bare ∙ (rw (← b.sized, ← f.at_address) refl)
+    found : first_fault before line ≡ cond twice (Some DefinedTwice) (cond (nat_lt MEMORY_BYTES (pass.here + size)) (Some PastMemory) None)
+    found = ap (first_fault before) b.named ∙ bare-fault before name (body_of line) b.bare ∙ (rw (t, ← b.sized, ← f.at_address, ← f.names) refl)
 
-    faults : (live : Bool) → fault_of_bare live pass.here size ≡ (if live then first_fault before line else None)
+    faults : (live : Bool) → fault_of_bare live twice pass.here size ≡ (if live then first_fault before line else None)
     faults true = sym found
     faults false = refl
 
     full : full_size (is_aligning before) pass.here (body_of line) (pos 0) ≡ size
     full = bare-size (is_aligning before) pass.here (body_of line) b.bare ∙ sym b.sized
 
-    sizes : (live past : Bool) → cond (live && past) 0 (cond live size 0) ≡ (if live && is_none (cond (live && past) (Some PastMemory) None) then full_size (is_aligning before) pass.here (body_of line) (pos 0) else 0)
-    sizes true true = refl
-    sizes true false = sym full
-    sizes false past = refl
+    sizes : (live : Bool) (fault : Option Fault) → (if live && is_none fault then size else 0) ≡ (if live && is_none fault then full_size (is_aligning before) pass.here (body_of line) (pos 0) else 0)
+    sizes true None = sym full
+    sizes true (Some fault) = refl
+    sizes false fault = refl
 
-none-given : (a : Bool) (number here : ℕ) (value : ℤ) (line : Reading) → line ≡ read None (body_of line) → None ≡ (if a then symbol_given number here value line else None)
-none-given true number here value line e = rw e refl
-none-given false number here value line e = refl
+-- the name of such a line
 
 none-appended : {X : Type 0} (xs : List X) → xs ++ [] ≡ xs
 none-appended [] = refl
 none-appended (x ∷ xs) = ap (λ l. x ∷ l) (none-appended xs)
 
--- the state after such a line: only the address moves
-pub bare-next : (pass next : Pass) (lines : List Reading) (line : Reading) (number size : ℕ) (q : Placement) → IsBare line size → number ≡ length lines + 1
+pub none-given : (names : List (Name × Symbol)) (a : Bool) (number here : ℕ) (value : ℤ) (line : Reading) → line ≡ read None (body_of line)
+    → names ≡ names ++ option_to_list (if a then symbol_given number here value line else None)
+none-given names a number here value line e = sym (none-appended names) ∙ ap (λ given. names ++ option_to_list given) (none a)
+  where
+    none : (a : Bool) → None ≡ (if a then symbol_given number here value line else None)
+    none true = rw e refl
+    none false = refl
+
+bare-value : (here : ℕ) (value : ℤ) (body : Body) → is_bare body ≡ true → pos here ≡ value_given here value body
+bare-value here value empty b = refl
+bare-value here value (code form operands) b = refl
+bare-value here value _ b = cc
+
+pub label-given : (a : Bool) (number here size : ℕ) (value : ℤ) (line : Reading) (name : Name) → IsBare line (Some name) size
+    → (if a then Some (name, record { value = pos here; line = number }) else None) ≡ (if a then symbol_given number here value line else None)
+label-given false number here size value line name b = refl
+label-given true number here size value line name b = rw b.named (ap (λ v. Some (name, record { value = v; line = number })) (bare-value here value (body_of line) b.bare))
+
+-- the state after such a line: only the address and the names go on
+pub bare-next : (pass next : Pass) (lines : List Reading) (line : Reading) (name : Option Name) (number size : ℕ) (q : Placement) → IsBare line name size → number ≡ length lines + 1
     → Follows pass (placed lines) → q ≡ placement_of (place (placed lines) line) → next.here ≡ pass.here + q.size
-    → next.aligning ≡ pass.aligning → next.ended ≡ pass.ended → next.blocks ≡ pass.blocks → next.names ≡ pass.names → next.live ≡ pass.live
+    → next.aligning ≡ pass.aligning → next.ended ≡ pass.ended → next.blocks ≡ pass.blocks
+    → next.names ≡ pass.names ++ option_to_list (if is_placed q then symbol_given number pass.here q.value line else None) → next.live ≡ pass.live
     → Follows next (placed (lines ++ line ∷ []))
-bare-next pass next lines line number size q b n f e here aligning ended blocks names live =
+bare-next pass next lines line name number size q b n f e here aligning ended blocks names live =
     follows-push pass next lines line number q n f e (advances (body_of line) b.bare refl)
   where
     address_same : (a : Bool) → pass.here + q.size ≡ cond (a && false) (unsigned_abs q.value) (pass.here + q.size)
@@ -126,7 +163,7 @@ bare-next pass next lines line number size q b n f e here aligning ended blocks 
       at_address = rw is (here ∙ address_same (is_placed q));
       aligning = rw is aligning;
       ended = rw is (ended ∙ live_same q.live);
-      names = names ∙ sym (none-appended pass.names) ∙ ap (λ l. pass.names ++ option_to_list l) (none-given (is_placed q) number pass.here q.value line b.nameless);
+      names = names;
       open_blocks = λ nearest e. rw is (ap (λ v. v.items) blocks ∙ e);
       live = live ∙ f.live ∙ (rw (ended, blocks) refl);
     }
@@ -134,7 +171,7 @@ bare-next pass next lines line number size q b n f e here aligning ended blocks 
       at_address = rw is (here ∙ address_same (is_placed q));
       aligning = rw is aligning;
       ended = rw is (ended ∙ live_same q.live);
-      names = names ∙ sym (none-appended pass.names) ∙ ap (λ l. pass.names ++ option_to_list l) (none-given (is_placed q) number pass.here q.value line b.nameless);
+      names = names;
       open_blocks = λ nearest e. rw is (ap (λ v. v.items) blocks ∙ e);
       live = live ∙ f.live ∙ (rw (ended, blocks) refl);
     }

@@ -6,7 +6,7 @@ use Rattle.chip_lang.specs.Line.{Body, Reading}
 use Rattle.chip_asm.specs.declared.block.Block.{Block}
 use Rattle.chip_asm.specs.declared.pass.Pass.{Pass}
 use Rattle.chip_asm.specs.declared.placement.Placement.{Placement}
-use Rattle.chip_asm.specs.Layout.{Placed, is_if_body, place, placed, body_of, is_live, first_fault, full_size, symbols, is_aligning, address, value_at, value_or_zero, is_accepted, is_end_body, fault_of_value, condition_of, symbol_given, enclosing}
+use Rattle.chip_asm.specs.Layout.{Placed, is_if_body, place, placed, body_of, is_live, first_fault, full_size, symbols, is_aligning, address, value_at, value_or_zero, is_end_body, fault_of_value, condition_of, symbol_given, enclosing}
 use Rattle.chip_asm.specs.inner.Follows.{Follows, block_of, placement_of, next_address, next_aligning}
 use Rattle.chip_asm.specs.inner.Placements.{is_placed}
 use Rattle.chip_asm.specs.inner.Turns.{moved}
@@ -24,10 +24,6 @@ pub placement-at : (before : List Placed) (line : Reading) (number : ℕ) (opens
     → (let made : Placement = record { number = number; is_if = opens; live = live; here = here; fault = fault; value = value; size = size } in made ≡ placement_of (place before line))
 unfolding place
 placement-at before line number opens live here fault value size n o l h v f s = rw (s, f, v, h, l, o, n) refl
-
-next-address : (before : List Placed) (line : Reading) → next_address (is_accepted (place before line)) (address before) (body_of line) (place before line).value (place before line).size ≡ address (place before line ∷ before)
-unfolding place
-next-address before line = sym (address-cons (place before line) before)
 
 -- what the state is after a line of which this holds
 pub record Advances (pass next : Pass) (line : Reading) (q : Placement) (number : ℕ) : Type 0 where

@@ -10,7 +10,7 @@ use Rattle.chip_asm.specs.declared.placement.Placement.{Placement}
 use Rattle.chip_asm.specs.inner.KeptCodes.{count_of}
 use Rattle.chip_asm.specs.Layout.{Placed, placed, address, symbols}
 use Rattle.chip_asm.specs.inner.Layouts.{placements_of, final_placement}
-use Rattle.chip_asm.specs.Program.{names_of_lines, first_pass_fault, code_under, bytes_in_code, fault_of, numbered_fault, faults_of_lines, covers, byte_at}
+use Rattle.chip_asm.specs.Program.{names_of_lines, code_under, bytes_in_code, fault_of, numbered_fault, faults_of_lines, covers, byte_at}
 use Rattle.chip_asm.proofs.BlockSteps.{reverse-cons}
 use Rattle.chip_asm.proofs.ImageWhole.{one-fault}
 use Rattle.chip_asm.proofs.Placing.{length-placed}
@@ -24,9 +24,6 @@ pub end-swapped : (lines : List Reading) (at : ℕ) (new : Reading) → Swapped 
 end-swapped lines at new s = ap address s.now ∙ sym s.same.at ∙ ap address (sym s.was)
 
 -- the first pass
-
-first-pass-same : (xs ys : List Placed) (p : Placed) → Same xs ys → first_pass_fault xs p ≡ first_pass_fault ys p
-first-pass-same xs ys p s = rw (s.ended, s.open_ifs) refl
 
 final-same : (xs ys : List Placed) (p : Placed) → Same xs ys → final_placement xs p ≡ final_placement ys p
 final-same xs ys p s = rw (s.ended, s.open_ifs) refl

@@ -91,7 +91,8 @@ pub(crate) fn read_lines(
     ensures encoded { meter.new.encoded ≡ 0 }
     ensures err { IfErr result (λ e. (e ≡ OpenError.OutOfMemory) ⊎ (open_fault source.now ≡ Some e)) }
 {
-    let mut lines: Vec<KeptLine> = Vec::new(alloc);
+    let most = source.len().min(MOST_LINES);
+    let mut lines: Vec<KeptLine> = Vec::with_capacity(alloc, most + 1)?;
     let mut rest = source;
     while !rest.is_empty() {
         let end = line_length(rest);

@@ -4,12 +4,14 @@ ghost use Rattle.chip_asm.specs.Names.{values_of};
 ghost use Rattle.chip_asm.specs.inner.Hints.{names_in, hint_in};
 ghost use Rattle.chip_asm.specs.inner.Records.{IsPlaceWithin, lines_after, readings_in};
 ghost use Rattle.chip_lang.specs.SeenLine.{seen_line};
+ghost use Rattle.chip_asm.specs.inner.Traits.{traits_of};
 ghost use Rattle.chip_asm.specs.declared.kept_line.KeptLine.{KeptLine};
 
 use crate::edit::{Edit, count_after, line_after, with_item, without_item};
 use crate::kept_line::KeptLine;
 use crate::limits::MOST_LINES;
 use crate::table::Table;
+use crate::traits::Traits;
 use chip_lang::{Line, Names, uses};
 use std::alloc::{AllocError, Global};
 
@@ -27,11 +29,23 @@ pub(crate) fn hint_of(names: &Table, line: &Line) -> usize
     names.number_of(name)
 }
 
+/// The same, where the traits of the line are known.
+fn hint_by(names: &Table, traits: Traits, line: &Line) -> usize
+    requires { traits ≡ traits_of (seen_line line.now) }
+    ensures { result ≡ hint_in (names_in names.now) (seen_line line.now) }
+{
+    if traits.has_names {
+        hint_of(names, line)
+    } else {
+        0
+    }
+}
+
 /// The hints of lines where no names are known yet.
 pub(crate) fn no_hints(alloc: Global, lines: &[KeptLine]) -> Result<Vec<usize>, AllocError>
     ensures { IfOk result (λ hints. hints.items ≡ map (λ kept. 0) lines.now) }
 {
-    let mut hints = Vec::new(alloc);
+    let mut hints = Vec::with_capacity(alloc, lines.len())?;
     for _place in 0..lines.len() {
         hints.push(0)?;
     }
@@ -43,16 +57,19 @@ fn hints_of_all(
     alloc: Global,
     names: &Table,
     lines: &[KeptLine],
+    traits: &[Traits],
     edit: &Edit,
 ) -> Result<Vec<usize>, AllocError>
     requires within { IsPlaceWithin (length lines.now) edit.now }
     requires few { length lines.now ≤ MOST_LINES }
+    requires traits { traits.now ≡ map traits_of (readings_in (lines_after lines.now edit.now)) }
     ensures { IfOk result (λ hints. hints.items ≡ map (hint_in (names_in names.now)) (readings_in (lines_after lines.now edit.now))) }
 {
-    let mut hints = Vec::new(alloc);
-    for place in 0..count_after(lines.len(), edit) {
+    let count = count_after(lines.len(), edit);
+    let mut hints = Vec::with_capacity(alloc, count)?;
+    for place in 0..count {
         let line = line_after(&*lines, &*edit, place);
-        hints.push(hint_of(names, line))?;
+        hints.push(hint_by(names, traits[place], line))?;
     }
     Ok(hints)
 }
@@ -87,10 +104,12 @@ pub(crate) fn hints_after(
     names: &Table,
     hints: &[usize],
     lines: &[KeptLine],
+    traits: &[Traits],
     edit: &Edit,
 ) -> Result<Vec<usize>, AllocError>
     requires within { IsPlaceWithin (length lines.now) edit.now }
     requires few { length lines.now ≤ MOST_LINES }
+    requires traits { traits.now ≡ map traits_of (readings_in (lines_after lines.now edit.now)) }
     requires long { length hints.now ≡ length lines.now }
     requires hints { same_names ≡ true → hints.now ≡ map (hint_in (names_in names.now)) (readings_in lines.now) }
     ensures { IfOk result (λ after. after.items ≡ map (hint_in (names_in names.now)) (readings_in (lines_after lines.now edit.now))) }
@@ -98,7 +117,7 @@ pub(crate) fn hints_after(
     if same_names {
         edited_hints(alloc, names, hints, edit)
     } else {
-        hints_of_all(alloc, names, lines, edit)
+        hints_of_all(alloc, names, lines, traits, edit)
     }
 }
 

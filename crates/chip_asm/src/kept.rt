@@ -282,6 +282,7 @@ impl Kept {
             &layout.names,
             &self.hints,
             &self.lines,
+            &traits,
             edit,
         )?;
         let codes = recode(

@@ -4,6 +4,7 @@ ghost use Rattle.chip_lang.specs.Line.{reading_of};
 ghost use Rattle.chip_lang.specs.SeenLine.{seen_line};
 ghost use Rattle.chip_lang.specs.Meter.{one_more};
 
+use chip_lang::short_bytes::ShortBytes;
 use chip_lang::{Bytes, Coded, Line, Meter, read_line};
 use std::alloc::{AllocError, Global};
 
@@ -30,7 +31,7 @@ pub(crate) fn read_kept(
     Ok(KeptLine {
         text,
         line,
-        code: Coded::Bytes(Bytes::new(Vec::new(alloc))),
+        code: Coded::Bytes(ShortBytes::empty(alloc)),
     })
 }
 

@@ -18,8 +18,8 @@ use crate::pass::Pass;
 use crate::placement::Placement;
 use crate::table::Table;
 use crate::traits::Traits;
-use chip_lang::Fault;
 use chip_lang::limits::IMAGE_START;
+use chip_lang::{Fault, defines};
 use std::alloc::{AllocError, Global};
 
 /// What the first pass finds: what holds of each line, the names, and the address after the last line.
@@ -92,9 +92,16 @@ fn step_at(
     ensures follows { (before : List Reading) (line : Reading) → slice_get (readings_in (lines_after lines.now edit.now)) place ≡ Some line
         → Follows pass.old (placed before) → place ≡ length before → OnOk result (Follows pass.new (placed (before ++ line ∷ []))) }
 {
-    match traits.bare_size() {
-        Some(size) => Ok(pass.step_bare(place + 1, size)),
-        None => pass.step(alloc, place + 1, line_after(lines, edit, place)),
+    let Some(size) = traits.bare_size() else {
+        return pass.step(alloc, place + 1, line_after(lines, edit, place));
+    };
+    if traits.gives_name {
+        match defines(line_after(lines, edit, place)) {
+            Some(name) => pass.step_labelled(alloc, place + 1, size, name),
+            None => Ok(pass.step_bare(place + 1, size)),
+        }
+    } else {
+        Ok(pass.step_bare(place + 1, size))
     }
 }
 

@@ -1,7 +1,8 @@
 //! The first pass: one line after another.
-ghost use Rattle.std.specs.Prelude.{◌≡◌, ℕ, ◌+◌, ◌-◌, ◌≤◌, ◌<◌, ◌^◌, List, [], ◌∷◌, ◌++◌, OnOk, IfOk, length, reverse, is_some, is_none, unsigned_abs, int_lt, pos, nat_lt, Option, None, Ok, true, false, not, ◌&&◌, ◌||◌, if◌then◌else◌, option_to_list};
+ghost use Rattle.std.specs.Prelude.{◌≡◌, ℕ, ◌+◌, ◌-◌, ◌≤◌, ◌<◌, ◌^◌, List, [], ◌∷◌, ◌++◌, OnOk, IfOk, length, reverse, is_some, is_none, unsigned_abs, int_lt, pos, nat_lt, Option, None, Some, Ok, true, false, not, ◌&&◌, ◌||◌, if◌then◌else◌, option_to_list};
 ghost use Rattle.std.specs.List.{list_all};
-ghost use Rattle.chip_asm.specs.inner.Bare.{IsBare, fault_of_bare, size_of_bare};
+ghost use Rattle.chip_asm.specs.inner.Bare.{IsBare, fault_of_bare};
+ghost use Rattle.chip_asm.specs.Names.{Name};
 ghost use Rattle.chip_asm.specs.Layout.{value_at, own_size, is_padded, full_size, is_negative_space, is_backwards, is_past_end, fault_of_value, is_redefinition, is_if_body, body_of, value_or_zero, condition_of, is_org_body, is_end_body, symbol_given};
 ghost use Rattle.chip_lang.specs.SeenLine.{seen_line, seen_body};
 ghost use Rattle.chip_lang.specs.Line.{Reading, empty as empty_body};
@@ -48,6 +49,13 @@ fn or_zero(value: Result<i32, Fault>) -> i32
         Ok(value) => value,
         Err(_) => 0,
     }
+}
+
+/// The bytes that a line of this size takes: none where it isn't accepted.
+fn size_if(accepted: bool, size: usize) -> usize
+    ensures { result ≡ (if accepted then size else 0) }
+{
+    if accepted { size } else { 0 }
 }
 
 /// The bytes of a line itself.
@@ -142,7 +150,7 @@ impl Pass {
         ensures { result ≡ is_redefinition self.now.names (name_defined (seen_line line.now)) }
     {
         match defines(line) {
-            Some(name) => !self.names.is_next(name) && self.names.symbol(name).is_some(),
+            Some(name) => self.is_given(name),
             None => false,
         }
     }
@@ -321,51 +329,112 @@ impl Pass {
         self.live = !self.ended && all_hold(&self.blocks);
     }
 
-    /// The fault of a line of this size of which nothing else is asked.
-    fn fault_of_bare(&self, live: bool, size: usize) -> Option<Fault>
-        ensures { result ≡ fault_of_bare live self.now.here size }
+    /// Whether a name is there already.
+    fn is_given(&self, name: &[u8]) -> bool
+        ensures { result ≡ is_redefinition self.now.names (Some name.now) }
     {
-        if live && size > MEMORY_BYTES - self.here {
+        !self.names.is_next(name) && self.names.symbol(name).is_some()
+    }
+
+    /// The fault of a line of this size of which nothing else is asked but its name, which is there already or not.
+    fn fault_of_bare(&self, live: bool, twice: bool, size: usize) -> Option<Fault>
+        ensures fault { result ≡ fault_of_bare live twice self.now.here size }
+        ensures fits { live ≡ true → result ≡ None → self.now.here + size ≤ MEMORY_BYTES }
+        ensures new_name { live ≡ true → result ≡ None → twice ≡ false }
+    {
+        if !live {
+            None
+        } else if twice {
+            Some(Fault::DefinedTwice)
+        } else if size > MEMORY_BYTES - self.here {
             Some(Fault::PastMemory)
         } else {
             None
         }
     }
 
-    /// The bytes that such a line takes.
-    fn size_of_bare(&self, live: bool, size: usize) -> usize
-        ensures size { result ≡ size_of_bare live self.now.here size }
-        ensures within { self.now.here + result ≤ MEMORY_BYTES }
-    {
-        if live && size <= MEMORY_BYTES - self.here {
-            size
-        } else {
-            0
-        }
-    }
-
-    /// Goes on by such a line.
-    pub(crate) fn step_bare(&mut self, number: usize, size: usize) -> Placement
+    /// What holds of such a line.
+    fn place_bare(&self, number: usize, size: usize, twice: bool) -> Placement
         requires { number ≤ MOST_LINES + 1 }
-        ensures found { (lines : List Reading) (line : Reading) → IsBare line size → Follows self.old (placed lines) → number ≡ length lines + 1
-            → result ≡ placement_of (place (placed lines) line) }
-        ensures follows { (lines : List Reading) (line : Reading) → IsBare line size → Follows self.old (placed lines) → number ≡ length lines + 1
-            → Follows self.new (placed (lines ++ line ∷ [])) }
+        ensures placed { (lines : List Reading) (line : Reading) (name : Option Name) → IsBare line name size → twice ≡ is_redefinition self.now.names name
+            → Follows self.now (placed lines) → number ≡ length lines + 1 → result ≡ placement_of (place (placed lines) line) }
+        ensures here { result.here ≡ self.now.here }
+        ensures fits { self.now.here + result.size ≤ MEMORY_BYTES }
+        ensures new_name { is_placed result ≡ true → twice ≡ false }
     {
         let live = self.live;
-        let fault = self.fault_of_bare(live, size);
-        let taken = self.size_of_bare(live, size);
-        let here = self.here;
-        self.here += taken;
+        let fault = self.fault_of_bare(live, twice, size);
+        let taken = size_if(is_passed(live, fault), size);
         Placement {
             value: 0,
             number: number as u16,
-            here: here as u16,
+            here: self.here as u16,
             size: taken as u16,
             fault,
             live,
             is_if: false,
         }
+    }
+
+    /// Goes on by such a line without a name.
+    pub(crate) fn step_bare(&mut self, number: usize, size: usize) -> Placement
+        requires { number ≤ MOST_LINES + 1 }
+        ensures found { (lines : List Reading) (line : Reading) → IsBare line None size → Follows self.old (placed lines) → number ≡ length lines + 1
+            → result ≡ placement_of (place (placed lines) line) }
+        ensures follows { (lines : List Reading) (line : Reading) → IsBare line None size → Follows self.old (placed lines) → number ≡ length lines + 1
+            → Follows self.new (placed (lines ++ line ∷ [])) }
+    {
+        let placement = self.place_bare(number, size, false);
+        self.here += placement.size as usize;
+        placement
+    }
+
+    /// Goes on by such a line with a name.
+    pub(crate) fn step_labelled(
+        &mut self,
+        alloc: Global,
+        number: usize,
+        size: usize,
+        name: &[u8],
+    ) -> Result<Placement, AllocError>
+        requires { number ≤ MOST_LINES + 1 }
+        ensures found { (lines : List Reading) (line : Reading) → IsBare line (Some name.now) size → Follows self.old (placed lines) → number ≡ length lines + 1
+            → IfOk result (λ placement. placement ≡ placement_of (place (placed lines) line)) }
+        ensures follows { (lines : List Reading) (line : Reading) → IsBare line (Some name.now) size → Follows self.old (placed lines) → number ≡ length lines + 1
+            → OnOk result (Follows self.new (placed (lines ++ line ∷ []))) }
+    {
+        let twice = self.is_given(name);
+        let placement = self.place_bare(number, size, twice);
+        self.note_label(alloc, placement.is_accepted(), number, name)?;
+        self.here += placement.size as usize;
+        Ok(placement)
+    }
+
+    /// Notes a name with the address where the pass stands, where its line is accepted.
+    fn note_label(
+        &mut self,
+        alloc: Global,
+        accepted: bool,
+        number: usize,
+        name: &[u8],
+    ) -> Result<(), AllocError>
+        requires { accepted ≡ true → is_redefinition self.old.names (Some name.now) ≡ false }
+        ensures names { OnOk result (self.new.names
+            ≡ self.old.names ++ option_to_list (if accepted then Some (name.now, record { value = pos self.old.here; line = number }) else None)) }
+        ensures here { self.new.here ≡ self.old.here }
+        ensures aligning { self.new.aligning ≡ self.old.aligning }
+        ensures ended { self.new.ended ≡ self.old.ended }
+        ensures live { self.new.live ≡ self.old.live }
+        ensures blocks { self.new.blocks ≡ self.old.blocks }
+    {
+        if !accepted {
+            return Ok(());
+        }
+        let symbol = Symbol {
+            value: self.here as i32,
+            line: number,
+        };
+        self.names.define(alloc, name, symbol)
     }
 
     /// Whether the condition of an IF line holds.

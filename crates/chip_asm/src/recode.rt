@@ -1,11 +1,14 @@
 //! The lines that an edit makes encode again.
-ghost use Rattle.std.specs.Prelude.{◌≡◌, ◌<◌, ◌≤◌, ◌+◌, ◌++◌, ℕ, List, All, IfOk, OnOk, OnErr, Option, Result, Ok, Err, length, Some, None, true, if◌then◌else◌, ◌&&◌, map, option_to_list, slice_get};
+ghost use Rattle.std.specs.Prelude.{◌≡◌, ◌<◌, ◌≤◌, ◌+◌, ◌++◌, ℕ, List, All, IfOk, OnOk, OnErr, Option, Result, Ok, Err, length, Some, None, true, false, if◌then◌else◌, ◌&&◌, map, option_to_list, slice_get};
 ghost use Rattle.chip_lang.specs.Line.{Reading};
 ghost use Rattle.chip_lang.specs.SeenLine.{seen_line};
 ghost use Rattle.chip_lang.specs.Uses.{agree_on};
 ghost use Rattle.chip_lang.specs.Code.{code_of};
 ghost use Rattle.chip_asm.specs.inner.Hints.{names_in, hint_in};
 ghost use Rattle.chip_asm.specs.inner.Recode.{has_code, is_placed_at, is_encoded_again, new_codes, count_again};
+ghost use Rattle.chip_asm.specs.inner.Moves.{SaysMove, AreMoves};
+ghost use Rattle.chip_asm.specs.declared.recode.Moved.{Moved};
+ghost use Rattle.std.specs.Option.{option_map_or};
 ghost use Rattle.chip_asm.specs.inner.Records.{IsPlaceWithin, lines_after, readings_in, place_before, count_after as count_of_after};
 ghost use Rattle.chip_asm.specs.Layout.{body_of};
 ghost use Rattle.chip_asm.specs.inner.Layouts.{IsLayoutOf};
@@ -33,46 +36,110 @@ fn is_placed_at(placements: &[Placement], place: usize) -> bool
     }
 }
 
-/// Whether each name of a line has one value, or none, under both layouts. The names need no search where the line has none or none was
-/// moved, and hardly one where they stand at the hint.
+/// What an edit does to a name, or to the names of a line.
+#[derive(Clone, Copy, Debug)]
+pub(crate) enum Moved {
+    /// The name keeps its value.
+    No,
+    /// It has another value.
+    Yes,
+    /// That is to be looked up.
+    Unknown,
+}
+
+/// What an edit does to the name at an index. Where the names aren't the same before and after, each line has to be looked at.
+fn move_at(same_names: bool, old: &Table, new: &Table, index: usize) -> Moved
+    requires same { same_names ≡ true → names_in old.now ≡ names_in new.now }
+    requires index { index < length new.now }
+    ensures { SaysMove result old.now new.now index }
+{
+    if !same_names {
+        return Moved::Unknown;
+    }
+    if old.is_unmoved_at(new, index) {
+        Moved::No
+    } else {
+        Moved::Yes
+    }
+}
+
+/// What an edit does to the names of a line, by the line's hint.
+fn moves_by_hint(
+    alloc: Global,
+    same_names: bool,
+    old: &Table,
+    new: &Table,
+) -> Result<Vec<Moved>, AllocError>
+    requires same { same_names ≡ true → names_in old.now ≡ names_in new.now }
+    ensures long { IfOk result (λ moves. length moves.items ≡ length new.now + 1) }
+    ensures moves { IfOk result (λ moves. AreMoves moves.items old.now new.now) }
+{
+    let mut moves = Vec::new(alloc);
+    moves.push(Moved::Unknown)?;
+    for index in 0..new.len() {
+        moves.push(move_at(same_names, old, new, index))?;
+    }
+    Ok(moves)
+}
+
+/// Whether a line has to be looked at for its names. Both are asked in one test, whose answer is no for most lines.
+fn may_move(has_names: bool, moved: Moved) -> bool
+    ensures no { result ≡ false → has_names ≡ true → moved ≡ Moved.No }
+    ensures yes { result ≡ true → has_names ≡ true }
+{
+    has_names & !matches!(moved, Moved::No)
+}
+
+/// Whether each name of a line has one value, or none, under both layouts. The names need a search only where the line has several, or
+/// where the two layouts have other names.
 fn keeps_values(
     old: &Layout,
     new: &Layout,
-    unmoved: bool,
+    moves: &[Moved],
     lines: &[KeptLine],
     edit: &Edit,
     place: usize,
     traits: Traits,
-    same_names: bool,
     hint: usize,
 ) -> bool
-    requires same { same_names ≡ true → names_in old.now.names ≡ names_in new.now.names }
+    requires long { length moves.now ≡ length new.now.names + 1 }
+    requires moves { AreMoves moves.now old.now.names new.now.names }
     requires hint { (line : Reading) → slice_get (readings_in (lines_after lines.now edit.now)) place ≡ Some line → hint ≡ hint_in (names_in new.now.names) line }
     requires within { IsPlaceWithin (length lines.now) edit.now }
     requires place { place < count_of_after (length lines.now) edit.now }
-    requires unmoved { unmoved ≡ true → values_of old.now.names ≡ values_of new.now.names }
     requires traits { (line : Reading) → slice_get (readings_in (lines_after lines.now edit.now)) place ≡ Some line → traits ≡ traits_of line }
     ensures { (line : Reading) → slice_get (readings_in (lines_after lines.now edit.now)) place ≡ Some line → result ≡ agree_on (values_of old.now.names) (values_of new.now.names) line }
 {
-    if !traits.has_names {
+    let moved = moves[hint];
+    if !may_move(traits.has_names, moved) {
         return true;
     }
-    if unmoved {
-        return true;
+    match moved {
+        Moved::Yes => false,
+        _ => {
+            let line = line_after(lines, edit, place);
+            let before = Hinted {
+                table: &old.names,
+                index: hint,
+            };
+            let after = Hinted {
+                table: &new.names,
+                index: hint,
+            };
+            agree_on(line, &before, &after)
+        }
     }
-    if same_names && hint > 0 {
-        return old.names.is_unmoved_at(&new.names, hint - 1);
+}
+
+/// Whether the line at a place stood before the edit, and was accepted there.
+fn stood(placements: &[Placement], edit: &Edit, place: usize) -> bool
+    requires { place ≤ MOST_LINES }
+    ensures { result ≡ option_map_or (is_placed_at placements.now) (place_before edit.now place) false }
+{
+    match place_before(edit, place) {
+        Some(before) => is_placed_at(placements, before),
+        None => false,
     }
-    let line = line_after(lines, edit, place);
-    let before = Hinted {
-        table: &old.names,
-        index: hint,
-    };
-    let after = Hinted {
-        table: &new.names,
-        index: hint,
-    };
-    agree_on(line, &before, &after)
 }
 
 /// Whether the line at a place of the new source has to be encoded again.
@@ -80,36 +147,29 @@ fn keeps_values(
 fn is_encoded_again(
     old: &Layout,
     new: &Layout,
-    unmoved: bool,
+    moves: &[Moved],
     lines: &[KeptLine],
     edit: &Edit,
     place: usize,
     traits: Traits,
-    same_names: bool,
     hint: usize,
 ) -> bool
-    requires same { same_names ≡ true → names_in old.now.names ≡ names_in new.now.names }
+    requires long { length moves.now ≡ length new.now.names + 1 }
+    requires moves { AreMoves moves.now old.now.names new.now.names }
     requires hint { (line : Reading) → slice_get (readings_in (lines_after lines.now edit.now)) place ≡ Some line → hint ≡ hint_in (names_in new.now.names) line }
     requires within { IsPlaceWithin (length lines.now) edit.now }
     requires few { place ≤ MOST_LINES }
     requires place { place < count_of_after (length lines.now) edit.now }
     requires traits { (line : Reading) → slice_get (readings_in (lines_after lines.now edit.now)) place ≡ Some line → traits ≡ traits_of line }
-    requires unmoved { unmoved ≡ true → values_of old.now.names ≡ values_of new.now.names }
     ensures { (before after : List Reading) (line : Reading) → slice_get (readings_in (lines_after lines.now edit.now)) place ≡ Some line
         → IsLayoutOf old.now before → IsLayoutOf new.now after → result ≡ is_encoded_again before after (place_before edit.now) (place, line) }
 {
-    if !traits.is_coded || !is_placed_at(&new.placements, place) {
+    if stood(&old.placements, edit, place)
+        && keeps_values(old, new, moves, lines, edit, place, traits, hint)
+    {
         return false;
     }
-    match place_before(edit, place) {
-        Some(before) => {
-            !(is_placed_at(&old.placements, before)
-                && keeps_values(
-                    old, new, unmoved, lines, edit, place, traits, same_names, hint,
-                ))
-        }
-        None => true,
-    }
+    traits.is_coded && is_placed_at(&new.placements, place)
 }
 
 /// Appends the code of the line at a place with the place, where it is wanted. The line's names are looked for first at its hint.
@@ -205,22 +265,12 @@ pub(crate) fn recode(
     ensures not_lowered { meter.old.encoded ≤ meter.new.encoded }
     ensures parsed { meter.new.parsed ≡ meter.old.parsed }
 {
-    let unmoved = same_names && old.names.has_same_values(&new.names);
+    let moves = moves_by_hint(alloc, same_names, &old.names, &new.names)?;
     let count = count_after(lines.len(), edit);
     let mut codes = Vec::new(alloc);
     for place in 0..count {
         let hint = hints[place];
-        let again = is_encoded_again(
-            old,
-            new,
-            unmoved,
-            lines,
-            edit,
-            place,
-            traits[place],
-            same_names,
-            hint,
-        );
+        let again = is_encoded_again(old, new, &moves, lines, edit, place, traits[place], hint);
         push_code_if(
             again, alloc, meter, &mut codes, lines, edit, place, &new.names, hint,
         )?;

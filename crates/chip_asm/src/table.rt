@@ -110,6 +110,13 @@ impl Table {
         Ok(())
     }
 
+    /// How many names there are.
+    pub(crate) fn len(&self) -> usize
+        ensures { result ≡ length self.now }
+    {
+        self.count
+    }
+
     /// The value and the line of a name.
     pub(crate) fn symbol(&self, name: &[u8]) -> Option<Symbol>
         ensures { result ≡ lookup_name self.now name.now }
@@ -238,19 +245,6 @@ impl Table {
             Some((name, symbol)) => Ok((Bytes::from_slice(alloc, name)?, *symbol)),
             None => unreachable!(),
         }
-    }
-
-    /// Whether the values are the same too, where both tables have the same names in the same order.
-    pub(crate) fn has_same_values(&self, other: &Table) -> bool
-        requires same_names { names_in self.now ≡ names_in other.now }
-        ensures { result ≡ true → values_of self.now ≡ values_of other.now }
-    {
-        for index in 0..self.count {
-            if !self.is_unmoved_at(other, index) {
-                return false;
-            }
-        }
-        true
     }
 
     /// Adds a name that is not there yet, after the others.

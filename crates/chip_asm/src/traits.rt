@@ -2,6 +2,7 @@
 ghost use Rattle.std.specs.Prelude.{◌≡◌, List, IfOk, IfSome, length, map};
 ghost use Rattle.chip_lang.specs.Line.{Reading};
 ghost use Rattle.chip_lang.specs.SeenLine.{seen_line};
+ghost use Rattle.chip_lang.specs.Uses.{name_defined};
 ghost use Rattle.chip_asm.specs.inner.Bare.{IsBare};
 ghost use Rattle.chip_asm.specs.Layout.{body_of};
 ghost use Rattle.chip_asm.specs.inner.Recode.{has_code};
@@ -11,14 +12,16 @@ ghost use Rattle.chip_asm.specs.declared.kept_line.KeptLine.{KeptLine};
 
 use crate::edit::{Edit, with_item, without_item};
 use crate::kept_line::KeptLine;
-use chip_lang::{Body, Line, uses};
+use chip_lang::{Body, Line, defines, uses};
 use std::alloc::{AllocError, Global};
 
 /// What steps over all lines ask of a line.
 #[derive(Clone, Copy, Debug)]
 pub(crate) struct Traits {
-    /// Whether it gives no name, and is an instruction or has no statement.
+    /// Whether it is an instruction or has no statement.
     pub(crate) is_bare: bool,
+    /// Whether it gives a name, if it is accepted.
+    pub(crate) gives_name: bool,
     /// Whether it has bytes of its own.
     pub(crate) is_coded: bool,
     /// Whether an expression of it has a name.
@@ -33,8 +36,8 @@ fn is_bare(line: &Line) -> bool
     matches!(
         line,
         Line::Read {
-            label: None,
             body: Body::Empty | Body::Code(_, _),
+            ..
         }
     )
 }
@@ -71,6 +74,7 @@ pub(crate) fn traits_of(line: &Line) -> Traits
 {
     Traits {
         is_bare: is_bare(line),
+        gives_name: defines(line).is_some(),
         is_coded: has_code(line),
         has_names: uses(line, 0).is_some(),
         is_steady: is_steady(line),
@@ -78,9 +82,9 @@ pub(crate) fn traits_of(line: &Line) -> Traits
 }
 
 impl Traits {
-    /// The size of a line of which the first pass asks nothing else.
+    /// The size of a line of which the first pass asks nothing else but its name.
     pub(crate) fn bare_size(self) -> Option<usize>
-        ensures { (line : Reading) → self ≡ traits_of line → IfSome result (λ size. IsBare line size) }
+        ensures { (line : Reading) → self ≡ traits_of line → IfSome result (λ size. IsBare line (name_defined line) size) }
     {
         if !self.is_bare {
             return None;
@@ -93,7 +97,7 @@ impl Traits {
 pub(crate) fn traits_of_all(alloc: Global, lines: &[KeptLine]) -> Result<Vec<Traits>, AllocError>
     ensures { IfOk result (λ traits. traits.items ≡ map (λ kept. traits_of (seen_line kept.line)) lines.now) }
 {
-    let mut traits = Vec::new(alloc);
+    let mut traits = Vec::with_capacity(alloc, lines.len())?;
     for place in 0..lines.len() {
         traits.push(traits_of(&lines[place].line))?;
     }

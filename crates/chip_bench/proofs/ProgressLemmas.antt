@@ -248,19 +248,13 @@ reached_none start before c held bench line complete taken h = record {
 line_split : (bytes : List ℕ) (n : ℕ) → n < length bytes → get_or bytes n 0 ≡ 10 → take (n + 1) bytes ≡ take n bytes ++ 10 ∷ []
 line_split bytes n lt newline = take_more bytes n 0 lt ∙ ap (λ b. take n bytes ++ b ∷ []) newline
 
--- a part of a piece, and a stop in the next part of it
+-- a part of a piece, and the next part of it
 pub carries_on : {old : Conversation} {held : Option (List ℕ)} (mid : Conversation) (kept : Option (List ℕ)) (new : Conversation) (holds : Option (List ℕ)) (piece : List ℕ) (n count : ℕ) →
     Carries old held (take n piece) (Ok tt) mid kept → Carries mid kept (take count (drop n piece)) (Ok tt) new holds →
     Carries old held (take (n + count) piece) (Ok tt) new holds
 carries_on mid kept new holds piece n count one two start before given r =
     subst (λ l. Reached start before (given ++ l) new holds) (sym (take-add n count piece))
     (carries_more mid kept new holds (take n piece) (take count (drop n piece)) (Ok tt) one two start before given r)
-
-pub carries_break : {old : Conversation} {held : Option (List ℕ)} (mid : Conversation) (kept : Option (List ℕ)) (new : Conversation) (holds : Option (List ℕ)) (piece : List ℕ) (n : ℕ) (e : Stop) →
-    Carries old held (take n piece) (Ok tt) mid kept → Carries mid kept (drop n piece) (Err e) new holds → Carries old held piece (Err e) new holds
-carries_break mid kept new holds piece n e one two start before given r =
-    subst (λ l. Stopped e start before (given ++ l) holds) (take-append-drop n piece)
-    (carries_more mid kept new holds (take n piece) (drop n piece) (Err e) one two start before given r)
 
 -- a piece that goes past the bound on bytes
 pub carries_past : {old : Conversation} {held : Option (List ℕ)} (new : Conversation) (holds : Option (List ℕ)) (piece : List ℕ) (n : ℕ) → n < length piece →

@@ -10,13 +10,13 @@ ghost use Rattle.chip_lang.specs.Tree.{tree_of};
 ghost use Rattle.chip_lang.specs.Meter.{one_more};
 ghost use Rattle.chip_lang.specs.Encoding.{number_below, signed_below, field_of, fields_of, word_of_form};
 
-use crate::bytes::Bytes;
 use crate::expr::Expr;
 use crate::fault::Fault;
 use crate::form::{Form, Operand, Pattern};
 use crate::line::{Body, Line};
 use crate::meter::Meter;
 use crate::names::Names;
+use crate::short_bytes::ShortBytes;
 use crate::value::eval;
 use std::alloc::{AllocError, Global};
 
@@ -24,7 +24,7 @@ use std::alloc::{AllocError, Global};
 #[derive(Debug, Drop)]
 pub enum Coded {
     /// The line's own bytes, without padding: of an instruction, DB, DW or DA, and none of any other line.
-    Bytes(Bytes),
+    Bytes(ShortBytes),
     /// The line's fault in the second pass, or its reading fault.
     Faulty(Fault),
 }
@@ -55,14 +55,14 @@ fn code_of_body<N: Names>(alloc: Global, body: &Body, names: &N) -> Result<Coded
         Body::Db(exprs) => code_of_bytes(alloc, exprs, names),
         Body::Dw(exprs) => code_of_words(alloc, exprs, names),
         Body::Da(text) => {
-            let bytes = Bytes::from_slice(alloc, text.get())?;
+            let bytes = ShortBytes::from_slice(alloc, text.get())?;
             Ok(Coded::Bytes(bytes))
         }
         Body::Code(form, operands) => match word_of_form(form, operands, names) {
             Ok(word) => code_of_word(alloc, word),
             Err(fault) => Ok(Coded::Faulty(fault)),
         },
-        _ => Ok(Coded::Bytes(Bytes::new(Vec::new(alloc)))),
+        _ => Ok(Coded::Bytes(ShortBytes::empty(alloc))),
     }
 }
 
@@ -70,7 +70,7 @@ fn code_of_body<N: Names>(alloc: Global, body: &Body, names: &N) -> Result<Coded
 fn code_of_word(alloc: Global, word: u16) -> Result<Coded, AllocError>
     ensures { IfOk result (λ code. code ≡ coded (Ok (word_bytes word))) }
 {
-    let bytes = Bytes::from_slice(alloc, &bytes_of_word(word))?;
+    let bytes = ShortBytes::from_slice(alloc, &bytes_of_word(word))?;
     Ok(Coded::Bytes(bytes))
 }
 
@@ -86,14 +86,14 @@ fn bytes_of_word(word: u16) -> [u8; 2]
 fn code_of_bytes<N: Names>(alloc: Global, exprs: &[Expr], names: &N) -> Result<Coded, AllocError>
     ensures { IfOk result (λ code. code ≡ coded (data_bytes 256 byte_of (map tree_of exprs.now) (N.symbols names.now))) }
 {
-    let mut bytes = Vec::new(alloc);
+    let mut bytes = ShortBytes::empty(alloc);
     for expr in exprs {
         match datum(256, expr, names) {
             Ok(byte) => bytes.push(byte as u8)?,
             Err(fault) => return Ok(Coded::Faulty(fault)),
         }
     }
-    Ok(Coded::Bytes(Bytes::new(bytes)))
+    Ok(Coded::Bytes(bytes))
 }
 
 /// The code of DW: a word for each value, or the first fault from the left.
@@ -101,14 +101,17 @@ fn code_of_bytes<N: Names>(alloc: Global, exprs: &[Expr], names: &N) -> Result<C
 fn code_of_words<N: Names>(alloc: Global, exprs: &[Expr], names: &N) -> Result<Coded, AllocError>
     ensures { IfOk result (λ code. code ≡ coded (data_bytes 65536 word_bytes (map tree_of exprs.now) (N.symbols names.now))) }
 {
-    let mut bytes = Vec::new(alloc);
+    let mut bytes = ShortBytes::empty(alloc);
     for expr in exprs {
         match datum(65536, expr, names) {
-            Ok(word) => bytes.extend_from_slice(&bytes_of_word(word))?,
+            Ok(word) => {
+                bytes.push((word / 256) as u8)?;
+                bytes.push((word % 256) as u8)?;
+            }
             Err(fault) => return Ok(Coded::Faulty(fault)),
         }
     }
-    Ok(Coded::Bytes(Bytes::new(bytes)))
+    Ok(Coded::Bytes(bytes))
 }
 
 /// A value of DB or DW, a negative one modulo the limit.

@@ -1,6 +1,6 @@
-//! The bytes of a word while its line is read.
+//! Few bytes, as those of a word while its line is read, and those of a line's code.
 
-ghost use Rattle.std.specs.Prelude.{◌≡◌, IfOk, map};
+ghost use Rattle.std.specs.Prelude.{◌≡◌, ◌++◌, ◌∷◌, [], IfOk, OnOk, map};
 ghost use Rattle.chip_lang.specs.Line.{upper};
 
 use smallvec::SmallVec;
@@ -26,7 +26,7 @@ fn make_upper(bytes: &mut [u8])
     }
 }
 
-/// Bytes, which contracts see as a list. Up to 16, as of most words, stand in the value itself.
+/// Bytes, which contracts see as a list. Up to 16, as of most words and codes, stand in the value itself.
 #[derive(Debug, Drop)]
 pub struct ShortBytes {
     bytes: SmallVec<u8, 16>,
@@ -41,6 +41,15 @@ impl Model for ShortBytes {
 }
 
 impl ShortBytes {
+    /// No bytes.
+    pub fn empty(alloc: Global) -> ShortBytes
+        ensures { result ≡ [] }
+    {
+        ShortBytes {
+            bytes: SmallVec::new(alloc),
+        }
+    }
+
     /// A copy of these bytes.
     pub fn from_slice(alloc: Global, slice: &[u8]) -> Result<ShortBytes, AllocError>
         ensures { IfOk result (λ bytes. bytes ≡ slice.now) }
@@ -56,6 +65,14 @@ impl ShortBytes {
         let mut bytes = SmallVec::from_slice(alloc, word)?;
         make_upper(bytes.as_mut_slice());
         Ok(ShortBytes { bytes })
+    }
+
+    /// Appends a byte.
+    pub fn push(&mut self, byte: u8) -> Result<(), AllocError>
+        ensures { OnOk result (self.new ≡ self.old ++ byte ∷ []) }
+    {
+        self.bytes.push(byte)?;
+        Ok(())
     }
 
     /// The bytes.

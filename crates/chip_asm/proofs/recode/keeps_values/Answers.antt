@@ -1,56 +1,68 @@
-use Rattle.std.proofs.Common.{◌≡◌, ◌∙◌, ◌-◌, ◌<◌, Bool, true, false, not, refl, ap, sym, arith, pos, List, [], length, get_or, slice_get, Some}
+use Rattle.std.proofs.Common.{◌≡◌, ◌≢◌, ◌∙◌, ◌+◌, ◌<◌, ℕ, zero, suc, Bool, true, false, refl, ap, sym, arith, pos, List, [], length, get_or, slice_get, Some}
 use Rattle.std.proofs.lemmas.Option.{slice_get-get_or}
 use Rattle.chip_lang.specs.Line.{Reading, bad}
+use Rattle.chip_lang.specs.Uses.{agree_on}
 use Rattle.chip_lang.specs.declared.fault.Fault.TheVariants.{UnclosedIf}
-use Rattle.chip_asm.specs.Names.{Name}
+use Rattle.chip_asm.specs.Names.{Name, values_of}
+use Rattle.chip_asm.specs.declared.recode.Moved.{Moved}
+use Rattle.chip_asm.specs.declared.recode.Moved.TheVariants.{No, Yes, Unknown}
 use Rattle.chip_asm.specs.declared.table.Symbol.{Symbol}
-use Rattle.chip_asm.specs.inner.Hints.{names_in}
+use Rattle.chip_asm.specs.inner.Hints.{names_in, hint_in}
+use Rattle.chip_asm.specs.inner.Moves.{SaysMove, AreMoves}
 use Rattle.chip_asm.specs.inner.Records.{lines_after, readings_in}
 use Rattle.chip_asm.proofs.Edited.{length-readings_after}
 use Rattle.chip_asm.proofs.HintSteps.{hint-few, length-names, agree-at}
-use Rattle.chip_asm.specs.Names.{values_of}
-use Rattle.chip_asm.proofs.RecodeSteps.{agree-same, agree-nameless}
+use Rattle.chip_asm.proofs.RecodeSteps.{agree-nameless}
 use Rattle.chip_asm.proofs.recode.keeps_values.Goals as goal
 
-off : (b : Bool) → not b ≡ true → b ≡ false
-off true e = cc
-off false e = refl
+no-entry : Name × Symbol
+no-entry = ([], record { value = pos 0; line = 0 })
 
-pub returns-then-unmoved : goal.returns-then-unmoved
-returns-then-unmoved c = λ line at. sym (agree-same (values_of c.args.old.now.names) (values_of c.args.new.now.names) line (c.requires.unmoved c.if-unmoved.true))
-
-pub returns-then-not-traits : goal.returns-then-not-traits
-returns-then-not-traits c = λ line at.
-    sym (agree-nameless (values_of c.args.old.now.names) (values_of c.args.new.now.names) line (sym (ap (λ t. t.has_names) (c.requires.traits line at)) ∙ off c.args.traits.has_names c.if-not-traits.true))
-
-pub is_unmoved_at-requires-clause-mine : goal.is_unmoved_at-requires-clause-mine
-is_unmoved_at-requires-clause-mine c =
-    let all : List Reading = readings_in (lines_after c.args.lines.now c.args.edit.now) in
-    let inside : c.args.place < length all = omega (arith, length-readings_after c.args.lines.now c.args.edit.now c.requires.within, c.requires.place) in
-    let line : Reading = get_or all c.args.place (bad UnclosedIf) in
-    let at : slice_get all c.args.place ≡ Some line = slice_get-get_or all c.args.place (bad UnclosedIf) inside in
-    let few = hint-few (names_in c.args.new.now.names) line in
-    omega (arith, few, c.requires.hint line at, c.if-hint-gt0.true, ap length (c.requires.same c.if-same_names.true), length-names c.args.old.now.names)
-
-pub is_unmoved_at-requires-clause-others : goal.is_unmoved_at-requires-clause-others
-is_unmoved_at-requires-clause-others c =
-    let all : List Reading = readings_in (lines_after c.args.lines.now c.args.edit.now) in
-    let inside : c.args.place < length all = omega (arith, length-readings_after c.args.lines.now c.args.edit.now c.requires.within, c.requires.place) in
-    let line : Reading = get_or all c.args.place (bad UnclosedIf) in
-    let at : slice_get all c.args.place ≡ Some line = slice_get-get_or all c.args.place (bad UnclosedIf) inside in
-    let few = hint-few (names_in c.args.new.now.names) line in
-    omega (arith, few, c.requires.hint line at, c.if-hint-gt0.true, length-names c.args.new.now.names)
-
-pub returns-then-hint-gt0 : goal.returns-then-hint-gt0
-returns-then-hint-gt0 c = λ line at.
-    let old : List (Name × Symbol) = c.args.old.now.names in
-    let new : List (Name × Symbol) = c.args.new.now.names in
+-- what is said of the one name that a line uses
+said : (moves : List Moved) (old new : List (Name × Symbol)) (line : Reading) (hint : ℕ) (other : Moved) → AreMoves moves old new → length moves ≡ length new + 1 → hint ≡ hint_in (names_in new) line
+    → get_or moves hint other ≢ Unknown → (same : Bool) → (same ≡ true → get_or moves hint other ≡ No) → (same ≡ false → get_or moves hint other ≡ Yes)
+    → same ≡ agree_on (values_of old) (values_of new) line
+said moves old new line zero other m long e known same n y = absurd (known (m.none other))
+said moves old new line (suc i) other m long e known same n y =
+    let next : suc i ≡ i + 1 = omega arith in
     let few = hint-few (names_in new) line in
-    let same = c.requires.same c.if-same_names.true in
-    let none : Name × Symbol = ([], record { value = pos 0; line = 0 }) in
-    let a : Name × Symbol = get_or old (c.args.hint - 1) none in
-    let b : Name × Symbol = get_or new (c.args.hint - 1) none in
-    let before : slice_get old (c.args.hint - 1) ≡ Some a = slice_get-get_or old (c.args.hint - 1) none (omega (arith, few, c.requires.hint line at, c.if-hint-gt0.true, ap length same, length-names old)) in
-    let after : slice_get new (c.args.hint - 1) ≡ Some b = slice_get-get_or new (c.args.hint - 1) none (omega (arith, few, c.requires.hint line at, c.if-hint-gt0.true, length-names new)) in
-    agree-at old new line (c.args.hint - 1) a b c.is_unmoved_at.result same (omega (arith, c.requires.hint line at, c.if-hint-gt0.true)) before after
-    (c.is_unmoved_at.ensures.same a b before after) (c.is_unmoved_at.ensures.differs a b before after)
+    let inside : i < length new = omega (arith, e, few, length-names new) in
+    let s : SaysMove (get_or moves (i + 1) other) old new i = m.each i other (omega arith) in
+    let is : get_or moves (i + 1) other ≡ get_or moves (suc i) other = ap (λ k. get_or moves k other) (sym next) in
+    let names : names_in old ≡ names_in new = s.same_names (λ u. known (sym is ∙ u)) in
+    let there : i < length old = omega (arith, ap length names, length-names old, length-names new) in
+    agree-at old new line i (get_or old i no-entry) (get_or new i no-entry) same names (sym e ∙ next) (slice_get-get_or old i no-entry there) (slice_get-get_or new i no-entry inside)
+    (λ b. s.stays (is ∙ n b) (get_or old i no-entry) (get_or new i no-entry) (slice_get-get_or old i no-entry there) (slice_get-get_or new i no-entry inside))
+    (λ b. s.moves (is ∙ y b) (get_or old i no-entry) (get_or new i no-entry) (slice_get-get_or old i no-entry there) (slice_get-get_or new i no-entry inside))
+
+no-unknown : (moved : Moved) → moved ≡ No → moved ≢ Unknown
+no-unknown No e = λ u. cc
+no-unknown Yes e = cc
+no-unknown Unknown e = cc
+
+yes-unknown : (moved : Moved) → moved ≡ Yes → moved ≢ Unknown
+yes-unknown No e = cc
+yes-unknown Yes e = λ u. cc
+yes-unknown Unknown e = cc
+
+pub bounds-moves-hint : goal.bounds-moves-hint
+bounds-moves-hint c =
+    let all : List Reading = readings_in (lines_after c.args.lines.now c.args.edit.now) in
+    let inside : c.args.place < length all = omega (arith, length-readings_after c.args.lines.now c.args.edit.now c.requires.within, c.requires.place) in
+    let line : Reading = get_or all c.args.place (bad UnclosedIf) in
+    let at : slice_get all c.args.place ≡ Some line = slice_get-get_or all c.args.place (bad UnclosedIf) inside in
+    omega (arith, hint-few (names_in c.args.new.now.names) line, c.requires.hint line at, length-names c.args.new.now.names, c.requires.long)
+
+pub returns-then-not-may_move : goal.returns-then-not-may_move
+returns-then-not-may_move c = λ line at. by c.args.traits.has_names refl line at
+  where
+    by : (named : Bool) → c.args.traits.has_names ≡ named → (line : Reading) → slice_get (readings_in (lines_after c.args.lines.now c.args.edit.now)) c.args.place ≡ Some line
+        → true ≡ agree_on (values_of c.args.old.now.names) (values_of c.args.new.now.names) line
+    by false e line at = sym (agree-nameless (values_of c.args.old.now.names) (values_of c.args.new.now.names) line (sym (ap (λ t. t.has_names) (c.requires.traits line at)) ∙ e))
+    by true e line at =
+        let is = c.may_move.ensures.no c.if-not-may_move.true e in
+        said c.args.moves.now c.args.old.now.names c.args.new.now.names line c.args.hint _ c.requires.moves c.requires.long (c.requires.hint line at) (no-unknown _ is) true (λ b. is) (λ b. cc)
+
+pub returns-in-Yes : goal.returns-in-Yes
+returns-in-Yes c = λ line at.
+    said c.args.moves.now c.args.old.now.names c.args.new.now.names line c.args.hint _ c.requires.moves c.requires.long (c.requires.hint line at) (yes-unknown _ c.in-Yes.is) false (λ b. cc) (λ b. c.in-Yes.is)
