@@ -5,7 +5,7 @@ use Rattle.std.proofs.lemmas.Bool.{ltb-false}
 use Rattle.chip_lang.specs.declared.limits.TheConstants.{IMAGE_START, MEMORY_BYTES}
 use Rattle.chip_lang.specs.declared.fault.Fault.{Fault}
 use Rattle.chip_lang.specs.Line.{Body, org, Reading, bad, read}
-use Rattle.chip_asm.specs.Layout.{Placed, place, placed, body_of, is_live, first_fault, full_size, symbols, is_aligning, address, value_at, value_or_zero, is_accepted, is_org_body, fault_of_value, is_backwards, is_past_end, is_negative_space, is_misplaced, is_redefinition}
+use Rattle.chip_asm.specs.Layout.{Placed, place, placed, body_of, is_live, first_fault, full_size, symbols, is_aligning, address, value_at, value_or_zero, takes_effect, is_org_body, fault_of_value, is_backwards, is_past_end, is_negative_space, is_misplaced, is_redefinition}
 use Rattle.chip_asm.proofs.BlockSteps.{reverse-cons}
 use Rattle.chip_asm.proofs.NextLine.{none_from}
 use Rattle.chip_asm.proofs.PlaceSteps.{address-cons}
@@ -59,8 +59,8 @@ live-fits before line false e = cc
 -- where a line stands after these
 record Stands (before : List Placed) (p : Placed) : Type 0 where
   here : p.here ≡ address before
-  size : p.size ≡ cond (is_accepted p) (full_size (is_aligning before) (address before) (body_of p.line) p.value) 0
-  fits : is_accepted p ≡ true → (is_backwards (address before) (body_of p.line) p.value ≡ false) × (is_past_end (is_aligning before) (address before) (body_of p.line) p.value ≡ false)
+  size : p.size ≡ cond (takes_effect p) (full_size (is_aligning before) (address before) (body_of p.line) p.value) 0
+  fits : takes_effect p ≡ true → (is_backwards (address before) (body_of p.line) p.value ≡ false) × (is_past_end (is_aligning before) (address before) (body_of p.line) p.value ≡ false)
 
 stands : (before : List Placed) (line : Reading) → Stands before (place before line)
 unfolding place
@@ -68,7 +68,7 @@ stands before line = record { here = refl; size = refl; fits = λ e. live-fits b
 
 -- within memory
 abbrev pub IsWithinMemory : Placed → Type 0
-IsWithinMemory p = (IMAGE_START ≤ p.here) × (p.here + p.size ≤ MEMORY_BYTES) × (is_accepted p ≡ false → p.size ≡ 0)
+IsWithinMemory p = (IMAGE_START ≤ p.here) × (p.here + p.size ≤ MEMORY_BYTES) × (takes_effect p ≡ false → p.size ≡ 0)
 
 abbrev AreWithin : List Placed → Type 0
 AreWithin [] = Unit {0}
@@ -79,7 +79,7 @@ record Room (before : List Placed) : Type 0 where
   high : address before ≤ MEMORY_BYTES
   lines : AreWithin before
 
-room-by : (before : List Placed) (p : Placed) (b : Bool) → is_accepted p ≡ b → Stands before p → Room before → Room (p ∷ before)
+room-by : (before : List Placed) (p : Placed) (b : Bool) → takes_effect p ≡ b → Stands before p → Room before → Room (p ∷ before)
 room-by before p true e s r =
     let size : p.size ≡ full_size (is_aligning before) (address before) (body_of p.line) p.value = s.size ∙ (rw e refl) in
     let parts = s.fits e in
@@ -101,7 +101,7 @@ room-by before p false e s r =
 
 room-fold : (before : List Placed) (lines : List Reading) → Room before → Room (fold onto before lines)
 room-fold before [] r = r
-room-fold before (line ∷ lines) r = room-fold (onto before line) lines (room-by before (place before line) (is_accepted (place before line)) refl (stands before line) r)
+room-fold before (line ∷ lines) r = room-fold (onto before line) lines (room-by before (place before line) (takes_effect (place before line)) refl (stands before line) r)
 
 after-by : (a : Bool) (here : ℕ) (body : Body) (v : ℤ) → is_backwards here body v ≡ false → is_past_end a here body v ≡ false
     → here + full_size a here body v ≤ cond (is_org_body body) (unsigned_abs v) (here + full_size a here body v)
@@ -109,7 +109,7 @@ after-by true here (org e) v b p = let r = (org-range here v b p).0 in omega ari
 after-by false here (org e) v b p = let r = (org-range here v b p).0 in omega arith
 after-by a here body v b p = omega arith
 
-after-accepted : (before : List Placed) (p : Placed) (b : Bool) → is_accepted p ≡ b → Stands before p → p.here + p.size ≤ address (p ∷ before)
+after-accepted : (before : List Placed) (p : Placed) (b : Bool) → takes_effect p ≡ b → Stands before p → p.here + p.size ≤ address (p ∷ before)
 after-accepted before p true e s =
     let size : p.size ≡ full_size (is_aligning before) (address before) (body_of p.line) p.value = s.size ∙ (rw e refl) in
     let parts = s.fits e in
@@ -120,7 +120,7 @@ after-accepted before p false e s =
 
 -- what follows a line stands past its end
 pub passes : (before : List Placed) (line : Reading) → (place before line).here + (place before line).size ≤ address (place before line ∷ before)
-passes before line = after-accepted before (place before line) (is_accepted (place before line)) refl (stands before line)
+passes before line = after-accepted before (place before line) (takes_effect (place before line)) refl (stands before line)
 
 pub stands-here : (before : List Placed) (line : Reading) → (place before line).here ≡ address before
 stands-here before line = (stands before line).here

@@ -1,7 +1,8 @@
 -- The lines after an edit, place by place.
-use Rattle.std.proofs.Common.{◌≡◌, ℕ, suc, ◌<◌, List, ◌∷◌, length, take, drop, get_or, slice_get, refl, ap, ◌∙◌, arith, Some, option_map, length-append, length-drop, length-set}
-use Rattle.std.proofs.lemmas.List.{length-take, length-map}
-use Rattle.std.proofs.lemmas.Option.{slice_get-get_or, slice_get-map}
+use Rattle.std.proofs.Common.{◌≡◌, ℕ, suc, ◌<◌, List, ◌∷◌, length, take, drop, map, get_or, slice_get, refl, ap, ◌∙◌, arith, Some, option_map, length-append, length-drop, length-set}
+use Rattle.std.proofs.lemmas.List.{length-take, length-map, get_or-map}
+use Rattle.std.proofs.lemmas.Option.{slice_get-get_or, slice_get-map, slice_get_within, get_or_from_slice_get}
+use Rattle.chip_lang.specs.Line.{Reading}
 use Rattle.chip_asm.specs.declared.kept_line.KeptLine.{KeptLine}
 use Rattle.chip_asm.specs.declared.edit.Edit.{Edit}
 use Rattle.chip_asm.specs.declared.edit.Edit.TheVariants.{Insert, Replace, Delete, Keep}
@@ -26,3 +27,8 @@ pub after-at : (lines : List KeptLine) (edit : Edit) (place : ℕ) (x y : KeptLi
     → get_or (lines_after lines edit) place x ≡ x → x ≡ y → slice_get (readings_in (lines_after lines edit)) place ≡ Some (reading_in y)
 after-at lines edit place x y within inside e same =
     reading-at (lines_after lines edit) place x (let n = length-lines_after lines edit within in omega arith) e ∙ ap (λ (z : KeptLine). Some (reading_in z)) same
+
+-- what is kept of the line at a place
+pub mapped-at : {X : Type 0} (f : Reading → X) (all : List Reading) (kept : List X) (place : ℕ) (line : Reading) (other : X) → kept ≡ map f all → slice_get all place ≡ Some line → get_or kept place other ≡ f line
+mapped-at f all kept place line other e at =
+    ap (λ xs. get_or xs place other) e ∙ get_or-map f all place line other (slice_get_within all place line at) ∙ ap f (get_or_from_slice_get all place line line at)

@@ -15,7 +15,7 @@ use Rattle.chip_asm.specs.declared.kept_line.KeptLine.{KeptLine}
 use Rattle.chip_asm.specs.declared.layout.Layout.{Layout}
 use Rattle.chip_asm.specs.declared.placement.Placement.{Placement}
 use Rattle.chip_asm.specs.Names.{values_of}
-use Rattle.chip_asm.specs.Layout.{Placed, placed, place, body_of, symbols, is_if, is_if_body, is_accepted}
+use Rattle.chip_asm.specs.Layout.{Placed, placed, place, body_of, symbols, is_if, is_if_body, takes_effect}
 use Rattle.chip_asm.specs.inner.Layouts.{IsLayoutOf, placements_of, final_placement}
 use Rattle.chip_asm.specs.inner.Placements.{is_placed}
 use Rattle.chip_asm.specs.Program.{fault_of, fault_of_line, first_pass_fault, code_under, fault_in_code, bytes_in_code, names_of_lines}
@@ -154,7 +154,7 @@ coded-no_if (ifdef n) h = cc
 coded-no_if (ifund n) h = cc
 coded-no_if _ h = refl
 
-placed-accepted : (all : List Placed) (x : Placed) → is_if x ≡ false → is_placed (final_placement all x) ≡ is_accepted x
+placed-accepted : (all : List Placed) (x : Placed) → is_if x ≡ false → is_placed (final_placement all x) ≡ takes_effect x
 placed-accepted all x e = rw e refl
 
 -- the kept bytes are the line's, or the line has no size

@@ -11,7 +11,7 @@ use Rattle.chip_lang.specs.Line.{Reading, bad, read}
 use Rattle.chip_lang.specs.Uses.{name_defined}
 use Rattle.chip_asm.specs.declared.table.Symbol.{Symbol}
 use Rattle.chip_asm.specs.Names.{Name, lookup_name}
-use Rattle.chip_asm.specs.Layout.{Placed, place, placed, body_of, is_live, first_fault, symbols, symbol_of, symbol_given, value_given, is_accepted, is_redefinition, is_misplaced}
+use Rattle.chip_asm.specs.Layout.{Placed, place, placed, body_of, is_live, first_fault, symbols, symbol_of, symbol_given, value_given, takes_effect, is_redefinition, is_misplaced}
 use Rattle.chip_asm.proofs.Bounds.{no_fault}
 use Rattle.chip_asm.proofs.NextLine.{none_from}
 use Rattle.chip_asm.proofs.PlaceSteps.{symbols-cons}
@@ -40,7 +40,7 @@ live-new : (before : List Placed) (line : Reading) (live : Bool) → (live && is
 live-new before line true e = new-name before line (none_from (first_fault before line) e)
 live-new before line false e = cc
 
-accepted-new : (before : List Placed) (line : Reading) → is_accepted (place before line) ≡ true → is_redefinition (symbols before) (name_defined line) ≡ false
+accepted-new : (before : List Placed) (line : Reading) → takes_effect (place before line) ≡ true → is_redefinition (symbols before) (name_defined line) ≡ false
 unfolding place
 accepted-new before line e = live-new before line (is_live before (body_of line)) e
 
@@ -71,7 +71,7 @@ given-name es (Some name) symbol fresh e h =
     let same : e.0 ≡ name = cc in
     rw same (not-among es name fresh)
 
-given-new : (before : List Placed) (line : Reading) (accepted : Bool) → is_accepted (place before line) ≡ accepted
+given-new : (before : List Placed) (line : Reading) (accepted : Bool) → takes_effect (place before line) ≡ accepted
     → (e : Name × Symbol) → cond accepted (symbol_given (place before line).number (place before line).here (place before line).value (place before line).line) None ≡ Some e
     → list_any (bytes_eq e.0) (names_in (symbols before)) ≡ false
 given-new before line true a e h =
@@ -82,7 +82,7 @@ given-new before line false a e h = cc
 next-differ : (before : List Placed) (line : Reading) → Differ (symbols before) → Differ (symbols (place before line ∷ before))
 next-differ before line d =
     rw (symbols-cons (place before line) before)
-    (one-more (symbols before) (symbol_of (place before line)) (given-new before line (is_accepted (place before line)) refl) d)
+    (one-more (symbols before) (symbol_of (place before line)) (given-new before line (takes_effect (place before line)) refl) d)
 
 differ-fold : (before : List Placed) (lines : List Reading) → Differ (symbols before) → Differ (symbols (fold onto before lines))
 differ-fold before [] d = d

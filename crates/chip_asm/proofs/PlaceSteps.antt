@@ -7,7 +7,7 @@ use Rattle.std.proofs.lemmas.List.Elements.{filter_map-append}
 use Rattle.chip_lang.specs.Line.{Body, align}
 use Rattle.chip_asm.specs.Names.{Name}
 use Rattle.chip_asm.specs.declared.table.Symbol.{Symbol}
-use Rattle.chip_asm.specs.Layout.{Placed, is_end_body, body_of, is_accepted, is_origin, is_align, is_align_body, is_align_off_body, address, is_aligning, has_ended, symbols, symbol_of}
+use Rattle.chip_asm.specs.Layout.{Placed, is_end_body, body_of, takes_effect, is_origin, is_align, is_align_body, is_align_off_body, address, is_aligning, has_ended, symbols, symbol_of}
 use Rattle.chip_asm.specs.inner.Follows.{next_aligning}
 use Rattle.chip_asm.proofs.BlockSteps.{reverse-cons}
 
@@ -37,18 +37,18 @@ symbols-cons p before = ap (filter_map symbol_of) (reverse-cons p before) ∙ fi
 
 not_align : (p : Placed) (b : Body) (before : List Placed) → body_of p.line ≡ b → is_align_body b ≡ false → is_aligning (p ∷ before) ≡ is_aligning before
 unfolding is_aligning
-not_align p b before e h = rw (e, h) (elsewhere (is_accepted p))
+not_align p b before e h = rw (e, h) (elsewhere (takes_effect p))
   where
     elsewhere : (a : Bool) → option_map_or (λ q. not (is_align_off_body (body_of q.line))) (cond (a && false) (Some p) (find is_align before)) true ≡ option_map_or (λ q. not (is_align_off_body (body_of q.line))) (find is_align before) true
     elsewhere true = refl
     elsewhere false = refl
 
-aligning_by : (p : Placed) (before : List Placed) (b : Body) (a : Bool) → body_of p.line ≡ b → is_accepted p ≡ a → is_aligning (p ∷ before) ≡ next_aligning a (is_aligning before) b
+aligning_by : (p : Placed) (before : List Placed) (b : Body) (a : Bool) → body_of p.line ≡ b → takes_effect p ≡ a → is_aligning (p ∷ before) ≡ next_aligning a (is_aligning before) b
 unfolding is_aligning
 aligning_by p before (align true) true e h = rw (e, h, e) refl
 aligning_by p before (align false) true e h = rw (e, h, e) refl
 aligning_by p before (align on) false e h = rw (e, h) refl
 aligning_by p before _ a e h = not_align p _ before e refl
 
-pub aligning-cons : (p : Placed) (before : List Placed) → is_aligning (p ∷ before) ≡ next_aligning (is_accepted p) (is_aligning before) (body_of p.line)
-aligning-cons p before = aligning_by p before (body_of p.line) (is_accepted p) refl refl
+pub aligning-cons : (p : Placed) (before : List Placed) → is_aligning (p ∷ before) ≡ next_aligning (takes_effect p) (is_aligning before) (body_of p.line)
+aligning-cons p before = aligning_by p before (body_of p.line) (takes_effect p) refl refl

@@ -11,7 +11,7 @@ use Rattle.chip_asm.specs.Names.{Name}
 use Rattle.chip_asm.specs.declared.table.Symbol.{Symbol}
 use Rattle.chip_asm.specs.inner.Effect.{is_plain, is_plain_line, is_idle, TakesSameSpace, AreAlike, HasSameEffect}
 use Rattle.chip_asm.specs.inner.Follows.{next_aligning}
-use Rattle.chip_asm.specs.Layout.{Placed, place, body_of, is_if_body, is_else_body, is_endif_body, is_end_body, is_org_body, is_if, is_else, is_endif, is_accepted, is_origin, symbol_of, value_given, condition_of, value_at, value_or_zero, full_size, first_fault, fault_of_value, is_redefinition, is_misplaced, is_live, has_ended, enclosing, has_else, holds, first_of, symbols, address, is_aligning}
+use Rattle.chip_asm.specs.Layout.{Placed, place, body_of, is_if_body, is_else_body, is_endif_body, is_end_body, is_org_body, is_if, is_else, is_endif, takes_effect, is_origin, symbol_of, value_given, condition_of, value_at, value_or_zero, full_size, first_fault, fault_of_value, is_redefinition, is_misplaced, is_live, has_ended, enclosing, has_else, holds, first_of, symbols, address, is_aligning}
 use Rattle.chip_asm.proofs.OpenBlocks.{open_blocks, enclosing-open}
 use Rattle.chip_asm.proofs.PlaceSteps.{address-cons, aligning-cons, has_ended-cons, symbols-cons}
 
@@ -89,7 +89,7 @@ record Parts (before : List Placed) (line : Reading) : Type 0 where
   here : (place before line).here ≡ address before
   value : (place before line).value ≡ value_or_zero (value_at (symbols before) (body_of line))
   fault : (place before line).fault ≡ (if (place before line).live then first_fault before line else None)
-  size : (place before line).size ≡ (if is_accepted (place before line) then full_size (is_aligning before) (place before line).here (body_of line) (place before line).value else 0)
+  size : (place before line).size ≡ (if takes_effect (place before line) then full_size (is_aligning before) (place before line).here (body_of line) (place before line).value else 0)
   line_is : (place before line).line ≡ line
 
 parts : (before : List Placed) (line : Reading) → Parts before line
@@ -196,7 +196,7 @@ place-same xs ys line s =
     (q.condition ∙ ap (λ names. condition_of names (body_of line)) s.names) live (q.here ∙ s.at)
     (q.value ∙ ap (λ names. value_or_zero (value_at names (body_of line))) s.names)
     (q.fault ∙ ap (λ f. cond (place xs line).live f None) (first-after xs ys line s))
-    (q.size ∙ ap (λ a. cond (is_accepted (place xs line)) (full_size a (place xs line).here (body_of line) (place xs line).value) 0) s.aligned)
+    (q.size ∙ ap (λ a. cond (takes_effect (place xs line)) (full_size a (place xs line).here (body_of line) (place xs line).value) 0) s.aligned)
 
 open-same : (p : Placed) (xs ys : List Placed) → enclosing xs ≡ enclosing ys → enclosing (p ∷ xs) ≡ enclosing (p ∷ ys)
 open-same p xs ys e =
@@ -217,7 +217,7 @@ same-cons p xs ys s = record {
   names = symbols-cons p xs ∙ ap (λ l. l ++ option_to_list (symbol_of p)) s.names ∙ sym (symbols-cons p ys);
   open_ifs = open-same p xs ys s.open_ifs;
   at = address-cons p xs ∙ ap (λ n. cond (is_origin p) (unsigned_abs p.value) (n + p.size)) s.at ∙ sym (address-cons p ys);
-  aligned = aligning-cons p xs ∙ ap (λ a. next_aligning (is_accepted p) a (body_of p.line)) s.aligned ∙ sym (aligning-cons p ys);
+  aligned = aligning-cons p xs ∙ ap (λ a. next_aligning (takes_effect p) a (body_of p.line)) s.aligned ∙ sym (aligning-cons p ys);
   ended = has_ended-cons p xs ∙ ap (λ e. (p.live && is_end_body (body_of p.line)) || e) s.ended ∙ sym (has_ended-cons p ys);
   sides = λ o. side-same p o xs ys (s.sides o);
 }
@@ -229,7 +229,7 @@ pub record Quiet (p : Placed) : Type 0 where
   no_endif : is_endif p ≡ false
   no_origin : is_origin p ≡ false
   no_end : (p.live && is_end_body (body_of p.line)) ≡ false
-  no_align : (aligning : Bool) → next_aligning (is_accepted p) aligning (body_of p.line) ≡ aligning
+  no_align : (aligning : Bool) → next_aligning (takes_effect p) aligning (body_of p.line) ≡ aligning
 
 and_never : (a : Bool) → (a && false) ≡ false
 and_never true = refl
@@ -243,9 +243,9 @@ quiet-plain p h =
       no_if = c.no_if;
       no_else = c.no_else;
       no_endif = c.no_endif;
-      no_origin = ap (λ b. is_accepted p && b) q.no_org ∙ and_never (is_accepted p);
+      no_origin = ap (λ b. takes_effect p && b) q.no_org ∙ and_never (takes_effect p);
       no_end = ap (λ b. p.live && b) q.no_end ∙ and_never p.live;
-      no_align = λ a. q.no_align (is_accepted p) a;
+      no_align = λ a. q.no_align (takes_effect p) a;
     }
 
 not_accepted-aligning : (a : Bool) (b : Body) → next_aligning false a b ≡ a
@@ -255,7 +255,7 @@ not_accepted-aligning a _ = refl
 quiet-idle : (p : Placed) → p.live ≡ false → is_idle (body_of p.line) ≡ true → Quiet p
 quiet-idle p l h =
     let c = calm-idle (body_of p.line) h in
-    let n : is_accepted p ≡ false = rw l refl in
+    let n : takes_effect p ≡ false = rw l refl in
     record {
       no_if = c.no_if;
       no_else = c.no_else;
@@ -285,7 +285,7 @@ symbol-same p new true l a =
     let k = a refl in
     let old_value = (plain (body_of p.line) (plain-body p.line k.was_plain)).given p.here p.value in
     let new_value = (plain (body_of new) (plain-body new k.now_plain)).given p.here p.value in
-    ap (λ s. cond (is_accepted p) s None) (rw (old_value, new_value, k.name) refl)
+    ap (λ s. cond (takes_effect p) s None) (rw (old_value, new_value, k.name) refl)
 
 side-quiet : (p q : Placed) (before : List Placed) (o : Placed) → is_else p ≡ false → is_else q ≡ false → has_else (p ∷ before) o ≡ has_else (q ∷ before) o
 unfolding has_else

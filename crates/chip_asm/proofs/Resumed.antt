@@ -13,7 +13,7 @@ use Rattle.chip_asm.specs.declared.layout.Layout.{Layout}
 use Rattle.chip_asm.specs.declared.placement.Placement.{Placement}
 use Rattle.chip_asm.specs.declared.table.Symbol.{Symbol}
 use Rattle.chip_asm.specs.declared.traits.Traits.{Traits}
-use Rattle.chip_asm.specs.Layout.{Placed, place, placed, body_of, is_if, is_if_body, is_end_body, is_align_body, is_endif, is_accepted, address, is_aligning, has_ended, enclosing, symbols, symbol_of, symbol_given, value_given}
+use Rattle.chip_asm.specs.Layout.{Placed, place, placed, body_of, is_if, is_if_body, is_end_body, is_align_body, is_endif, takes_effect, address, is_aligning, has_ended, enclosing, symbols, symbol_of, symbol_given, value_given}
 use Rattle.chip_asm.specs.Program.{names_of_lines}
 use Rattle.chip_asm.specs.inner.Follows.{placement_of, next_aligning}
 use Rattle.chip_asm.specs.inner.Layouts.{IsLayoutOf, first_placements, final_placement, placements_of}
@@ -142,7 +142,7 @@ at-start = refl
 
 pub still-aligning : (before : List Placed) → AreSteady before → is_aligning before ≡ true
 still-aligning [] s = at-start
-still-aligning (p ∷ before) s = aligning-cons p before ∙ aligning-kept (is_accepted p) (is_aligning before) (body_of p.line) s.0.no_align ∙ still-aligning before s.1
+still-aligning (p ∷ before) s = aligning-cons p before ∙ aligning-kept (takes_effect p) (is_aligning before) (body_of p.line) s.0.no_align ∙ still-aligning before s.1
 
 -- placements
 
@@ -217,7 +217,7 @@ entry p name = (name, record { value = value_given p.here p.value (body_of p.lin
 
 -- a line gives a name with its own number
 given : (n : ℕ) (p : Placed) → p.number ≤ n → UpTo n (option_to_list (symbol_of p))
-given n p h = by (is_accepted p) (name_defined p.line)
+given n p h = by (takes_effect p) (name_defined p.line)
   where
     by : (a : Bool) (o : Option Name)
         → UpTo n (option_to_list (cond a (option_map (entry p) o) None))
@@ -236,7 +236,7 @@ given-up-to n (p ∷ before) numbered h =
 
 given-over : (n : ℕ) (ps : List Placed) → Above n ps → Over n (filter_map symbol_of ps)
 given-over n [] a = tt
-given-over n (p ∷ ps) a = by (given-over n ps a.1) (is_accepted p) (name_defined p.line)
+given-over n (p ∷ ps) a = by (given-over n ps a.1) (takes_effect p) (name_defined p.line)
   where
     by : Over n (filter_map symbol_of ps) → (accepted : Bool) (o : Option Name)
         → Over n (cons_option (cond accepted (option_map (entry p) o) None) (filter_map symbol_of ps))

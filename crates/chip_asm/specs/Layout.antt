@@ -69,8 +69,10 @@ is_else p = is_else_body (body_of p.line)
 abbrev pub is_endif : Placed → Bool
 is_endif p = is_endif_body (body_of p.line)
 
-abbrev pub is_accepted : Placed → Bool
-is_accepted p = p.live && is_none p.fault
+-- a live line without a fault gives its name, moves the address and switches the alignment; an IF without ENDIF, whose fault is found
+-- at the end, does none of it
+abbrev pub takes_effect : Placed → Bool
+takes_effect p = p.live && is_none p.fault
 
 -- names
 
@@ -85,7 +87,7 @@ symbol_given number here value line =
     option_map (λ name. (name, record { value = value_given here value (body_of line); line = number })) (name_defined line)
 
 abbrev pub symbol_of : Placed → Option (Name × Symbol)
-symbol_of p = if is_accepted p then symbol_given p.number p.here p.value p.line else None
+symbol_of p = if takes_effect p then symbol_given p.number p.here p.value p.line else None
 
 -- the names given by the lines so far, in line order
 unfoldable pub symbols : List Placed → List (Name × Symbol)
@@ -149,9 +151,9 @@ is_live before body =
     else list_all (holds before) (enclosing before))
 
 abbrev pub is_origin : Placed → Bool
-is_origin p = is_accepted p && is_org_body (body_of p.line)
+is_origin p = takes_effect p && is_org_body (body_of p.line)
 
--- the value of the last accepted ORG, or where the image stands, and the sizes since
+-- the value of the last ORG that takes effect, or where the image stands, and the sizes since
 unfoldable pub address : List Placed → ℕ
 address before =
     option_map_or (λ p. unsigned_abs p.value) (find is_origin before) IMAGE_START
@@ -162,13 +164,13 @@ is_align_body (align on) = true
 is_align_body _ = false
 
 abbrev pub is_align : Placed → Bool
-is_align p = is_accepted p && is_align_body (body_of p.line)
+is_align p = takes_effect p && is_align_body (body_of p.line)
 
 abbrev pub is_align_off_body : Body → Bool
 is_align_off_body (align on) = not on
 is_align_off_body _ = false
 
--- the last accepted ALIGN is not OFF
+-- the last ALIGN that takes effect is not OFF
 unfoldable pub is_aligning : List Placed → Bool
 is_aligning before = option_map_or (λ p. not (is_align_off_body (body_of p.line))) (find is_align before) true
 

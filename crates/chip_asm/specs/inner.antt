@@ -1,5 +1,5 @@
 -- What the functions inside say: of the first pass in Turns, Follows, Bare, Placements, Marks, Layouts and Resume; of kept lines
--- and their codes in Records, Traits, Hints, Moves, Recode, Effect, Kept and KeptCodes.
+-- and their codes in Records, Traits, Hints, Moves, Remaking, Recode, Effect, Kept and KeptCodes.
 pub mod Bare
 pub mod Effect
 pub mod Follows
@@ -12,6 +12,7 @@ pub mod Moves
 pub mod Placements
 pub mod Recode
 pub mod Records
+pub mod Remaking
 pub mod Resume
 pub mod Traits
 pub mod Turns

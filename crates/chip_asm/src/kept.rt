@@ -25,7 +25,7 @@ use crate::image::{clear, count_of, fill_up, kept_bytes, kept_fault, write_line,
 use crate::kept_line::{KeptLine, with_code};
 use crate::layout::Layout;
 use crate::limits::MOST_LINES;
-use crate::recode::{code_if_accepted, recode, write_codes};
+use crate::recode::{Remaking, code_if_accepted, moves_by_hint, write_codes};
 use crate::traits::{Traits, traits_after, traits_of, traits_of_all};
 use chip_lang::laws::same_code;
 use chip_lang::limits::{IMAGE_BYTES, IMAGE_START};
@@ -285,17 +285,17 @@ impl Kept {
             &traits,
             edit,
         )?;
-        let codes = recode(
-            alloc,
-            meter,
-            &self.lines,
-            &traits,
-            same_names,
-            &hints,
+        let moves = moves_by_hint(alloc, same_names, &self.layout.names, &layout.names)?;
+        let remaking = Remaking {
+            lines: &self.lines,
             edit,
-            &self.layout,
-            &layout,
-        )?;
+            traits: &traits,
+            hints: &hints,
+            moves: &moves,
+            old: &self.layout,
+            new: &layout,
+        };
+        let codes = remaking.codes(alloc, meter)?;
         Ok(Prepared {
             traits,
             hints,

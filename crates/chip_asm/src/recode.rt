@@ -9,7 +9,7 @@ ghost use Rattle.chip_asm.specs.inner.Recode.{has_code, is_placed_at, is_encoded
 ghost use Rattle.chip_asm.specs.inner.Moves.{SaysMove, AreMoves};
 ghost use Rattle.chip_asm.specs.declared.recode.Moved.{Moved};
 ghost use Rattle.std.specs.Option.{option_map_or};
-ghost use Rattle.chip_asm.specs.inner.Records.{IsPlaceWithin, lines_after, readings_in, place_before, count_after as count_of_after};
+ghost use Rattle.chip_asm.specs.inner.Records.{place_before};
 ghost use Rattle.chip_asm.specs.Layout.{body_of};
 ghost use Rattle.chip_asm.specs.inner.Layouts.{IsLayoutOf};
 ghost use Rattle.chip_asm.specs.Names.{values_of};
@@ -47,6 +47,22 @@ pub(crate) enum Moved {
     Unknown,
 }
 
+/// What is known of an edit when the codes after it are made.
+#[derive(Clone, Copy)]
+pub(crate) struct Remaking<'a> {
+    /// The lines before the edit.
+    pub(crate) lines: &'a [KeptLine],
+    pub(crate) edit: &'a Edit,
+    /// The traits and the hints of the lines after it.
+    pub(crate) traits: &'a [Traits],
+    pub(crate) hints: &'a [usize],
+    /// What it does to the names of a line, by the line's hint.
+    pub(crate) moves: &'a [Moved],
+    /// The layouts before and after it.
+    pub(crate) old: &'a Layout,
+    pub(crate) new: &'a Layout,
+}
+
 /// What an edit does to the name at an index. Where the names aren't the same before and after, each line has to be looked at.
 fn move_at(same_names: bool, old: &Table, new: &Table, index: usize) -> Moved
     requires same { same_names ≡ true → names_in old.now ≡ names_in new.now }
@@ -64,7 +80,7 @@ fn move_at(same_names: bool, old: &Table, new: &Table, index: usize) -> Moved
 }
 
 /// What an edit does to the names of a line, by the line's hint.
-fn moves_by_hint(
+pub(crate) fn moves_by_hint(
     alloc: Global,
     same_names: bool,
     old: &Table,
@@ -90,47 +106,6 @@ fn may_move(has_names: bool, moved: Moved) -> bool
     has_names & !matches!(moved, Moved::No)
 }
 
-/// Whether each name of a line has one value, or none, under both layouts. The names need a search only where the line has several, or
-/// where the two layouts have other names.
-fn keeps_values(
-    old: &Layout,
-    new: &Layout,
-    moves: &[Moved],
-    lines: &[KeptLine],
-    edit: &Edit,
-    place: usize,
-    traits: Traits,
-    hint: usize,
-) -> bool
-    requires long { length moves.now ≡ length new.now.names + 1 }
-    requires moves { AreMoves moves.now old.now.names new.now.names }
-    requires hint { (line : Reading) → slice_get (readings_in (lines_after lines.now edit.now)) place ≡ Some line → hint ≡ hint_in (names_in new.now.names) line }
-    requires within { IsPlaceWithin (length lines.now) edit.now }
-    requires place { place < count_of_after (length lines.now) edit.now }
-    requires traits { (line : Reading) → slice_get (readings_in (lines_after lines.now edit.now)) place ≡ Some line → traits ≡ traits_of line }
-    ensures { (line : Reading) → slice_get (readings_in (lines_after lines.now edit.now)) place ≡ Some line → result ≡ agree_on (values_of old.now.names) (values_of new.now.names) line }
-{
-    let moved = moves[hint];
-    if !may_move(traits.has_names, moved) {
-        return true;
-    }
-    match moved {
-        Moved::Yes => false,
-        _ => {
-            let line = line_after(lines, edit, place);
-            let before = Hinted {
-                table: &old.names,
-                index: hint,
-            };
-            let after = Hinted {
-                table: &new.names,
-                index: hint,
-            };
-            agree_on(line, &before, &after)
-        }
-    }
-}
-
 /// Whether the line at a place stood before the edit, and was accepted there.
 fn stood(placements: &[Placement], edit: &Edit, place: usize) -> bool
     requires { place ≤ MOST_LINES }
@@ -142,67 +117,99 @@ fn stood(placements: &[Placement], edit: &Edit, place: usize) -> bool
     }
 }
 
-/// Whether the line at a place of the new source has to be encoded again.
-#[tactic(auto, unfolding(crate::specs::inner::Recode::is_encoded_again))]
-fn is_encoded_again(
-    old: &Layout,
-    new: &Layout,
-    moves: &[Moved],
-    lines: &[KeptLine],
-    edit: &Edit,
-    place: usize,
-    traits: Traits,
-    hint: usize,
-) -> bool
-    requires long { length moves.now ≡ length new.now.names + 1 }
-    requires moves { AreMoves moves.now old.now.names new.now.names }
-    requires hint { (line : Reading) → slice_get (readings_in (lines_after lines.now edit.now)) place ≡ Some line → hint ≡ hint_in (names_in new.now.names) line }
-    requires within { IsPlaceWithin (length lines.now) edit.now }
-    requires few { place ≤ MOST_LINES }
-    requires place { place < count_of_after (length lines.now) edit.now }
-    requires traits { (line : Reading) → slice_get (readings_in (lines_after lines.now edit.now)) place ≡ Some line → traits ≡ traits_of line }
-    ensures { (before after : List Reading) (line : Reading) → slice_get (readings_in (lines_after lines.now edit.now)) place ≡ Some line
-        → IsLayoutOf old.now before → IsLayoutOf new.now after → result ≡ is_encoded_again before after (place_before edit.now) (place, line) }
-{
-    if stood(&old.placements, edit, place)
-        && keeps_values(old, new, moves, lines, edit, place, traits, hint)
-    {
-        return false;
-    }
-    traits.is_coded && is_placed_at(&new.placements, place)
-}
+impl<'a> Remaking<'a> {
+    ghost use Rattle.chip_asm.specs.inner.Remaking.{IsRemaking, lines_then};
 
-/// Appends the code of the line at a place with the place, where it is wanted. The line's names are looked for first at its hint.
-fn push_code_if(
-    wanted: bool,
-    alloc: Global,
-    meter: &mut Meter,
-    codes: &mut Vec<(usize, Coded)>,
-    lines: &[KeptLine],
-    edit: &Edit,
-    place: usize,
-    names: &Table,
-    hint: usize,
-) -> Result<(), AllocError>
-    requires within { IsPlaceWithin (length lines.now) edit.now }
-    requires few { place ≤ MOST_LINES }
-    requires place { place < count_of_after (length lines.now) edit.now }
-    ensures codes { (line : Reading) → slice_get (readings_in (lines_after lines.now edit.now)) place ≡ Some line
-        → OnOk result (codes.new.items ≡ codes.old.items ++ option_to_list (if wanted then Some (place, code_of line (values_of names.now)) else None)) }
-    ensures encoded { meter.new.encoded ≤ meter.old.encoded + (if wanted then 1 else 0) }
-    ensures not_lowered { meter.old.encoded ≤ meter.new.encoded }
-    ensures parsed { meter.new.parsed ≡ meter.old.parsed }
-{
-    if wanted {
-        let line = line_after(lines, edit, place);
-        let names = Hinted {
-            table: names,
-            index: hint.saturating_sub(1),
-        };
-        let code = encode(alloc, meter, line, &names)?;
-        codes.push((place, code))?;
+    /// Whether each name of the line at a place has one value, or none, under both layouts. The names need a search only where the line
+    /// has several, or where the two layouts have other names.
+    fn keeps_values(&self, place: usize) -> bool
+        requires known { IsRemaking self.now }
+        requires place { place < length (lines_then self.now) }
+        ensures { (line : Reading) → slice_get (lines_then self.now) place ≡ Some line → result ≡ agree_on (values_of self.now.old.now.names) (values_of self.now.new.now.names) line }
+    {
+        let hint = self.hints[place];
+        let moved = self.moves[hint];
+        if !may_move(self.traits[place].has_names, moved) {
+            return true;
+        }
+        match moved {
+            Moved::Yes => false,
+            _ => {
+                let before = Hinted {
+                    table: &self.old.names,
+                    index: hint,
+                };
+                let after = Hinted {
+                    table: &self.new.names,
+                    index: hint,
+                };
+                agree_on(line_after(self.lines, self.edit, place), &before, &after)
+            }
+        }
     }
-    Ok(())
+
+    /// Whether the line at a place has to be encoded again.
+    #[tactic(auto, unfolding(crate::specs::inner::Recode::is_encoded_again))]
+    fn is_encoded_again(&self, place: usize) -> bool
+        requires known { IsRemaking self.now }
+        requires place { place < length (lines_then self.now) }
+        ensures { (before : List Reading) (line : Reading) → slice_get (lines_then self.now) place ≡ Some line → IsLayoutOf self.now.old.now before
+            → result ≡ is_encoded_again before (lines_then self.now) (place_before self.now.edit.now) (place, line) }
+    {
+        if stood(&self.old.placements, self.edit, place) && self.keeps_values(place) {
+            return false;
+        }
+        self.traits[place].is_coded && is_placed_at(&self.new.placements, place)
+    }
+
+    /// Appends the code of the line at a place with the place, where it is wanted. The line's names are looked for first at its hint.
+    fn push_code_if(
+        &self,
+        wanted: bool,
+        alloc: Global,
+        meter: &mut Meter,
+        codes: &mut Vec<(usize, Coded)>,
+        place: usize,
+    ) -> Result<(), AllocError>
+        requires known { IsRemaking self.now }
+        requires place { place < length (lines_then self.now) }
+        ensures codes { (line : Reading) → slice_get (lines_then self.now) place ≡ Some line
+            → OnOk result (codes.new.items ≡ codes.old.items ++ option_to_list (if wanted then Some (place, code_of line (values_of self.now.new.now.names)) else None)) }
+        ensures encoded { meter.new.encoded ≤ meter.old.encoded + (if wanted then 1 else 0) }
+        ensures not_lowered { meter.old.encoded ≤ meter.new.encoded }
+        ensures parsed { meter.new.parsed ≡ meter.old.parsed }
+    {
+        if wanted {
+            let names = Hinted {
+                table: &self.new.names,
+                index: self.hints[place].saturating_sub(1),
+            };
+            let line = line_after(self.lines, self.edit, place);
+            let code = encode(alloc, meter, line, &names)?;
+            codes.push((place, code))?;
+        }
+        Ok(())
+    }
+
+    /// The new codes, each with the place of its line.
+    pub(crate) fn codes(
+        &self,
+        alloc: Global,
+        meter: &mut Meter,
+    ) -> Result<Vec<(usize, Coded)>, AllocError>
+        requires known { IsRemaking self.now }
+        ensures codes { (before : List Reading) → IsLayoutOf self.now.old.now before → IfOk result (λ codes. codes.items ≡ new_codes before (lines_then self.now) (place_before self.now.edit.now)) }
+        ensures encoded { (before : List Reading) → IsLayoutOf self.now.old.now before → meter.new.encoded ≤ meter.old.encoded + count_again before (lines_then self.now) (place_before self.now.edit.now) }
+        ensures not_lowered { meter.old.encoded ≤ meter.new.encoded }
+        ensures parsed { meter.new.parsed ≡ meter.old.parsed }
+    {
+        let mut codes = Vec::new(alloc);
+        for place in 0..count_after(self.lines.len(), self.edit) {
+            let again = self.is_encoded_again(place);
+            self.push_code_if(again, alloc, meter, &mut codes, place)?;
+        }
+        Ok(codes)
+    }
 }
 
 /// The line's code, where it is wanted.
@@ -240,42 +247,6 @@ pub(crate) fn code_if_accepted(
 {
     let wanted = accepted && has_code(line);
     encode_if(wanted, alloc, meter, line, names)
-}
-
-/// The new codes, each with the place of its line.
-pub(crate) fn recode(
-    alloc: Global,
-    meter: &mut Meter,
-    lines: &[KeptLine],
-    traits: &[Traits],
-    same_names: bool,
-    hints: &[usize],
-    edit: &Edit,
-    old: &Layout,
-    new: &Layout,
-) -> Result<Vec<(usize, Coded)>, AllocError>
-    requires same { same_names ≡ true → names_in old.now.names ≡ names_in new.now.names }
-    requires hints { hints.now ≡ map (hint_in (names_in new.now.names)) (readings_in (lines_after lines.now edit.now)) }
-    requires within { IsPlaceWithin (length lines.now) edit.now }
-    requires few { length lines.now ≤ MOST_LINES }
-    requires traits { traits.now ≡ map traits_of (readings_in (lines_after lines.now edit.now)) }
-    requires new { IsLayoutOf new.now (readings_in (lines_after lines.now edit.now)) }
-    ensures codes { (before : List Reading) → IsLayoutOf old.now before → IfOk result (λ codes. codes.items ≡ new_codes before (readings_in (lines_after lines.now edit.now)) (place_before edit.now)) }
-    ensures encoded { (before : List Reading) → IsLayoutOf old.now before → meter.new.encoded ≤ meter.old.encoded + count_again before (readings_in (lines_after lines.now edit.now)) (place_before edit.now) }
-    ensures not_lowered { meter.old.encoded ≤ meter.new.encoded }
-    ensures parsed { meter.new.parsed ≡ meter.old.parsed }
-{
-    let moves = moves_by_hint(alloc, same_names, &old.names, &new.names)?;
-    let count = count_after(lines.len(), edit);
-    let mut codes = Vec::new(alloc);
-    for place in 0..count {
-        let hint = hints[place];
-        let again = is_encoded_again(old, new, &moves, lines, edit, place, traits[place], hint);
-        push_code_if(
-            again, alloc, meter, &mut codes, lines, edit, place, &new.names, hint,
-        )?;
-    }
-    Ok(codes)
 }
 
 fn write_code(kept: &mut KeptLine, code: Coded)

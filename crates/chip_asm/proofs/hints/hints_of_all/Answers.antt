@@ -1,12 +1,11 @@
 use Rattle.std.proofs.Common.{◌∙◌, ◌<◌, ap, map, length, List, arith, refl}
-use Rattle.std.proofs.lemmas.List.{map-append, take_all, get_or-map, length-map}
-use Rattle.std.proofs.lemmas.Option.{get_or_from_slice_get}
+use Rattle.std.proofs.lemmas.List.{map-append, take_all, length-map}
 use Rattle.chip_lang.specs.Line.{Reading}
 use Rattle.chip_lang.specs.SeenLine.{seen_line}
 use Rattle.chip_asm.specs.inner.Hints.{names_in, hint_in}
 use Rattle.chip_asm.specs.inner.Records.{lines_after, readings_in}
 use Rattle.chip_asm.specs.inner.Traits.{traits_of}
-use Rattle.chip_asm.proofs.Edited.{length-readings_after}
+use Rattle.chip_asm.proofs.Edited.{length-readings_after, mapped-at}
 use Rattle.chip_asm.proofs.LayoutSteps.{take-next}
 use Rattle.chip_asm.proofs.hints.hints_of_all.Goals as goal
 
@@ -24,10 +23,7 @@ bounds-traits-place c =
 
 pub hint_by-requires : goal.hint_by-requires
 hint_by-requires c =
-    let all : List Reading = readings_in (lines_after c.args.lines.now c.args.edit.now) in
-    let line : Reading = seen_line c.line_after-line.result.now in
-    let inside : c.loop-place.place < length all = omega (arith, length-readings_after c.args.lines.now c.args.edit.now c.requires.within, c.count_after-count.ensures) in
-    rw c.requires.traits (get_or-map traits_of all c.loop-place.place line _ inside ∙ ap traits_of (get_or_from_slice_get all c.loop-place.place line line c.line_after-line.ensures))
+    mapped-at traits_of (readings_in (lines_after c.args.lines.now c.args.edit.now)) c.args.traits.now c.loop-place.place (seen_line c.line_after-line.result.now) _ c.requires.traits c.line_after-line.ensures
 
 pub returns : goal.returns
 returns c =

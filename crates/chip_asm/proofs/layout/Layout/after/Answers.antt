@@ -1,6 +1,6 @@
 use Rattle.std.proofs.Common.{◌≡◌, ◌∙◌, ◌<◌, ◌≤◌, subst, arith, take, length, List, refl, ap, get_or, slice_get, Some}
-use Rattle.std.proofs.lemmas.List.{length-take, length-map, take_all, get_or-map}
-use Rattle.std.proofs.lemmas.Option.{slice_get-get_or, get_or_from_slice_get}
+use Rattle.std.proofs.lemmas.List.{length-take, length-map, take_all}
+use Rattle.std.proofs.lemmas.Option.{slice_get-get_or}
 use Rattle.chip_lang.specs.Line.{Reading, bad}
 use Rattle.chip_lang.specs.declared.fault.Fault.TheVariants.{UnclosedIf}
 use Rattle.chip_asm.specs.inner.Records.{lines_after, readings_in}
@@ -8,7 +8,7 @@ use Rattle.chip_asm.specs.Layout.{placed}
 use Rattle.chip_asm.specs.inner.Follows.{Follows}
 use Rattle.chip_asm.specs.inner.Resume.{first_changed}
 use Rattle.chip_asm.specs.inner.Traits.{traits_of}
-use Rattle.chip_asm.proofs.Edited.{length-readings_after}
+use Rattle.chip_asm.proofs.Edited.{length-readings_after, mapped-at}
 use Rattle.chip_asm.proofs.LayoutSteps.{placements-push, take-next}
 use Rattle.chip_asm.proofs.Resumed.{first-within, length-laid, continues-less, steady-by}
 use Rattle.chip_asm.proofs.MarkSteps.{marked-placements}
@@ -53,9 +53,7 @@ bounds-traits-place c =
 
 pub step_at-requires-clause-traits : goal.step_at-requires-clause-traits
 step_at-requires-clause-traits c = λ line at.
-    let all : List Reading = readings_in (lines_after c.args.lines.now c.args.edit.now) in
-    let inside : c.loop-place.place < length all = omega (arith, length-readings_after c.args.lines.now c.args.edit.now c.requires.within, c.count_after-count.ensures) in
-    rw c.requires.traits (get_or-map traits_of all c.loop-place.place line _ inside ∙ ap traits_of (get_or_from_slice_get all c.loop-place.place line line at))
+    mapped-at traits_of (readings_in (lines_after c.args.lines.now c.args.edit.now)) c.args.traits.now c.loop-place.place line _ c.requires.traits at
 
 pub returns : goal.returns
 returns c =

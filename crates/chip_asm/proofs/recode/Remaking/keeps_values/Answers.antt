@@ -9,11 +9,13 @@ use Rattle.chip_asm.specs.declared.recode.Moved.TheVariants.{No, Yes, Unknown}
 use Rattle.chip_asm.specs.declared.table.Symbol.{Symbol}
 use Rattle.chip_asm.specs.inner.Hints.{names_in, hint_in}
 use Rattle.chip_asm.specs.inner.Moves.{SaysMove, AreMoves}
-use Rattle.chip_asm.specs.inner.Records.{lines_after, readings_in}
-use Rattle.chip_asm.proofs.Edited.{length-readings_after}
+use Rattle.chip_asm.specs.inner.Remaking.{lines_then}
+use Rattle.chip_asm.specs.declared.traits.Traits.{Traits}
+use Rattle.chip_asm.specs.inner.Traits.{traits_of}
+use Rattle.chip_asm.proofs.Edited.{length-readings_after, mapped-at}
 use Rattle.chip_asm.proofs.HintSteps.{hint-few, length-names, agree-at}
 use Rattle.chip_asm.proofs.RecodeSteps.{agree-nameless}
-use Rattle.chip_asm.proofs.recode.keeps_values.Goals as goal
+use Rattle.chip_asm.proofs.recode.Remaking.keeps_values.Goals as goal
 
 no-entry : Name × Symbol
 no-entry = ([], record { value = pos 0; line = 0 })
@@ -45,24 +47,37 @@ yes-unknown No e = cc
 yes-unknown Yes e = λ u. cc
 yes-unknown Unknown e = cc
 
-pub bounds-moves-hint : goal.bounds-moves-hint
-bounds-moves-hint c =
-    let all : List Reading = readings_in (lines_after c.args.lines.now c.args.edit.now) in
-    let inside : c.args.place < length all = omega (arith, length-readings_after c.args.lines.now c.args.edit.now c.requires.within, c.requires.place) in
-    let line : Reading = get_or all c.args.place (bad UnclosedIf) in
-    let at : slice_get all c.args.place ≡ Some line = slice_get-get_or all c.args.place (bad UnclosedIf) inside in
-    omega (arith, hint-few (names_in c.args.new.now.names) line, c.requires.hint line at, length-names c.args.new.now.names, c.requires.long)
+abbrev no-traits : Traits
+no-traits = record { is_bare = false; gives_name = false; is_coded = false; has_names = false; is_steady = false }
+
+pub bounds-self-hint : goal.bounds-self-hint
+bounds-self-hint c =
+    let r = c.args.self.now in
+    let line : Reading = get_or (lines_then r) c.args.place (bad UnclosedIf) in
+    let at : slice_get (lines_then r) c.args.place ≡ Some line = slice_get-get_or (lines_then r) c.args.place (bad UnclosedIf) c.requires.place in
+    let hint = mapped-at (hint_in (names_in r.new.now.names)) (lines_then r) r.hints.now c.args.place line 0 c.requires.known.hints at in
+    omega (arith, hint, hint-few (names_in r.new.now.names) line, length-names r.new.now.names, c.requires.known.long)
+
+pub line_after-requires-clause-place : goal.line_after-requires-clause-place
+line_after-requires-clause-place c = omega (arith, c.requires.place, length-readings_after c.args.self.now.lines.now c.args.self.now.edit.now c.requires.known.within)
 
 pub returns-then-not-may_move : goal.returns-then-not-may_move
-returns-then-not-may_move c = λ line at. by c.args.traits.has_names refl line at
+returns-then-not-may_move c = λ line at. by (get_or c.args.self.now.traits.now c.args.place no-traits).has_names refl line at
   where
-    by : (named : Bool) → c.args.traits.has_names ≡ named → (line : Reading) → slice_get (readings_in (lines_after c.args.lines.now c.args.edit.now)) c.args.place ≡ Some line
-        → true ≡ agree_on (values_of c.args.old.now.names) (values_of c.args.new.now.names) line
-    by false e line at = sym (agree-nameless (values_of c.args.old.now.names) (values_of c.args.new.now.names) line (sym (ap (λ t. t.has_names) (c.requires.traits line at)) ∙ e))
+    by : (named : Bool) → (get_or c.args.self.now.traits.now c.args.place no-traits).has_names ≡ named → (line : Reading) → slice_get (lines_then c.args.self.now) c.args.place ≡ Some line
+        → true ≡ agree_on (values_of c.args.self.now.old.now.names) (values_of c.args.self.now.new.now.names) line
+    by false e line at =
+        let r = c.args.self.now in
+        let traits = mapped-at traits_of (lines_then r) r.traits.now c.args.place line no-traits c.requires.known.traits at in
+        sym (agree-nameless (values_of r.old.now.names) (values_of r.new.now.names) line (sym (ap (λ t. t.has_names) traits) ∙ e))
     by true e line at =
+        let r = c.args.self.now in
+        let hint = mapped-at (hint_in (names_in r.new.now.names)) (lines_then r) r.hints.now c.args.place line 0 c.requires.known.hints at in
         let is = c.may_move.ensures.no c.if-not-may_move.true e in
-        said c.args.moves.now c.args.old.now.names c.args.new.now.names line c.args.hint _ c.requires.moves c.requires.long (c.requires.hint line at) (no-unknown _ is) true (λ b. is) (λ b. cc)
+        said r.moves.now r.old.now.names r.new.now.names line (get_or r.hints.now c.args.place 0) No c.requires.known.moves c.requires.known.long hint (no-unknown _ is) true (λ b. is) (λ b. cc)
 
 pub returns-in-Yes : goal.returns-in-Yes
 returns-in-Yes c = λ line at.
-    said c.args.moves.now c.args.old.now.names c.args.new.now.names line c.args.hint _ c.requires.moves c.requires.long (c.requires.hint line at) (yes-unknown _ c.in-Yes.is) false (λ b. cc) (λ b. c.in-Yes.is)
+    let r = c.args.self.now in
+    let hint = mapped-at (hint_in (names_in r.new.now.names)) (lines_then r) r.hints.now c.args.place line 0 c.requires.known.hints at in
+    said r.moves.now r.old.now.names r.new.now.names line (get_or r.hints.now c.args.place 0) No c.requires.known.moves c.requires.known.long hint (yes-unknown _ c.in-Yes.is) false (λ b. cc) (λ b. c.in-Yes.is)
