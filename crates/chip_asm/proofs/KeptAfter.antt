@@ -33,7 +33,7 @@ code-after same old new origin place r code false e c p had =
     let s : Stayed old new origin (place, r) = stayed old new origin (place, r) e c p in
     rw e (had s.before s.from s.was_placed ∙ sym (code-among old r c) ∙ same r (values_of (names_of_lines old)) (values_of (names_of_lines new)) s.same ∙ code-among new r c)
 
-reading-of : (xs ys : List KeptLine) → readings_in xs ≡ readings_in ys → (place : ℕ) (x y : KeptLine) → place < length xs → place < length ys → reading_in (get_or xs place x) ≡ reading_in (get_or ys place y)
+pub reading-of : (xs ys : List KeptLine) → readings_in xs ≡ readings_in ys → (place : ℕ) (x y : KeptLine) → place < length xs → place < length ys → reading_in (get_or xs place x) ≡ reading_in (get_or ys place y)
 reading-of xs ys e place x y h k =
     sym (get_or-map reading_in xs place x (reading_in x) h) ∙ ap (λ rs. get_or rs place (reading_in x)) e ∙ get_or-map reading_in ys place y (reading_in x) k
 

@@ -30,4 +30,9 @@ pub mod EditTexts
 pub mod CutSteps
 pub mod ListingSteps
 pub mod LinesApart
+pub mod LinesByPlace
+pub mod Writes
+pub mod MovedBytes
+pub mod NoFaults
+pub mod OwnCodes
 pub mod NamesDiffer

@@ -14,5 +14,8 @@ pub mod Recode
 pub mod Records
 pub mod Remaking
 pub mod Resume
+pub mod Span
+pub mod Stood
 pub mod Traits
 pub mod Turns
+pub mod Writing

@@ -7,7 +7,7 @@ ghost use Rattle.chip_asm.specs.inner.Recode.{has_code};
 ghost use Rattle.chip_asm.specs.inner.Records.{reading_in, readings_in};
 ghost use Rattle.chip_asm.specs.inner.Traits.{traits_of};
 ghost use Rattle.chip_asm.specs.inner.Kept.{AreCurrent};
-ghost use Rattle.chip_asm.specs.inner.KeptCodes.{kept_fault, kept_bytes, count_of};
+ghost use Rattle.chip_asm.specs.inner.KeptCodes.{coded_bytes, kept_fault, kept_bytes, count_of};
 
 use crate::kept_line::KeptLine;
 use crate::layout::Layout;
@@ -25,7 +25,7 @@ pub(crate) fn kept_fault(placement: &Placement, kept: &KeptLine) -> Option<Fault
 }
 
 /// The same, where it is known whether the line has bytes of its own.
-fn fault_by(placement: &Placement, is_coded: bool, kept: &KeptLine) -> Option<Fault>
+pub(crate) fn fault_by(placement: &Placement, is_coded: bool, kept: &KeptLine) -> Option<Fault>
     requires { is_coded ≡ has_code (body_of (reading_in kept.now)) }
     ensures { result ≡ kept_fault placement.now kept.now }
 {
@@ -62,14 +62,18 @@ pub(crate) fn kept_bytes(kept: &KeptLine) -> &[u8]
 }
 
 /// The same, where it is known whether the line has bytes of its own.
-fn bytes_by(is_coded: bool, kept: &KeptLine) -> &[u8]
+pub(crate) fn bytes_by(is_coded: bool, kept: &KeptLine) -> &[u8]
     requires { is_coded ≡ has_code (body_of (reading_in kept.now)) }
     ensures { result.now ≡ kept_bytes kept.now }
 {
-    if !is_coded {
-        return &[];
-    }
-    match &kept.code {
+    if is_coded { bytes_of(&kept.code) } else { &[] }
+}
+
+/// The bytes of a code; none of a fault.
+pub(crate) fn bytes_of(code: &Coded) -> &[u8]
+    ensures { result.now ≡ coded_bytes code.now }
+{
+    match code {
         Coded::Bytes(bytes) => bytes.get(),
         Coded::Faulty(_) => &[],
     }
@@ -115,15 +119,6 @@ pub(crate) fn write_line(image: &mut [u8], here: usize, size: usize, bytes: &[u8
     }
 }
 
-/// Makes each byte zero.
-pub(crate) fn clear(image: &mut [u8])
-    ensures { (index : ℕ) → slice_index image.new index ≡ 0 }
-{
-    for index in 0..image.len() {
-        image[index] = 0;
-    }
-}
-
 /// Makes an image as long as one can be, by zeros at its end.
 pub(crate) fn fill_up(image: &mut Vec<u8>) -> Result<(), AllocError>
     requires { vec_len image.old ≤ IMAGE_BYTES }
@@ -138,38 +133,6 @@ pub(crate) fn fill_up(image: &mut Vec<u8>) -> Result<(), AllocError>
         image.push(0)?;
     }
     Ok(())
-}
-
-/// Writes the bytes of all lines into zeros. How many lines have a fault.
-pub(crate) fn write_lines(
-    image: &mut [u8],
-    lines: &[KeptLine],
-    traits: &[Traits],
-    layout: &Layout,
-) -> usize
-    requires traits { traits.now ≡ map traits_of (readings_in lines.now) }
-    requires long { length image.old ≡ IMAGE_BYTES }
-    requires zeros { (index : ℕ) → slice_index image.old index ≡ 0 }
-    requires laid_out { IsLayoutOf layout.now (readings_in lines.now) }
-    requires current { AreCurrent lines.now }
-    ensures counted { result ≡ length (faults_of_lines (readings_in lines.now)) }
-    ensures bytes { (index : ℕ) → index < IMAGE_BYTES → slice_index image.new index ≡ byte_at (placed (readings_in lines.now)) (IMAGE_START + index) }
-{
-    let mut faults = 0;
-    for place in 0..lines.len() {
-        let placement = layout.placements[place];
-        let kept = &lines[place];
-        let is_coded = traits[place].is_coded;
-        faults += count_of(fault_by(&placement, is_coded, kept));
-        let bytes = bytes_by(is_coded, kept);
-        write_line(
-            image,
-            placement.here as usize,
-            placement.size as usize,
-            bytes,
-        );
-    }
-    faults
 }
 
 /// The fault of the line with this number.

@@ -15,17 +15,19 @@ ghost use Rattle.chip_asm.specs.inner.Layouts.{IsLayoutOf};
 ghost use Rattle.chip_asm.specs.inner.Resume.{Continues, first_changed};
 ghost use Rattle.chip_asm.specs.inner.Hints.{names_in, hint_in};
 ghost use Rattle.chip_asm.specs.inner.Traits.{traits_of};
-ghost use Rattle.chip_asm.specs.inner.Kept.{AreCurrent, HasCodeAt, IsMerged, IsKept};
+ghost use Rattle.chip_asm.specs.inner.Kept.{HasCodeAt, IsKept};
+ghost use Rattle.chip_asm.specs.inner.Stood.{AreOwn, MakesCurrent, StoodBefore};
 
 use crate::changed::Changed;
 use crate::edit::{Edit, make_edit, replace_line};
 use crate::effect::has_same_effect;
 use crate::hints::{hint_of, hints_after, no_hints};
-use crate::image::{clear, count_of, fill_up, kept_bytes, kept_fault, write_line, write_lines};
+use crate::image::{count_of, fill_up, kept_bytes, kept_fault, write_line};
 use crate::kept_line::{KeptLine, with_code};
 use crate::layout::Layout;
 use crate::limits::MOST_LINES;
-use crate::recode::{Remaking, code_if_accepted, moves_by_hint, write_codes};
+use crate::recode::{Remaking, code_if_accepted, moves_by_hint};
+use crate::settle::{NO_SPAN, Settling, Span, settle_image, span_of};
 use crate::traits::{Traits, traits_after, traits_of, traits_of_all};
 use chip_lang::laws::same_code;
 use chip_lang::limits::{IMAGE_BYTES, IMAGE_START};
@@ -96,7 +98,7 @@ impl Kept {
         kept.lines = lines;
         let prepared = kept.prepare(alloc, meter, &Edit::Keep)?;
         same_code();
-        kept.settle(prepared);
+        kept.settle(prepared, NO_SPAN);
         Ok(kept)
     }
 
@@ -231,8 +233,9 @@ impl Kept {
     {
         let prepared = self.prepare(alloc, meter, &edit)?;
         same_code();
+        let span = span_of(&self.layout.placements, &prepared.layout.placements, &edit);
         make_edit(&mut self.lines, edit);
-        self.settle(prepared);
+        self.settle(prepared, span);
         Ok(Changed {
             first: 0,
             end: IMAGE_BYTES,
@@ -304,16 +307,17 @@ impl Kept {
         })
     }
 
-    /// Puts in place what was prepared for these lines.
-    fn settle(&mut self, prepared: Prepared)
+    /// Puts in place what was prepared for these lines, of which those of the span stood before.
+    fn settle(&mut self, prepared: Prepared, span: Span)
         requires few { length self.old.lines.items ≤ MOST_LINES }
         requires are_read { readings_in self.old.lines.items ≡ map reading_of (texts_in self.old.lines.items) }
         requires laid_out { IsLayoutOf prepared.layout (readings_in self.old.lines.items) }
         requires traits { prepared.traits.items ≡ map traits_of (readings_in self.old.lines.items) }
         requires hints { prepared.hints.items ≡ map (hint_in (names_in prepared.layout.names)) (readings_in self.old.lines.items) }
-        requires within { All (λ e. e.0 < length self.old.lines.items) prepared.codes.items }
-        requires current { (lines : List KeptLine) → IsMerged self.old.lines.items prepared.codes.items lines → AreCurrent lines }
+        requires own { AreOwn prepared.codes.items self.old.lines.items }
+        requires current { MakesCurrent prepared.codes.items self.old.lines.items }
         requires image { vec_len self.old.image ≡ IMAGE_BYTES }
+        requires stood { StoodBefore self.old.layout prepared.layout span self.old.faults self.old.image.items self.old.lines.items }
         ensures texts { texts_in self.new.lines.items ≡ texts_in self.old.lines.items }
         ensures kept { IsKept self.new }
     {
@@ -323,11 +327,16 @@ impl Kept {
             layout,
             codes,
         } = prepared;
+        let settling = Settling {
+            traits: &traits,
+            old: &self.layout,
+            new: &layout,
+            span,
+            faults: self.faults,
+        };
+        self.faults = settle_image(&mut self.image, &mut self.lines, codes, &settling);
         self.traits = traits;
         self.hints = hints;
-        write_codes(&mut self.lines, codes);
         self.spare = mem::replace(&mut self.layout, layout);
-        clear(&mut self.image);
-        self.faults = write_lines(&mut self.image, &self.lines, &self.traits, &self.layout);
     }
 }

@@ -1,21 +1,47 @@
-use Rattle.std.proofs.Common.{◌∙◌, subst, [], Some}
+use Rattle.std.proofs.Common.{◌≡◌, ◌∙◌, ◌+◌, ap, arith, length, subst, sym, [], Some}
+use Rattle.chip_lang.specs.declared.limits.TheConstants.{IMAGE_START}
+use Rattle.chip_asm.specs.declared.layout.Layout.{Layout}
+use Rattle.chip_asm.specs.Layout.{placed}
+use Rattle.chip_asm.specs.Program.{byte_at, faults_of_lines}
 use Rattle.chip_asm.specs.inner.Layouts.{IsLayoutOf}
 use Rattle.chip_asm.specs.inner.Records.{readings_in}
 use Rattle.chip_asm.proofs.Resumed.{continues-none}
 use Rattle.chip_asm.proofs.EditTexts.{traits-all}
 use Rattle.chip_asm.proofs.HintSteps.{none-hinted, no-names}
-use Rattle.chip_asm.proofs.KeptAfter.{currents, within-codes, had-none}
+use Rattle.chip_asm.proofs.KeptAfter.{currents, had-none}
+use Rattle.chip_asm.proofs.OwnCodes.{own-codes}
 use Rattle.chip_asm.proofs.kept.Kept.open.Goals as goal
 
-pub settle-requires-clause-within : goal.settle-requires-clause-within
-settle-requires-clause-within c =
+pub settle-requires-clause-own : goal.settle-requires-clause-own
+settle-requires-clause-own c =
     rw c.in_ok-prepared.ensures.lines
-    (within-codes [] c.args.lines.items c.in_ok-prepared.prepared.codes.items Some (c.in_ok-prepared.ensures.codes [] (subst (λ lines. IsLayoutOf c.new-kept.result.layout (readings_in lines)) c.new-kept.ensures.none c.new-kept.ensures.kept.laid_out)))
+    (own-codes [] c.args.lines.items c.in_ok-prepared.prepared.codes.items Some (c.in_ok-prepared.ensures.codes [] (subst (λ lines. IsLayoutOf c.new-kept.result.layout (readings_in lines)) c.new-kept.ensures.none c.new-kept.ensures.kept.laid_out)))
 
 pub settle-requires-clause-current : goal.settle-requires-clause-current
 settle-requires-clause-current c =
-    rw c.in_ok-prepared.ensures.lines
-    (currents c.same_code.ensures.code [] c.args.lines.items c.in_ok-prepared.prepared.codes.items Some (had-none c.args.lines.items Some) (c.in_ok-prepared.ensures.codes [] (subst (λ lines. IsLayoutOf c.new-kept.result.layout (readings_in lines)) c.new-kept.ensures.none c.new-kept.ensures.kept.laid_out)))
+    record {
+      current = rw c.in_ok-prepared.ensures.lines
+          (currents c.same_code.ensures.code [] c.args.lines.items c.in_ok-prepared.prepared.codes.items Some (had-none c.args.lines.items Some) (c.in_ok-prepared.ensures.codes [] (subst (λ lines. IsLayoutOf c.new-kept.result.layout (readings_in lines)) c.new-kept.ensures.none c.new-kept.ensures.kept.laid_out)));
+    }
+
+pub settle-requires-clause-stood : goal.settle-requires-clause-stood
+settle-requires-clause-stood c =
+    let kept = c.new-kept.ensures.kept in
+    let none : c.new-kept.result.lines.items ≡ [] = c.new-kept.ensures.none in
+    record {
+      before = [];
+      laid_out = subst (λ (l : Layout). IsLayoutOf l (readings_in [])) (sym c.in_ok-prepared.ensures.layout) (subst (λ lines. IsLayoutOf c.new-kept.result.layout (readings_in lines)) none kept.laid_out);
+      current = record { each = λ place line h has taken. absurd (omega arith) };
+      imaged = λ k h. c.in_ok-prepared.ensures.image k ∙ kept.imaged k h ∙ ap (λ lines. byte_at (placed (readings_in lines)) (IMAGE_START + k)) none;
+      counted = c.in_ok-prepared.ensures.faults ∙ kept.counted ∙ ap (λ lines. length (faults_of_lines (readings_in lines))) none;
+      ends = record { front = λ place line h. absurd (omega arith); back = λ place line h. absurd (omega arith) };
+      span_is = record {
+        front = record { old_long = omega arith; new_long = omega arith; each = λ place p q h a b. absurd (omega arith) };
+        back = record { from = 0; to = 0; old_long = omega arith; new_long = omega arith; each = λ place p q h a b. absurd (omega arith) };
+      };
+      old_long = omega arith;
+      new_long = omega arith;
+    }
 
 pub returns-in_err-prepared-clause-encoded : goal.returns-in_err-prepared-clause-encoded
 returns-in_err-prepared-clause-encoded c =

@@ -1,26 +1,83 @@
-use Rattle.std.proofs.Common.{◌≡◌, ◌∙◌, length, ap, subst}
-use Rattle.chip_asm.specs.inner.Records.{readings_in, lines_after, place_before, IsPlaceWithin}
+use Rattle.std.proofs.Common.{◌≡◌, ◌∙◌, ◌≤◌, ◌+◌, ℕ, List, length, ap, arith, subst, sym}
+use Rattle.chip_asm.specs.declared.kept_line.KeptLine.{KeptLine}
+use Rattle.chip_asm.specs.declared.layout.Layout.{Layout}
+use Rattle.chip_asm.specs.declared.placement.Placement.{Placement}
+use Rattle.chip_asm.specs.inner.Layouts.{IsLayoutOf}
+use Rattle.chip_asm.specs.inner.Resume.{first_changed}
+use Rattle.chip_asm.specs.inner.Span.{IsSpan, KeepsEnds, later_lines}
+use Rattle.chip_asm.proofs.Edited.{length-lines_after}
+use Rattle.chip_asm.proofs.ImageWhole.{length-kept}
+use Rattle.chip_asm.specs.inner.Records.{readings_in, lines_after, place_before, count_after, IsPlaceWithin}
 use Rattle.chip_asm.proofs.Resumed.{continues-edited}
-use Rattle.chip_asm.proofs.KeptAfter.{currents, within-codes, had-codes}
+use Rattle.chip_asm.proofs.KeptAfter.{currents, had-codes}
+use Rattle.chip_asm.proofs.OwnCodes.{own-codes, ends-long, keeps-ends}
 use Rattle.chip_asm.proofs.KeptSteps.{kept-same}
 use Rattle.chip_asm.proofs.ChangedBytes.{all-places}
 use Rattle.chip_asm.proofs.kept.Kept.remake.Goals as goal
 
-pub settle-requires-clause-within : goal.settle-requires-clause-within
-settle-requires-clause-within c =
+pub span_of-span-requires-clause-within : goal.span_of-span-requires-clause-within
+span_of-span-requires-clause-within c =
+    let within : IsPlaceWithin (length c.args.self.now.lines.items) c.args.edit = subst (λ n. IsPlaceWithin n c.args.edit) c.args.self.now.lines.ok.0 c.requires.within in
+    let count : length c.deref.result.now ≡ length c.args.self.now.lines.items
+    = ap length c.deref.ensures.value ∙ ap (λ (l : Layout). length l.placements.items) c.in_ok-prepared.ensures.layout ∙ length-kept c.args.self.now.lines.items c.args.self.now.layout c.requires.kept.laid_out in
+    subst (λ n. IsPlaceWithin n c.args.edit) (sym count) within
+
+pub span_of-span-requires-clause-long : goal.span_of-span-requires-clause-long
+span_of-span-requires-clause-long c =
+    let within : IsPlaceWithin (length c.args.self.now.lines.items) c.args.edit = subst (λ n. IsPlaceWithin n c.args.edit) c.args.self.now.lines.ok.0 c.requires.within in
+    let count : length c.deref.result.now ≡ length c.args.self.now.lines.items
+    = ap length c.deref.ensures.value ∙ ap (λ (l : Layout). length l.placements.items) c.in_ok-prepared.ensures.layout ∙ length-kept c.args.self.now.lines.items c.args.self.now.layout c.requires.kept.laid_out in
+    ap length c.deref-2.ensures.value
+    ∙ length-kept (lines_after c.args.self.now.lines.items c.args.edit) c.in_ok-prepared.prepared.layout c.in_ok-prepared.ensures.after
+    ∙ length-lines_after c.args.self.now.lines.items c.args.edit within
+    ∙ ap (λ n. count_after n c.args.edit) (sym count)
+
+pub settle-requires-clause-own : goal.settle-requires-clause-own
+settle-requires-clause-own c =
     let made : c.make_edit.new.lines.items ≡ lines_after c.args.self.now.lines.items c.args.edit = c.make_edit.ensures ∙ ap (λ lines. lines_after lines c.args.edit) c.in_ok-prepared.ensures.lines in
     rw made
-    (within-codes (readings_in c.args.self.now.lines.items) (lines_after c.args.self.now.lines.items c.args.edit) c.in_ok-prepared.prepared.codes.items (place_before c.args.edit)
+    (own-codes (readings_in c.args.self.now.lines.items) (lines_after c.args.self.now.lines.items c.args.edit) c.in_ok-prepared.prepared.codes.items (place_before c.args.edit)
     (c.in_ok-prepared.ensures.codes (readings_in c.args.self.now.lines.items) c.requires.kept.laid_out))
 
 pub settle-requires-clause-current : goal.settle-requires-clause-current
 settle-requires-clause-current c =
     let made : c.make_edit.new.lines.items ≡ lines_after c.args.self.now.lines.items c.args.edit = c.make_edit.ensures ∙ ap (λ lines. lines_after lines c.args.edit) c.in_ok-prepared.ensures.lines in
     let within : IsPlaceWithin (length c.args.self.now.lines.items) c.args.edit = subst (λ n. IsPlaceWithin n c.args.edit) c.args.self.now.lines.ok.0 c.requires.within in
-    rw made
-    (currents c.same_code.ensures.code (readings_in c.args.self.now.lines.items) (lines_after c.args.self.now.lines.items c.args.edit) c.in_ok-prepared.prepared.codes.items (place_before c.args.edit)
-    (had-codes c.args.self.now.lines.items c.args.edit c.requires.kept.current within)
-    (c.in_ok-prepared.ensures.codes (readings_in c.args.self.now.lines.items) c.requires.kept.laid_out))
+    record {
+      current = rw made
+          (currents c.same_code.ensures.code (readings_in c.args.self.now.lines.items) (lines_after c.args.self.now.lines.items c.args.edit) c.in_ok-prepared.prepared.codes.items (place_before c.args.edit)
+          (had-codes c.args.self.now.lines.items c.args.edit c.requires.kept.current within)
+          (c.in_ok-prepared.ensures.codes (readings_in c.args.self.now.lines.items) c.requires.kept.laid_out));
+    }
+
+pub settle-requires-clause-stood : goal.settle-requires-clause-stood
+settle-requires-clause-stood c =
+    let made : c.make_edit.new.lines.items ≡ lines_after c.args.self.now.lines.items c.args.edit = c.make_edit.ensures ∙ ap (λ lines. lines_after lines c.args.edit) c.in_ok-prepared.ensures.lines in
+    let within : IsPlaceWithin (length c.args.self.now.lines.items) c.args.edit = subst (λ n. IsPlaceWithin n c.args.edit) c.args.self.now.lines.ok.0 c.requires.within in
+    let old_count : length c.prepare.new.self.layout.placements.items ≡ length c.args.self.now.lines.items
+    = ap (λ (l : Layout). length l.placements.items) c.in_ok-prepared.ensures.layout ∙ length-kept c.args.self.now.lines.items c.args.self.now.layout c.requires.kept.laid_out in
+    let new_count : length c.in_ok-prepared.prepared.layout.placements.items ≡ count_after (length c.args.self.now.lines.items) c.args.edit
+    = length-kept (lines_after c.args.self.now.lines.items c.args.edit) c.in_ok-prepared.prepared.layout c.in_ok-prepared.ensures.after ∙ length-lines_after c.args.self.now.lines.items c.args.edit within in
+    let count : length c.deref.result.now ≡ length c.args.self.now.lines.items = ap length c.deref.ensures.value ∙ old_count in
+    let front : c.span_of-span.result.front ≤ first_changed c.args.edit = c.span_of-span.ensures.front in
+    let back : c.span_of-span.result.back ≤ later_lines (length c.args.self.now.lines.items) c.args.edit
+    = subst (λ (n : ℕ). c.span_of-span.result.back ≤ later_lines n c.args.edit) count c.span_of-span.ensures.back in
+    let long = ends-long (length c.args.self.now.lines.items) c.args.edit within in
+    let is_span : IsSpan c.deref.result.now c.deref-2.result.now c.span_of-span.result = c.span_of-span.ensures.span in
+    let fewer = long.0 in
+    let few_after = long.1 in
+    record {
+      before = c.args.self.now.lines.items;
+      laid_out = subst (λ (l : Layout). IsLayoutOf l (readings_in c.args.self.now.lines.items)) (sym c.in_ok-prepared.ensures.layout) c.requires.kept.laid_out;
+      current = c.requires.kept.current;
+      imaged = λ k h. c.in_ok-prepared.ensures.image k ∙ c.requires.kept.imaged k h;
+      counted = c.in_ok-prepared.ensures.faults ∙ c.requires.kept.counted;
+      ends = subst (λ (lines : List KeptLine). KeepsEnds c.args.self.now.lines.items lines c.span_of-span.result) (sym made) (keeps-ends c.args.self.now.lines.items c.args.edit c.span_of-span.result within front back);
+      span_is = subst (λ (ps : List Placement). IsSpan c.prepare.new.self.layout.placements.items ps c.span_of-span.result) c.deref-2.ensures.value
+          (subst (λ (ps : List Placement). IsSpan ps c.deref-2.result.now c.span_of-span.result) c.deref.ensures.value is_span);
+      old_long = omega (arith, old_count, front, back, fewer);
+      new_long = omega (arith, new_count, front, back, few_after);
+    }
 
 pub returns-in_err-prepared-clause-kept : goal.returns-in_err-prepared-clause-kept
 returns-in_err-prepared-clause-kept c =

@@ -1,0 +1,307 @@
+//! The image after an edit: which lines stay where they were, what moves with the lines, and what is written anew.
+ghost use Rattle.std.specs.Prelude.{◌≡◌, ℕ, ◌+◌, ◌-◌, ◌<◌, ◌≤◌, ◌⊎◌, List, All, None, Some, is_none, true, length, nat_lt, slice_get, slice_index, slice_index_or, if◌then◌else◌, map};
+ghost use Rattle.chip_asm.specs.declared.kept_line.KeptLine.{KeptLine};
+ghost use Rattle.chip_asm.specs.declared.edit.Edit.{Edit};
+ghost use Rattle.chip_asm.specs.inner.Records.{IsPlaceWithin, readings_in, count_after};
+ghost use Rattle.chip_asm.specs.inner.Resume.{first_changed};
+ghost use Rattle.chip_asm.specs.inner.Span.{StandsAlike, IsFront, IsBack, IsSpan, later_lines, start_at, end_before, MayMove, moved_byte};
+ghost use Rattle.chip_asm.specs.inner.Writing.{AreInMemory, AreRight, Waits, WaitsForCode};
+ghost use Rattle.chip_asm.specs.inner.KeptCodes.{coded_bytes, coded_fault, kept_fault};
+ghost use Rattle.chip_asm.specs.inner.Kept.{AreCurrent, IsMerged};
+ghost use Rattle.chip_asm.specs.inner.Stood.{StoodBefore, AreOwn, MakesCurrent};
+ghost use Rattle.chip_asm.specs.inner.Layouts.{IsLayoutOf};
+ghost use Rattle.chip_asm.specs.inner.Traits.{traits_of};
+ghost use Rattle.chip_asm.specs.Layout.{placed};
+ghost use Rattle.chip_asm.specs.Program.{byte_at, faults_of_lines};
+ghost use Rattle.chip_lang.specs.declared.code.Coded.{Coded};
+
+use crate::edit::{Edit, first_changed};
+use crate::image::{bytes_by, bytes_of, count_of, fault_by, write_line};
+use crate::kept_line::KeptLine;
+use crate::layout::Layout;
+use crate::placement::Placement;
+use crate::recode::write_codes;
+use crate::traits::Traits;
+use chip_lang::limits::{IMAGE_BYTES, IMAGE_START, MEMORY_BYTES};
+use chip_lang::{Coded, Fault};
+
+/// So many lines at the front that an edit leaves where they stood, and so many at the back that moved by one distance, if at all.
+#[derive(Clone, Copy, Debug)]
+pub(crate) struct Span {
+    pub(crate) front: usize,
+    pub(crate) back: usize,
+}
+
+/// No lines.
+pub(crate) const NO_SPAN: Span = Span { front: 0, back: 0 };
+
+/// Whether a line without a fault stands where another one stood, but for the distance between two addresses, and takes the same space.
+fn stands_alike(old: &Placement, new: &Placement, from: u16, to: u16) -> bool
+    ensures { result ≡ true → StandsAlike from to old.now new.now }
+{
+    let is_moved = u32::from(old.here) + u32::from(to) == u32::from(new.here) + u32::from(from);
+    let has_none = old.fault.is_none() & new.fault.is_none();
+    is_moved & has_none & (old.size == new.size) & (old.live == new.live)
+}
+
+/// How many of the first lines, up to a limit, stand where they stood.
+fn front_alike(old: &[Placement], new: &[Placement], limit: usize) -> usize
+    requires old { limit ≤ length old.now }
+    requires new { limit ≤ length new.now }
+    ensures within { result ≤ limit }
+    ensures alike { IsFront old.now new.now result }
+{
+    for place in 0..limit {
+        if !stands_alike(&old[place], &new[place], 0, 0) {
+            return place;
+        }
+    }
+    limit
+}
+
+/// How many of the last lines, up to a limit, moved by one distance.
+fn back_alike(old: &[Placement], new: &[Placement], limit: usize) -> usize
+    requires old { limit ≤ length old.now }
+    requires new { limit ≤ length new.now }
+    ensures within { result ≤ limit }
+    ensures alike { IsBack old.now new.now result }
+{
+    if limit == 0 {
+        return 0;
+    }
+    let from = old[old.len() - 1].here;
+    let to = new[new.len() - 1].here;
+    for back in 0..limit {
+        let was = &old[old.len() - 1 - back];
+        if !stands_alike(was, &new[new.len() - 1 - back], from, to) {
+            return back;
+        }
+    }
+    limit
+}
+
+/// How many lines follow the place of an edit.
+fn later_lines(count: usize, edit: &Edit) -> usize
+    requires { IsPlaceWithin count edit.now }
+    ensures { result ≡ later_lines count edit.now }
+{
+    match edit {
+        Edit::Insert(at, _) => count - at,
+        Edit::Replace(at, _) | Edit::Delete(at) => count - 1 - at,
+        Edit::Keep => 0,
+    }
+}
+
+/// Which lines an edit leaves where they stood, or moves by one distance.
+pub(crate) fn span_of(old: &[Placement], new: &[Placement], edit: &Edit) -> Span
+    requires within { IsPlaceWithin (length old.now) edit.now }
+    requires long { length new.now ≡ count_after (length old.now) edit.now }
+    ensures front { result.front ≤ first_changed edit.now }
+    ensures back { result.back ≤ later_lines (length old.now) edit.now }
+    ensures span { IsSpan old.now new.now result }
+{
+    Span {
+        front: front_alike(old, new, first_changed(edit)),
+        back: back_alike(old, new, later_lines(old.len(), edit)),
+    }
+}
+
+/// The address of the line at a place, or the end of the memory.
+fn start_at(placements: &[Placement], place: usize) -> usize
+    ensures { result ≡ start_at placements.now place }
+{
+    match placements.get(place) {
+        Some(placement) => placement.address(),
+        None => MEMORY_BYTES,
+    }
+}
+
+/// The address after the line before a place, or where the image begins.
+fn end_before(placements: &[Placement], place: usize) -> usize
+    ensures { result ≡ end_before placements.now place }
+{
+    if place == 0 {
+        return IMAGE_START;
+    }
+    match placements.get(place - 1) {
+        Some(placement) => placement.here as usize + placement.size as usize,
+        None => IMAGE_START,
+    }
+}
+
+/// Moves the bytes from one place on to another one, and makes those between the first place and there zero.
+fn move_bytes(image: &mut [u8], first: usize, from: usize, to: usize)
+    requires from { first ≤ from }
+    requires to { first ≤ to }
+    requires from_end { from ≤ length image.old }
+    requires to_end { to ≤ length image.old }
+    ensures { (index : ℕ) → index < length image.old → slice_index image.new index
+        ≡ (if nat_lt index first then slice_index image.old index else (if nat_lt index to then 0 else slice_index image.old (index - to + from))) }
+{
+    let len = image.len();
+    let count = len - from.max(to);
+    image.copy_within(from..from + count, to);
+    for index in to + count..len {
+        image[index] = 0;
+    }
+    for index in first..to {
+        image[index] = 0;
+    }
+}
+
+/// Whether a code is no fault.
+fn has_bytes(code: &Coded) -> bool
+    ensures { result ≡ true → coded_fault code.now ≡ None }
+{
+    matches!(code, Coded::Bytes(_))
+}
+
+/// Writes the bytes of lines that were encoded again. Whether none of their codes is a fault.
+fn write_codes_anew(image: &mut [u8], placements: &[Placement], codes: &[(usize, Coded)]) -> bool
+    requires long { length image.old ≡ IMAGE_BYTES }
+    requires there { All (λ e. e.0 < length placements.now) codes.now }
+    requires memory { AreInMemory placements.now }
+    ensures written { (right : ℕ → ℕ) (first end : ℕ) → AreRight right placements.now codes.now
+        → ((k : ℕ) → k < IMAGE_BYTES → (slice_index image.old k ≡ right k) ⊎ (Waits placements.now first end k ⊎ WaitsForCode placements.now codes.now 0 k))
+        → (k : ℕ) → k < IMAGE_BYTES → (slice_index image.new k ≡ right k) ⊎ Waits placements.now first end k }
+    ensures clean { result ≡ true → All (λ e. coded_fault e.1 ≡ None) codes.now }
+{
+    let mut clean = true;
+    for index in 0..codes.len() {
+        let (place, code) = &codes[index];
+        let placement = placements[*place];
+        write_line(
+            image,
+            placement.here as usize,
+            placement.size as usize,
+            bytes_of(code),
+        );
+        clean &= has_bytes(code);
+    }
+    clean
+}
+
+fn has_none(fault: Option<Fault>) -> bool
+    ensures { result ≡ is_none fault }
+{
+    fault.is_none()
+}
+
+/// Writes the bytes of the lines from a place up to another one. Whether none of them has a fault.
+fn write_lines_anew(
+    image: &mut [u8],
+    lines: &[KeptLine],
+    traits: &[Traits],
+    layout: &Layout,
+    first: usize,
+    end: usize,
+) -> bool
+    requires end { end ≤ length lines.now }
+    requires traits { traits.now ≡ map traits_of (readings_in lines.now) }
+    requires long { length image.old ≡ IMAGE_BYTES }
+    requires laid_out { IsLayoutOf layout.now (readings_in lines.now) }
+    requires current { AreCurrent lines.now }
+    requires waits { (k : ℕ) → k < IMAGE_BYTES → (slice_index image.old k ≡ byte_at (placed (readings_in lines.now)) (IMAGE_START + k)) ⊎ Waits layout.now.placements.items first end k }
+    ensures written { (k : ℕ) → k < IMAGE_BYTES → slice_index image.new k ≡ byte_at (placed (readings_in lines.now)) (IMAGE_START + k) }
+    ensures clean { (place : ℕ) (q : Placement) (kept : KeptLine) → result ≡ true → first ≤ place → place < end → slice_get layout.now.placements.items place ≡ Some q → kept ≡ slice_index_or lines.now place kept → kept_fault q kept ≡ None }
+{
+    let mut clean = true;
+    for place in first..end {
+        let placement = layout.placements[place];
+        let kept = &lines[place];
+        let is_coded = traits[place].is_coded;
+        clean &= has_none(fault_by(&placement, is_coded, kept));
+        let bytes = bytes_by(is_coded, kept);
+        write_line(
+            image,
+            placement.here as usize,
+            placement.size as usize,
+            bytes,
+        );
+    }
+    clean
+}
+
+/// How many lines have a fault.
+fn count_faults(lines: &[KeptLine], traits: &[Traits], layout: &Layout) -> usize
+    requires traits { traits.now ≡ map traits_of (readings_in lines.now) }
+    requires laid_out { IsLayoutOf layout.now (readings_in lines.now) }
+    requires current { AreCurrent lines.now }
+    ensures { result ≡ length (faults_of_lines (readings_in lines.now)) }
+{
+    let mut faults = 0;
+    for place in 0..lines.len() {
+        let placement = layout.placements[place];
+        let is_coded = traits[place].is_coded;
+        faults += count_of(fault_by(&placement, is_coded, &lines[place]));
+    }
+    faults
+}
+
+/// Moves the bytes of the last lines to where these stand now. What lies between the first lines and them becomes zero.
+fn move_last_lines(image: &mut [u8], old: &Layout, new: &Layout, span: Span)
+    requires long { length image.old ≡ IMAGE_BYTES }
+    requires span { IsSpan old.now.placements.items new.now.placements.items span }
+    requires ordered { MayMove old.now.placements.items new.now.placements.items span }
+    ensures { (k : ℕ) → k < IMAGE_BYTES → slice_index image.new k ≡ moved_byte old.now.placements.items new.now.placements.items span image.old k }
+{
+    let first = end_before(&old.placements, span.front);
+    let from = start_at(&old.placements, old.placements.len() - span.back);
+    let to = start_at(&new.placements, new.placements.len() - span.back);
+    move_bytes(
+        image,
+        first - IMAGE_START,
+        from - IMAGE_START,
+        to - IMAGE_START,
+    );
+}
+
+/// What is known of an edit when the image is put right after it.
+#[derive(Clone, Copy)]
+pub(crate) struct Settling<'a> {
+    /// The traits of the lines after the edit.
+    pub(crate) traits: &'a [Traits],
+    /// The layouts before and after it.
+    pub(crate) old: &'a Layout,
+    pub(crate) new: &'a Layout,
+    pub(crate) span: Span,
+    /// How many lines had a fault.
+    pub(crate) faults: usize,
+}
+
+/// Puts new codes in the place of the kept ones, and their bytes and those of the lines that are no part of the span into the image.
+/// How many lines have a fault.
+pub(crate) fn settle_image(
+    image: &mut [u8],
+    lines: &mut [KeptLine],
+    codes: Vec<(usize, Coded)>,
+    settling: &Settling,
+) -> usize
+    requires long { length image.old ≡ IMAGE_BYTES }
+    requires traits { settling.now.traits.now ≡ map traits_of (readings_in lines.old) }
+    requires laid_out { IsLayoutOf settling.now.new.now (readings_in lines.old) }
+    requires own { AreOwn codes.items lines.old }
+    requires current { MakesCurrent codes.items lines.old }
+    requires stood { StoodBefore settling.now.old.now settling.now.new.now settling.now.span settling.now.faults image.old lines.old }
+    ensures merged { IsMerged lines.old codes.items lines.new }
+    ensures bytes { (k : ℕ) → k < IMAGE_BYTES → slice_index image.new k ≡ byte_at (placed (readings_in lines.old)) (IMAGE_START + k) }
+    ensures counted { result ≡ length (faults_of_lines (readings_in lines.old)) }
+{
+    let Settling {
+        traits,
+        old,
+        new,
+        span,
+        faults,
+    } = *settling;
+    move_last_lines(image, old, new, span);
+    let has_good_codes = write_codes_anew(image, &new.placements, &codes);
+    write_codes(lines, codes);
+    let end = new.placements.len() - span.back;
+    let has_good_lines = write_lines_anew(image, lines, traits, new, span.front, end);
+    if faults == 0 && has_good_codes && has_good_lines {
+        0
+    } else {
+        count_faults(lines, traits, new)
+    }
+}
