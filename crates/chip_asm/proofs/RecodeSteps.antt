@@ -1,9 +1,9 @@
 -- Counting and collecting the lines that are encoded again.
-use Rattle.std.proofs.Common.{◌≡◌, ◌≢◌, pos, ℕ, ℤ, suc, zero, ◌+◌, ◌-◌, ◌<◌, ◌≤◌, nat_lt, Bool, true, false, ◌&&◌, cond, List, [], ◌∷◌, ◌++◌, length, take, get_or, count_by, slice_get, refl, ap, sym, ◌∙◌, arith, Option, Some, None, option_map, option_to_list, is_some}
+use Rattle.std.proofs.Common.{◌≡◌, ◌≢◌, pos, ℕ, ℤ, suc, zero, ◌+◌, ◌<◌, ◌≤◌, Bool, true, false, ◌&&◌, cond, List, [], ◌∷◌, ◌++◌, length, take, get_or, count_by, slice_get, refl, ap, sym, ◌∙◌, arith, Option, Some, None, option_map, option_to_list, is_some}
 use Rattle.std.specs.List.{enumerate_from, list_all, cons_option}
 use Rattle.chip_lang.specs.declared.code.Coded.{Coded}
 use Rattle.std.proofs.lemmas.List.Elements.{filter_map-append}
-use Rattle.std.specs.Option.{option_eq}
+use Rattle.std.specs.Option.{option_eq, option_map_or}
 use Rattle.std.specs.Ordering.{int_eq}
 use Rattle.std.proofs.lemmas.Bool.Decides.{Decides-int_eq}
 use Rattle.std.proofs.lemmas.List.{append-nil, take_more}
@@ -11,7 +11,7 @@ use Rattle.std.proofs.lemmas.List.Sums.{sum_by-cons, count_by_more_yes, count_by
 use Rattle.std.proofs.lemmas.List.FromFn.{length-enumerate_from, get_or-enumerate_from}
 use Rattle.std.proofs.lemmas.Option.{get_or_from_slice_get}
 use Rattle.chip_lang.specs.Line.{Reading}
-use Rattle.std.proofs.lemmas.Bool.{and_parts, ltb-true, ltb-false}
+use Rattle.std.proofs.lemmas.Bool.{and_parts}
 use Rattle.chip_lang.specs.Line.{bad, read}
 use Rattle.std.proofs.lemmas.Option.{slice_get-get_or}
 use Rattle.chip_asm.specs.Names.{Name}
@@ -49,17 +49,6 @@ count_by-grows p (x ∷ xs) (suc i) (suc j) h =
     let few = sum_by-cons (λ y. cond (p y) 1 0) x (take i xs) in
     let more = sum_by-cons (λ y. cond (p y) 1 0) x (take j xs) in
     omega (arith, count_by-grows p xs i j (omega arith), few, more)
-
--- what holds below a number and of four more holds of all of them
-pub four-more : (P : ℕ → Type 0) (n : ℕ) → ((k : ℕ) → k < n → P k) → ((k : ℕ) → k < 4 → P (n + k)) → (k : ℕ) → k < n + 4 → P k
-four-more P n below more k inside = by (nat_lt k n) refl
-  where
-    above : (j : ℕ) → n + j ≡ k → j < 4 → P k
-    above j e small = rw (← e) (more j small)
-
-    by : (b : Bool) → nat_lt k n ≡ b → P k
-    by true e = below k (ltb-true k n e)
-    by false e = let high : n ≤ k = ltb-false k n e in above (k - n) (omega arith) (omega arith)
 
 -- the next numbered line
 pub numbered-at : (xs : List Reading) (i : ℕ) (x : Reading) → i < length xs → slice_get xs i ≡ Some x → get_or (enumerate_from 0 xs) i (i, x) ≡ (i, x)
@@ -124,49 +113,37 @@ code-pushed old new origin xs i r b e =
     one false code = refl
 
 -- a line that stood, was accepted and keeps its values isn't encoded again
-pub not-again : (old new : List Reading) (origin : ℕ → Option ℕ) (i j : ℕ) (r : Reading) → origin i ≡ Some j → is_placed_at (placements_of old) j ≡ true
+pub not-again : (old new : List Reading) (origin : ℕ → Option ℕ) (i : ℕ) (r : Reading) → option_map_or (is_placed_at (placements_of old)) (origin i) false ≡ true
     → agree_on (values_of (names_of_lines old)) (values_of (names_of_lines new)) r ≡ true → is_encoded_again old new origin (i, r) ≡ false
 unfolding is_encoded_again
-not-again old new origin i j r e placed agree = rw (e, placed, agree) (no (has_code (body_of r)) (is_placed_at (placements_of new) i))
+not-again old new origin i r stood agree = by (origin i) refl stood
   where
     no : (a b : Bool) → (a && (b && false)) ≡ false
     no true true = refl
     no true false = refl
     no false b = refl
 
+    there : (j : ℕ) → origin i ≡ Some j → is_placed_at (placements_of old) j ≡ true → is_encoded_again old new origin (i, r) ≡ false
+    there j e placed = rw (e, placed, agree) (no (has_code (body_of r)) (is_placed_at (placements_of new) i))
+
+    by : (o : Option ℕ) → origin i ≡ o → option_map_or (is_placed_at (placements_of old)) o false ≡ true → is_encoded_again old new origin (i, r) ≡ false
+    by None e s = cc
+    by (Some j) e s = there j e s
+
 uncounted : (b : Bool) → b ≡ false → (n : ℕ) → n + cond b 1 0 ≡ n
 uncounted true e n = cc
 uncounted false e n = omega arith
 
--- lines that aren't encoded again add no code
-none-among : (old new : List Reading) (origin : ℕ → Option ℕ) (i n : ℕ) → i + n ≤ length new
-    → ((k : ℕ) (r : Reading) → i ≤ k → k < i + n → slice_get new k ≡ Some r → is_encoded_again old new origin (k, r) ≡ false)
-    → (codes_up_to old new origin (i + n) ≡ codes_up_to old new origin i) × (count_up_to old new origin (i + n) ≡ count_up_to old new origin i)
-none-among old new origin i zero inside still = let e : i + 0 ≡ i = omega arith in rw e (refl, refl)
-none-among old new origin i (suc n) inside still =
-    let e : i + suc n ≡ i + n + 1 = omega arith in
-    let here : i + n < length new = omega arith in
-    let r : Reading = get_or new (i + n) (bad UnclosedIf) in
-    let at : slice_get new (i + n) ≡ Some r = slice_get-get_or new (i + n) (bad UnclosedIf) here in
-    let no : is_encoded_again old new origin (i + n, r) ≡ false = still (i + n) r (omega arith) (omega arith) at in
-    let before = none-among old new origin i n (omega arith) (λ k s from to. still k s from (omega arith)) in
-    let codes : codes_up_to old new origin (i + n + 1) ≡ codes_up_to old new origin (i + n) =
-    ap (codes_placed (new_code old new origin)) (take-numbered new (i + n) r here at)
-    ∙ sym (code-pushed old new origin (take (i + n) (enumerate_from 0 new)) (i + n) r false no)
-    ∙ append-nil (codes_up_to old new origin (i + n)) in
-    let count : count_up_to old new origin (i + n + 1) ≡ count_up_to old new origin (i + n) + cond (is_encoded_again old new origin (i + n, r)) 1 0
-    = count-numbered (is_encoded_again old new origin) new (i + n) r here at in
-    let none : count_up_to old new origin (i + n) + cond (is_encoded_again old new origin (i + n, r)) 1 0 ≡ count_up_to old new origin (i + n)
-    = uncounted (is_encoded_again old new origin (i + n, r)) no (count_up_to old new origin (i + n)) in
-    rw e (codes ∙ before.0, count ∙ none ∙ before.1)
-
-pub none-between : (old new : List Reading) (origin : ℕ → Option ℕ) (i j : ℕ) → i ≤ j → j ≤ length new
-    → ((k : ℕ) (r : Reading) → i ≤ k → k < j → slice_get new k ≡ Some r → is_encoded_again old new origin (k, r) ≡ false)
-    → (codes_up_to old new origin j ≡ codes_up_to old new origin i) × (count_up_to old new origin j ≡ count_up_to old new origin i)
-none-between old new origin i j order inside still = by (j - i) (omega arith)
-  where
-    by : (n : ℕ) → i + n ≡ j → (codes_up_to old new origin j ≡ codes_up_to old new origin i) × (count_up_to old new origin j ≡ count_up_to old new origin i)
-    by n e = rw (← e) (none-among old new origin i n (omega (arith, e)) (λ k r from to. still k r from (omega (arith, e))))
+-- a line that isn't encoded again adds no code
+pub one-still : (old new : List Reading) (origin : ℕ → Option ℕ) (i : ℕ) → i < length new → ((r : Reading) → slice_get new i ≡ Some r → is_encoded_again old new origin (i, r) ≡ false)
+    → (codes_up_to old new origin (i + 1) ≡ codes_up_to old new origin i) × (count_up_to old new origin (i + 1) ≡ count_up_to old new origin i)
+one-still old new origin i here still =
+    let r : Reading = get_or new i (bad UnclosedIf) in
+    let at : slice_get new i ≡ Some r = slice_get-get_or new i (bad UnclosedIf) here in
+    let no : is_encoded_again old new origin (i, r) ≡ false = still r at in (
+      ap (codes_placed (new_code old new origin)) (take-numbered new i r here at) ∙ sym (code-pushed old new origin (take i (enumerate_from 0 new)) i r false no) ∙ append-nil (codes_up_to old new origin i),
+      count-numbered (is_encoded_again old new origin) new i r here at ∙ uncounted (is_encoded_again old new origin (i, r)) no (count_up_to old new origin i),
+    )
 
 -- where two tables are one, they agree on each line
 pub agree-same : (S T : Symbols) (line : Reading) → S ≡ T → agree_on S T line ≡ true

@@ -136,21 +136,6 @@ impl<'a> Remaking<'a> {
         !self.traits[place].has_names || matches!(self.moves[self.hints[place]], Moved::No)
     }
 
-    /// The same of the four lines from a place on.
-    fn are_four_unmoved(&self, place: usize) -> bool
-        requires known { IsRemaking self.now }
-        requires place { place + 4 ≤ length (lines_then self.now) }
-        ensures { (index : ℕ) (line : Reading) → result ≡ true → index < 4 → slice_get (lines_then self.now) (place + index) ≡ Some line
-            → agree_on (values_of self.now.old.now.names) (values_of self.now.new.now.names) line ≡ true }
-    {
-        for index in 0..4 {
-            if !self.is_unmoved(place + index) {
-                return false;
-            }
-        }
-        true
-    }
-
     /// Whether each name of the line at a place has one value, or none, under both layouts. The names need a search only where the line
     /// has several, or where the two layouts have other names.
     fn keeps_values(&self, place: usize) -> bool
@@ -243,42 +228,8 @@ impl<'a> Remaking<'a> {
         if was < end { (was, end - was) } else { (0, 0) }
     }
 
-    /// Of lines that stood one after the other before the edit, how many at least stay as they are. Nearly all lines do, so most of the
-    /// time of an edit passes here: they are looked at by fours, and with no call.
-    fn count_still(&self, place: usize, was: usize, many: usize) -> usize
-        requires known { IsRemaking self.now }
-        requires lines { place + many ≤ length (lines_then self.now) }
-        requires placements { was + many ≤ vec_len self.now.old.now.placements }
-        ensures within { result ≤ many }
-        ensures accepted { (index : ℕ) → index < result → is_placed_at self.now.old.now.placements.items (was + index) ≡ true }
-        ensures unmoved { (index : ℕ) (line : Reading) → index < result → slice_get (lines_then self.now) (place + index) ≡ Some line
-            → agree_on (values_of self.now.old.now.names) (values_of self.now.new.now.names) line ≡ true }
-    {
-        for four in 0..many / 4 {
-            let index = 4 * four;
-            if !are_four_accepted(&self.old.placements, was + index)
-                || !self.are_four_unmoved(place + index)
-            {
-                return index;
-            }
-        }
-        many / 4 * 4
-    }
-
-    /// A place up to which no line from a place on has to be encoded again.
-    fn next_to_look_at(&self, place: usize) -> usize
-        requires known { IsRemaking self.now }
-        requires place { place < length (lines_then self.now) }
-        ensures from { place ≤ result }
-        ensures within { result ≤ length (lines_then self.now) }
-        ensures still { (before : List Reading) (index : ℕ) (line : Reading) → IsLayoutOf self.now.old.now before → place ≤ index → index < result → slice_get (lines_then self.now) index ≡ Some line
-            → is_encoded_again before (lines_then self.now) (place_before self.now.edit.now) (index, line) ≡ false }
-    {
-        let (was, many) = self.run_from(place);
-        place + self.count_still(place, was, many)
-    }
-
     /// Appends the new codes of the lines from a place up to another one, each of which is looked at.
+    #[cold]
     #[inline(never)]
     fn push_codes(
         &self,
@@ -305,6 +256,122 @@ impl<'a> Remaking<'a> {
         Ok(())
     }
 
+    /// Appends the new code, if there is one, of a line that stood before the edit and was accepted there.
+    fn push_code_of_stood(
+        &self,
+        alloc: Global,
+        meter: &mut Meter,
+        codes: &mut Vec<(usize, Coded)>,
+        place: usize,
+    ) -> Result<(), AllocError>
+        requires known { IsRemaking self.now }
+        requires place { place < length (lines_then self.now) }
+        requires stood { option_map_or (is_placed_at self.now.old.now.placements.items) (place_before self.now.edit.now place) false ≡ true }
+        ensures codes { (before : List Reading) → IsLayoutOf self.now.old.now before → codes.old.items ≡ codes_up_to before (lines_then self.now) (place_before self.now.edit.now) place
+            → OnOk result (codes.new.items ≡ codes_up_to before (lines_then self.now) (place_before self.now.edit.now) (place + 1)) }
+        ensures encoded { (before : List Reading) → IsLayoutOf self.now.old.now before
+            → meter.new.encoded + count_up_to before (lines_then self.now) (place_before self.now.edit.now) place ≤ meter.old.encoded + count_up_to before (lines_then self.now) (place_before self.now.edit.now) (place + 1) }
+        ensures not_lowered { meter.old.encoded ≤ meter.new.encoded }
+        ensures parsed { meter.new.parsed ≡ meter.old.parsed }
+    {
+        if self.is_unmoved(place) {
+            return Ok(());
+        }
+        self.push_codes(alloc, meter, codes, place, place + 1)
+    }
+
+    /// The same of four such lines.
+    fn push_codes_of_stood(
+        &self,
+        alloc: Global,
+        meter: &mut Meter,
+        codes: &mut Vec<(usize, Coded)>,
+        place: usize,
+    ) -> Result<(), AllocError>
+        requires known { IsRemaking self.now }
+        requires place { place + 4 ≤ length (lines_then self.now) }
+        requires stood { (index : ℕ) → index < 4 → option_map_or (is_placed_at self.now.old.now.placements.items) (place_before self.now.edit.now (place + index)) false ≡ true }
+        ensures codes { (before : List Reading) → IsLayoutOf self.now.old.now before → codes.old.items ≡ codes_up_to before (lines_then self.now) (place_before self.now.edit.now) place
+            → OnOk result (codes.new.items ≡ codes_up_to before (lines_then self.now) (place_before self.now.edit.now) (place + 4)) }
+        ensures encoded { (before : List Reading) → IsLayoutOf self.now.old.now before
+            → meter.new.encoded + count_up_to before (lines_then self.now) (place_before self.now.edit.now) place ≤ meter.old.encoded + count_up_to before (lines_then self.now) (place_before self.now.edit.now) (place + 4) }
+        ensures not_lowered { meter.old.encoded ≤ meter.new.encoded }
+        ensures parsed { meter.new.parsed ≡ meter.old.parsed }
+    {
+        for index in 0..4 {
+            self.push_code_of_stood(alloc, meter, codes, place + index)?;
+        }
+        Ok(())
+    }
+
+    /// Appends the new codes of four lines that stood one after the other before the edit.
+    fn push_codes_of_four(
+        &self,
+        alloc: Global,
+        meter: &mut Meter,
+        codes: &mut Vec<(usize, Coded)>,
+        place: usize,
+        was: usize,
+    ) -> Result<(), AllocError>
+        requires known { IsRemaking self.now }
+        requires place { place + 4 ≤ length (lines_then self.now) }
+        requires placements { was + 4 ≤ vec_len self.now.old.now.placements }
+        requires stood { (index : ℕ) → index < 4 → place_before self.now.edit.now (place + index) ≡ Some (was + index) }
+        ensures codes { (before : List Reading) → IsLayoutOf self.now.old.now before → codes.old.items ≡ codes_up_to before (lines_then self.now) (place_before self.now.edit.now) place
+            → OnOk result (codes.new.items ≡ codes_up_to before (lines_then self.now) (place_before self.now.edit.now) (place + 4)) }
+        ensures encoded { (before : List Reading) → IsLayoutOf self.now.old.now before
+            → meter.new.encoded + count_up_to before (lines_then self.now) (place_before self.now.edit.now) place ≤ meter.old.encoded + count_up_to before (lines_then self.now) (place_before self.now.edit.now) (place + 4) }
+        ensures not_lowered { meter.old.encoded ≤ meter.new.encoded }
+        ensures parsed { meter.new.parsed ≡ meter.old.parsed }
+    {
+        if are_four_accepted(&self.old.placements, was) {
+            self.push_codes_of_stood(alloc, meter, codes, place)
+        } else {
+            self.push_codes(alloc, meter, codes, place, place + 4)
+        }
+    }
+
+    /// Appends the new codes of lines that stood one after the other before the edit. Nearly all lines stay as they are, so most of the
+    /// time of an edit passes here: they are looked at by fours, with no call but for a line that may have to be encoded again.
+    fn push_codes_of_run(
+        &self,
+        alloc: Global,
+        meter: &mut Meter,
+        codes: &mut Vec<(usize, Coded)>,
+        place: usize,
+        was: usize,
+        many: usize,
+    ) -> Result<(), AllocError>
+        requires known { IsRemaking self.now }
+        requires lines { place + many ≤ length (lines_then self.now) }
+        requires placements { was + many ≤ vec_len self.now.old.now.placements }
+        requires stood { (index : ℕ) → index < many → place_before self.now.edit.now (place + index) ≡ Some (was + index) }
+        ensures codes { (before : List Reading) → IsLayoutOf self.now.old.now before → codes.old.items ≡ codes_up_to before (lines_then self.now) (place_before self.now.edit.now) place
+            → OnOk result (codes.new.items ≡ codes_up_to before (lines_then self.now) (place_before self.now.edit.now) (place + many)) }
+        ensures encoded { (before : List Reading) → IsLayoutOf self.now.old.now before
+            → meter.new.encoded + count_up_to before (lines_then self.now) (place_before self.now.edit.now) place ≤ meter.old.encoded + count_up_to before (lines_then self.now) (place_before self.now.edit.now) (place + many) }
+        ensures not_lowered { meter.old.encoded ≤ meter.new.encoded }
+        ensures parsed { meter.new.parsed ≡ meter.old.parsed }
+    {
+        // A copy, whose slices stand in registers.
+        let known = *self;
+        for four in 0..many / 4 {
+            known.push_codes_of_four(alloc, meter, codes, place + 4 * four, was + 4 * four)?;
+        }
+        self.push_codes(alloc, meter, codes, place + many / 4 * 4, place + many)
+    }
+
+    /// How many lines are looked at one by one after a run: the new line, or all where there was no layout.
+    fn count_apart(&self) -> usize
+        ensures { 1 ≤ result }
+    {
+        if self.old.placements.is_empty() {
+            MOST_LINES
+        } else {
+            1
+        }
+    }
+
     /// The new codes, each with the place of its line.
     pub(crate) fn codes(
         &self,
@@ -318,11 +385,14 @@ impl<'a> Remaking<'a> {
         ensures parsed { meter.new.parsed ≡ meter.old.parsed }
     {
         let count = count_after(self.lines.len(), self.edit);
+        let apart = self.count_apart();
         let mut codes = Vec::new(alloc);
         let mut place = 0;
         while place < count {
-            let from = self.next_to_look_at(place);
-            let to = from.saturating_add(4).min(count);
+            let (was, many) = self.run_from(place);
+            self.push_codes_of_run(alloc, meter, &mut codes, place, was, many)?;
+            let from = place + many;
+            let to = from.saturating_add(apart).min(count);
             self.push_codes(alloc, meter, &mut codes, from, to)?;
             place = to;
         }
