@@ -1,18 +1,26 @@
 -- Counting and collecting the lines that are encoded again.
-use Rattle.std.proofs.Common.{◌≡◌, ℕ, ℤ, suc, zero, ◌+◌, ◌<◌, ◌≤◌, Bool, true, false, cond, List, [], ◌∷◌, ◌++◌, length, take, get_or, count_by, slice_get, refl, ap, sym, ◌∙◌, arith, Option, Some, None, option_map, option_to_list, is_some}
+use Rattle.std.proofs.Common.{◌≡◌, ◌≢◌, pos, ℕ, ℤ, suc, zero, ◌+◌, ◌<◌, ◌≤◌, Bool, true, false, ◌&&◌, cond, List, [], ◌∷◌, ◌++◌, length, take, get_or, count_by, slice_get, refl, ap, sym, ◌∙◌, arith, Option, Some, None, option_map, option_to_list, is_some}
 use Rattle.std.specs.List.{enumerate_from, list_all, cons_option}
 use Rattle.chip_lang.specs.declared.code.Coded.{Coded}
 use Rattle.std.proofs.lemmas.List.Elements.{filter_map-append}
-use Rattle.std.specs.Option.{option_eq}
+use Rattle.std.specs.Option.{option_eq, option_map_or}
 use Rattle.std.specs.Ordering.{int_eq}
 use Rattle.std.proofs.lemmas.Bool.Decides.{Decides-int_eq}
-use Rattle.std.proofs.lemmas.List.{take_more}
+use Rattle.std.proofs.lemmas.List.{append-nil, take_more}
 use Rattle.std.proofs.lemmas.List.Sums.{sum_by-cons, count_by_more_yes, count_by_more_no}
 use Rattle.std.proofs.lemmas.List.FromFn.{length-enumerate_from, get_or-enumerate_from}
 use Rattle.std.proofs.lemmas.Option.{get_or_from_slice_get}
 use Rattle.chip_lang.specs.Line.{Reading}
 use Rattle.std.proofs.lemmas.Bool.{and_parts}
 use Rattle.chip_lang.specs.Line.{bad, read}
+use Rattle.std.proofs.lemmas.Option.{slice_get-get_or}
+use Rattle.chip_asm.specs.Names.{Name}
+use Rattle.chip_asm.specs.declared.recode.Moved.{Moved}
+use Rattle.chip_asm.specs.declared.recode.Moved.TheVariants.{No, Yes, Unknown}
+use Rattle.chip_asm.specs.declared.table.Symbol.{Symbol}
+use Rattle.chip_asm.specs.inner.Hints.{names_in, hint_in}
+use Rattle.chip_asm.specs.inner.Moves.{SaysMove, AreMoves}
+use Rattle.chip_asm.proofs.HintSteps.{hint-few, length-names, agree-at}
 use Rattle.chip_lang.specs.Value.{Symbols, value_of_name}
 use Rattle.chip_lang.specs.Uses.{names_used, has_same_value, agree_on}
 use Rattle.chip_lang.specs.Code.{own_bytes, coded, code_of}
@@ -20,7 +28,9 @@ use Rattle.chip_asm.specs.Names.{values_of}
 use Rattle.chip_asm.specs.inner.Traits.{uses_name}
 use Rattle.chip_asm.specs.Layout.{body_of}
 use Rattle.chip_asm.specs.Program.{names_of_lines}
-use Rattle.chip_asm.specs.inner.Recode.{has_code, is_encoded_again, code_among, new_code, codes_placed}
+use Rattle.chip_asm.specs.inner.Recode.{has_code, is_placed_at, is_encoded_again, code_among, new_code, codes_placed, codes_up_to, count_up_to}
+use Rattle.chip_asm.specs.inner.Layouts.{placements_of}
+use Rattle.chip_lang.specs.declared.fault.Fault.TheVariants.{UnclosedIf}
 
 pub count_by-take : {X : Type 0} (p : X → Bool) (xs : List X) (i : ℕ) → count_by p (take i xs) ≤ count_by p xs
 count_by-take p xs zero = omega arith
@@ -29,6 +39,16 @@ count_by-take p (x ∷ xs) (suc i) =
     let part = sum_by-cons (λ y. cond (p y) 1 0) x (take i xs) in
     let whole = sum_by-cons (λ y. cond (p y) 1 0) x xs in
     omega (arith, count_by-take p xs i, part, whole)
+
+-- more lines, no smaller count
+pub count_by-grows : {X : Type 0} (p : X → Bool) (xs : List X) (i j : ℕ) → i ≤ j → count_by p (take i xs) ≤ count_by p (take j xs)
+count_by-grows p xs zero j h = omega arith
+count_by-grows p xs (suc i) zero h = absurd (omega arith)
+count_by-grows p [] (suc i) (suc j) h = omega arith
+count_by-grows p (x ∷ xs) (suc i) (suc j) h =
+    let few = sum_by-cons (λ y. cond (p y) 1 0) x (take i xs) in
+    let more = sum_by-cons (λ y. cond (p y) 1 0) x (take j xs) in
+    omega (arith, count_by-grows p xs i j (omega arith), few, more)
 
 -- the next numbered line
 pub numbered-at : (xs : List Reading) (i : ℕ) (x : Reading) → i < length xs → slice_get xs i ≡ Some x → get_or (enumerate_from 0 xs) i (i, x) ≡ (i, x)
@@ -92,6 +112,39 @@ code-pushed old new origin xs i r b e =
     one true code = refl
     one false code = refl
 
+-- a line that stood, was accepted and keeps its values isn't encoded again
+pub not-again : (old new : List Reading) (origin : ℕ → Option ℕ) (i : ℕ) (r : Reading) → option_map_or (is_placed_at (placements_of old)) (origin i) false ≡ true
+    → agree_on (values_of (names_of_lines old)) (values_of (names_of_lines new)) r ≡ true → is_encoded_again old new origin (i, r) ≡ false
+unfolding is_encoded_again
+not-again old new origin i r stood agree = by (origin i) refl stood
+  where
+    no : (a b : Bool) → (a && (b && false)) ≡ false
+    no true true = refl
+    no true false = refl
+    no false b = refl
+
+    there : (j : ℕ) → origin i ≡ Some j → is_placed_at (placements_of old) j ≡ true → is_encoded_again old new origin (i, r) ≡ false
+    there j e placed = rw (e, placed, agree) (no (has_code (body_of r)) (is_placed_at (placements_of new) i))
+
+    by : (o : Option ℕ) → origin i ≡ o → option_map_or (is_placed_at (placements_of old)) o false ≡ true → is_encoded_again old new origin (i, r) ≡ false
+    by None e s = cc
+    by (Some j) e s = there j e s
+
+uncounted : (b : Bool) → b ≡ false → (n : ℕ) → n + cond b 1 0 ≡ n
+uncounted true e n = cc
+uncounted false e n = omega arith
+
+-- a line that isn't encoded again adds no code
+pub one-still : (old new : List Reading) (origin : ℕ → Option ℕ) (i : ℕ) → i < length new → ((r : Reading) → slice_get new i ≡ Some r → is_encoded_again old new origin (i, r) ≡ false)
+    → (codes_up_to old new origin (i + 1) ≡ codes_up_to old new origin i) × (count_up_to old new origin (i + 1) ≡ count_up_to old new origin i)
+one-still old new origin i here still =
+    let r : Reading = get_or new i (bad UnclosedIf) in
+    let at : slice_get new i ≡ Some r = slice_get-get_or new i (bad UnclosedIf) here in
+    let no : is_encoded_again old new origin (i, r) ≡ false = still r at in (
+      ap (codes_placed (new_code old new origin)) (take-numbered new i r here at) ∙ sym (code-pushed old new origin (take i (enumerate_from 0 new)) i r false no) ∙ append-nil (codes_up_to old new origin i),
+      count-numbered (is_encoded_again old new origin) new i r here at ∙ uncounted (is_encoded_again old new origin (i, r)) no (count_up_to old new origin i),
+    )
+
 -- where two tables are one, they agree on each line
 pub agree-same : (S T : Symbols) (line : Reading) → S ≡ T → agree_on S T line ≡ true
 agree-same S T line same = ap (λ U. agree_on S U line) (sym same) ∙ all_same S (names_used line)
@@ -103,3 +156,33 @@ agree-nameless S T line e = by (names_used line) e
     by : (names : List (List ℕ)) → is_some (slice_get names 0) ≡ false → list_all (has_same_value S T) names ≡ true
     by [] e = refl
     by (name ∷ names) e = cc
+
+no-entry : Name × Symbol
+no-entry = ([], record { value = pos 0; line = 0 })
+
+-- what is said of the one name that a line uses
+pub said : (moves : List Moved) (old new : List (Name × Symbol)) (line : Reading) (hint : ℕ) (other : Moved) → AreMoves moves old new → length moves ≡ length new + 1 → hint ≡ hint_in (names_in new) line
+    → get_or moves hint other ≢ Unknown → (same : Bool) → (same ≡ true → get_or moves hint other ≡ No) → (same ≡ false → get_or moves hint other ≡ Yes)
+    → same ≡ agree_on (values_of old) (values_of new) line
+said moves old new line zero other m long e known same n y = absurd (known (m.none other))
+said moves old new line (suc i) other m long e known same n y =
+    let next : suc i ≡ i + 1 = omega arith in
+    let few = hint-few (names_in new) line in
+    let inside : i < length new = omega (arith, e, few, length-names new) in
+    let s : SaysMove (get_or moves (i + 1) other) old new i = m.each i other (omega arith) in
+    let is : get_or moves (i + 1) other ≡ get_or moves (suc i) other = ap (λ k. get_or moves k other) (sym next) in
+    let names : names_in old ≡ names_in new = s.same_names (λ u. known (sym is ∙ u)) in
+    let there : i < length old = omega (arith, ap length names, length-names old, length-names new) in
+    agree-at old new line i (get_or old i no-entry) (get_or new i no-entry) same names (sym e ∙ next) (slice_get-get_or old i no-entry there) (slice_get-get_or new i no-entry inside)
+    (λ b. s.stays (is ∙ n b) (get_or old i no-entry) (get_or new i no-entry) (slice_get-get_or old i no-entry there) (slice_get-get_or new i no-entry inside))
+    (λ b. s.moves (is ∙ y b) (get_or old i no-entry) (get_or new i no-entry) (slice_get-get_or old i no-entry there) (slice_get-get_or new i no-entry inside))
+
+pub no-unknown : (moved : Moved) → moved ≡ No → moved ≢ Unknown
+no-unknown No e = λ u. cc
+no-unknown Yes e = cc
+no-unknown Unknown e = cc
+
+pub yes-unknown : (moved : Moved) → moved ≡ Yes → moved ≢ Unknown
+yes-unknown No e = cc
+yes-unknown Yes e = λ u. cc
+yes-unknown Unknown e = cc

@@ -1,11 +1,11 @@
 //! The lines that an edit makes encode again.
-ghost use Rattle.std.specs.Prelude.{◌≡◌, ◌<◌, ◌≤◌, ◌+◌, ◌++◌, ℕ, List, All, IfOk, OnOk, OnErr, Option, Result, Ok, Err, length, Some, None, true, false, if◌then◌else◌, ◌&&◌, map, option_to_list, slice_get};
+ghost use Rattle.std.specs.Prelude.{◌≡◌, ◌<◌, ◌≤◌, ◌+◌, ◌++◌, ℕ, List, All, IfOk, OnOk, OnErr, Option, Result, Ok, Err, length, vec_len, Some, None, true, false, if◌then◌else◌, ◌&&◌, map, option_to_list, slice_get};
 ghost use Rattle.chip_lang.specs.Line.{Reading};
 ghost use Rattle.chip_lang.specs.SeenLine.{seen_line};
 ghost use Rattle.chip_lang.specs.Uses.{agree_on};
 ghost use Rattle.chip_lang.specs.Code.{code_of};
 ghost use Rattle.chip_asm.specs.inner.Hints.{names_in, hint_in};
-ghost use Rattle.chip_asm.specs.inner.Recode.{has_code, is_placed_at, is_encoded_again, new_codes, count_again};
+ghost use Rattle.chip_asm.specs.inner.Recode.{has_code, is_placed_at, is_encoded_again, codes_up_to, count_up_to, new_codes, count_again};
 ghost use Rattle.chip_asm.specs.inner.Moves.{SaysMove, AreMoves};
 ghost use Rattle.chip_asm.specs.declared.recode.Moved.{Moved};
 ghost use Rattle.std.specs.Option.{option_map_or};
@@ -16,7 +16,7 @@ ghost use Rattle.chip_asm.specs.Names.{values_of};
 ghost use Rattle.chip_asm.specs.inner.Kept.{IsMerged};
 ghost use Rattle.chip_asm.specs.inner.Traits.{traits_of};
 
-use crate::edit::{Edit, count_after, line_after, place_before};
+use crate::edit::{Edit, count_after, first_changed, line_after, place_before};
 use crate::hints::Hinted;
 use crate::kept_line::KeptLine;
 use crate::layout::Layout;
@@ -34,6 +34,21 @@ fn is_placed_at(placements: &[Placement], place: usize) -> bool
         Some(placement) => placement.is_accepted(),
         None => false,
     }
+}
+
+/// Whether the four lines from a place on are accepted. All four are asked before the one branch.
+fn are_four_accepted(placements: &[Placement], place: usize) -> bool
+    requires { place + 4 ≤ length placements.now }
+    ensures { (index : ℕ) → result ≡ true → index < 4 → is_placed_at placements.now (place + index) ≡ true }
+{
+    let mut live = true;
+    let mut faulty = false;
+    for index in 0..4 {
+        let placement = &placements[place + index];
+        live &= placement.live;
+        faulty |= placement.fault.is_some();
+    }
+    live & !faulty
 }
 
 /// What an edit does to a name, or to the names of a line.
@@ -90,20 +105,12 @@ pub(crate) fn moves_by_hint(
     ensures long { IfOk result (λ moves. length moves.items ≡ length new.now + 1) }
     ensures moves { IfOk result (λ moves. AreMoves moves.items old.now new.now) }
 {
-    let mut moves = Vec::new(alloc);
+    let mut moves = Vec::with_capacity(alloc, new.len().saturating_add(1))?;
     moves.push(Moved::Unknown)?;
     for index in 0..new.len() {
         moves.push(move_at(same_names, old, new, index))?;
     }
     Ok(moves)
-}
-
-/// Whether a line has to be looked at for its names. Both are asked in one test, whose answer is no for most lines.
-fn may_move(has_names: bool, moved: Moved) -> bool
-    ensures no { result ≡ false → has_names ≡ true → moved ≡ Moved.No }
-    ensures yes { result ≡ true → has_names ≡ true }
-{
-    has_names & !matches!(moved, Moved::No)
 }
 
 /// Whether the line at a place stood before the edit, and was accepted there.
@@ -120,6 +127,15 @@ fn stood(placements: &[Placement], edit: &Edit, place: usize) -> bool
 impl<'a> Remaking<'a> {
     ghost use Rattle.chip_asm.specs.inner.Remaking.{IsRemaking, lines_then};
 
+    /// Whether what is known of the names says that those of the line at a place keep their values, which is so of most lines.
+    fn is_unmoved(&self, place: usize) -> bool
+        requires known { IsRemaking self.now }
+        requires place { place < length (lines_then self.now) }
+        ensures { (line : Reading) → result ≡ true → slice_get (lines_then self.now) place ≡ Some line → agree_on (values_of self.now.old.now.names) (values_of self.now.new.now.names) line ≡ true }
+    {
+        !self.traits[place].has_names || matches!(self.moves[self.hints[place]], Moved::No)
+    }
+
     /// Whether each name of the line at a place has one value, or none, under both layouts. The names need a search only where the line
     /// has several, or where the two layouts have other names.
     fn keeps_values(&self, place: usize) -> bool
@@ -127,12 +143,11 @@ impl<'a> Remaking<'a> {
         requires place { place < length (lines_then self.now) }
         ensures { (line : Reading) → slice_get (lines_then self.now) place ≡ Some line → result ≡ agree_on (values_of self.now.old.now.names) (values_of self.now.new.now.names) line }
     {
-        let hint = self.hints[place];
-        let moved = self.moves[hint];
-        if !may_move(self.traits[place].has_names, moved) {
+        if self.is_unmoved(place) {
             return true;
         }
-        match moved {
+        let hint = self.hints[place];
+        match self.moves[hint] {
             Moved::Yes => false,
             _ => {
                 let before = Hinted {
@@ -191,6 +206,172 @@ impl<'a> Remaking<'a> {
         Ok(())
     }
 
+    /// Where the line at a place stood before the edit, and how many lines from it on stood there one after the other, as far as the
+    /// layout of that time goes; none where the line is new.
+    fn run_from(&self, place: usize) -> (usize, usize)
+        requires known { IsRemaking self.now }
+        requires place { place < length (lines_then self.now) }
+        ensures lines { place + result.1 ≤ length (lines_then self.now) }
+        ensures placements { result.0 + result.1 ≤ vec_len self.now.old.now.placements }
+        ensures stood { (index : ℕ) → index < result.1 → place_before self.now.edit.now (place + index) ≡ Some (result.0 + index) }
+    {
+        let Some(was) = place_before(self.edit, place) else {
+            return (0, 0);
+        };
+        let first = first_changed(self.edit);
+        let end = if place < first {
+            first
+        } else {
+            self.lines.len()
+        };
+        let end = end.min(self.old.placements.len());
+        if was < end { (was, end - was) } else { (0, 0) }
+    }
+
+    /// Appends the new codes of the lines from a place up to another one, each of which is looked at.
+    #[cold]
+    #[inline(never)]
+    fn push_codes(
+        &self,
+        alloc: Global,
+        meter: &mut Meter,
+        codes: &mut Vec<(usize, Coded)>,
+        from: usize,
+        to: usize,
+    ) -> Result<(), AllocError>
+        requires known { IsRemaking self.now }
+        requires order { from ≤ to }
+        requires within { to ≤ length (lines_then self.now) }
+        ensures codes { (before : List Reading) → IsLayoutOf self.now.old.now before → codes.old.items ≡ codes_up_to before (lines_then self.now) (place_before self.now.edit.now) from
+            → OnOk result (codes.new.items ≡ codes_up_to before (lines_then self.now) (place_before self.now.edit.now) to) }
+        ensures encoded { (before : List Reading) → IsLayoutOf self.now.old.now before
+            → meter.new.encoded + count_up_to before (lines_then self.now) (place_before self.now.edit.now) from ≤ meter.old.encoded + count_up_to before (lines_then self.now) (place_before self.now.edit.now) to }
+        ensures not_lowered { meter.old.encoded ≤ meter.new.encoded }
+        ensures parsed { meter.new.parsed ≡ meter.old.parsed }
+    {
+        for place in from..to {
+            let again = self.is_encoded_again(place);
+            self.push_code_if(again, alloc, meter, codes, place)?;
+        }
+        Ok(())
+    }
+
+    /// Appends the new code, if there is one, of a line that stood before the edit and was accepted there.
+    fn push_code_of_stood(
+        &self,
+        alloc: Global,
+        meter: &mut Meter,
+        codes: &mut Vec<(usize, Coded)>,
+        place: usize,
+    ) -> Result<(), AllocError>
+        requires known { IsRemaking self.now }
+        requires place { place < length (lines_then self.now) }
+        requires stood { option_map_or (is_placed_at self.now.old.now.placements.items) (place_before self.now.edit.now place) false ≡ true }
+        ensures codes { (before : List Reading) → IsLayoutOf self.now.old.now before → codes.old.items ≡ codes_up_to before (lines_then self.now) (place_before self.now.edit.now) place
+            → OnOk result (codes.new.items ≡ codes_up_to before (lines_then self.now) (place_before self.now.edit.now) (place + 1)) }
+        ensures encoded { (before : List Reading) → IsLayoutOf self.now.old.now before
+            → meter.new.encoded + count_up_to before (lines_then self.now) (place_before self.now.edit.now) place ≤ meter.old.encoded + count_up_to before (lines_then self.now) (place_before self.now.edit.now) (place + 1) }
+        ensures not_lowered { meter.old.encoded ≤ meter.new.encoded }
+        ensures parsed { meter.new.parsed ≡ meter.old.parsed }
+    {
+        if self.is_unmoved(place) {
+            return Ok(());
+        }
+        self.push_codes(alloc, meter, codes, place, place + 1)
+    }
+
+    /// The same of four such lines.
+    fn push_codes_of_stood(
+        &self,
+        alloc: Global,
+        meter: &mut Meter,
+        codes: &mut Vec<(usize, Coded)>,
+        place: usize,
+    ) -> Result<(), AllocError>
+        requires known { IsRemaking self.now }
+        requires place { place + 4 ≤ length (lines_then self.now) }
+        requires stood { (index : ℕ) → index < 4 → option_map_or (is_placed_at self.now.old.now.placements.items) (place_before self.now.edit.now (place + index)) false ≡ true }
+        ensures codes { (before : List Reading) → IsLayoutOf self.now.old.now before → codes.old.items ≡ codes_up_to before (lines_then self.now) (place_before self.now.edit.now) place
+            → OnOk result (codes.new.items ≡ codes_up_to before (lines_then self.now) (place_before self.now.edit.now) (place + 4)) }
+        ensures encoded { (before : List Reading) → IsLayoutOf self.now.old.now before
+            → meter.new.encoded + count_up_to before (lines_then self.now) (place_before self.now.edit.now) place ≤ meter.old.encoded + count_up_to before (lines_then self.now) (place_before self.now.edit.now) (place + 4) }
+        ensures not_lowered { meter.old.encoded ≤ meter.new.encoded }
+        ensures parsed { meter.new.parsed ≡ meter.old.parsed }
+    {
+        for index in 0..4 {
+            self.push_code_of_stood(alloc, meter, codes, place + index)?;
+        }
+        Ok(())
+    }
+
+    /// Appends the new codes of four lines that stood one after the other before the edit.
+    fn push_codes_of_four(
+        &self,
+        alloc: Global,
+        meter: &mut Meter,
+        codes: &mut Vec<(usize, Coded)>,
+        place: usize,
+        was: usize,
+    ) -> Result<(), AllocError>
+        requires known { IsRemaking self.now }
+        requires place { place + 4 ≤ length (lines_then self.now) }
+        requires placements { was + 4 ≤ vec_len self.now.old.now.placements }
+        requires stood { (index : ℕ) → index < 4 → place_before self.now.edit.now (place + index) ≡ Some (was + index) }
+        ensures codes { (before : List Reading) → IsLayoutOf self.now.old.now before → codes.old.items ≡ codes_up_to before (lines_then self.now) (place_before self.now.edit.now) place
+            → OnOk result (codes.new.items ≡ codes_up_to before (lines_then self.now) (place_before self.now.edit.now) (place + 4)) }
+        ensures encoded { (before : List Reading) → IsLayoutOf self.now.old.now before
+            → meter.new.encoded + count_up_to before (lines_then self.now) (place_before self.now.edit.now) place ≤ meter.old.encoded + count_up_to before (lines_then self.now) (place_before self.now.edit.now) (place + 4) }
+        ensures not_lowered { meter.old.encoded ≤ meter.new.encoded }
+        ensures parsed { meter.new.parsed ≡ meter.old.parsed }
+    {
+        if are_four_accepted(&self.old.placements, was) {
+            self.push_codes_of_stood(alloc, meter, codes, place)
+        } else {
+            self.push_codes(alloc, meter, codes, place, place + 4)
+        }
+    }
+
+    /// Appends the new codes of lines that stood one after the other before the edit. Nearly all lines stay as they are, so most of the
+    /// time of an edit passes here: they are looked at by fours, with no call but for a line that may have to be encoded again.
+    fn push_codes_of_run(
+        &self,
+        alloc: Global,
+        meter: &mut Meter,
+        codes: &mut Vec<(usize, Coded)>,
+        place: usize,
+        was: usize,
+        many: usize,
+    ) -> Result<(), AllocError>
+        requires known { IsRemaking self.now }
+        requires lines { place + many ≤ length (lines_then self.now) }
+        requires placements { was + many ≤ vec_len self.now.old.now.placements }
+        requires stood { (index : ℕ) → index < many → place_before self.now.edit.now (place + index) ≡ Some (was + index) }
+        ensures codes { (before : List Reading) → IsLayoutOf self.now.old.now before → codes.old.items ≡ codes_up_to before (lines_then self.now) (place_before self.now.edit.now) place
+            → OnOk result (codes.new.items ≡ codes_up_to before (lines_then self.now) (place_before self.now.edit.now) (place + many)) }
+        ensures encoded { (before : List Reading) → IsLayoutOf self.now.old.now before
+            → meter.new.encoded + count_up_to before (lines_then self.now) (place_before self.now.edit.now) place ≤ meter.old.encoded + count_up_to before (lines_then self.now) (place_before self.now.edit.now) (place + many) }
+        ensures not_lowered { meter.old.encoded ≤ meter.new.encoded }
+        ensures parsed { meter.new.parsed ≡ meter.old.parsed }
+    {
+        // A copy, whose slices stand in registers.
+        let known = *self;
+        for four in 0..many / 4 {
+            known.push_codes_of_four(alloc, meter, codes, place + 4 * four, was + 4 * four)?;
+        }
+        self.push_codes(alloc, meter, codes, place + many / 4 * 4, place + many)
+    }
+
+    /// How many lines are looked at one by one after a run: the new line, or all where there was no layout.
+    fn count_apart(&self) -> usize
+        ensures { 1 ≤ result }
+    {
+        if self.old.placements.is_empty() {
+            MOST_LINES
+        } else {
+            1
+        }
+    }
+
     /// The new codes, each with the place of its line.
     pub(crate) fn codes(
         &self,
@@ -203,10 +384,17 @@ impl<'a> Remaking<'a> {
         ensures not_lowered { meter.old.encoded ≤ meter.new.encoded }
         ensures parsed { meter.new.parsed ≡ meter.old.parsed }
     {
+        let count = count_after(self.lines.len(), self.edit);
+        let apart = self.count_apart();
         let mut codes = Vec::new(alloc);
-        for place in 0..count_after(self.lines.len(), self.edit) {
-            let again = self.is_encoded_again(place);
-            self.push_code_if(again, alloc, meter, &mut codes, place)?;
+        let mut place = 0;
+        while place < count {
+            let (was, many) = self.run_from(place);
+            self.push_codes_of_run(alloc, meter, &mut codes, place, was, many)?;
+            let from = place + many;
+            let to = from.saturating_add(apart).min(count);
+            self.push_codes(alloc, meter, &mut codes, from, to)?;
+            place = to;
         }
         Ok(codes)
     }

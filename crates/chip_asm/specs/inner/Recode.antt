@@ -1,5 +1,5 @@
 -- Which lines are encoded anew, by what is kept (own).
-use Rattle.std.specs.Prelude.{ℕ, Bool, true, false, not, ◌&&◌, List, count_by, Option, Some, None, if◌then◌else◌, slice_get, nat_eq, filter_map, option_map}
+use Rattle.std.specs.Prelude.{ℕ, Bool, true, false, not, ◌&&◌, List, count_by, Option, Some, None, if◌then◌else◌, slice_get, take, nat_eq, filter_map, option_map}
 use Rattle.std.specs.List.{enumerate_from}
 use Rattle.std.specs.Map.{lookup}
 use Rattle.std.specs.Option.{option_map_or}
@@ -46,9 +46,17 @@ codes_placed given lines = filter_map (λ at. option_map (λ c. (at.0, c)) (give
 abbrev pub new_codes : (old new : List Reading) → (ℕ → Option ℕ) → List (ℕ × Coded)
 new_codes old new origin = codes_placed (new_code old new origin) (enumerate_from 0 new)
 
+-- the same of the lines up to a place
+abbrev pub codes_up_to : (old new : List Reading) → (ℕ → Option ℕ) → ℕ → List (ℕ × Coded)
+codes_up_to old new origin place = codes_placed (new_code old new origin) (take place (enumerate_from 0 new))
+
 -- the code for a place
 abbrev pub code_at : List (ℕ × Coded) → ℕ → Option Coded
 code_at codes place = lookup (nat_eq place) codes
 
 abbrev pub count_again : (old new : List Reading) → (ℕ → Option ℕ) → ℕ
 count_again old new origin = count_by (is_encoded_again old new origin) (enumerate_from 0 new)
+
+-- that of the lines up to a place
+abbrev pub count_up_to : (old new : List Reading) → (ℕ → Option ℕ) → ℕ → ℕ
+count_up_to old new origin place = count_by (is_encoded_again old new origin) (take place (enumerate_from 0 new))

@@ -1,0 +1,41 @@
+use Rattle.std.proofs.Common.{◌≡◌, ◌∙◌, Bool, true, false, not, refl, ap, sym, arith, get_or, slice_get, Some}
+use Rattle.std.proofs.lemmas.Option.{slice_get-get_or}
+use Rattle.chip_lang.specs.Line.{Reading, bad}
+use Rattle.chip_lang.specs.declared.fault.Fault.TheVariants.{UnclosedIf}
+use Rattle.chip_asm.specs.Names.{values_of}
+use Rattle.chip_asm.specs.declared.recode.Moved.TheVariants.{No}
+use Rattle.chip_asm.specs.inner.Hints.{names_in, hint_in}
+use Rattle.chip_asm.specs.inner.Remaking.{lines_then}
+use Rattle.chip_asm.specs.declared.traits.Traits.{Traits}
+use Rattle.chip_asm.specs.inner.Traits.{traits_of}
+use Rattle.chip_asm.proofs.Edited.{mapped-at}
+use Rattle.chip_asm.proofs.HintSteps.{hint-few, length-names}
+use Rattle.chip_asm.proofs.RecodeSteps.{agree-nameless, said, no-unknown}
+use Rattle.chip_asm.proofs.recode.Remaking.is_unmoved.Goals as goal
+
+abbrev no-traits : Traits
+no-traits = record { is_bare = false; gives_name = false; is_coded = false; has_names = false; is_steady = false }
+
+not-so : (b : Bool) → not b ≡ true → b ≡ false
+not-so true e = cc
+not-so false e = refl
+
+pub bounds : goal.bounds
+bounds c =
+    let r = c.args.self.now in
+    let line : Reading = get_or (lines_then r) c.args.place (bad UnclosedIf) in
+    let at : slice_get (lines_then r) c.args.place ≡ Some line = slice_get-get_or (lines_then r) c.args.place (bad UnclosedIf) c.requires.place in
+    let hint = mapped-at (hint_in (names_in r.new.now.names)) (lines_then r) r.hints.now c.args.place line 0 c.requires.known.hints at in
+    omega (arith, hint, hint-few (names_in r.new.now.names) line, length-names r.new.now.names, c.requires.known.long)
+
+pub returns-then-not-self-place : goal.returns-then-not-self-place
+returns-then-not-self-place c = λ line yes at.
+    let r = c.args.self.now in
+    let traits = mapped-at traits_of (lines_then r) r.traits.now c.args.place line no-traits c.requires.known.traits at in
+    agree-nameless (values_of r.old.now.names) (values_of r.new.now.names) line (sym (ap (λ t. t.has_names) traits) ∙ not-so _ yes)
+
+pub returns-in-No : goal.returns-in-No
+returns-in-No c = λ line yes at.
+    let r = c.args.self.now in
+    let hint = mapped-at (hint_in (names_in r.new.now.names)) (lines_then r) r.hints.now c.args.place line 0 c.requires.known.hints at in
+    sym (said r.moves.now r.old.now.names r.new.now.names line (get_or r.hints.now c.args.place 0) No c.requires.known.moves c.requires.known.long hint (no-unknown _ c.in-No.is) true (λ b. c.in-No.is) (λ b. cc))
