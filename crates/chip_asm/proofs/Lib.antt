@@ -31,3 +31,5 @@ pub mod CutSteps
 pub mod ListingSteps
 pub mod LinesApart
 pub mod NamesDiffer
+pub mod ShiftedLines
+pub mod ShiftedNames

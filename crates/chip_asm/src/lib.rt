@@ -18,6 +18,7 @@ mod pass;
 mod placement;
 mod recode;
 mod refusal;
+mod shift;
 mod source;
 mod table;
 mod traits;

@@ -48,7 +48,7 @@ yes-unknown Yes e = λ u. cc
 yes-unknown Unknown e = cc
 
 abbrev no-traits : Traits
-no-traits = record { is_bare = false; gives_name = false; is_coded = false; has_names = false; is_steady = false }
+no-traits = record { is_bare = false; is_plain = false; gives_name = false; is_coded = false; has_names = false; is_steady = false }
 
 pub bounds-self-hint : goal.bounds-self-hint
 bounds-self-hint c =
