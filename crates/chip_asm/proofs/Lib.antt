@@ -33,3 +33,4 @@ pub mod LinesApart
 pub mod NamesDiffer
 pub mod ShiftedLines
 pub mod ShiftedNames
+pub mod ShiftedLayout

@@ -156,9 +156,9 @@ apart-cons s xs ys p a h =
       count = (let n = a.count in omega arith);
       at = omega (arith, was_at, now_at, a.at);
       names = ap keys (symbols-cons (moved p ys) ys) ∙ keys-append (symbols ys) (option_to_list (symbol_of (moved p ys)))
-      ∙ ap (λ l. l ++ keys (option_to_list (symbol_of (moved p ys)))) a.names
-      ∙ ap (λ l. keys (symbols xs) ++ l) (key-same (length ys + 1) (address ys) p.number p.here p.value p.line (takes_effect p))
-      ∙ sym (keys-append (symbols xs) (option_to_list (symbol_of p))) ∙ ap keys (sym (symbols-cons p xs));
+          ∙ ap (λ l. l ++ keys (option_to_list (symbol_of (moved p ys)))) a.names
+          ∙ ap (λ l. keys (symbols xs) ++ l) (key-same (length ys + 1) (address ys) p.number p.here p.value p.line (takes_effect p))
+          ∙ sym (keys-append (symbols xs) (option_to_list (symbol_of p))) ∙ ap keys (sym (symbols-cons p xs));
       aligned = aligning-cons (moved p ys) ys ∙ r.no_align (is_aligning ys) ∙ a.aligned ∙ sym (q.no_align (is_aligning xs)) ∙ sym (aligning-cons p xs);
       was_closed = enclosing-open (p ∷ xs) ∙ (rw (q.no_if, q.no_endif) refl) ∙ sym (enclosing-open xs) ∙ a.was_closed;
       now_closed = enclosing-open (moved p ys ∷ ys) ∙ (rw (r.no_if, r.no_endif) refl) ∙ sym (enclosing-open ys) ∙ a.now_closed;
@@ -254,8 +254,8 @@ moved-lines s xs ys (line ∷ lines) small a plain_lines accepted few low fits =
     = moved-lines s (place xs line ∷ xs) (moved (place xs line) ys ∷ ys) lines small next is_plain_here.1 is_accepted_here.1 (omega (arith, few)) low fits in
     record {
       placements = ap (λ x. placement_of x ∷ map placement_of (run (x ∷ ys) lines)) same
-      ∙ (rw (placement-moved s xs ys (place xs line) m, rest.placements) refl);
+          ∙ (rw (placement-moved s xs ys (place xs line) m, rest.placements) refl);
       names = ap (λ x. cons_option (symbol_of x) (filter_map symbol_of (run (x ∷ ys) lines))) same
-      ∙ (rw (symbol-moved s xs ys (place xs line) m body, rest.names) (names-cons s (symbol_of (place xs line)) (filter_map symbol_of (run (place xs line ∷ xs) lines))));
+          ∙ (rw (symbol-moved s xs ys (place xs line) m body, rest.names) (names-cons s (symbol_of (place xs line)) (filter_map symbol_of (run (place xs line ∷ xs) lines))));
       after = subst (λ (x : Placed). Apart s (fold onto (place xs line ∷ xs) lines) (fold onto (x ∷ ys) lines)) (sym same) rest.after;
     }

@@ -1,10 +1,10 @@
 //! How far the lines after an edit move, where they do nothing else.
-ghost use Rattle.std.specs.Prelude.{◌≡◌, ◌≤◌, length};
+ghost use Rattle.std.specs.Prelude.{◌≡◌, ◌++◌, OnOk, length, map};
 ghost use Rattle.std.specs.List.{list_all};
 ghost use Rattle.chip_lang.specs.SeenLine.{seen_line};
 ghost use Rattle.chip_asm.specs.inner.Placements.{is_placed};
 ghost use Rattle.chip_asm.specs.inner.Records.{IsPlaceWithin, readings_in};
-ghost use Rattle.chip_asm.specs.inner.Shift.{added_by, removed_by, is_quiet, is_quiet_edit};
+ghost use Rattle.chip_asm.specs.inner.Shift.{added_by, removed_by, is_quiet, is_quiet_edit, moved_placement};
 
 use crate::edit::Edit;
 use crate::kept_line::KeptLine;
@@ -14,6 +14,7 @@ use crate::table::Symbol;
 use crate::traits::{Traits, is_steady};
 use chip_lang::limits::MEMORY_BYTES;
 use chip_lang::{Line, defines};
+use std::alloc::AllocError;
 
 /// How far lines move: their numbers, and their addresses.
 #[derive(Clone, Copy, Debug)]
@@ -29,8 +30,9 @@ pub(crate) struct Shift {
 }
 
 impl Shift {
-    ghost use Rattle.chip_asm.specs.inner.Shift.{moved_number, moved_address, moved_placement, moved_symbol};
+    ghost use Rattle.chip_asm.specs.inner.Shift.{moved_number, moved_address, moved_symbol};
 
+    /// The number of a line that moves.
     fn number(self, number: u16) -> u16
         ensures { result ≡ moved_number self number }
     {
@@ -39,7 +41,8 @@ impl Shift {
             .saturating_sub(self.removed)
     }
 
-    fn address(self, address: u16) -> u16
+    /// The address of a line that moves.
+    pub(crate) fn address(self, address: u16) -> u16
         ensures { result ≡ moved_address self address }
     {
         address
@@ -127,4 +130,15 @@ pub(crate) fn are_accepted(placements: &[Placement]) -> bool
     ensures { result ≡ list_all is_placed placements.now }
 {
     placements.iter().all(|placement| placement.is_accepted())
+}
+
+/// Adds what holds of lines that move.
+pub(crate) fn add_moved(
+    placements: &mut Vec<Placement>,
+    others: &[Placement],
+    shift: Shift,
+) -> Result<(), AllocError>
+    ensures { OnOk result (placements.new.items ≡ placements.old.items ++ map (moved_placement shift) others.now) }
+{
+    placements.extend(others.iter().map(|placement| shift.placement(placement)))
 }

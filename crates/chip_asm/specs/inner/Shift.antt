@@ -1,6 +1,7 @@
 -- What moves where the lines after an edit only move (own). The sums stay far below where they would end.
 use Rattle.std.specs.Prelude.{◌≡◌, ℕ, ◌+◌, ◌-◌, ◌^◌, ◌%◌, ◌≤◌, min, pos, unsigned_abs, Bool, true, false, not, ◌&&◌, List, take, drop, slice_get}
 use Rattle.std.specs.List.{list_all}
+use Rattle.std.specs.Global.{Vec}
 use Rattle.std.specs.Option.{option_map_or}
 use Rattle.chip_lang.specs.Line.{Reading}
 use Rattle.chip_lang.specs.declared.limits.TheConstants.{MEMORY_BYTES}
@@ -8,10 +9,13 @@ use Rattle.chip_asm.specs.declared.limits.TheConstants.{MOST_LINES}
 use Rattle.chip_asm.specs.declared.edit.Edit.{Edit}
 use Rattle.chip_asm.specs.declared.edit.Edit.TheVariants.{Insert, Replace, Delete, Keep}
 use Rattle.chip_asm.specs.declared.layout.Layout.{Layout}
+use Rattle.chip_asm.specs.declared.pass.Pass.{Pass}
 use Rattle.chip_asm.specs.declared.placement.Placement.{Placement}
 use Rattle.chip_asm.specs.declared.shift.Shift.{Shift}
 use Rattle.chip_asm.specs.declared.table.Symbol.{Symbol}
 use Rattle.chip_asm.specs.declared.traits.Traits.{Traits}
+use Rattle.chip_asm.specs.inner.Follows.{Follows}
+use Rattle.chip_asm.specs.inner.Layouts.{first_placements}
 use Rattle.chip_asm.specs.inner.Placements.{is_placed}
 use Rattle.chip_asm.specs.inner.Records.{reading_in}
 use Rattle.chip_asm.specs.inner.Resume.{first_changed}
@@ -80,3 +84,8 @@ pub record IsShift (shift : Shift) (old : Layout) (lines : List Reading) (traits
   pub fits : old.end + shift.new_address ≤ MEMORY_BYTES + shift.old_address
   pub plain : list_all (λ t. t.is_plain) (drop (first_changed edit + added_by edit) traits) ≡ true
   pub accepted : list_all is_placed (drop (first_changed edit + removed_by edit) old.placements.items) ≡ true
+
+-- the pass stands after the first of some lines, with what it found of them
+pub record IsWalked (walked : Vec Placement × Pass) (lines : List Reading) (place : ℕ) : Type 0 where
+  pub placements : walked.0.items ≡ first_placements (take place lines)
+  pub follows : Follows walked.1 (placed (take place lines))
