@@ -36,3 +36,6 @@ pub mod MovedBytes
 pub mod NoFaults
 pub mod OwnCodes
 pub mod NamesDiffer
+pub mod ShiftedLines
+pub mod ShiftedNames
+pub mod ShiftedLayout

@@ -18,14 +18,14 @@ use Rattle.chip_asm.proofs.PlaceSteps.{address-cons, aligning-cons, has_ended-co
 -- statements
 
 -- an idle statement is none of the blocks', and has no value of its own
-record Calm (b : Body) : Type 0 where
-  no_if : is_if_body b ≡ false
-  no_else : is_else_body b ≡ false
-  no_endif : is_endif_body b ≡ false
-  condition : (names : List (Name × Symbol)) → condition_of names b ≡ false
-  value : (names : List (Name × Symbol)) → value_at names b ≡ Ok (pos 0)
+pub record Calm (b : Body) : Type 0 where
+  pub no_if : is_if_body b ≡ false
+  pub no_else : is_else_body b ≡ false
+  pub no_endif : is_endif_body b ≡ false
+  pub condition : (names : List (Name × Symbol)) → condition_of names b ≡ false
+  pub value : (names : List (Name × Symbol)) → value_at names b ≡ Ok (pos 0)
 
-calm-idle : (b : Body) → is_idle b ≡ true → Calm b
+pub calm-idle : (b : Body) → is_idle b ≡ true → Calm b
 unfolding value_at
 calm-idle (ifdef n) h = absurd (false≢true h)
 calm-idle (ifund n) h = absurd (false≢true h)
@@ -36,7 +36,7 @@ calm-idle (org e) h = absurd (false≢true h)
 calm-idle (ds e) h = absurd (false≢true h)
 calm-idle _ h = record { no_if = refl; no_else = refl; no_endif = refl; condition = λ names. refl; value = λ names. refl }
 
-plain-idle : (b : Body) → is_plain b ≡ true → is_idle b ≡ true
+pub plain-idle : (b : Body) → is_plain b ≡ true → is_idle b ≡ true
 plain-idle empty h = refl
 plain-idle options h = refl
 plain-idle used h = refl
@@ -48,15 +48,15 @@ plain-idle (code f os) h = refl
 plain-idle _ h = absurd (false≢true h)
 
 -- a plain statement neither moves the address nor switches the padding nor ends the source, and its name is that of an address
-record Plain (b : Body) : Type 0 where
-  no_org : is_org_body b ≡ false
-  no_end : is_end_body b ≡ false
-  no_align : (accepted aligning : Bool) → next_aligning accepted aligning b ≡ aligning
-  given : (here : ℕ) (value : ℤ) → value_given here value b ≡ pos here
-  first : (before : List Placed) (label : Option Name) → first_fault before (read label b)
+pub record Plain (b : Body) : Type 0 where
+  pub no_org : is_org_body b ≡ false
+  pub no_end : is_end_body b ≡ false
+  pub no_align : (accepted aligning : Bool) → next_aligning accepted aligning b ≡ aligning
+  pub given : (here : ℕ) (value : ℤ) → value_given here value b ≡ pos here
+  pub first : (before : List Placed) (label : Option Name) → first_fault before (read label b)
       ≡ cond (is_redefinition (symbols before) label) (Some DefinedTwice) (cond (nat_lt MEMORY_BYTES (address before + full_size (is_aligning before) (address before) b (pos 0))) (Some PastMemory) None)
 
-plain : (b : Body) → is_plain b ≡ true → Plain b
+pub plain : (b : Body) → is_plain b ≡ true → Plain b
 unfolding first_fault fault_of_value value_at
 plain empty h = record { no_org = refl; no_end = refl; no_align = λ a g. refl; given = λ n v. refl; first = λ before label. refl }
 plain options h = record { no_org = refl; no_end = refl; no_align = λ a g. refl; given = λ n v. refl; first = λ before label. refl }
@@ -71,7 +71,7 @@ plain _ h = absurd (false≢true h)
 -- lines
 
 -- a placed line, by its parts
-place-at : (before : List Placed) (line : Reading) (number : ℕ) (block : Option ℕ) (condition live : Bool) (here : ℕ) (value : ℤ) (fault : Option Fault) (size : ℕ)
+pub place-at : (before : List Placed) (line : Reading) (number : ℕ) (block : Option ℕ) (condition live : Bool) (here : ℕ) (value : ℤ) (fault : Option Fault) (size : ℕ)
     → number ≡ length before + 1 → block ≡ option_map (λ o. o.number) (first_of (enclosing before)) → condition ≡ condition_of (symbols before) (body_of line)
     → live ≡ is_live before (body_of line) → here ≡ address before → value ≡ value_or_zero (value_at (symbols before) (body_of line))
     → fault ≡ (if live then first_fault before line else None)
@@ -81,18 +81,18 @@ unfolding place
 place-at before line number block condition live here value fault size n b c l h v f s = rw (s, f, v, h, l, c, b, n) refl
 
 -- a line's parts, of the line itself
-record Parts (before : List Placed) (line : Reading) : Type 0 where
-  number : (place before line).number ≡ length before + 1
-  block : (place before line).block ≡ option_map (λ o. o.number) (first_of (enclosing before))
-  condition : (place before line).condition ≡ condition_of (symbols before) (body_of line)
-  live : (place before line).live ≡ is_live before (body_of line)
-  here : (place before line).here ≡ address before
-  value : (place before line).value ≡ value_or_zero (value_at (symbols before) (body_of line))
-  fault : (place before line).fault ≡ (if (place before line).live then first_fault before line else None)
-  size : (place before line).size ≡ (if takes_effect (place before line) then full_size (is_aligning before) (place before line).here (body_of line) (place before line).value else 0)
-  line_is : (place before line).line ≡ line
+pub record Parts (before : List Placed) (line : Reading) : Type 0 where
+  pub number : (place before line).number ≡ length before + 1
+  pub block : (place before line).block ≡ option_map (λ o. o.number) (first_of (enclosing before))
+  pub condition : (place before line).condition ≡ condition_of (symbols before) (body_of line)
+  pub live : (place before line).live ≡ is_live before (body_of line)
+  pub here : (place before line).here ≡ address before
+  pub value : (place before line).value ≡ value_or_zero (value_at (symbols before) (body_of line))
+  pub fault : (place before line).fault ≡ (if (place before line).live then first_fault before line else None)
+  pub size : (place before line).size ≡ (if takes_effect (place before line) then full_size (is_aligning before) (place before line).here (body_of line) (place before line).value else 0)
+  pub line_is : (place before line).line ≡ line
 
-parts : (before : List Placed) (line : Reading) → Parts before line
+pub parts : (before : List Placed) (line : Reading) → Parts before line
 unfolding place
 parts before line = record { number = refl; block = refl; condition = refl; live = refl; here = refl; value = refl; fault = refl; size = refl; line_is = refl }
 
@@ -226,16 +226,16 @@ same-cons p xs ys s = record {
 pub record Quiet (p : Placed) : Type 0 where
   pub no_if : is_if p ≡ false
   pub no_else : is_else p ≡ false
-  no_endif : is_endif p ≡ false
-  no_origin : is_origin p ≡ false
-  no_end : (p.live && is_end_body (body_of p.line)) ≡ false
-  no_align : (aligning : Bool) → next_aligning (takes_effect p) aligning (body_of p.line) ≡ aligning
+  pub no_endif : is_endif p ≡ false
+  pub no_origin : is_origin p ≡ false
+  pub no_end : (p.live && is_end_body (body_of p.line)) ≡ false
+  pub no_align : (aligning : Bool) → next_aligning (takes_effect p) aligning (body_of p.line) ≡ aligning
 
 and_never : (a : Bool) → (a && false) ≡ false
 and_never true = refl
 and_never false = refl
 
-quiet-plain : (p : Placed) → is_plain (body_of p.line) ≡ true → Quiet p
+pub quiet-plain : (p : Placed) → is_plain (body_of p.line) ≡ true → Quiet p
 quiet-plain p h =
     let c = calm-idle (body_of p.line) (plain-idle (body_of p.line) h) in
     let q = plain (body_of p.line) h in
@@ -269,7 +269,7 @@ quiet-by : (p : Placed) (live : Bool) → p.live ≡ live → (live ≡ true →
 quiet-by p true l a b = quiet-plain p (a refl)
 quiet-by p false l a b = quiet-idle p l (b refl)
 
-plain-body : (line : Reading) → is_plain_line line ≡ true → is_plain (body_of line) ≡ true
+pub plain-body : (line : Reading) → is_plain_line line ≡ true → is_plain (body_of line) ≡ true
 plain-body (bad f) h = absurd (false≢true h)
 plain-body (read label b) h = h
 

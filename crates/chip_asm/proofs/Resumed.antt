@@ -55,7 +55,7 @@ here-next : (before : List Placed) (line : Reading) → (place before line).here
 unfolding place
 here-next before line = refl
 
-line-next : (before : List Placed) (line : Reading) → (place before line).line ≡ line
+pub line-next : (before : List Placed) (line : Reading) → (place before line).line ≡ line
 unfolding place
 line-next before line = refl
 
@@ -86,7 +86,7 @@ pub record IsSteady (body : Body) : Type 0 where
   pub no_end : is_end_body body ≡ false
   pub no_align : is_align_body body ≡ false
 
-steady-body : (body : Body) → is_steady body ≡ true → IsSteady body
+pub steady-body : (body : Body) → is_steady body ≡ true → IsSteady body
 steady-body body s = by (is_if_body body) (is_end_body body) (is_align_body body) refl refl refl s
   where
     by : (i e a : Bool) → is_if_body body ≡ i → is_end_body body ≡ e → is_align_body body ≡ a → (not i && not e && not a) ≡ true → IsSteady body
@@ -95,7 +95,7 @@ steady-body body s = by (is_if_body body) (is_end_body body) (is_align_body body
     by false true a i e al h = cc
     by true e a i en al h = cc
 
-abbrev AreSteady : List Placed → Type 0
+abbrev pub AreSteady : List Placed → Type 0
 AreSteady [] = Unit {0}
 AreSteady (p ∷ before) = IsSteady (body_of p.line) × AreSteady before
 
@@ -103,7 +103,7 @@ steady-fold : (before : List Placed) (lines : List Reading) → AreSteady before
 steady-fold before [] s h = s
 steady-fold before (line ∷ lines) s h = steady-fold (onto before line) lines (rw line-next (steady-body (body_of line) (h zero line (omega arith))), s) (λ k d inside. h (suc k) d (omega arith))
 
-steady-placed : (lines : List Reading) → All (λ line. is_steady (body_of line) ≡ true) lines → AreSteady (placed lines)
+pub steady-placed : (lines : List Reading) → All (λ line. is_steady (body_of line) ≡ true) lines → AreSteady (placed lines)
 unfolding placed
 steady-placed lines h = steady-fold [] lines tt h
 
@@ -146,7 +146,7 @@ still-aligning (p ∷ before) s = aligning-cons p before ∙ aligning-kept (take
 
 -- placements
 
-final-steady : (all : List Placed) (p : Placed) → is_if p ≡ false → final_placement all p ≡ placement_of p
+pub final-steady : (all : List Placed) (p : Placed) → is_if p ≡ false → final_placement all p ≡ placement_of p
 final-steady all p e = rw e refl
 
 map-steady : (all before : List Placed) → AreSteady before → map (final_placement all) before ≡ map placement_of before

@@ -1,4 +1,4 @@
--- What the functions inside say: of the first pass in Turns, Follows, Bare, Placements, Marks, Layouts and Resume; of kept lines
+-- What the functions inside say: of the first pass in Turns, Follows, Bare, Placements, Marks, Layouts, Resume and Shift; of kept lines
 -- and their codes in Records, Traits, Hints, Moves, Remaking, Recode, Effect, Kept and KeptCodes.
 pub mod Bare
 pub mod Effect
@@ -14,6 +14,7 @@ pub mod Recode
 pub mod Records
 pub mod Remaking
 pub mod Resume
+pub mod Shift
 pub mod Span
 pub mod Stood
 pub mod Traits

@@ -1,5 +1,5 @@
 //! What is kept of a source, and the one way in which an edit changes it.
-ghost use Rattle.std.specs.Prelude.{◌≡◌, ◌+◌, ◌<◌, ◌≤◌, ℕ, List, All, [], true, Some, slice_set, OnOk, OnErr, IfOk, IfSome, length, vec_len, vec_capacity, map, slice_index};
+ghost use Rattle.std.specs.Prelude.{◌≡◌, ◌+◌, ◌<◌, ◌≤◌, ℕ, List, All, [], false, true, Some, slice_set, OnOk, OnErr, IfOk, IfSome, length, vec_len, vec_capacity, map, slice_index};
 ghost use Rattle.std.specs.Option.{option_copied};
 ghost use Rattle.chip_lang.specs.Line.{Reading, reading_of};
 ghost use Rattle.chip_asm.specs.declared.kept_line.KeptLine.{KeptLine};
@@ -13,6 +13,7 @@ ghost use Rattle.chip_asm.specs.Work.{needs_count};
 ghost use Rattle.chip_asm.specs.inner.Recode.{new_codes};
 ghost use Rattle.chip_asm.specs.inner.Layouts.{IsLayoutOf};
 ghost use Rattle.chip_asm.specs.inner.Resume.{Continues, first_changed};
+ghost use Rattle.chip_asm.specs.inner.Shift.{is_keep};
 ghost use Rattle.chip_asm.specs.inner.Hints.{names_in, hint_in};
 ghost use Rattle.chip_asm.specs.inner.Traits.{traits_of};
 ghost use Rattle.chip_asm.specs.inner.Kept.{HasCodeAt, IsKept};
@@ -255,6 +256,7 @@ impl Kept {
         requires short { vec_len self.old.image ≤ IMAGE_BYTES }
         requires traits { self.old.traits.items ≡ map traits_of (readings_in self.old.lines.items) }
         requires continues { Continues self.old.layout (readings_in (lines_after self.old.lines.items edit.now)) (first_changed edit.now) }
+        requires before { is_keep edit.now ≡ false → IsLayoutOf self.old.layout (readings_in self.old.lines.items) }
         requires hints { self.old.hints.items ≡ map (hint_in (names_in self.old.layout.names)) (readings_in self.old.lines.items) }
         ensures traits { self.new.traits ≡ self.old.traits }
         ensures hints { self.new.hints ≡ self.old.hints }

@@ -1,5 +1,6 @@
 //! The first pass over all lines.
-ghost use Rattle.std.specs.Prelude.{◌≡◌, ℕ, ◌+◌, ◌<◌, ◌≤◌, true, List, All, [], ◌∷◌, ◌++◌, IfOk, OnOk, Some, length, map, nat_eq, slice_get, slice_index_or, take, vec_len};
+ghost use Rattle.std.specs.Prelude.{◌≡◌, ℕ, ◌+◌, ◌<◌, ◌≤◌, true, false, List, All, [], ◌∷◌, ◌++◌, IfOk, IfSome, OnOk, Some, length, map, nat_eq, slice_get, slice_index_or, drop, take, vec_len};
+ghost use Rattle.chip_lang.specs.declared.limits.TheConstants.{MEMORY_BYTES};
 ghost use Rattle.chip_lang.specs.Line.{Reading};
 ghost use Rattle.chip_asm.specs.Layout.{address, body_of, placed, place as place_next};
 ghost use Rattle.chip_asm.specs.inner.Layouts.{first_placements};
@@ -8,6 +9,7 @@ ghost use Rattle.chip_asm.specs.inner.Follows.{Follows, placement_of};
 ghost use Rattle.std.specs.List.{list_any};
 ghost use Rattle.chip_asm.specs.inner.Marks.{marked};
 ghost use Rattle.chip_asm.specs.inner.Records.{IsPlaceWithin, lines_after, readings_in, count_after as count_of_after};
+ghost use Rattle.chip_asm.specs.inner.Shift.{IsShift, IsWalked, is_keep, moved_address, moved_name, moved_placement};
 ghost use Rattle.chip_asm.specs.inner.Traits.{is_steady, traits_of};
 
 use crate::block::Block;
@@ -16,9 +18,12 @@ use crate::kept_line::KeptLine;
 use crate::limits::MOST_LINES;
 use crate::pass::Pass;
 use crate::placement::Placement;
+use crate::shift::{
+    Shift, add_moved, added_by, are_accepted, are_plain, is_quiet_edit, removed_by,
+};
 use crate::table::Table;
 use crate::traits::Traits;
-use chip_lang::limits::IMAGE_START;
+use chip_lang::limits::{IMAGE_START, MEMORY_BYTES};
 use chip_lang::{Fault, defines};
 use std::alloc::{AllocError, Global};
 
@@ -145,6 +150,32 @@ fn first_lines(
     Ok((placements, pass))
 }
 
+/// Goes on from a place to another one, by what is found of each line between.
+fn walk(
+    walked: (Vec<Placement>, Pass),
+    alloc: Global,
+    traits: &[Traits],
+    lines: &[KeptLine],
+    edit: &Edit,
+    place: usize,
+    end: usize,
+) -> Result<(Vec<Placement>, Pass), AllocError>
+    requires within { IsPlaceWithin (length lines.now) edit.now }
+    requires few { length lines.now ≤ MOST_LINES }
+    requires traits { traits.now ≡ map traits_of (readings_in (lines_after lines.now edit.now)) }
+    requires walked { IsWalked walked (readings_in (lines_after lines.now edit.now)) place }
+    requires order { place ≤ end }
+    requires end { end ≤ count_of_after (length lines.now) edit.now }
+    ensures { IfOk result (λ made. IsWalked made (readings_in (lines_after lines.now edit.now)) end) }
+{
+    let (mut placements, mut pass) = walked;
+    for next in place..end {
+        let placement = step_at(&mut pass, alloc, traits[next], lines, edit, next)?;
+        placements.push(placement)?;
+    }
+    Ok((placements, pass))
+}
+
 impl Layout {
     ghost use Rattle.chip_asm.specs.inner.Layouts.{IsLayoutOf};
 
@@ -170,8 +201,74 @@ impl Layout {
         }
     }
 
+    /// How far the lines after an edit move, where they do nothing else: the pass stands before them at an address, and each line before
+    /// the place of the edit is steady.
+    fn shift(
+        &self,
+        traits: &[Traits],
+        lines: &[KeptLine],
+        edit: &Edit,
+        here: usize,
+    ) -> Option<Shift>
+        requires within { IsPlaceWithin (length lines.now) edit.now }
+        requires before { is_keep edit.now ≡ false → IsLayoutOf self.now (readings_in lines.now) }
+        requires traits { traits.now ≡ map traits_of (readings_in (lines_after lines.now edit.now)) }
+        requires low { here ≤ MEMORY_BYTES }
+        ensures { IfSome result (λ shift. IsShift shift self.now (readings_in lines.now) traits.now edit.now here) }
+    {
+        if !is_quiet_edit(lines, edit) {
+            return None;
+        }
+        let added = added_by(edit);
+        let removed = removed_by(edit);
+        let from = first_changed(edit) + removed;
+        let old_address = self.address_at(from);
+        if (old_address + here) % 2 != 0 || self.end + here > MEMORY_BYTES + old_address {
+            return None;
+        }
+        if are_plain(&traits[first_changed(edit) + added..])
+            && are_accepted(&self.placements[from..])
+        {
+            Some(Shift {
+                added: added as u16,
+                removed: removed as u16,
+                new_address: here as u16,
+                old_address: old_address as u16,
+            })
+        } else {
+            None
+        }
+    }
+
+    /// The layout of which the first lines are walked, and the others are those from a place on, moved.
+    fn shifted(
+        &self,
+        alloc: Global,
+        walked: (Vec<Placement>, Pass),
+        shift: Shift,
+        from: usize,
+    ) -> Result<Self, AllocError>
+        requires from { from ≤ vec_len self.now.placements }
+        requires names { walked.1.names ≡ take (length walked.1.names) self.now.names }
+        requires end { self.now.end ≤ MEMORY_BYTES }
+        ensures placements { IfOk result (λ made. made.placements.items ≡ walked.0.items ++ map (moved_placement shift) (drop from self.now.placements.items)) }
+        ensures names { IfOk result (λ made. made.names ≡ walked.1.names ++ map (moved_name shift) (drop (length walked.1.names) self.now.names)) }
+        ensures end { IfOk result (λ made. made.end ≡ moved_address shift self.now.end) }
+    {
+        let (mut placements, pass) = walked;
+        add_moved(&mut placements, &self.placements[from..], shift)?;
+        let mut names = pass.into_names();
+        names.append_moved(alloc, &self.names, shift)?;
+        Ok(Layout {
+            placements,
+            names,
+            end: shift.address(self.end as u16) as usize,
+        })
+    }
+
     /// The layout of the lines after an edit, where another one is that before it, in the room of a third one, whose names serve again
-    /// where they still come in this order. The pass begins at the edit, unless a line before it is no steady one.
+    /// where they still come in this order. The pass begins at the edit, unless a line before it is no steady one. It ends there too, where
+    /// the later lines only move.
     pub(crate) fn after(
         alloc: Global,
         spare: Layout,
@@ -182,17 +279,23 @@ impl Layout {
     ) -> Result<Self, AllocError>
         requires within { IsPlaceWithin (length lines.now) edit.now }
         requires continues { Continues old.now (readings_in (lines_after lines.now edit.now)) (first_changed_by edit.now) }
+        requires before { is_keep edit.now ≡ false → IsLayoutOf old.now (readings_in lines.now) }
         requires few { length lines.now ≤ MOST_LINES }
         requires traits { traits.now ≡ map traits_of (readings_in (lines_after lines.now edit.now)) }
         ensures { IfOk result (λ layout. IsLayoutOf layout (readings_in (lines_after lines.now edit.now))) }
     {
         let count = count_after(lines.len(), edit);
-        let first = steady_lines(traits, first_changed(edit));
-        let (mut placements, mut pass) = first_lines(alloc, spare, old, first, count)?;
-        for place in first..count {
-            let placement = step_at(&mut pass, alloc, traits[place], lines, edit, place)?;
-            placements.push(placement)?;
+        let place = first_changed(edit);
+        let first = steady_lines(traits, place);
+        let next = first + added_by(edit);
+        let walked = first_lines(alloc, spare, old, first, count)?;
+        let walked = walk(walked, alloc, traits, lines, edit, first, next)?;
+        if first == place {
+            if let Some(shift) = old.shift(traits, lines, edit, walked.1.here) {
+                return old.shifted(alloc, walked, shift, place + removed_by(edit));
+            }
         }
+        let (placements, pass) = walk(walked, alloc, traits, lines, edit, next, count)?;
         let placements = mark_unclosed(alloc, placements, pass.ended, &pass.blocks)?;
         let end = pass.here;
         Ok(Layout {

@@ -19,6 +19,7 @@ mod placement;
 mod recode;
 mod refusal;
 mod settle;
+mod shift;
 mod source;
 mod table;
 mod traits;

@@ -1,10 +1,11 @@
 //! The names of a source.
-ghost use Rattle.std.specs.Prelude.{◌≡◌, ◌≢◌, ◌++◌, [], ◌∷◌, OnOk, IfOk, IfSome, None, Some, true, false, length, map, slice_get, ◌<◌};
+ghost use Rattle.std.specs.Prelude.{◌≡◌, ◌≢◌, ◌++◌, [], ◌∷◌, OnOk, IfOk, IfSome, None, Some, true, false, length, map, take, drop, slice_get, ◌<◌};
 ghost use Rattle.std.specs.Str.{bytes_eq};
 ghost use Rattle.chip_lang.specs.Line.{upper};
 ghost use Rattle.chip_lang.specs.Value.{value_of_name};
 ghost use Rattle.chip_asm.specs.Names.{lookup_name, valued, values_of};
 
+use crate::shift::Shift;
 use chip_lang::short_bytes::upper;
 use chip_lang::{Bytes, Names};
 use indexmap::IndexMap;
@@ -65,6 +66,7 @@ impl Model for Table {
 
 impl Table {
     ghost use Rattle.chip_asm.specs.inner.Resume.{names_up_to};
+    ghost use Rattle.chip_asm.specs.inner.Shift.{moved_name};
     ghost use Rattle.chip_asm.specs.inner.Hints.{names_in, number_of};
     ghost use Rattle.chip_asm.specs.Names.{Name};
     ghost use Rattle.chip_asm.specs.declared.table.Symbol.{Symbol};
@@ -106,6 +108,29 @@ impl Table {
                 return Ok(());
             }
             self.define(alloc, name, *symbol)?;
+        }
+        Ok(())
+    }
+
+    /// Adds the other names of another table that begins with the same ones, with what they mean at lines that move.
+    pub(crate) fn append_moved(
+        &mut self,
+        alloc: Global,
+        other: &Table,
+        shift: Shift,
+    ) -> Result<(), AllocError>
+        requires { self.old ≡ take (length self.old) other.now }
+        ensures { OnOk result (self.new ≡ self.old ++ map (moved_name shift) (drop (length self.old) other.now)) }
+    {
+        let first = self.count;
+        for index in first..other.symbols.len() {
+            let Some((name, symbol)) = other.symbols.get_index(index) else {
+                unreachable!();
+            };
+            if index >= other.count {
+                return Ok(());
+            }
+            self.define(alloc, name, shift.symbol(symbol))?;
         }
         Ok(())
     }

@@ -4,6 +4,7 @@ ghost use Rattle.chip_lang.specs.Line.{Reading};
 ghost use Rattle.chip_lang.specs.SeenLine.{seen_line};
 ghost use Rattle.chip_lang.specs.Uses.{name_defined};
 ghost use Rattle.chip_asm.specs.inner.Bare.{IsBare};
+ghost use Rattle.chip_asm.specs.inner.Effect.{is_plain_line};
 ghost use Rattle.chip_asm.specs.Layout.{body_of};
 ghost use Rattle.chip_asm.specs.inner.Recode.{has_code};
 ghost use Rattle.chip_asm.specs.inner.Records.{IsPlaceWithin, lines_after, readings_in};
@@ -20,6 +21,8 @@ use std::alloc::{AllocError, Global};
 pub(crate) struct Traits {
     /// Whether it is an instruction or has no statement.
     pub(crate) is_bare: bool,
+    /// Whether all that the first pass asks of its statement is the size.
+    pub(crate) is_plain: bool,
     /// Whether it gives a name, if it is accepted.
     pub(crate) gives_name: bool,
     /// Whether it has bytes of its own.
@@ -42,6 +45,26 @@ fn is_bare(line: &Line) -> bool
     )
 }
 
+/// Whether all that the first pass asks of the line's statement is the size.
+fn is_plain(line: &Line) -> bool
+    ensures { result ≡ is_plain_line (seen_line line.now) }
+{
+    matches!(
+        line,
+        Line::Read {
+            body: Body::Empty
+                | Body::Options
+                | Body::Used
+                | Body::Xref
+                | Body::Db(_)
+                | Body::Dw(_)
+                | Body::Da(_)
+                | Body::Code(_, _),
+            ..
+        }
+    )
+}
+
 /// Whether the line has bytes of its own.
 pub(crate) fn has_code(line: &Line) -> bool
     ensures { result ≡ has_code (body_of (seen_line line.now)) }
@@ -56,7 +79,7 @@ pub(crate) fn has_code(line: &Line) -> bool
 }
 
 /// Whether the line opens no block, ends no source and switches no alignment.
-fn is_steady(line: &Line) -> bool
+pub(crate) fn is_steady(line: &Line) -> bool
     ensures { result ≡ is_steady (body_of (seen_line line.now)) }
 {
     !matches!(
@@ -74,6 +97,7 @@ pub(crate) fn traits_of(line: &Line) -> Traits
 {
     Traits {
         is_bare: is_bare(line),
+        is_plain: is_plain(line),
         gives_name: defines(line).is_some(),
         is_coded: has_code(line),
         has_names: uses(line, 0).is_some(),

@@ -3,6 +3,7 @@ use Rattle.std.specs.Prelude.{Bool, false, not, ◌&&◌, is_some, slice_get}
 use Rattle.chip_lang.specs.Line.{Body, Reading, bad, read}
 use Rattle.chip_lang.specs.Uses.{names_used, name_defined}
 use Rattle.chip_asm.specs.inner.Bare.{is_bare}
+use Rattle.chip_asm.specs.inner.Effect.{is_plain_line}
 use Rattle.chip_asm.specs.Layout.{body_of, is_if_body, is_end_body, is_align_body}
 use Rattle.chip_asm.specs.inner.Recode.{has_code}
 use Rattle.chip_asm.specs.declared.traits.Traits.{Traits}
@@ -24,4 +25,4 @@ abbrev pub is_steady : Body → Bool
 is_steady body = not (is_if_body body) && not (is_end_body body) && not (is_align_body body)
 
 abbrev pub traits_of : Reading → Traits
-traits_of line = record { is_bare = is_bare_line line; gives_name = gives_name line; is_coded = has_code (body_of line); has_names = uses_name line; is_steady = is_steady (body_of line) }
+traits_of line = record { is_bare = is_bare_line line; is_plain = is_plain_line line; gives_name = gives_name line; is_coded = has_code (body_of line); has_names = uses_name line; is_steady = is_steady (body_of line) }

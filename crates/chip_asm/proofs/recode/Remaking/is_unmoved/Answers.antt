@@ -14,7 +14,7 @@ use Rattle.chip_asm.proofs.RecodeSteps.{agree-nameless, said, no-unknown}
 use Rattle.chip_asm.proofs.recode.Remaking.is_unmoved.Goals as goal
 
 abbrev no-traits : Traits
-no-traits = record { is_bare = false; gives_name = false; is_coded = false; has_names = false; is_steady = false }
+no-traits = record { is_bare = false; is_plain = false; gives_name = false; is_coded = false; has_names = false; is_steady = false }
 
 not-so : (b : Bool) → not b ≡ true → b ≡ false
 not-so true e = cc

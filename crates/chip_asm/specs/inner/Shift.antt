@@ -1,0 +1,91 @@
+-- What moves where the lines after an edit only move (own). The sums stay far below where they would end.
+use Rattle.std.specs.Prelude.{◌≡◌, ℕ, ◌+◌, ◌-◌, ◌^◌, ◌%◌, ◌≤◌, min, pos, unsigned_abs, Bool, true, false, not, ◌&&◌, List, take, drop, slice_get}
+use Rattle.std.specs.List.{list_all}
+use Rattle.std.specs.Global.{Vec}
+use Rattle.std.specs.Option.{option_map_or}
+use Rattle.chip_lang.specs.Line.{Reading}
+use Rattle.chip_lang.specs.declared.limits.TheConstants.{MEMORY_BYTES}
+use Rattle.chip_asm.specs.declared.limits.TheConstants.{MOST_LINES}
+use Rattle.chip_asm.specs.declared.edit.Edit.{Edit}
+use Rattle.chip_asm.specs.declared.edit.Edit.TheVariants.{Insert, Replace, Delete, Keep}
+use Rattle.chip_asm.specs.declared.layout.Layout.{Layout}
+use Rattle.chip_asm.specs.declared.pass.Pass.{Pass}
+use Rattle.chip_asm.specs.declared.placement.Placement.{Placement}
+use Rattle.chip_asm.specs.declared.shift.Shift.{Shift}
+use Rattle.chip_asm.specs.declared.table.Symbol.{Symbol}
+use Rattle.chip_asm.specs.declared.traits.Traits.{Traits}
+use Rattle.chip_asm.specs.inner.Follows.{Follows}
+use Rattle.chip_asm.specs.inner.Layouts.{first_placements}
+use Rattle.chip_asm.specs.inner.Placements.{is_placed}
+use Rattle.chip_asm.specs.inner.Records.{reading_in}
+use Rattle.chip_asm.specs.inner.Resume.{first_changed}
+use Rattle.chip_asm.specs.inner.Traits.{gives_name, is_steady}
+use Rattle.chip_asm.specs.Layout.{body_of, placed, address}
+use Rattle.chip_asm.specs.Names.{Name}
+
+abbrev pub moved_number : Shift → ℕ → ℕ
+moved_number shift number = min (number + shift.added) (2 ^ 16 - 1) - shift.removed
+
+abbrev pub moved_address : Shift → ℕ → ℕ
+moved_address shift address = min (address + shift.new_address) (2 ^ 16 - 1) - shift.old_address
+
+abbrev pub moved_placement : Shift → Placement → Placement
+moved_placement shift q = record q { number = moved_number shift q.number; here = moved_address shift q.here }
+
+-- a name of an address
+abbrev pub moved_symbol : Shift → Symbol → Symbol
+moved_symbol shift symbol = record {
+  value = pos (moved_address shift (min (unsigned_abs symbol.value) MEMORY_BYTES));
+  line = moved_number shift (min symbol.line MOST_LINES);
+}
+
+abbrev pub moved_name : Shift → Name × Symbol → Name × Symbol
+moved_name shift e = (e.0, moved_symbol shift e.1)
+
+-- edits
+
+abbrev pub is_keep : Edit → Bool
+is_keep Keep = true
+is_keep _ = false
+
+-- how many lines come at the place of the edit, and how many go
+abbrev pub added_by : Edit → ℕ
+added_by (Insert at line) = 1
+added_by (Replace at line) = 1
+added_by _ = 0
+
+abbrev pub removed_by : Edit → ℕ
+removed_by (Replace at line) = 1
+removed_by (Delete at) = 1
+removed_by _ = 0
+
+-- the line does nothing to the others but by where it leaves the address
+abbrev pub is_quiet : Reading → Bool
+is_quiet line = is_steady (body_of line) && not (gives_name line)
+
+abbrev pub is_quiet_at : List Reading → ℕ → Bool
+is_quiet_at lines at = option_map_or is_quiet (slice_get lines at) false
+
+-- so are the line that comes and the line that goes
+abbrev pub is_quiet_edit : List Reading → Edit → Bool
+is_quiet_edit lines (Insert at line) = is_quiet (reading_in line)
+is_quiet_edit lines (Replace at line) = is_quiet (reading_in line) && is_quiet_at lines at
+is_quiet_edit lines (Delete at) = is_quiet_at lines at
+is_quiet_edit lines Keep = false
+
+-- the lines after an edit only move, where the pass stands before them at an address
+pub record IsShift (shift : Shift) (old : Layout) (lines : List Reading) (traits : List Traits) (edit : Edit) (here : ℕ) : Type 0 where
+  pub quiet : is_quiet_edit lines edit ≡ true
+  pub added : shift.added ≡ added_by edit
+  pub removed : shift.removed ≡ removed_by edit
+  pub new_address : shift.new_address ≡ here
+  pub old_address : shift.old_address ≡ address (placed (take (first_changed edit + removed_by edit) lines))
+  pub even : (shift.old_address + shift.new_address) % 2 ≡ 0
+  pub fits : old.end + shift.new_address ≤ MEMORY_BYTES + shift.old_address
+  pub plain : list_all (λ t. t.is_plain) (drop (first_changed edit + added_by edit) traits) ≡ true
+  pub accepted : list_all is_placed (drop (first_changed edit + removed_by edit) old.placements.items) ≡ true
+
+-- the pass stands after the first of some lines, with what it found of them
+pub record IsWalked (walked : Vec Placement × Pass) (lines : List Reading) (place : ℕ) : Type 0 where
+  pub placements : walked.0.items ≡ first_placements (take place lines)
+  pub follows : Follows walked.1 (placed (take place lines))
