@@ -1,9 +1,8 @@
 //! Instructions and their words.
 
-ghost use Rattle.std.specs.Prelude.{◌≡◌, ◌≢◌, ◌<◌, ◌+◌, ◌*◌, ◌^◌, ◌/◌, ◌%◌, IfSome, ℕ};
-ghost use Rattle.chip_lang.specs.Word.{xyn, with_byte, with_address, word_of, Fits};
+ghost use Rattle.std.specs.Prelude.{◌≡◌, ◌<◌, ◌+◌, ◌*◌, ◌/◌, ◌%◌, Some};
 ghost use Rattle.chip_lang.specs.Decoding.{decode_of};
-ghost use Rattle.chip_lang.specs.inner.ByDigits.{system_byte_at, system_at, arithmetic_at, key_at, transfer_at, instr_at};
+ghost use Rattle.chip_lang.specs.inner.ByDigits.{system_byte_at, system_at, arithmetic_at, key_at, transfer_at, digits_at, instr_at};
 ghost use Rattle.chip_lang.specs.declared.instr.Instr.{Instr};
 
 use crate::number::{Addr, Nibble, Reg};
@@ -99,20 +98,20 @@ pub enum Instr {
     LoadFlags(Reg),
 }
 
-/// The word of an instruction.
+/// The word of an instruction: the one that decodes to it.
+#[tactic(auto, unfolding(crate::specs::inner::ByDigits::system_at, crate::specs::inner::ByDigits::system_byte_at, crate::specs::inner::ByDigits::arithmetic_at, crate::specs::inner::ByDigits::key_at, crate::specs::inner::ByDigits::transfer_at))]
 pub fn word(instr: Instr) -> u16
-    ensures word { result ≡ word_of instr }
-    ensures fits { Fits instr }
+    ensures { decode_of result ≡ Some instr }
 {
     match instr {
-        Instr::ScrollDown(n) => 0x00C0 + n.number() as u16,
-        Instr::ClearScreen => 0x00E0,
-        Instr::Return => 0x00EE,
-        Instr::ScrollRight => 0x00FB,
-        Instr::ScrollLeft => 0x00FC,
-        Instr::Exit => 0x00FD,
-        Instr::LowSize => 0x00FE,
-        Instr::HighSize => 0x00FF,
+        Instr::ScrollDown(n) => of_system(0xC0 + n.number()),
+        Instr::ClearScreen => of_system(0xE0),
+        Instr::Return => of_system(0xEE),
+        Instr::ScrollRight => of_system(0xFB),
+        Instr::ScrollLeft => of_system(0xFC),
+        Instr::Exit => of_system(0xFD),
+        Instr::LowSize => of_system(0xFE),
+        Instr::HighSize => of_system(0xFF),
         Instr::Jump(a) => with_address(1, a),
         Instr::Call(a) => with_address(2, a),
         Instr::SkipIfByte(x, byte) => with_byte(3, x, byte),
@@ -151,24 +150,34 @@ pub fn word(instr: Instr) -> u16
     }
 }
 
+/// The word 00KK.
+fn of_system(byte: u8) -> u16
+    ensures { decode_of result ≡ digits_at 0 0 (byte / 16) (byte % 16) byte byte }
+{
+    u16::from(byte)
+}
+
+/// The word of a first digit and an address.
 fn with_address(top: u16, a: Addr) -> u16
     requires { top < 16 }
-    ensures { result ≡ with_address top a }
+    ensures { decode_of result ≡ digits_at top (a / 256) (a / 16 % 16) (a % 16) (a % 256) a }
 {
     top * 4096 + a.number()
 }
 
+/// The word of a first digit, a register and a byte.
 fn with_byte(top: u16, x: Reg, byte: u8) -> u16
     requires { top < 16 }
-    ensures { result ≡ with_byte top x byte }
+    ensures { decode_of result ≡ digits_at top x (byte / 16) (byte % 16) byte (256 * x + byte) }
 {
     top * 4096 + u16::from(x.number()) * 256 + u16::from(byte)
 }
 
+/// The word of a first digit, two registers and a last digit.
 fn with_registers(top: u16, x: Reg, y: Reg, n: u8) -> u16
     requires top { top < 16 }
     requires n { n < 16 }
-    ensures { result ≡ xyn top x y n }
+    ensures { decode_of result ≡ digits_at top x y n (16 * y + n) (256 * x + (16 * y + n)) }
 {
     top * 4096 + u16::from(x.number()) * 256 + u16::from(y.number()) * 16 + u16::from(n)
 }
@@ -176,17 +185,14 @@ fn with_registers(top: u16, x: Reg, y: Reg, n: u8) -> u16
 /// The instruction of a word, if it is the word of one.
 #[inline(always)]
 pub fn decode(w: u16) -> Option<Instr>
-    ensures value { result ≡ decode_of w }
-    ensures found { IfSome result (λ i. Fits i × (word_of i ≡ w)) }
-    ensures exact { (i : Instr) → Fits i → word_of i ≡ w → result ≡ Some i }
+    ensures { result ≡ decode_of w }
 {
     instr_of(w)
 }
 
 #[inline(always)]
 fn instr_of(w: u16) -> Option<Instr>
-    ensures found { IfSome result (λ i. Fits i × (word_of i ≡ w)) }
-    ensures value { result ≡ instr_at w }
+    ensures { result ≡ instr_at w }
 {
     let x = Reg::new((w / 256 % 16) as u8)?;
     let y = Reg::new((w / 16 % 16) as u8)?;
@@ -216,9 +222,7 @@ fn instr_of(w: u16) -> Option<Instr>
 
 #[tactic(auto, unfolding(crate::specs::inner::ByDigits::system_at))]
 fn system(x: Reg, y: Reg, n: Nibble, byte: u8) -> Option<Instr>
-    requires { byte ≡ 16 * y + n }
-    ensures found { IfSome result (λ i. Fits i × (word_of i ≡ xyn 0 x y n)) }
-    ensures value { result ≡ system_at x y n byte }
+    ensures { result ≡ system_at x y n byte }
 {
     if x.number() != 0 {
         None
@@ -231,8 +235,7 @@ fn system(x: Reg, y: Reg, n: Nibble, byte: u8) -> Option<Instr>
 
 #[tactic(auto, unfolding(crate::specs::inner::ByDigits::system_byte_at))]
 fn system_byte(byte: u8) -> Option<Instr>
-    ensures found { IfSome result (λ i. Fits i × (word_of i ≡ byte)) }
-    ensures value { result ≡ system_byte_at byte }
+    ensures { result ≡ system_byte_at byte }
 {
     match byte {
         0xE0 => Some(Instr::ClearScreen),
@@ -248,8 +251,7 @@ fn system_byte(byte: u8) -> Option<Instr>
 
 #[tactic(auto, unfolding(crate::specs::inner::ByDigits::arithmetic_at))]
 fn arithmetic(x: Reg, y: Reg, n: Nibble) -> Option<Instr>
-    ensures found { IfSome result (λ i. Fits i × (word_of i ≡ xyn 8 x y n)) }
-    ensures value { result ≡ arithmetic_at x y n }
+    ensures { result ≡ arithmetic_at x y n }
 {
     match n.number() {
         0 => Some(Instr::Copy(x, y)),
@@ -267,8 +269,7 @@ fn arithmetic(x: Reg, y: Reg, n: Nibble) -> Option<Instr>
 
 #[tactic(auto, unfolding(crate::specs::inner::ByDigits::key_at))]
 fn key(x: Reg, byte: u8) -> Option<Instr>
-    ensures found { IfSome result (λ i. Fits i × (word_of i ≡ with_byte 14 x byte)) }
-    ensures value { result ≡ key_at x byte }
+    ensures { result ≡ key_at x byte }
 {
     match byte {
         0x9E => Some(Instr::SkipIfKey(x)),
@@ -279,8 +280,7 @@ fn key(x: Reg, byte: u8) -> Option<Instr>
 
 #[tactic(auto, unfolding(crate::specs::inner::ByDigits::transfer_at))]
 fn transfer(x: Reg, byte: u8) -> Option<Instr>
-    ensures found { IfSome result (λ i. Fits i × (word_of i ≡ with_byte 15 x byte)) }
-    ensures value { result ≡ transfer_at x byte }
+    ensures { result ≡ transfer_at x byte }
 {
     match byte {
         0x07 => Some(Instr::ReadDelay(x)),
