@@ -4,7 +4,8 @@ use Rattle.chip_lang.specs.declared.instr.Instr.{Instr}
 use Rattle.chip_lang.specs.declared.instr.Instr.TheVariants.{ScrollDown, ClearScreen, Return, ScrollRight, ScrollLeft, Exit, LowSize, HighSize, Jump, Call, SkipIfByte, SkipUnlessByte, SkipIfEqual, LoadByte, AddByte, Copy, Or, And, Xor, Add, Subtract, ShiftRight, SubtractFrom, ShiftLeft, SkipUnlessEqual, LoadIndex, JumpOffset, Random, Draw, SkipIfKey, SkipUnlessKey, ReadDelay, WaitKey, SetDelay, SetSound, AddIndex, SmallDigit, BigDigit, StoreDecimal, StoreRegisters, LoadRegisters, StoreFlags, LoadFlags}
 use Rattle.chip_lang.specs.Table.{Fields, fields_in, Row, table}
 use Rattle.chip_lang.specs.Decoding.{gives, entry_of, decode_of}
-use Rattle.chip_lang.proofs.Digits.{digit, takes_top, takes_x, takes_y, takes_n, is_proper, gives_digits, gives_small}
+use Rattle.chip_lang.specs.inner.ByDigits.{fields, digit, takes_top, takes_x, takes_y, takes_n}
+use Rattle.chip_lang.proofs.Digits.{is_proper, gives_digits, gives_small}
 use Rattle.chip_lang.proofs.OwnDigits.{own_digit, own_digits, found_same}
 use Rattle.chip_lang.proofs.Shown.{entry_gives, made_of}
 
@@ -79,9 +80,6 @@ words w = refl
 
 all_proper : map (λ e. is_proper e.form) table ≡ map (λ e. true) table
 all_proper = refl
-
-abbrev fields : (x y n byte a : ℕ) → Fields
-fields x y n byte a = record { x = x; y = y; n = n; byte = byte; address = a }
 
 same_fields : (x y n byte a x' y' n' byte' a' : ℕ) → x ≡ x' → y ≡ y' → n ≡ n' → byte ≡ byte' → a ≡ a' → fields x y n byte a ≡ fields x' y' n' byte' a'
 same_fields x y n byte a x' y' n' byte' a' p q r s t = rw (p, q, r, s, t) refl

@@ -4,7 +4,8 @@ use Rattle.std.specs.List.{list_any, find}
 use Rattle.std.proofs.lemmas.Bool.{and_parts}
 use Rattle.chip_lang.specs.declared.form.Pattern.{Pattern}
 use Rattle.chip_lang.specs.Table.{Row}
-use Rattle.chip_lang.proofs.Digits.{digit, takes_top, takes_x, takes_y, takes_n, has_digit, HasDigits}
+use Rattle.chip_lang.specs.inner.ByDigits.{digit, takes_top, takes_x, takes_y, takes_n, has_digit}
+use Rattle.chip_lang.proofs.Digits.{HasDigits}
 use Rattle.chip_lang.proofs.Sound.{equal}
 
 -- the form's own digit, or a word's where an operand takes it

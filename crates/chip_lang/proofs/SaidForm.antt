@@ -12,7 +12,8 @@ use Rattle.chip_lang.specs.Form.{fits, find_form}
 use Rattle.chip_lang.specs.Statement.{HasWord, DecodesTo}
 use Rattle.chip_lang.specs.Value.{Symbols}
 use Rattle.chip_lang.proofs.Decoding.{entries_proper}
-use Rattle.chip_lang.proofs.Digits.{digit, takes_top, takes_x, takes_y, takes_n, has_digits, HasDigits, is_proper, gives_digits, word_digits}
+use Rattle.chip_lang.specs.inner.ByDigits.{digit, takes_top, takes_x, takes_y, takes_n}
+use Rattle.chip_lang.proofs.Digits.{has_digits, HasDigits, is_proper, gives_digits, word_digits}
 use Rattle.chip_lang.proofs.OwnDigits.{own_digit, own_digits, found_same}
 use Rattle.chip_lang.proofs.ShownForm.{is_sys}
 

@@ -1,4 +1,5 @@
--- The source text of a word, in the form of its entry in the table (Chipper manual; own for how numbers are written, and for DW).
+-- The source text of a word, in the form of its entry in the table
+-- (Chipper manual; own for how numbers are written, and for DW).
 use Rattle.std.specs.Prelude.{ℕ, ◌+◌, ◌-◌, ◌/◌, ◌%◌, nat_lt, if◌then◌else◌, List, [], ◌∷◌, ◌++◌, codes, pos, Option, Some, None, option_map}
 use Rattle.chip_lang.specs.declared.form.Pattern.{Pattern}
 use Rattle.chip_lang.specs.declared.form.Pattern.TheVariants.{Vx, Vy, V0, Index, DelayTimer, SoundTimer, Key, SmallDigit, BigDigit, Decimal, Flags, AtIndex, Nibble, Byte, Address}

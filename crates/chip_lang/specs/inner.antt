@@ -1,4 +1,4 @@
--- What the functions inside say of instructions, rows of words and values; no public clause cites these files.
+-- What the functions inside say of digits, rows of words and values; no public clause cites these files.
 pub mod ByDigits
 pub mod NamedRow
 pub mod Scanned

@@ -2,7 +2,8 @@
 
 ghost use Rattle.std.specs.Prelude.{◌≡◌, ◌<◌, ◌+◌, ◌*◌, ◌/◌, ◌%◌, Some};
 ghost use Rattle.chip_lang.specs.Decoding.{decode_of};
-ghost use Rattle.chip_lang.specs.inner.ByDigits.{system_byte_at, system_at, arithmetic_at, key_at, transfer_at, digits_at, instr_at};
+ghost use Rattle.chip_lang.specs.Table.{fields_in};
+ghost use Rattle.chip_lang.specs.inner.ByDigits.{instr_with, instr_below, fields};
 ghost use Rattle.chip_lang.specs.declared.instr.Instr.{Instr};
 
 use crate::number::{Addr, Nibble, Reg};
@@ -99,7 +100,7 @@ pub enum Instr {
 }
 
 /// The word of an instruction: the one that decodes to it.
-#[tactic(auto, unfolding(crate::specs::inner::ByDigits::system_at, crate::specs::inner::ByDigits::system_byte_at, crate::specs::inner::ByDigits::arithmetic_at, crate::specs::inner::ByDigits::key_at, crate::specs::inner::ByDigits::transfer_at))]
+#[tactic(auto, unfolding(crate::specs::inner::ByDigits::instr_with))]
 pub fn word(instr: Instr) -> u16
     ensures { decode_of result ≡ Some instr }
 {
@@ -152,7 +153,7 @@ pub fn word(instr: Instr) -> u16
 
 /// The word 00KK.
 fn of_system(byte: u8) -> u16
-    ensures { decode_of result ≡ digits_at 0 0 (byte / 16) (byte % 16) byte byte }
+    ensures { decode_of result ≡ instr_below 16 0 (fields 0 (byte / 16) (byte % 16) byte byte) }
 {
     u16::from(byte)
 }
@@ -160,7 +161,7 @@ fn of_system(byte: u8) -> u16
 /// The word of a first digit and an address.
 fn with_address(top: u16, a: Addr) -> u16
     requires { top < 16 }
-    ensures { decode_of result ≡ digits_at top (a / 256) (a / 16 % 16) (a % 16) (a % 256) a }
+    ensures { decode_of result ≡ instr_below 16 top (fields (a / 256) (a / 16 % 16) (a % 16) (a % 256) a) }
 {
     top * 4096 + a.number()
 }
@@ -168,7 +169,7 @@ fn with_address(top: u16, a: Addr) -> u16
 /// The word of a first digit, a register and a byte.
 fn with_byte(top: u16, x: Reg, byte: u8) -> u16
     requires { top < 16 }
-    ensures { decode_of result ≡ digits_at top x (byte / 16) (byte % 16) byte (256 * x + byte) }
+    ensures { decode_of result ≡ instr_below 16 top (fields x (byte / 16) (byte % 16) byte (256 * x + byte)) }
 {
     top * 4096 + u16::from(x.number()) * 256 + u16::from(byte)
 }
@@ -177,7 +178,7 @@ fn with_byte(top: u16, x: Reg, byte: u8) -> u16
 fn with_registers(top: u16, x: Reg, y: Reg, n: u8) -> u16
     requires top { top < 16 }
     requires n { n < 16 }
-    ensures { decode_of result ≡ digits_at top x y n (16 * y + n) (256 * x + (16 * y + n)) }
+    ensures { decode_of result ≡ instr_below 16 top (fields x y n (16 * y + n) (256 * x + (16 * y + n))) }
 {
     top * 4096 + u16::from(x.number()) * 256 + u16::from(y.number()) * 16 + u16::from(n)
 }
@@ -191,8 +192,9 @@ pub fn decode(w: u16) -> Option<Instr>
 }
 
 #[inline(always)]
+#[tactic(auto, unfolding(crate::specs::inner::ByDigits::instr_with))]
 fn instr_of(w: u16) -> Option<Instr>
-    ensures { result ≡ instr_at w }
+    ensures { result ≡ instr_below 16 (w / 4096) (fields_in w) }
 {
     let x = Reg::new((w / 256 % 16) as u8)?;
     let y = Reg::new((w / 16 % 16) as u8)?;
@@ -220,9 +222,9 @@ fn instr_of(w: u16) -> Option<Instr>
     }
 }
 
-#[tactic(auto, unfolding(crate::specs::inner::ByDigits::system_at))]
+#[tactic(auto, unfolding(crate::specs::inner::ByDigits::instr_with))]
 fn system(x: Reg, y: Reg, n: Nibble, byte: u8) -> Option<Instr>
-    ensures { result ≡ system_at x y n byte }
+    ensures { result ≡ instr_with 0 (fields x y n byte 0) }
 {
     if x.number() != 0 {
         None
@@ -233,9 +235,9 @@ fn system(x: Reg, y: Reg, n: Nibble, byte: u8) -> Option<Instr>
     }
 }
 
-#[tactic(auto, unfolding(crate::specs::inner::ByDigits::system_byte_at))]
+#[tactic(auto, unfolding(crate::specs::inner::ByDigits::instr_with))]
 fn system_byte(byte: u8) -> Option<Instr>
-    ensures { result ≡ system_byte_at byte }
+    ensures { result ≡ instr_with 0 (fields 0 0 0 byte 0) }
 {
     match byte {
         0xE0 => Some(Instr::ClearScreen),
@@ -249,9 +251,9 @@ fn system_byte(byte: u8) -> Option<Instr>
     }
 }
 
-#[tactic(auto, unfolding(crate::specs::inner::ByDigits::arithmetic_at))]
+#[tactic(auto, unfolding(crate::specs::inner::ByDigits::instr_with))]
 fn arithmetic(x: Reg, y: Reg, n: Nibble) -> Option<Instr>
-    ensures { result ≡ arithmetic_at x y n }
+    ensures { result ≡ instr_with 8 (fields x y n 0 0) }
 {
     match n.number() {
         0 => Some(Instr::Copy(x, y)),
@@ -267,9 +269,9 @@ fn arithmetic(x: Reg, y: Reg, n: Nibble) -> Option<Instr>
     }
 }
 
-#[tactic(auto, unfolding(crate::specs::inner::ByDigits::key_at))]
+#[tactic(auto, unfolding(crate::specs::inner::ByDigits::instr_with))]
 fn key(x: Reg, byte: u8) -> Option<Instr>
-    ensures { result ≡ key_at x byte }
+    ensures { result ≡ instr_with 14 (fields x 0 0 byte 0) }
 {
     match byte {
         0x9E => Some(Instr::SkipIfKey(x)),
@@ -278,9 +280,9 @@ fn key(x: Reg, byte: u8) -> Option<Instr>
     }
 }
 
-#[tactic(auto, unfolding(crate::specs::inner::ByDigits::transfer_at))]
+#[tactic(auto, unfolding(crate::specs::inner::ByDigits::instr_with))]
 fn transfer(x: Reg, byte: u8) -> Option<Instr>
-    ensures { result ≡ transfer_at x byte }
+    ensures { result ≡ instr_with 15 (fields x 0 0 byte 0) }
 {
     match byte {
         0x07 => Some(Instr::ReadDelay(x)),
