@@ -9,15 +9,12 @@ use Rattle.chip_lang.specs.declared.fault.Fault.{Fault}
 use Rattle.chip_lang.specs.declared.form.Pattern.{Pattern}
 use Rattle.chip_lang.specs.declared.form.Pattern.TheVariants.{Vx, Vy, Nibble, Byte, Address}
 use Rattle.chip_lang.specs.Operand.{Operand, register, expression, is_of_machine}
-use Rattle.chip_lang.specs.Form.{Row, forms}
+use Rattle.chip_lang.specs.Table.{Row, forms}
 use Rattle.chip_lang.specs.Value.{Symbols, value}
 use Rattle.chip_lang.specs.Encoding.{◌>>=◌, number_below, signed_below, field_of, fields_of, word_of_form}
-use Rattle.chip_lang.specs.Show.{part_in, parts_in, gives}
+use Rattle.chip_lang.specs.Decoding.{part_in, parts_in, gives}
+use Rattle.chip_lang.specs.inner.ByDigits.{digit, takes_top, takes_x, takes_y, takes_n, has_digit}
 use Rattle.chip_lang.proofs.Sound.{equal}
-
--- a digit to the base 16, above some bits
-abbrev pub digit : (bits : ℕ) → ℕ → ℕ
-digit bits w = w / 2 ^ bits % 16
 
 digit_or : (bits a b : ℕ) → digit bits (bit_or a b) ≡ bit_or (digit bits a) (digit bits b)
 digit_or bits a b = ap (λ n. n % 16) (or_shr a b bits) ∙ or_mod (a / 2 ^ bits) (b / 2 ^ bits) 4
@@ -26,26 +23,6 @@ same_digits : (a b : ℕ) → a < 65536 → b < 65536 → digit 12 a ≡ digit 1
 same_digits a b h g p q r s = omega arith
 
 -- ---- which digits an operand takes
-
-abbrev pub takes_top : Pattern → Bool
-takes_top p = false
-
-abbrev pub takes_x : Pattern → Bool
-takes_x Vx = true
-takes_x Address = true
-takes_x p = false
-
-abbrev pub takes_y : Pattern → Bool
-takes_y Vy = true
-takes_y Byte = true
-takes_y Address = true
-takes_y p = false
-
-abbrev pub takes_n : Pattern → Bool
-takes_n Nibble = true
-takes_n Byte = true
-takes_n Address = true
-takes_n p = false
 
 -- a word's part in an operand's place has the word's digit where the operand takes it, and 0 elsewhere
 abbrev HasOwn : ℕ → (Pattern → Bool) → Type 0
@@ -140,10 +117,6 @@ fields_are (Ok a) (Err fault) f h = cc
 fields_are (Ok a) (Ok b) f h = (a, b, refl, refl, cc)
 
 -- ---- the words of a form are those with its digits
-
--- the digit of a form's word, where no operand takes it
-abbrev pub has_digit : (Pattern → Bool) → (bits : ℕ) → Row → ℕ → Bool
-has_digit takes bits r d = list_any takes r.patterns || d == digit bits r.base
 
 -- where an operand takes a digit the form's base has none
 abbrev leaves_room : (Pattern → Bool) → (bits : ℕ) → Row → Bool

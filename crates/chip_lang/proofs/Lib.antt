@@ -4,6 +4,8 @@ pub mod Decoding
 pub mod Digits
 pub mod Numbers
 pub mod OneForm
+pub mod OneWord
+pub mod OwnDigits
 pub mod OneToken
 pub mod Pieces
 pub mod SameCode

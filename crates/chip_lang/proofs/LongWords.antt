@@ -4,7 +4,7 @@ use Rattle.std.specs.List.{list_any, list_all}
 use Rattle.std.specs.Str.{bytes_eq}
 use Rattle.std.proofs.lemmas.Bool.{and_parts, leb-true}
 use Rattle.std.proofs.lemmas.Slice.Eq.{bytes_eq-Decides}
-use Rattle.chip_lang.specs.Form.{Row, forms}
+use Rattle.chip_lang.specs.Table.{Row, forms}
 use Rattle.chip_lang.specs.Named.{find_word}
 use Rattle.chip_lang.specs.Keyword.{directives, specials, directive_of, special_of, register_of}
 use Rattle.chip_lang.specs.Reserved.{is_mnemonic, is_reserved}

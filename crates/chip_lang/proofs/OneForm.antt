@@ -9,7 +9,8 @@ use Rattle.chip_lang.specs.declared.form.Pattern.TheVariants.{Vx, Vy, V0, Index,
 use Rattle.chip_lang.specs.declared.form.Special.{Special}
 use Rattle.chip_lang.specs.declared.form.Special.TheVariants.{Index as index, DelayTimer as delay_timer, SoundTimer as sound_timer, Key as key, SmallDigit as small_digit, BigDigit as big_digit, Decimal as decimal, Flags as flags, AtIndex as at_index}
 use Rattle.chip_lang.specs.Operand.{Operand, register, special, expression}
-use Rattle.chip_lang.specs.Form.{Row, is_special, matches, all_match, fits, forms}
+use Rattle.chip_lang.specs.Table.{Row, forms}
+use Rattle.chip_lang.specs.Form.{is_special, matches, all_match, fits}
 
 -- the kind of operand that a pattern takes, by a number
 abbrev kind : Pattern → ℕ

@@ -1,16 +1,17 @@
 -- The form that a word is shown in, with the operands that are shown, has that word.
-use Rattle.std.proofs.Common.{◌≡◌, ℕ, ◌%◌, Bool, true, false, not, ◌&&◌, ltb, List, [], ◌∷◌, map, Some, Ok, refl, sym, ap, ◌∙◌, arith, codes}
+use Rattle.std.proofs.Common.{◌≡◌, ℕ, ◌%◌, Bool, true, false, ltb, List, [], ◌∷◌, map, Option, Some, None, option_map, Ok, refl, sym, ap, ◌∙◌, arith}
 use Rattle.std.specs.List.{find}
-use Rattle.std.specs.Str.{bytes_eq}
-use Rattle.std.proofs.lemmas.Bool.{and_parts, and_from}
+use Rattle.std.proofs.lemmas.Bool.{and_from}
 use Rattle.std.proofs.lemmas.Bool.Decides.{nat_tests}
 use Rattle.std.proofs.lemmas.Slice.Eq.{bytes_eq-Decides}
 use Rattle.chip_lang.specs.declared.form.Pattern.{Pattern}
 use Rattle.chip_lang.specs.declared.form.Pattern.TheVariants.{Vx, Nibble, Byte, Address}
 use Rattle.chip_lang.specs.Value.{Symbols}
-use Rattle.chip_lang.specs.Form.{Row, forms, is_special, matches, all_match, fits}
+use Rattle.chip_lang.specs.Table.{Row, Entry, table}
+use Rattle.chip_lang.specs.Form.{is_special, matches, all_match, fits}
 use Rattle.chip_lang.specs.Encoding.{field_of, fields_of, word_of_form}
-use Rattle.chip_lang.specs.Show.{part_in, parts_in, gives, form_shown, operand_in}
+use Rattle.chip_lang.specs.Decoding.{part_in, parts_in, gives, entry_of}
+use Rattle.chip_lang.specs.Show.{form_shown, operand_in}
 use Rattle.chip_lang.proofs.Sound.{equal}
 
 below_16 : (n : ℕ) → ltb (n % 16) 16 ≡ true
@@ -53,10 +54,21 @@ found_passes test (y ∷ xs) x h = step test y xs x (test y) refl h (found_passe
     step test y xs x true e h again = let same : Some y ≡ Some x = rw e at h in let is : y ≡ x = cc in ap test (sym is) ∙ e
     step test y xs x false e h again = again (rw e at h)
 
+-- an entry that a table has for a word gives it
+pub entry_gives : (w : ℕ) (e : Entry) → entry_of w ≡ Some e → gives e.form w ≡ true
+unfolding entry_of
+entry_gives w e h = found_passes (λ e. gives e.form w) table e h
+
+-- what is made of an option is made of what stands in it
+pub made_of : {A B : Type 0} (make : A → B) (o : Option A) (y : B) → option_map make o ≡ Some y → (x : A) × (o ≡ Some x) × (make x ≡ y)
+made_of make None y h = cc
+made_of make (Some x) y h = (x, refl, cc)
+
 pub word_shown : (w : ℕ) (r : Row) (symbols : Symbols) → form_shown w ≡ Some r → word_of_form r (map (operand_in w) r.patterns) symbols ≡ Ok w
 word_shown w r symbols h =
-    let passes = found_passes (λ r. not (bytes_eq r.name (codes "SYS")) && gives r w) forms r h in
-    let whole = equal _ _ (and_parts _ _ passes).1 in
+    let made = made_of (λ e. e.form) (entry_of w) r h in
+    let passes : gives r w ≡ true = ap (λ r. gives r w) (sym made.2) ∙ entry_gives w made.0 made.1 in
+    let whole = equal _ _ passes in
     let fields = fields_shown w r.patterns symbols in
     rw fields (ap Ok whole)
 

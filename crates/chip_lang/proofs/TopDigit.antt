@@ -4,8 +4,8 @@ use Rattle.std.specs.Int.Bits.{or_zero_r}
 use Rattle.std.proofs.lemmas.Nat.{or_shr}
 use Rattle.chip_lang.specs.declared.form.Pattern.{Pattern}
 use Rattle.chip_lang.specs.declared.form.Pattern.TheVariants.{Vx, Vy, Nibble, Byte, Address}
-use Rattle.chip_lang.specs.Form.{Row}
-use Rattle.chip_lang.specs.Show.{part_in, parts_in, gives}
+use Rattle.chip_lang.specs.Table.{Row}
+use Rattle.chip_lang.specs.Decoding.{part_in, parts_in, gives}
 use Rattle.chip_lang.proofs.Sound.{equal}
 
 part_low : (p : Pattern) (w : ℕ) → part_in p w / 4096 ≡ 0

@@ -5,7 +5,7 @@ use Rattle.chip_lang.specs.declared.fault.Fault.TheVariants.{OutOfRange}
 use Rattle.chip_lang.specs.declared.form.Pattern.{Pattern}
 use Rattle.chip_lang.specs.declared.form.Pattern.TheVariants.{Vx, Vy, Nibble, Byte, Address}
 use Rattle.chip_lang.specs.Operand.{Operand, register, expression}
-use Rattle.chip_lang.specs.Form.{Row}
+use Rattle.chip_lang.specs.Table.{Row}
 use Rattle.chip_lang.specs.Value.{Symbols, value}
 
 -- a value from 0 up to below a limit

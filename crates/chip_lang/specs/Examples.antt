@@ -13,7 +13,7 @@ use Rattle.chip_lang.specs.Token.{tokens_of}
 use Rattle.chip_lang.specs.Tree.{number, name, unary, binary}
 use Rattle.chip_lang.specs.Value.{value, Symbols}
 use Rattle.chip_lang.specs.Operand.{register, special, expression}
-use Rattle.chip_lang.specs.Form.{row}
+use Rattle.chip_lang.specs.Table.{row}
 use Rattle.chip_lang.specs.Encoding.{word_of_form}
 use Rattle.chip_lang.specs.Line.{read, bad, reading_of, code, db, equ, empty}
 

@@ -1,13 +1,14 @@
 -- What the language of the assembler is: a reader believes these files.
---     Word       the words of the instructions
+--     Table      the table of instructions: their source forms and their words
 --     Decoding   the instruction of a word
 --     Token      the tokens of a line
 --     Scan       what makes a list the tokens of a line
 --     Named, Keyword, Reserved      words of the language
---     Form       the source forms of instructions
+--     Form       the source form of a name and operands
 --     Tree, Grammar, Parse, Value   expressions, and their values
 --     Show       the source text of a word
 --     Operand, Encoding             operands, and the word of a form
+--     Statement  the word of a statement, and what it decodes to
 --     Line       the reading of a line
 --     Code       the code of a line
 --     Uses       the names that a line uses and defines
@@ -35,9 +36,10 @@ pub mod Reserved
 pub mod Scan
 pub mod SeenLine
 pub mod Show
+pub mod Statement
+pub mod Table
 pub mod Token
 pub mod Tree
 pub mod Uses
 pub mod Value
-pub mod Word
 pub mod inner

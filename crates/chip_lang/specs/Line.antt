@@ -9,7 +9,8 @@ use Rattle.chip_lang.specs.declared.directive.Directive.TheVariants.{Equ, Org, A
 use Rattle.chip_lang.specs.declared.form.Special.{Special}
 use Rattle.chip_lang.specs.declared.form.Special.TheVariants.{AtIndex}
 use Rattle.chip_lang.specs.Keyword.{directive_of, special_of, register_of}
-use Rattle.chip_lang.specs.Form.{Row, form_of}
+use Rattle.chip_lang.specs.Table.{Row}
+use Rattle.chip_lang.specs.Form.{form_of}
 use Rattle.chip_lang.specs.Operand.{Operand, register, special, expression}
 use Rattle.chip_lang.specs.declared.fault.Fault.TheVariants.{UnknownWord, WrongOperands, TooDeep, BadName, NotInProfile}
 use Rattle.chip_lang.specs.declared.token.Token.{Token}

@@ -3,7 +3,7 @@
 use Rattle.std.specs.Prelude.{ℕ, ◌||◌, Bool, List, is_some}
 use Rattle.std.specs.List.{list_any}
 use Rattle.std.specs.Str.{bytes_eq}
-use Rattle.chip_lang.specs.Form.{forms}
+use Rattle.chip_lang.specs.Table.{forms}
 use Rattle.chip_lang.specs.Keyword.{directive_of, special_of, register_of}
 
 -- the name of an instruction: some source form has it

@@ -1,12 +1,11 @@
--- The source text of a word: the first form but SYS that gives the word (COSMAC VIP manual and SUPER-CHIP 1.1 documentation for the
--- forms; own for how numbers are written).
-use Rattle.std.specs.Prelude.{ℕ, ◌+◌, ◌-◌, ◌*◌, ◌/◌, ◌%◌, ◌==◌, ◌&&◌, not, Bool, nat_lt, if◌then◌else◌, bit_or, List, [], ◌∷◌, ◌++◌, codes, pos, Option, Some, None}
-use Rattle.std.specs.List.{find}
-use Rattle.std.specs.Str.{bytes_eq}
+-- The source text of a word, in the form of its entry in the table
+-- (Chipper manual; own for how numbers are written, and for DW).
+use Rattle.std.specs.Prelude.{ℕ, ◌+◌, ◌-◌, ◌/◌, ◌%◌, nat_lt, if◌then◌else◌, List, [], ◌∷◌, ◌++◌, codes, pos, Option, Some, None, option_map}
 use Rattle.chip_lang.specs.declared.form.Pattern.{Pattern}
 use Rattle.chip_lang.specs.declared.form.Pattern.TheVariants.{Vx, Vy, V0, Index, DelayTimer, SoundTimer, Key, SmallDigit, BigDigit, Decimal, Flags, AtIndex, Nibble, Byte, Address}
 use Rattle.chip_lang.specs.declared.form.Special.TheVariants.{Index as index, DelayTimer as delay_timer, SoundTimer as sound_timer, Key as key, SmallDigit as small_digit, BigDigit as big_digit, Decimal as decimal, Flags as flags, AtIndex as at_index}
-use Rattle.chip_lang.specs.Form.{Row, forms}
+use Rattle.chip_lang.specs.Table.{Row}
+use Rattle.chip_lang.specs.Decoding.{field_in, entry_of}
 use Rattle.chip_lang.specs.Operand.{Operand, register, special, expression}
 use Rattle.chip_lang.specs.Tree.{number}
 
@@ -34,35 +33,11 @@ small_decimal n = if nat_lt n 10 then (48 + n) ∷ [] else 49 ∷ (48 + (n - 10)
 abbrev pub register_text : ℕ → List ℕ
 register_text x = 86 ∷ (if nat_lt x 10 then 48 + x else 55 + x) ∷ []
 
--- ---- the form that gives a word
+-- ---- the form of a word
 
--- what stands in a word in an operand's place: the digit X, Y or N, the byte KK, the address NNN
-abbrev pub field_in : Pattern → ℕ → ℕ
-field_in Vx w = w / 256 % 16
-field_in Vy w = w / 16 % 16
-field_in Nibble w = w % 16
-field_in Byte w = w % 256
-field_in Address w = w % 4096
-field_in p w = 0
-
--- the same in its place, and zeros around it
-abbrev pub part_in : Pattern → ℕ → ℕ
-part_in Vx w = 256 * field_in Vx w
-part_in Vy w = 16 * field_in Vy w
-part_in p w = field_in p w
-
--- the parts of a word in the places of some operands, and zeros around them
-abbrev pub parts_in : List Pattern → ℕ → ℕ
-parts_in [] w = 0
-parts_in (p ∷ ps) w = bit_or (part_in p w) (parts_in ps w)
-
--- a form gives a word: with the operands that stand in the word its own word is that one
-abbrev pub gives : Row → ℕ → Bool
-gives r w = bit_or r.base (parts_in r.patterns w) == w
-
--- the first form but SYS that gives a word
+-- the form in which a word is shown: that of its entry in the table
 abbrev pub form_shown : ℕ → Option Row
-form_shown w = find (λ r. not (bytes_eq r.name (codes "SYS")) && gives r w) forms
+form_shown w = option_map (λ e. e.form) (entry_of w)
 
 -- the operand that stands in a word in an operand's place
 abbrev pub operand_in : ℕ → Pattern → Operand

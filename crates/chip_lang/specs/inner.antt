@@ -1,6 +1,5 @@
--- What the functions inside say of instructions, rows and values; no public clause cites these files.
+-- What the functions inside say of digits, rows of words and values; no public clause cites these files.
 pub mod ByDigits
-pub mod InstrForm
 pub mod NamedRow
 pub mod Scanned
 pub mod Seen

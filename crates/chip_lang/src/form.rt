@@ -5,7 +5,8 @@ ghost use Rattle.chip_lang.specs.Operand.{operand_of};
 ghost use Rattle.std.specs.List.{list_any};
 ghost use Rattle.std.specs.Str.{bytes_eq};
 ghost use Rattle.chip_lang.specs.Reserved.{is_mnemonic};
-ghost use Rattle.chip_lang.specs.Form.{Row, row_of_form, option_row, is_special, matches, all_match, fits, find_form, form_of};
+ghost use Rattle.chip_lang.specs.Table.{Row};
+ghost use Rattle.chip_lang.specs.Form.{row_of_form, option_row, is_special, matches, all_match, fits, find_form, form_of};
 
 use crate::expr::Expr;
 use crate::number::Reg;

@@ -1,9 +1,9 @@
 //! Instructions and their words.
 
-ghost use Rattle.std.specs.Prelude.{◌≡◌, ◌≢◌, ◌<◌, ◌+◌, ◌*◌, ◌^◌, ◌/◌, ◌%◌, IfSome, ℕ};
-ghost use Rattle.chip_lang.specs.Word.{xyn, with_byte, with_address, word_of, Fits};
+ghost use Rattle.std.specs.Prelude.{◌≡◌, ◌<◌, ◌+◌, ◌*◌, ◌/◌, ◌%◌, Some};
 ghost use Rattle.chip_lang.specs.Decoding.{decode_of};
-ghost use Rattle.chip_lang.specs.inner.ByDigits.{system_byte_at, system_at, arithmetic_at, key_at, transfer_at, instr_at};
+ghost use Rattle.chip_lang.specs.Table.{fields_in};
+ghost use Rattle.chip_lang.specs.inner.ByDigits.{instr_with, instr_below, fields};
 ghost use Rattle.chip_lang.specs.declared.instr.Instr.{Instr};
 
 use crate::number::{Addr, Nibble, Reg};
@@ -99,20 +99,20 @@ pub enum Instr {
     LoadFlags(Reg),
 }
 
-/// The word of an instruction.
+/// The word of an instruction: the one that decodes to it.
+#[tactic(auto, unfolding(crate::specs::inner::ByDigits::instr_with))]
 pub fn word(instr: Instr) -> u16
-    ensures word { result ≡ word_of instr }
-    ensures fits { Fits instr }
+    ensures { decode_of result ≡ Some instr }
 {
     match instr {
-        Instr::ScrollDown(n) => 0x00C0 + n.number() as u16,
-        Instr::ClearScreen => 0x00E0,
-        Instr::Return => 0x00EE,
-        Instr::ScrollRight => 0x00FB,
-        Instr::ScrollLeft => 0x00FC,
-        Instr::Exit => 0x00FD,
-        Instr::LowSize => 0x00FE,
-        Instr::HighSize => 0x00FF,
+        Instr::ScrollDown(n) => of_system(0xC0 + n.number()),
+        Instr::ClearScreen => of_system(0xE0),
+        Instr::Return => of_system(0xEE),
+        Instr::ScrollRight => of_system(0xFB),
+        Instr::ScrollLeft => of_system(0xFC),
+        Instr::Exit => of_system(0xFD),
+        Instr::LowSize => of_system(0xFE),
+        Instr::HighSize => of_system(0xFF),
         Instr::Jump(a) => with_address(1, a),
         Instr::Call(a) => with_address(2, a),
         Instr::SkipIfByte(x, byte) => with_byte(3, x, byte),
@@ -151,24 +151,34 @@ pub fn word(instr: Instr) -> u16
     }
 }
 
+/// The word 00KK.
+fn of_system(byte: u8) -> u16
+    ensures { decode_of result ≡ instr_below 16 0 (fields 0 (byte / 16) (byte % 16) byte byte) }
+{
+    u16::from(byte)
+}
+
+/// The word of a first digit and an address.
 fn with_address(top: u16, a: Addr) -> u16
     requires { top < 16 }
-    ensures { result ≡ with_address top a }
+    ensures { decode_of result ≡ instr_below 16 top (fields (a / 256) (a / 16 % 16) (a % 16) (a % 256) a) }
 {
     top * 4096 + a.number()
 }
 
+/// The word of a first digit, a register and a byte.
 fn with_byte(top: u16, x: Reg, byte: u8) -> u16
     requires { top < 16 }
-    ensures { result ≡ with_byte top x byte }
+    ensures { decode_of result ≡ instr_below 16 top (fields x (byte / 16) (byte % 16) byte (256 * x + byte)) }
 {
     top * 4096 + u16::from(x.number()) * 256 + u16::from(byte)
 }
 
+/// The word of a first digit, two registers and a last digit.
 fn with_registers(top: u16, x: Reg, y: Reg, n: u8) -> u16
     requires top { top < 16 }
     requires n { n < 16 }
-    ensures { result ≡ xyn top x y n }
+    ensures { decode_of result ≡ instr_below 16 top (fields x y n (16 * y + n) (256 * x + (16 * y + n))) }
 {
     top * 4096 + u16::from(x.number()) * 256 + u16::from(y.number()) * 16 + u16::from(n)
 }
@@ -176,17 +186,15 @@ fn with_registers(top: u16, x: Reg, y: Reg, n: u8) -> u16
 /// The instruction of a word, if it is the word of one.
 #[inline(always)]
 pub fn decode(w: u16) -> Option<Instr>
-    ensures value { result ≡ decode_of w }
-    ensures found { IfSome result (λ i. Fits i × (word_of i ≡ w)) }
-    ensures exact { (i : Instr) → Fits i → word_of i ≡ w → result ≡ Some i }
+    ensures { result ≡ decode_of w }
 {
     instr_of(w)
 }
 
 #[inline(always)]
+#[tactic(auto, unfolding(crate::specs::inner::ByDigits::instr_with))]
 fn instr_of(w: u16) -> Option<Instr>
-    ensures found { IfSome result (λ i. Fits i × (word_of i ≡ w)) }
-    ensures value { result ≡ instr_at w }
+    ensures { result ≡ instr_below 16 (w / 4096) (fields_in w) }
 {
     let x = Reg::new((w / 256 % 16) as u8)?;
     let y = Reg::new((w / 16 % 16) as u8)?;
@@ -214,11 +222,9 @@ fn instr_of(w: u16) -> Option<Instr>
     }
 }
 
-#[tactic(auto, unfolding(crate::specs::inner::ByDigits::system_at))]
+#[tactic(auto, unfolding(crate::specs::inner::ByDigits::instr_with))]
 fn system(x: Reg, y: Reg, n: Nibble, byte: u8) -> Option<Instr>
-    requires { byte ≡ 16 * y + n }
-    ensures found { IfSome result (λ i. Fits i × (word_of i ≡ xyn 0 x y n)) }
-    ensures value { result ≡ system_at x y n byte }
+    ensures { result ≡ instr_with 0 (fields x y n byte 0) }
 {
     if x.number() != 0 {
         None
@@ -229,10 +235,9 @@ fn system(x: Reg, y: Reg, n: Nibble, byte: u8) -> Option<Instr>
     }
 }
 
-#[tactic(auto, unfolding(crate::specs::inner::ByDigits::system_byte_at))]
+#[tactic(auto, unfolding(crate::specs::inner::ByDigits::instr_with))]
 fn system_byte(byte: u8) -> Option<Instr>
-    ensures found { IfSome result (λ i. Fits i × (word_of i ≡ byte)) }
-    ensures value { result ≡ system_byte_at byte }
+    ensures { result ≡ instr_with 0 (fields 0 0 0 byte 0) }
 {
     match byte {
         0xE0 => Some(Instr::ClearScreen),
@@ -246,10 +251,9 @@ fn system_byte(byte: u8) -> Option<Instr>
     }
 }
 
-#[tactic(auto, unfolding(crate::specs::inner::ByDigits::arithmetic_at))]
+#[tactic(auto, unfolding(crate::specs::inner::ByDigits::instr_with))]
 fn arithmetic(x: Reg, y: Reg, n: Nibble) -> Option<Instr>
-    ensures found { IfSome result (λ i. Fits i × (word_of i ≡ xyn 8 x y n)) }
-    ensures value { result ≡ arithmetic_at x y n }
+    ensures { result ≡ instr_with 8 (fields x y n 0 0) }
 {
     match n.number() {
         0 => Some(Instr::Copy(x, y)),
@@ -265,10 +269,9 @@ fn arithmetic(x: Reg, y: Reg, n: Nibble) -> Option<Instr>
     }
 }
 
-#[tactic(auto, unfolding(crate::specs::inner::ByDigits::key_at))]
+#[tactic(auto, unfolding(crate::specs::inner::ByDigits::instr_with))]
 fn key(x: Reg, byte: u8) -> Option<Instr>
-    ensures found { IfSome result (λ i. Fits i × (word_of i ≡ with_byte 14 x byte)) }
-    ensures value { result ≡ key_at x byte }
+    ensures { result ≡ instr_with 14 (fields x 0 0 byte 0) }
 {
     match byte {
         0x9E => Some(Instr::SkipIfKey(x)),
@@ -277,10 +280,9 @@ fn key(x: Reg, byte: u8) -> Option<Instr>
     }
 }
 
-#[tactic(auto, unfolding(crate::specs::inner::ByDigits::transfer_at))]
+#[tactic(auto, unfolding(crate::specs::inner::ByDigits::instr_with))]
 fn transfer(x: Reg, byte: u8) -> Option<Instr>
-    ensures found { IfSome result (λ i. Fits i × (word_of i ≡ with_byte 15 x byte)) }
-    ensures value { result ≡ transfer_at x byte }
+    ensures { result ≡ instr_with 15 (fields x 0 0 byte 0) }
 {
     match byte {
         0x07 => Some(Instr::ReadDelay(x)),

@@ -11,13 +11,14 @@ ghost use Rattle.chip_lang.specs.Token.{tokens_of};
 ghost use Rattle.chip_lang.specs.Scan.{AreTokens};
 ghost use Rattle.chip_lang.specs.Line.{Reading, reading_of, read, code};
 ghost use Rattle.chip_lang.specs.Examples.{Examples};
-ghost use Rattle.std.specs.Prelude.{true, ◌≢◌, ◌<◌, ◌≤◌, ◌*◌, length, map, All, Option, Ok};
+ghost use Rattle.std.specs.Prelude.{true, ◌≢◌, ◌<◌, ◌≤◌, ◌*◌, length, map, All, Option, Ok, is_some};
 ghost use Rattle.std.specs.List.{list_all, filter};
 ghost use Rattle.chip_lang.specs.Operand.{Operand};
 ghost use Rattle.chip_lang.specs.Decoding.{decode_of};
-ghost use Rattle.chip_lang.specs.inner.InstrForm.{row_of_instr, HasWord, DecodesTo};
-ghost use Rattle.std.specs.Option.{option_map};
-ghost use Rattle.chip_lang.specs.Form.{Row, forms, fits};
+ghost use Rattle.chip_lang.specs.declared.instr.Instr.{Instr};
+ghost use Rattle.chip_lang.specs.Statement.{HasWord, DecodesTo};
+ghost use Rattle.chip_lang.specs.Table.{Row, forms};
+ghost use Rattle.chip_lang.specs.Form.{fits};
 ghost use Rattle.chip_lang.specs.Encoding.{word_of_form};
 ghost use Rattle.chip_lang.specs.Show.{form_shown, operand_in};
 ghost use Rattle.chip_lang.specs.Value.{Symbols, value};
@@ -70,10 +71,15 @@ pub fn shown_form()
     ensures fits { (w : ℕ) (form : Row) → fits form form.name (map (operand_in w) form.patterns) ≡ true }
 {}
 
-/// The source forms and `decode` agree: a word is shown in the form of the instruction that it decodes to, and in none where it is no
-/// instruction; and the word of a statement with a form but SYS decodes to an instruction of that form, so that of an instruction's line.
+/// Each instruction has one word: two words that decode to it are the same.
+pub fn one_word()
+    ensures { (v w : ℕ) (instr : Instr) → decode_of v ≡ Some instr → decode_of w ≡ Some instr → v ≡ w }
+{}
+
+/// The source forms and `decode` agree: a word is shown in a form just where it decodes; and the word of a statement with a form but SYS
+/// decodes to an instruction of that form, so that of an instruction's line.
 pub fn forms_and_decode()
-    ensures shown { (w : ℕ) → form_shown w ≡ option_map row_of_instr (decode_of w) }
+    ensures shown { (w : ℕ) → is_some (form_shown w) ≡ is_some (decode_of w) }
     ensures said { (name : List ℕ) (operands : List Operand) (symbols : Symbols) (form : Row) (w : ℕ) → HasWord name operands symbols form w → form.name ≢ codes "SYS" → DecodesTo form w }
     ensures line { (line : List ℕ) (label : Option (List ℕ)) (form : Row) (operands : List Operand) (symbols : Symbols) (w : ℕ) → reading_of line ≡ read label (code form operands) → word_of_form form operands symbols ≡ Ok w → form.name ≢ codes "SYS" → DecodesTo form w }
 {}

@@ -3,11 +3,9 @@
 ghost use Rattle.std.specs.Prelude.{◌≡◌, ◌∷◌, ◌++◌, ◌<◌, [], ◌&&◌, not, codes, IfOk, string_bytes, map};
 ghost use Rattle.std.specs.List.{find};
 ghost use Rattle.std.specs.Str.{bytes_eq};
-ghost use Rattle.std.specs.Option.{option_map};
-ghost use Rattle.chip_lang.specs.Decoding.{decode_of};
+ghost use Rattle.chip_lang.specs.Decoding.{field_in, part_in, parts_in, gives};
 ghost use Rattle.chip_lang.specs.Form.{row_of_form, option_row};
-ghost use Rattle.chip_lang.specs.inner.InstrForm.{row_of_instr};
-ghost use Rattle.chip_lang.specs.Show.{hex_digit, hex_byte, hex_address, hex_word, small_decimal, register_text, field_in, part_in, parts_in, gives, form_shown, operand_text, operands_text, form_text, show_of};
+ghost use Rattle.chip_lang.specs.Show.{hex_digit, hex_byte, hex_address, hex_word, small_decimal, register_text, form_shown, operand_text, operands_text, form_text, show_of};
 
 use crate::form::{FORMS, Form, Pattern};
 use std::alloc::{AllocError, Global};
@@ -16,7 +14,6 @@ use std::alloc::{AllocError, Global};
 /// instruction is `DW #wwww`. Read as a line and encoded, the text gives the word.
 pub fn show(alloc: Global, word: u16) -> Result<String, AllocError>
     ensures text { IfOk result (λ text. string_bytes text ≡ show_of word) }
-    ensures form { IfOk result (λ text. string_bytes text ≡ form_text (option_map row_of_instr (decode_of word)) word) }
 {
     let mut text = String::new(alloc);
     push_shown(&mut text, word)?;
@@ -27,7 +24,6 @@ pub fn show(alloc: Global, word: u16) -> Result<String, AllocError>
 #[tactic(auto, unfolding(crate::specs::Show::show_of))]
 pub fn push_shown(text: &mut String, word: u16) -> Result<(), AllocError>
     ensures text { IfOk result (λ _. string_bytes text.new ≡ string_bytes text.old ++ show_of word) }
-    ensures form { show_of word ≡ form_text (option_map row_of_instr (decode_of word)) word }
 {
     match form_shown(word) {
         Some(form) => {
@@ -41,11 +37,10 @@ pub fn push_shown(text: &mut String, word: u16) -> Result<(), AllocError>
     }
 }
 
-/// The first form but SYS that gives a word. It is that of the word's instruction.
-#[tactic(auto, using(crate::proofs::SaidForm::form_found))]
+/// The form in which a word is shown: the first but SYS that gives it.
+#[tactic(auto, using(crate::proofs::ShownForm::form_found))]
 fn form_shown(word: u16) -> Option<Form>
-    ensures first { option_row result ≡ form_shown word }
-    ensures instr { option_row result ≡ option_map row_of_instr (decode_of word) }
+    ensures { option_row result ≡ form_shown word }
 {
     first_giving(&FORMS, word)
 }

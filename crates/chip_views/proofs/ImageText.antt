@@ -9,7 +9,7 @@ use Rattle.std.proofs.lemmas.Slice.Eq.{bytes_eq-Decides}
 use Rattle.chip_asm.specs.declared.limits.TheConstants.{LINE_BYTES, MOST_LINES}
 use Rattle.chip_lang.specs.declared.limits.TheConstants.{IMAGE_BYTES}
 use Rattle.chip_lang.specs.declared.fault.Fault.{Fault}
-use Rattle.chip_lang.specs.Form.{Row}
+use Rattle.chip_lang.specs.Table.{Row}
 use Rattle.chip_lang.specs.Operand.{Operand}
 use Rattle.chip_lang.specs.Keyword.{directive_of}
 use Rattle.chip_lang.specs.Token.{token_at}

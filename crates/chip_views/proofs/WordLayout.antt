@@ -13,7 +13,7 @@ use Rattle.std.specs.List.{list_all, range_with_len}
 use Rattle.std.specs.Option.{option_map_or}
 use Rattle.chip_lang.specs.declared.limits.TheConstants.{IMAGE_BYTES, IMAGE_START, MEMORY_BYTES}
 use Rattle.chip_lang.specs.declared.fault.Fault.{Fault}
-use Rattle.chip_lang.specs.Form.{Row}
+use Rattle.chip_lang.specs.Table.{Row}
 use Rattle.chip_lang.specs.Operand.{Operand}
 use Rattle.chip_lang.specs.Tree.{Tree}
 use Rattle.chip_lang.specs.Line.{Body, Reading, read, code, dw, db, align}

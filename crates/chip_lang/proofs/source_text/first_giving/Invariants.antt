@@ -2,7 +2,7 @@ use Rattle.std.proofs.Common.{◌≡◌, ◌&&◌, not, drop, map, codes}
 use Rattle.std.specs.List.{find}
 use Rattle.std.specs.Str.{bytes_eq}
 use Rattle.chip_lang.specs.Form.{row_of_form}
-use Rattle.chip_lang.specs.Show.{gives}
+use Rattle.chip_lang.specs.Decoding.{gives}
 use Rattle.chip_lang.proofs.source_text.first_giving.Given as goal
 
 abbrev pub invariant-loop-form : goal.invariant-loop-form
