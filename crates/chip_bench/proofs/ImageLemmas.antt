@@ -1,6 +1,6 @@
 -- The replay after the image has changed.
 use Rattle.std.proofs.Common.{◌≡◌, ℕ, ◌+◌, ◌<◌, ◌≤◌, ◌++◌, List, length, take, sym, ap, ◌∙◌, arith, slice_index, inl, inr}
-use Rattle.std.specs.Prelude.{slice_set, min}
+use Rattle.std.specs.Prelude.{slice_set, min, Option, Some, None, IfSome, unwrap_or}
 use Rattle.std.proofs.lemmas.Bool.{cases_lt}
 use Rattle.std.proofs.lemmas.Grind.{same_number_lists, get_or-set_at}
 use Rattle.std.proofs.lemmas.List.{get_or_past, get_or-set_other, length-set}
@@ -15,7 +15,7 @@ use Rattle.chip_replay.specs.History.{History}
 use Rattle.chip_replay.specs.Image.{with_image, padded}
 use Rattle.chip_replay.specs.inner.MachineFrame.{memory_of}
 use Rattle.chip_bench.specs.Settings.{SessionSettings}
-use Rattle.chip_bench.specs.Kept.{Replays}
+use Rattle.chip_bench.specs.inner.InStep.{Replays}
 
 -- the memory at the start with another image
 other_image : (old new : List ℕ) → ImageAndZeros → SameBelowTheImage → length new ≤ IMAGE_BYTES →
@@ -41,6 +41,19 @@ replays_next settings old new before after kept there below fits start rate spac
       spacing = spacing ∙ kept.spacing;
       fits = fits;
     }
+
+-- any two images agree past the most bytes
+pub agree_past : (last image : List ℕ) → length last ≤ IMAGE_BYTES → length image ≤ IMAGE_BYTES → AgreeOutside 0 IMAGE_BYTES last image
+agree_past last image last_fits image_fits =
+    record {
+      before = λ i lt. omega (arith, lt);
+      after = λ i from. get_or_past last i 0 (omega (arith, from, last_fits)) ∙ sym (get_or_past image i 0 (omega (arith, from, image_fits)));
+    }
+
+-- what holds of a value, if it is known, and of the one in its place, holds of either
+pub held_or : {R : Type 0} (known : Option R) (all chosen : R) → chosen ≡ unwrap_or known all → (P : R → Type 0) → IfSome known P → P all → P chosen
+held_or None all chosen is P some every = rw is every
+held_or (Some r) all chosen is P some every = rw is some
 
 -- two images of one length agree up to a place, and from another one on
 pub record AgreeFrom (place end : ℕ) (last image : List ℕ) : Type 0 where

@@ -1,9 +1,9 @@
--- The edits of the code, seen by the bytes that they hold (own).
+-- The changes of the code, seen by the bytes that they hold (own).
 use Rattle.chip_bench.specs.Session.{Change, insert_line, replace_line, delete_line, insert_event, replace_event, delete_event}
-use Rattle.chip_bench.specs.declared.edit.Edit.{Edit}
-use Rattle.chip_bench.specs.declared.edit.Edit.TheVariants.{Insert, Replace, Delete, InsertKey, ReplaceKey, DeleteKey}
+use Rattle.chip_bench.specs.declared.change.Change.{Change as Borrowed}
+use Rattle.chip_bench.specs.declared.change.Change.TheVariants.{Insert, Replace, Delete, InsertKey, ReplaceKey, DeleteKey}
 
-abbrev pub change_of : Edit → Change
+abbrev pub change_of : Borrowed → Change
 change_of (Insert line text) = insert_line line text.now
 change_of (Replace line text) = replace_line line text.now
 change_of (Delete line) = delete_line line

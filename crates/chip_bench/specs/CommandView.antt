@@ -8,7 +8,7 @@ use Rattle.chip_bench.specs.declared.command.Command.TheVariants as parsed
 
 abbrev pub command_view : Parsed → Command
 command_view parsed.Blank = blank
-command_view (parsed.Edit edit) = change (change_of edit)
+command_view (parsed.Change c) = change (change_of c)
 command_view (parsed.Ask question) = ask question
 
 -- a reading of the code's is this one

@@ -4,11 +4,12 @@
 --     Settings     the settings of a session
 --     Session      a session: its lines, key events and settings; an edit of it, and the first refusal that applies
 --     Refusals     the codes of refusals
---     Changes      the edits of the code, seen by the bytes that they hold
+--     Changes      the changes of the code, seen by the bytes that they hold
 --     Text, MachineAnswers, Answers      the answer to each question
 --     IsAnswer     when a result is the answer, or why there is none
 --     Costs        what an edit reads and encodes of the source
---     Workbench, Kept                    what contracts see of a bench, and what an edit or a question keeps of the run
+--     Kept         what a bench keeps beside its lines, and what an image, a key event or a question keeps of it
+--     Workbench    what contracts see of a bench, and what an edit keeps of the run
 --     Commands     the command that a line of a script spells
 --     CommandView  the commands of the code, seen by the bytes that they hold
 --     KeyFile      the key events of a file, as lines of a script
@@ -20,7 +21,7 @@
 --     Tape         the tape of a seed
 --     Pages        what `explain` prints
 --     Doing        what the program does for each thing that its words can ask for
---     inner        how far a script has been carried out, for the private contracts behind `serve`
+--     inner        for private contracts: how far a script has been carried out, and how the parts of a kept run fit together
 pub mod Tally
 pub mod Lines
 pub mod Settings

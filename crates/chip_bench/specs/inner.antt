@@ -1,2 +1,3 @@
--- How far a script has been carried out, for the private contracts behind `serve`.
+-- What private contracts say: how far a script has been carried out, and how the parts of a kept run fit together.
 pub mod Progress
+pub mod InStep

@@ -1,61 +1,19 @@
-//! The answers to questions about the machine at a step.
-ghost use Rattle.std.specs.Prelude.{◌≡◌, ◌≢◌, ◌∷◌, [], ◌++◌, ℕ, List, false, Ok, IfOk, IfErr, OnOk};
-ghost use Rattle.std.specs.Option.{option_copied};
+//! The answers to questions.
+ghost use Rattle.std.specs.Prelude.{◌≡◌, ◌∷◌, [], ℕ, List, false, Ok, Err, Some, IfOk};
 ghost use Rattle.chip_asm.specs.Program.{image_of};
-ghost use Rattle.chip_bench.specs.Session.{session_with};
-ghost use Rattle.chip_bench.specs.Kept.{Replays, IsLastImage};
-ghost use Rattle.chip_bench.specs.Answers.{is_past_end, picture_by, state_answer, step_refusal, answer_at, image_answer, answer_to, step_asked};
-ghost use Rattle.chip_bench.specs.Workbench.{ReachesStep, ReusesRun, StaysPut};
-ghost use Rattle.chip_bench.specs.IsAnswer.{IsAnswered, IsUnanswered};
+ghost use Rattle.chip_bench.specs.Kept.{session_on, IsLastImage};
+ghost use Rattle.chip_bench.specs.inner.InStep.{GoesOn};
+ghost use Rattle.chip_bench.specs.Answers.{is_past_end, step_refusal, answer_at, image_answer, answer_to, step_asked};
+ghost use Rattle.chip_bench.specs.IsAnswer.{IsAnswer};
 
 use crate::answer::{faults_answer, listing_answer, push_hex_line, symbols_answer};
-use crate::machine_answer::{push_disassembly, push_memory, push_registers, push_screen};
-use crate::question::{PictureForm, Question, StateQuestion};
+use crate::image_run::ImageRun;
+use crate::question::{Question, StateQuestion};
 use crate::refusal::Refusal;
-use crate::settings::Settings;
 use chip_asm::Source;
-use chip_machine::Machine;
 use chip_machine::limits::MEMORY_BYTES;
-use chip_replay::{LAST_STEP, Replay};
-use chip_views::{screen_pbm, screen_png, screen_text};
+use chip_replay::LAST_STEP;
 use std::alloc::{AllocError, Global};
-
-/// Adds what is asked of a machine's state to an answer that is empty.
-fn state_answer(
-    alloc: Global,
-    asked: StateQuestion,
-    machine: &Machine,
-    out: &mut Vec<u8>,
-) -> Result<(), AllocError>
-    requires inside { is_past_end asked ≡ false }
-    requires empty { out.old.items ≡ [] }
-    ensures { OnOk result (out.new.items ≡ state_answer asked machine.now) }
-{
-    match asked {
-        StateQuestion::Registers => push_registers(out, machine),
-        StateQuestion::Memory { at, count } => push_memory(out, machine, at as u16, count as u16),
-        StateQuestion::Screen => push_screen(out, machine),
-        StateQuestion::Disassembly { at, count } => {
-            push_disassembly(alloc, out, machine, at as u16, count as u16)
-        }
-        StateQuestion::Picture { form } => {
-            *out = picture(alloc, machine, form)?;
-            Ok(())
-        }
-    }
-}
-
-/// The picture of a machine's screen.
-#[tactic(auto, unfolding(crate::specs::Answers::picture_by))]
-fn picture(alloc: Global, machine: &Machine, form: PictureForm) -> Result<Vec<u8>, AllocError>
-    ensures { IfOk result (λ picture. picture.items ≡ picture_by form machine.now) }
-{
-    match form {
-        PictureForm::Text(letters) => screen_text(alloc, machine, letters),
-        PictureForm::Bitmap => screen_pbm(alloc, machine),
-        PictureForm::Png => screen_png(alloc, machine),
-    }
-}
 
 /// Whether the bytes asked for pass the end of the memory.
 fn is_past_end(asked: StateQuestion) -> bool
@@ -86,62 +44,45 @@ fn step_refusal(asked: StateQuestion, step: u32) -> Option<Refusal>
 /// The answer to a question about the machine at a step of the run of the image, where `out` was empty.
 fn answer_at(
     alloc: Global,
-    image: Option<&[u8]>,
-    settings: &Settings,
-    last: &[u8],
-    replay: &mut Replay<Machine>,
+    source: &Source,
+    run: &mut ImageRun,
     asked: StateQuestion,
     step: u32,
     out: &mut Vec<u8>,
 ) -> Result<(), Refusal>
-    requires replays { Replays settings.now last.now replay.old }
-    requires is_last { IsLastImage (option_copied image) last.now }
+    requires is_last { IsLastImage (image_of source.now.lines) run.old.last_image }
     requires empty { out.old.items ≡ [] }
-    ensures ok { (lines : List (List ℕ)) → OnOk result (IsAnswered (answer_at (session_with lines replay.old.keys settings.now) asked step (option_copied image.entry)) out.new.items) }
-    ensures err { (lines : List (List ℕ)) → IfErr result (IsUnanswered (answer_at (session_with lines replay.old.keys settings.now) asked step (option_copied image.entry))) }
-    ensures replays { Replays settings.now last.now replay.new }
-    ensures keys { replay.new.keys ≡ replay.old.keys }
-    ensures reuses { ReachesStep settings.now.spacing step result replay.old.reach replay.old.ran replay.new.reach replay.new.ran }
-    ensures refused { IfErr result (λ e. e ≢ Refusal.AnswerMemory → StaysPut replay.old.reach replay.old.ran replay.new.reach replay.new.ran) }
+    ensures answer { IsAnswer (answer_at (session_on source.now.lines run.old) asked step
+        (image_of source.now.lines)) result out.new.items }
+    ensures run { GoesOn (Some step) result run.old run.new }
 {
-    if image.is_none() {
+    if source.image().is_none() {
         return Err(Refusal::NoImage);
     }
     if let Some(why) = step_refusal(asked, step) {
         return Err(why);
     }
-    match replay.at(step) {
-        Ok(machine) => match state_answer(alloc, asked, machine, out) {
-            Ok(()) => Ok(()),
-            Err(_) => Err(Refusal::AnswerMemory),
-        },
-        Err(_) => Err(Refusal::AnswerMemory),
-    }
+    run.answer(alloc, asked, step, out)
+        .map_err(|_| Refusal::AnswerMemory)?;
+    Ok(())
 }
 
 /// The answer to a question, where `out` was empty.
 pub(crate) fn answer(
     alloc: Global,
     source: &Source,
-    settings: &Settings,
-    last: &[u8],
-    replay: &mut Replay<Machine>,
+    run: &mut ImageRun,
     question: &Question,
     out: &mut Vec<u8>,
 ) -> Result<(), Refusal>
-    requires replays { Replays settings.now last.now replay.old }
-    requires is_last { IsLastImage (image_of source.now.lines) last.now }
+    requires is_last { IsLastImage (image_of source.now.lines) run.old.last_image }
     requires empty { out.old.items ≡ [] }
-    ensures ok { OnOk result (IsAnswered (answer_to (session_with source.now.lines replay.old.keys settings.now) question.now) out.new.items) }
-    ensures err { IfErr result (IsUnanswered (answer_to (session_with source.now.lines replay.old.keys settings.now) question.now)) }
-    ensures replays { Replays settings.now last.now replay.new }
-    ensures keys { replay.new.keys ≡ replay.old.keys }
-    ensures reuses { ReusesRun settings.now.spacing (step_asked question.now) result replay.old.reach replay.old.ran replay.new.reach replay.new.ran }
-    ensures refused { IfErr result (λ e. e ≢ Refusal.AnswerMemory → StaysPut replay.old.reach replay.old.ran replay.new.reach replay.new.ran) }
+    ensures answer { IsAnswer (answer_to (session_on source.now.lines run.old) question.now)
+        result out.new.items }
+    ensures run { GoesOn (step_asked question.now) result run.old run.new }
 {
-    let image = source.image();
     let (asked, step) = match *question {
-        Question::Image => return image_answer(image, out),
+        Question::Image => return image_answer(source, out),
         Question::Symbols => return told(symbols_answer(alloc, source), out),
         Question::Listing => return told(listing_answer(alloc, source), out),
         Question::Faults => return told(faults_answer(alloc, source), out),
@@ -154,33 +95,25 @@ pub(crate) fn answer(
         ),
         Question::Picture { step, form } => (StateQuestion::Picture { form }, step),
     };
-    answer_at(alloc, image, settings, last, replay, asked, step, out)
+    answer_at(alloc, source, run, asked, step, out)
 }
 
-fn image_answer(image: Option<&[u8]>, out: &mut Vec<u8>) -> Result<(), Refusal>
+/// The image in hexadecimal, where `out` was empty.
+fn image_answer(source: &Source, out: &mut Vec<u8>) -> Result<(), Refusal>
     requires empty { out.old.items ≡ [] }
-    ensures ok { OnOk result (IsAnswered (image_answer (option_copied image.entry)) out.new.items) }
-    ensures err { IfErr result (IsUnanswered (image_answer (option_copied image.entry))) }
+    ensures { IsAnswer (image_answer (image_of source.now.lines)) result out.new.items }
 {
-    let Some(bytes) = image else {
+    let Some(image) = source.image() else {
         return Err(Refusal::NoImage);
     };
-    match push_hex_line(out, bytes) {
-        Ok(()) => Ok(()),
-        Err(_) => Err(Refusal::AnswerMemory),
-    }
+    push_hex_line(out, image).map_err(|_| Refusal::AnswerMemory)
 }
 
 /// An answer that only memory can refuse.
 fn told(answer: Result<Vec<u8>, AllocError>, out: &mut Vec<u8>) -> Result<(), Refusal>
-    ensures ok { (bytes : List ℕ) → IfOk answer (λ v. v.items ≡ bytes) → OnOk result (IsAnswered (Ok bytes) out.new.items) }
-    ensures err { IfErr result (λ e. e ≡ Refusal.AnswerMemory) }
+    ensures { (bytes : List ℕ) → IfOk answer (λ v. v.items ≡ bytes)
+        → IsAnswer (Ok bytes) result out.new.items }
 {
-    match answer {
-        Ok(answer) => {
-            *out = answer;
-            Ok(())
-        }
-        Err(_) => Err(Refusal::AnswerMemory),
-    }
+    *out = answer.map_err(|_| Refusal::AnswerMemory)?;
+    Ok(())
 }

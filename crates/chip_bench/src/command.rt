@@ -7,7 +7,7 @@ ghost use Rattle.chip_bench.specs.Commands.{command_of, is_space, skip_spaces, n
 ghost use Rattle.chip_bench.specs.CommandView.{Reads};
 ghost use Rattle.chip_bench.specs.Transcript.{fault_code};
 
-use crate::edit::Edit;
+use crate::change::Change;
 use crate::limits::COMMAND_BYTES;
 use crate::question::Question;
 
@@ -16,7 +16,7 @@ use crate::question::Question;
 pub enum Command<'a> {
     /// A line that is empty, or of spaces alone.
     Blank,
-    Edit(Edit<'a>),
+    Change(Change<'a>),
     Ask(Question),
 }
 
@@ -66,7 +66,7 @@ fn command_named<'a>(word: &[u8], operands: &'a [u8]) -> Result<Command<'a>, Com
 {
     if word == b"ins".as_slice() {
         return match front_number(operands) {
-            Some(line) => Ok(Command::Edit(Edit::Insert {
+            Some(line) => Ok(Command::Change(Change::Insert {
                 line,
                 text: after_word(operands),
             })),
@@ -75,7 +75,7 @@ fn command_named<'a>(word: &[u8], operands: &'a [u8]) -> Result<Command<'a>, Com
     }
     if word == b"rep".as_slice() {
         return match front_number(operands) {
-            Some(line) => Ok(Command::Edit(Edit::Replace {
+            Some(line) => Ok(Command::Change(Change::Replace {
                 line,
                 text: after_word(operands),
             })),
@@ -84,7 +84,7 @@ fn command_named<'a>(word: &[u8], operands: &'a [u8]) -> Result<Command<'a>, Com
     }
     if word == b"del".as_slice() {
         return match one_number(operands) {
-            Some(line) => Ok(Command::Edit(Edit::Delete { line })),
+            Some(line) => Ok(Command::Change(Change::Delete { line })),
             None => Err(CommandFault::Unknown),
         };
     }
@@ -98,19 +98,23 @@ fn key_edit<'a>(word: &[u8], operands: &'a [u8]) -> Result<Command<'a>, CommandF
 {
     if word == b"kins".as_slice() {
         return match key_event(operands) {
-            Some((step, (key, down))) => Ok(Command::Edit(Edit::InsertKey { step, key, down })),
+            Some((step, (key, down))) => Ok(Command::Change(Change::InsertKey { step, key, down })),
             None => Err(CommandFault::Unknown),
         };
     }
     if word == b"krep".as_slice() {
         return match key_event(operands) {
-            Some((step, (key, down))) => Ok(Command::Edit(Edit::ReplaceKey { step, key, down })),
+            Some((step, (key, down))) => Ok(Command::Change(Change::ReplaceKey {
+                step,
+                key,
+                down,
+            })),
             None => Err(CommandFault::Unknown),
         };
     }
     if word == b"kdel".as_slice() {
         return match two_numbers(operands) {
-            Some((step, key)) => Ok(Command::Edit(Edit::DeleteKey { step, key })),
+            Some((step, key)) => Ok(Command::Change(Change::DeleteKey { step, key })),
             None => Err(CommandFault::Unknown),
         };
     }

@@ -90,12 +90,12 @@ fn make_change(
     ensures code { IfOk result (λ code. option_copied code ≡ refusal_to bench.old.session line.now) }
     ensures session { OnOk result (bench.new.session ≡ after bench.old.session line.now) }
 {
-    let edit = match read_command(line) {
-        Ok(Command::Edit(edit)) => edit,
+    let change = match read_command(line) {
+        Ok(Command::Change(change)) => change,
         Ok(Command::Blank | Command::Ask(_)) => return Ok(None),
         Err(fault) => return Ok(Some(fault.code())),
     };
-    match bench.apply(alloc, &edit) {
+    match bench.apply(alloc, &change) {
         Ok(()) => Ok(None),
         Err(Refusal::EditMemory) => Err(AllocError),
         Err(refusal) => Ok(Some(refusal.code())),

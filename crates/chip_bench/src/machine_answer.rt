@@ -1,9 +1,11 @@
 //! Answers about the machine's state.
 
-ghost use Rattle.std.specs.Prelude.{◌≡◌, ◌+◌, ◌*◌, ◌<◌, ◌≤◌, ◌^◌, ◌++◌, ◌∷◌, [], ℕ, List, OnOk, slice_index};
+ghost use Rattle.std.specs.Prelude.{◌≡◌, ◌+◌, ◌*◌, ◌<◌, ◌≤◌, ◌^◌, ◌++◌, ◌∷◌, [], ℕ, List, false, IfOk, OnOk, slice_index};
 ghost use Rattle.chip_machine.specs.Step.{word_at};
+ghost use Rattle.chip_bench.specs.Answers.{is_past_end, picture_by, state_answer};
 ghost use Rattle.chip_bench.specs.MachineAnswers.{from_on, size_name, state_name, register_line, place_part, timer_part, condition_part, state_line, flag_line, registers_of, bytes_at, memory_of, word_line, disassembly_of, row_bytes, has_lit, row_line, row_lines, two_digits, screen_of};
 
+use crate::question::{PictureForm, StateQuestion};
 use crate::text::{
     byte_digits, push_decimal, push_hex, push_hex_word, push_spaced_bytes, push_spaced_words,
     word_digits,
@@ -11,10 +13,50 @@ use crate::text::{
 use chip_lang::push_shown;
 use chip_machine::limits::{LAST_WORD, MEMORY_BYTES};
 use chip_machine::{Machine, Stop};
+use chip_views::{screen_pbm, screen_png, screen_text};
 use std::alloc::{AllocError, Global};
 
 // Room for the answer about a machine's registers, where few calls are open.
 const REGISTERS_ROOM: usize = 256;
+
+/// Adds what is asked of a machine's state to an answer that is empty.
+pub(crate) fn push_state(
+    alloc: Global,
+    answer: &mut Vec<u8>,
+    machine: &Machine,
+    asked: StateQuestion,
+) -> Result<(), AllocError>
+    requires inside { is_past_end asked ≡ false }
+    requires empty { answer.old.items ≡ [] }
+    ensures { OnOk result (answer.new.items ≡ state_answer asked machine.now) }
+{
+    match asked {
+        StateQuestion::Registers => push_registers(answer, machine),
+        StateQuestion::Memory { at, count } => {
+            push_memory(answer, machine, at as u16, count as u16)
+        }
+        StateQuestion::Screen => push_screen(answer, machine),
+        StateQuestion::Disassembly { at, count } => {
+            push_disassembly(alloc, answer, machine, at as u16, count as u16)
+        }
+        StateQuestion::Picture { form } => {
+            *answer = picture(alloc, machine, form)?;
+            Ok(())
+        }
+    }
+}
+
+/// The picture of a machine's screen.
+#[tactic(auto, unfolding(crate::specs::Answers::picture_by))]
+fn picture(alloc: Global, machine: &Machine, form: PictureForm) -> Result<Vec<u8>, AllocError>
+    ensures { IfOk result (λ picture. picture.items ≡ picture_by form machine.now) }
+{
+    match form {
+        PictureForm::Text(letters) => screen_text(alloc, machine, letters),
+        PictureForm::Bitmap => screen_pbm(alloc, machine),
+        PictureForm::Png => screen_png(alloc, machine),
+    }
+}
 
 /// Adds the registers, timers, flags and frames of a machine, in three lines.
 #[tactic(auto, unfolding(crate::specs::MachineAnswers::registers_of))]
@@ -53,7 +95,8 @@ fn push_timers(answer: &mut Vec<u8>, machine: &Machine) -> Result<(), AllocError
 }
 
 fn push_condition(answer: &mut Vec<u8>, machine: &Machine) -> Result<(), AllocError>
-    ensures { OnOk result (answer.new.items ≡ answer.old.items ++ condition_part machine.now.core) }
+    ensures { OnOk result (answer.new.items
+        ≡ answer.old.items ++ condition_part machine.now.core) }
 {
     answer.extend_from_slice(b" draws ")?;
     push_decimal(answer, machine.draws())?;
@@ -134,7 +177,8 @@ pub(crate) fn push_disassembly(
     count: u16,
 ) -> Result<(), AllocError>
     requires { at + 2 * count ≤ MEMORY_BYTES }
-    ensures { OnOk result (answer.new.items ≡ answer.old.items ++ disassembly_of machine.now at count) }
+    ensures { OnOk result (answer.new.items
+        ≡ answer.old.items ++ disassembly_of machine.now at count) }
 {
     let mut text = String::new(alloc);
     for place in 0..count {
@@ -198,7 +242,8 @@ fn push_rows(answer: &mut Vec<u8>, machine: &Machine) -> Result<(), AllocError>
 #[tactic(auto, unfolding(crate::specs::MachineAnswers::row_line))]
 fn push_row_line(answer: &mut Vec<u8>, machine: &Machine, row: usize) -> Result<(), AllocError>
     requires { row < 64 }
-    ensures { OnOk result (answer.new.items ≡ answer.old.items ++ row_line machine.now.core.lit row) }
+    ensures { OnOk result (answer.new.items
+        ≡ answer.old.items ++ row_line machine.now.core.lit row) }
 {
     if !has_lit(machine, row) {
         return Ok(());

@@ -381,7 +381,7 @@ fn respond(
     };
     let refusal = match command {
         Command::Blank => return Ok(()),
-        Command::Edit(edit) => match bench.apply(alloc, &edit) {
+        Command::Change(change) => match bench.apply(alloc, &change) {
             Ok(()) => return answer.extend_from_slice(b"ok\n"),
             Err(refusal) => refusal,
         },

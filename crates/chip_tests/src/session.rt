@@ -1,5 +1,5 @@
 //! A session that takes its commands as text. Its calls have no clauses, so that tests of many calls are proved fast.
-use chip_bench::{Bench, Command, CommandFault, Edit, Question, Refusal, Settings, read_command};
+use chip_bench::{Bench, Change, Command, CommandFault, Question, Refusal, Settings, read_command};
 use std::alloc::Global;
 use std::test::Fail;
 
@@ -17,8 +17,8 @@ fn ask(
     bench.ask(alloc, question, written)
 }
 
-fn apply(alloc: Global, bench: &mut Bench, edit: &Edit<'_>) -> Result<(), Refusal> {
-    bench.apply(alloc, edit)
+fn apply(alloc: Global, bench: &mut Bench, change: &Change<'_>) -> Result<(), Refusal> {
+    bench.apply(alloc, change)
 }
 
 /// A session, and what a script of its commands would be answered.
@@ -86,7 +86,7 @@ impl Session {
             Err(fault) => return Ok(Some(fault.code())),
             Ok(Command::Blank) => return Ok(None),
             Ok(Command::Ask(question)) => ask(alloc, &mut self.bench, &question, &mut self.written),
-            Ok(Command::Edit(edit)) => match apply(alloc, &mut self.bench, &edit) {
+            Ok(Command::Change(change)) => match apply(alloc, &mut self.bench, &change) {
                 Ok(()) => Ok(self.written.extend_from_slice(b"ok\n")?),
                 Err(refusal) => Err(refusal),
             },

@@ -1,13 +1,15 @@
-use Rattle.std.proofs.Common.{◌≡◌, rules, None, false, ◌∙◌, ap}
+use Rattle.std.proofs.Common.{◌≡◌, rules, None, false}
 use Rattle.std.specs.Prelude.{is_none}
-use Rattle.std.specs.Option.{option_copied}
+use Rattle.chip_asm.specs.Program.{image_of}
 use Rattle.chip_bench.specs.Answers.{step_refusal, state_answer}
+use Rattle.chip_bench.specs.Kept.{machine_after}
 use Rattle.chip_bench.proofs.AnswerLemmas.{is_answer}
 use Rattle.chip_bench.proofs.ask.answer_at.Goals as goal
 
-pub returns-in-Ok-state_answer-clause-ok : goal.returns-in-Ok-state_answer-clause-ok
-returns-in-Ok-state_answer-clause-ok c = λ lines.
-    let some : is_none (option_copied c.args.image) ≡ false = search rules in
+pub returns-clause-answer : goal.returns-clause-answer
+returns-clause-answer c =
+    let lines = c.args.source.now.lines in
+    let some : is_none (image_of lines) ≡ false = search rules in
     let fits : step_refusal c.args.asked c.args.step ≡ None = search rules in
-    is_answer lines c.args.settings.now (option_copied c.args.image) c.args.last.now c.args.replay.now c.args.asked c.args.step c.state_answer.new.out.items c.requires.replays c.requires.is_last some fits
-    (c.in-Ok-state_answer.ensures ∙ ap (state_answer c.args.asked) c.in-Ok.ensures.state)
+    let told : c.answer.new.out.items ≡ state_answer c.args.asked (machine_after c.args.run.now c.args.step) = search rules in
+    is_answer lines c.args.run.now (image_of lines) c.args.asked c.args.step c.answer.new.out.items c.requires.is_last some fits told

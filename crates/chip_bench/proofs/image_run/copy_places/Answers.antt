@@ -1,6 +1,6 @@
 use Rattle.std.proofs.Common.{arith}
 use Rattle.chip_bench.proofs.ImageLemmas.{agree_start, agree_more, agree_all}
-use Rattle.chip_bench.proofs.image_kept.copy_places.Goals as goal
+use Rattle.chip_bench.proofs.image_run.copy_places.Goals as goal
 
 pub loop-place-init : goal.loop-place-init
 loop-place-init c =

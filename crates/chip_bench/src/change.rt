@@ -1,8 +1,8 @@
-//! The edits of a session.
+//! The changes of a session.
 
 /// A change of one line, by the line's number from 1, or of one key event, by its step and key.
 #[derive(Clone, Copy, Debug, PartialEq, Eq)]
-pub enum Edit<'a> {
+pub enum Change<'a> {
     /// Puts the text before that line, or after the last.
     Insert { line: u32, text: &'a [u8] },
     /// Puts the text in the place of that line.

@@ -1,0 +1,191 @@
+//! The run of the last image that the lines had: its settings, its replay, and the image.
+ghost use Rattle.std.specs.Prelude.{◌≡◌, ◌≤◌, length, vec_capacity, IfSome, IfOk, OnOk, OnErr, MatchOption, IsOkUnless, Err, Ok, None, [], false};
+ghost use Rattle.std.specs.FinMap as finmap;
+ghost use Rattle.std.specs.Option.{option_copied};
+ghost use Rattle.chip_replay.specs.Image.{AgreeOutside};
+ghost use Rattle.chip_replay.specs.Keys.{insert_fault, edit_fault};
+ghost use Rattle.chip_bench.specs.Session.{moment};
+ghost use Rattle.chip_bench.specs.Answers.{is_past_end, state_answer};
+ghost use Rattle.chip_bench.specs.Kept.{empty_run, machine_after, FollowsImage, ReachesStep};
+ghost use Rattle.chip_bench.specs.inner.InStep.{TakesEvents, RunsOnly};
+
+use crate::machine_answer::push_state;
+use crate::question::StateQuestion;
+use crate::settings::Settings;
+use chip_machine::Machine;
+use chip_machine::laws::image_at_the_start;
+use chip_machine::limits::IMAGE_BYTES;
+use chip_replay::{KeyFault, LAST_STEP, Replay};
+use std::alloc::{AllocError, Global};
+use std::marker::Model;
+use std::ops::Range;
+
+/// The run of the last image that the lines had, or of the empty one, under the settings of the session and the key events
+/// as edited so far.
+#[derive(Drop)]
+pub(crate) struct ImageRun {
+    settings: Settings,
+    replay: Replay<Machine>,
+    /// It has room for any image.
+    last_image: Vec<u8>,
+}
+
+impl Model for ImageRun {
+    ghost use Rattle.std.specs.Prelude.{vec_capacity};
+    ghost use Rattle.chip_bench.specs.Kept.{KeptRun, kept_run_code};
+    ghost use Rattle.chip_bench.specs.inner.InStep.{kept_run, IsInStep};
+
+    ghost Value = { KeptRun };
+
+    ghost coded = { kept_run_code };
+
+    ghost view = { λ r. kept_run r.settings r.replay r.last_image.items };
+
+    ghost invariant = { λ r. IsInStep r.settings r.replay r.last_image.items (vec_capacity r.last_image) };
+}
+
+impl ImageRun {
+    /// The run of the empty image, without key events.
+    pub(crate) fn new(alloc: Global, settings: Settings) -> Result<Self, AllocError>
+        ensures { IfOk result (λ run. run ≡ empty_run settings) }
+    {
+        let last_image = Vec::with_capacity(alloc, IMAGE_BYTES)?;
+        let machine = match Machine::start(
+            alloc,
+            &last_image,
+            settings.tape(),
+            settings.profile(),
+        ) {
+            Ok(machine) => machine,
+            Err(_) => return Err(AllocError),
+        };
+        let replay = Replay::new(alloc, machine, settings.rate(), settings.spacing())?;
+        Ok(ImageRun {
+            settings,
+            replay,
+            last_image,
+        })
+    }
+
+    /// Puts the image of the lines in the place of the last one, which agrees with it outside the changed places, if these are
+    /// known. Where the lines have none, all stays.
+    pub(crate) fn follow(&mut self, image: Option<&[u8]>, changed: Option<Range<usize>>)
+        requires fits { IfSome image (λ bytes. length bytes.now ≤ IMAGE_BYTES) }
+        requires alike { IfSome image (λ bytes. IfSome changed (λ places.
+            AgreeOutside places.start places.end self.old.last_image bytes.now)) }
+        ensures follows { FollowsImage (option_copied image.entry) self.old self.new }
+        ensures settings { self.new.settings ≡ self.old.settings }
+        ensures keys { self.new.keys ≡ self.old.keys }
+        ensures ran { self.new.ran ≡ self.old.ran }
+    {
+        if let Some(image) = image {
+            image_at_the_start();
+            let changed = changed.unwrap_or(0..IMAGE_BYTES);
+            let places = changed.start..changed.end;
+            self.replay
+                .image_changed_within(places, &self.last_image, image);
+            take_over(&mut self.last_image, image, changed);
+        }
+    }
+
+    /// Adds a key event, as `Replay::insert_key`.
+    pub(crate) fn insert_key(&mut self, step: u32, key: u32, down: bool) -> Result<(), KeyFault>
+        ensures fault { MatchOption (insert_fault self.old.keys step key)
+            (IsOkUnless result KeyFault.OutOfMemory) (λ fault. result ≡ Err fault) }
+        ensures ok { OnOk result (TakesEvents (finmap.insert self.old.keys (moment step key) down)
+            step self.old self.new) }
+        ensures err { OnErr result (self.new ≡ self.old) }
+    {
+        self.replay.insert_key(step, key, down)
+    }
+
+    /// Changes what a key event says, as `Replay::replace_key`.
+    pub(crate) fn replace_key(&mut self, step: u32, key: u32, down: bool) -> Result<(), KeyFault>
+        ensures fault { MatchOption (edit_fault self.old.keys step key)
+            (result ≡ Ok tt) (λ fault. result ≡ Err fault) }
+        ensures ok { OnOk result (TakesEvents (finmap.insert self.old.keys (moment step key) down)
+            step self.old self.new) }
+        ensures err { OnErr result (self.new ≡ self.old) }
+    {
+        self.replay.replace_key(step, key, down)
+    }
+
+    /// Takes a key event out, as `Replay::delete_key`.
+    pub(crate) fn delete_key(&mut self, step: u32, key: u32) -> Result<(), KeyFault>
+        ensures fault { MatchOption (edit_fault self.old.keys step key)
+            (result ≡ Ok tt) (λ fault. result ≡ Err fault) }
+        ensures ok { OnOk result (TakesEvents (finmap.remove self.old.keys (moment step key))
+            step self.old self.new) }
+        ensures err { OnErr result (self.new ≡ self.old) }
+    {
+        self.replay.delete_key(step, key)
+    }
+
+    /// Adds what is asked of the machine at a step to an answer that is empty.
+    ///
+    /// # Errors
+    ///
+    /// Want of memory.
+    pub(crate) fn answer(
+        &mut self,
+        alloc: Global,
+        asked: StateQuestion,
+        step: u32,
+        out: &mut Vec<u8>,
+    ) -> Result<(), AllocError>
+        requires step { step ≤ LAST_STEP }
+        requires inside { is_past_end asked ≡ false }
+        requires empty { out.old.items ≡ [] }
+        ensures answer { OnOk result (out.new.items
+            ≡ state_answer asked (machine_after self.old step)) }
+        ensures runs { RunsOnly self.old self.new }
+        ensures reaches { ReachesStep step result self.old self.new }
+    {
+        match self.replay.at(step) {
+            Ok(machine) => push_state(alloc, out, machine, asked),
+            Err(_) => Err(AllocError),
+        }
+    }
+
+    /// Up to which step the run is sound.
+    pub(crate) fn reach(&self) -> u32
+        ensures { result ≡ self.now.reach }
+    {
+        self.replay.reach()
+    }
+
+    /// How many steps were made so far. It stays at its greatest value.
+    pub(crate) fn ran(&self) -> u64
+        ensures { result ≡ self.now.ran }
+    {
+        self.replay.ran()
+    }
+}
+
+/// Makes `last` the image, with which it agrees outside the changed places.
+fn take_over(last: &mut Vec<u8>, image: &[u8], changed: Range<usize>)
+    requires fits { length image.now ≤ IMAGE_BYTES }
+    requires alike { AgreeOutside changed.start changed.end last.old.items image.now }
+    requires room { IMAGE_BYTES ≤ vec_capacity last.old }
+    ensures last { last.new.items ≡ image.now }
+    ensures room { IMAGE_BYTES ≤ vec_capacity last.new }
+{
+    if last.len() != image.len() {
+        last.clear();
+        let _ = last.extend_from_slice(image);
+        return;
+    }
+    copy_places(last, image, changed);
+}
+
+/// Copies the changed places of the image, where all others agree.
+fn copy_places(last: &mut [u8], image: &[u8], changed: Range<usize>)
+    requires alike { AgreeOutside changed.start changed.end last.old image.now }
+    requires length { length last.old ≡ length image.now }
+    ensures { last.new ≡ image.now }
+{
+    let end = changed.end.min(image.len());
+    for place in changed.start..end {
+        last[place] = image[place];
+    }
+}
