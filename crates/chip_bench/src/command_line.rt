@@ -20,7 +20,7 @@ use std::convert::AsStr;
 const DEFAULT_RATE: u32 = 10;
 
 // The workbench's version, and the kit that proved it, as `rt version` gives it.
-pub(crate) const VERSION: &str = "1.0 (rattle-kit-13b logic dac8208d650f15bf)";
+pub(crate) const VERSION: &str = "1.0 (rattle-kit-13f logic dac8208d650f15bf)";
 
 const PROGRAM_NOTES: &str = "\
 Without a command the program is `debug` with an empty source.
