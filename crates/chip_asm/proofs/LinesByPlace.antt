@@ -1,7 +1,6 @@
 -- The lines of a source by their places: they stand one after another, and each has its bytes in the image.
-use Rattle.std.proofs.Common.{◌≡◌, ℕ, zero, suc, ◌+◌, ◌-◌, ◌<◌, ◌≤◌, Bool, true, false, cond, ◌&&◌, ltb, leb, List, [], ◌∷◌, ◌++◌, reverse, length, get_or, slice_get, find, fold, filter, refl, ap, sym, ◌∙◌, arith, Option, Some, None, ◌⊎◌, inl, inr}
+use Rattle.std.proofs.Common.{◌≡◌, ℕ, zero, suc, ◌+◌, ◌-◌, ◌<◌, ◌≤◌, Bool, true, false, ◌&&◌, ltb, leb, List, [], ◌∷◌, reverse, length, get_or, slice_get, find, fold, filter, refl, ap, sym, ◌∙◌, arith, Some, None, ◌⊎◌, inl, inr}
 use Rattle.std.specs.Option.{option_map_or}
-use Rattle.std.proofs.lemmas.Bool.Decides.{nat_tests}
 use Rattle.std.proofs.lemmas.List.{get_or-reverse, length-reverse, length-map, get_or-map}
 use Rattle.std.proofs.lemmas.Option.{get_or_from_slice_get, slice_get-get_or, slice_get_within}
 use Rattle.chip_lang.specs.declared.fault.Fault.TheVariants.{UnclosedIf}
@@ -18,7 +17,7 @@ use Rattle.chip_asm.specs.Program.{code_under, bytes_in_code, covers, byte_at}
 use Rattle.chip_asm.specs.inner.Writing.{AreInMemory}
 use Rattle.chip_asm.proofs.Bounds.{IsWithinMemory, passes, stands-here, within-memory}
 use Rattle.chip_asm.proofs.ImageSteps.{About, about, bytes-kept}
-use Rattle.chip_asm.proofs.ImageWhole.{covers-none, length-kept}
+use Rattle.chip_asm.proofs.ImageWhole.{covers-none}
 use Rattle.chip_asm.proofs.LinesApart.{one-covers}
 use Rattle.chip_asm.proofs.NeedsSteps.{length-numbered}
 use Rattle.chip_asm.proofs.Placing.{onto}

@@ -6,10 +6,9 @@ use Rattle.std.proofs.lemmas.Bool.{ltb-true, ltb-false, eqb-true}
 use Rattle.std.proofs.lemmas.Bool.Decides.{nat_tests}
 use Rattle.std.proofs.lemmas.List.{get_or_default, get_or_past}
 use Rattle.std.proofs.lemmas.Map.Entries.{place_from_lookup}
-use Rattle.std.proofs.lemmas.Option.{get_or_from_slice_get, slice_get-get_or, slice_get_past, slice_get_within}
+use Rattle.std.proofs.lemmas.Option.{slice_get-get_or, slice_get_within}
 use Rattle.chip_lang.specs.declared.code.Coded.{Coded}
 use Rattle.chip_lang.specs.declared.limits.TheConstants.{IMAGE_BYTES, IMAGE_START, MEMORY_BYTES}
-use Rattle.chip_asm.specs.declared.kept.Kept.{Kept}
 use Rattle.chip_asm.specs.declared.kept_line.KeptLine.{KeptLine}
 use Rattle.chip_asm.specs.declared.layout.Layout.{Layout}
 use Rattle.chip_asm.specs.declared.placement.Placement.{Placement}
@@ -22,11 +21,11 @@ use Rattle.chip_asm.specs.inner.Layouts.{IsLayoutOf}
 use Rattle.chip_asm.specs.inner.Recode.{code_at, has_code}
 use Rattle.chip_asm.specs.inner.Records.{reading_in, readings_in}
 use Rattle.chip_asm.specs.inner.Span.{StandsAlike, IsFront, IsBack, IsSpan, KeepsEnds, MayMove, byte_behind, moved_byte, start_at, end_before}
-use Rattle.chip_asm.specs.inner.Stood.{AreOwn, StoodBefore}
+use Rattle.chip_asm.specs.inner.Stood.{AreOwn}
 use Rattle.chip_asm.specs.inner.Writing.{AreRight, covers_byte, Waits, WaitsForCode}
 use Rattle.chip_asm.proofs.ImageWhole.{length-kept}
 use Rattle.chip_asm.proofs.KeptAfter.{reading-of}
-use Rattle.chip_asm.proofs.LinesByPlace.{IsLineAt, Pick, pick, byte-line, byte-nowhere, in-memory, lines-ordered}
+use Rattle.chip_asm.proofs.LinesByPlace.{Pick, pick, byte-line, byte-nowhere, in-memory, lines-ordered}
 
 -- ---- a line that covers a byte, or none
 

@@ -1,8 +1,8 @@
 -- Where no line had a fault, and none that was written has one, there is none.
-use Rattle.std.proofs.Common.{◌≡◌, ℕ, zero, suc, ◌+◌, ◌-◌, ◌<◌, ◌≤◌, pos, Bool, true, false, cond, ◌&&◌, leb, ltb, List, [], ◌∷◌, length, reverse, filter_map, get_or, slice_get, refl, ap, sym, ◌∙◌, arith, Option, Some, None, is_some, option_map, All, ◌⊎◌, inl, inr}
+use Rattle.std.proofs.Common.{◌≡◌, ℕ, zero, suc, ◌-◌, ◌<◌, ◌≤◌, pos, Bool, true, false, cond, ltb, List, [], ◌∷◌, length, reverse, filter_map, get_or, slice_get, refl, ap, sym, ◌∙◌, arith, Option, Some, None, is_some, option_map, All}
 use Rattle.std.specs.Prelude.{unwrap_or, nat_eq}
 use Rattle.std.specs.List.{cons_option}
-use Rattle.std.proofs.lemmas.Bool.{ltb-true, ltb-false, eqb-true}
+use Rattle.std.proofs.lemmas.Bool.{ltb-true, ltb-false}
 use Rattle.std.proofs.lemmas.List.{get_or_default, length-map}
 use Rattle.std.proofs.lemmas.List.Elements.{All-get_or}
 use Rattle.std.proofs.lemmas.Map.Entries.{place_from_lookup}

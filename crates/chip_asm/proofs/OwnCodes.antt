@@ -1,5 +1,5 @@
 -- Each new code is the one for its place; and the first and the last lines stay, where an edit comes between them.
-use Rattle.std.proofs.Common.{◌≡◌, ℕ, zero, suc, ◌+◌, ◌-◌, ◌<◌, ◌≤◌, Bool, true, false, cond, nat_lt, nat_eq, List, [], ◌∷◌, length, get_or, slice_get, refl, ap, sym, subst, ◌∙◌, arith, Option, Some, None, option_map, All}
+use Rattle.std.proofs.Common.{◌≡◌, ℕ, zero, suc, ◌+◌, ◌-◌, ◌<◌, ◌≤◌, Bool, true, false, nat_lt, nat_eq, List, [], ◌∷◌, length, get_or, slice_get, refl, ap, sym, subst, ◌∙◌, arith, Option, Some, None, option_map}
 use Rattle.std.specs.List.{enumerate_from, cons_option}
 use Rattle.std.proofs.lemmas.Bool.Decides.{nat_tests}
 use Rattle.std.proofs.lemmas.List.{get_or-map, get_or_default, length-map}
@@ -20,7 +20,7 @@ use Rattle.chip_asm.specs.inner.Span.{KeepsEnds, later_lines}
 use Rattle.chip_asm.specs.inner.Stood.{AreOwn}
 use Rattle.chip_asm.proofs.Edited.{length-lines_after}
 use Rattle.chip_asm.proofs.KeptAfter.{within-codes}
-use Rattle.chip_asm.proofs.StayedCodes.{Stood, stood, fresh-at}
+use Rattle.chip_asm.proofs.StayedCodes.{stood, fresh-at}
 
 -- a code in the list is that of the line at its place
 record IsGiven (given : ℕ × Reading → Option Coded) (from : ℕ) (xs : List Reading) (e : ℕ × Coded) : Type 0 where

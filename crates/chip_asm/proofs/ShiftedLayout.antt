@@ -1,6 +1,6 @@
 -- The layout of the lines after an edit, where those after its place only move.
-use Rattle.std.proofs.Common.{◌≡◌, ℕ, zero, suc, ◌+◌, ◌%◌, ◌<◌, ◌≤◌, length-drop, Bool, true, false, cond, not, ◌&&◌, is_some, List, [], ◌∷◌, ◌++◌, map, reverse, length, take, drop, set, insert, remove, fold, filter_map, slice_get, refl, ap, sym, subst, ◌∙◌, arith, Option, Some, None, option_map, option_to_list, All, min}
-use Rattle.std.specs.List.{list_all, list_any}
+use Rattle.std.proofs.Common.{◌≡◌, ℕ, zero, suc, ◌+◌, ◌<◌, ◌≤◌, length-drop, Bool, true, false, cond, not, ◌&&◌, is_some, List, [], ◌∷◌, ◌++◌, map, reverse, length, take, drop, set, insert, remove, fold, filter_map, slice_get, refl, ap, sym, subst, ◌∙◌, arith, Option, Some, None, option_to_list, All}
+use Rattle.std.specs.List.{list_all}
 use Rattle.std.specs.Option.{option_map_or}
 use Rattle.std.proofs.Math.Seq.{take-append_seam, drop-append_seam}
 use Rattle.std.proofs.lemmas.Bool.{and_parts}
@@ -19,7 +19,7 @@ use Rattle.chip_asm.specs.declared.placement.Placement.{Placement}
 use Rattle.chip_asm.specs.declared.shift.Shift.{Shift}
 use Rattle.chip_asm.specs.declared.table.Symbol.{Symbol}
 use Rattle.chip_asm.specs.declared.traits.Traits.{Traits}
-use Rattle.chip_asm.specs.Layout.{Placed, place, placed, body_of, is_if, has_ended, enclosing, symbols, symbol_of, takes_effect, value_given, address}
+use Rattle.chip_asm.specs.Layout.{Placed, place, placed, body_of, is_if, has_ended, enclosing, symbols, symbol_of, takes_effect, address}
 use Rattle.chip_asm.specs.Names.{Name}
 use Rattle.chip_asm.specs.Program.{names_of_lines}
 use Rattle.chip_asm.specs.inner.Effect.{is_plain, is_plain_line}

@@ -1,5 +1,5 @@
 -- Lines that only move: while they are plain and accepted, they say what they said, some lines and bytes further.
-use Rattle.std.proofs.Common.{◌≡◌, ℕ, suc, ◌+◌, ◌*◌, ◌/◌, ◌%◌, ◌≤◌, ◌<◌, ℤ, pos, Bool, true, false, cond, ◌&&◌, ◌||◌, nat_lt, is_none, is_some, List, [], ◌∷◌, ◌++◌, map, reverse, length, fold, filter_map, refl, ap, sym, subst, ◌∙◌, arith, Option, Some, None, option_map, option_to_list, append_assoc, if◌then◌else◌, unsigned_abs, min}
+use Rattle.std.proofs.Common.{◌≡◌, ℕ, ◌+◌, ◌%◌, ◌≤◌, ℤ, pos, Bool, true, false, cond, ◌&&◌, nat_lt, is_none, is_some, List, [], ◌∷◌, ◌++◌, map, reverse, length, fold, filter_map, refl, ap, sym, subst, ◌∙◌, arith, Option, Some, None, option_map, option_to_list, append_assoc, if◌then◌else◌, min}
 use Rattle.std.specs.List.{list_all, cons_option}
 use Rattle.std.specs.Str.{bytes_eq}
 use Rattle.std.proofs.lemmas.Bool.{false≢true, and_parts}
@@ -7,26 +7,23 @@ use Rattle.std.proofs.lemmas.Bool.Decides.{nat_tests}
 use Rattle.std.proofs.lemmas.List.{map-append, append-nil}
 use Rattle.chip_lang.specs.declared.limits.TheConstants.{MEMORY_BYTES}
 use Rattle.chip_lang.specs.declared.fault.Fault.{Fault}
-use Rattle.chip_lang.specs.declared.fault.Fault.TheVariants.{DefinedTwice, PastMemory}
 use Rattle.chip_lang.specs.Line.{Body, Reading, bad, read}
 use Rattle.chip_lang.specs.Uses.{name_defined}
 use Rattle.chip_asm.specs.Names.{Name, lookup_name}
 use Rattle.chip_asm.specs.declared.limits.TheConstants.{MOST_LINES}
-use Rattle.chip_asm.specs.declared.placement.Placement.{Placement}
 use Rattle.chip_asm.specs.declared.shift.Shift.{Shift}
 use Rattle.chip_asm.specs.declared.table.Symbol.{Symbol}
 use Rattle.chip_asm.specs.inner.Effect.{is_plain, is_plain_line}
-use Rattle.chip_asm.specs.inner.Follows.{placement_of, next_aligning}
+use Rattle.chip_asm.specs.inner.Follows.{placement_of}
 use Rattle.chip_asm.specs.inner.Placements.{is_placed}
-use Rattle.chip_asm.specs.inner.Shift.{moved_number, moved_address, moved_placement, moved_symbol, moved_name}
-use Rattle.chip_asm.specs.Layout.{Placed, place, placed, body_of, is_padded, own_size, full_size, first_fault, is_redefinition, is_live, has_ended, enclosing, first_of, symbols, symbol_of, symbol_given, value_given, address, is_aligning, takes_effect, value_or_zero, value_at, condition_of, is_end_body}
+use Rattle.chip_asm.specs.inner.Shift.{moved_number, moved_address, moved_placement, moved_name}
+use Rattle.chip_asm.specs.Layout.{Placed, place, body_of, own_size, full_size, first_fault, is_redefinition, is_live, has_ended, enclosing, first_of, symbols, symbol_of, symbol_given, value_given, address, is_aligning, takes_effect, value_or_zero}
 use Rattle.chip_asm.proofs.BlockSteps.{reverse-cons}
 use Rattle.chip_asm.proofs.Bounds.{no_fault, passes}
-use Rattle.chip_asm.proofs.NextLine.{none_from}
-use Rattle.chip_asm.proofs.OpenBlocks.{open_blocks, enclosing-open}
+use Rattle.chip_asm.proofs.OpenBlocks.{enclosing-open}
 use Rattle.chip_asm.proofs.PlaceSteps.{address-cons, aligning-cons, has_ended-cons, symbols-cons}
 use Rattle.chip_asm.proofs.Placing.{onto}
-use Rattle.chip_asm.proofs.QuietLines.{Calm, calm-idle, plain-idle, plain, parts, place-at, Quiet, quiet-plain, plain-body}
+use Rattle.chip_asm.proofs.QuietLines.{calm-idle, plain-idle, plain, parts, place-at, quiet-plain, plain-body}
 
 -- no sum of a shift comes near its end, and no padding changes
 pub record IsSmall (s : Shift) : Type 0 where

@@ -1,5 +1,5 @@
 -- Which lines an edit leaves where they stood, or moves by one distance (own).
-use Rattle.std.specs.Prelude.{◌≡◌, ℕ, zero, suc, ◌+◌, ◌-◌, ◌<◌, ◌≤◌, List, length, None, Option, Some, if◌then◌else◌, nat_lt, slice_get, slice_index, slice_index_or}
+use Rattle.std.specs.Prelude.{◌≡◌, ℕ, zero, suc, ◌+◌, ◌-◌, ◌<◌, ◌≤◌, List, length, None, Some, if◌then◌else◌, nat_lt, slice_get, slice_index, slice_index_or}
 use Rattle.std.specs.Option.{option_map_or}
 use Rattle.chip_lang.specs.declared.limits.TheConstants.{IMAGE_START, MEMORY_BYTES}
 use Rattle.chip_asm.specs.declared.edit.Edit.{Edit}

@@ -1,5 +1,5 @@
-use Rattle.std.proofs.Common.{◌≡◌, ◌∙◌, ◌<◌, refl, subst, arith, take, length, List, ap, get_or, slice_get, Some}
-use Rattle.std.proofs.lemmas.List.{length-take, length-map, take_all}
+use Rattle.std.proofs.Common.{◌≡◌, ◌∙◌, ◌<◌, refl, arith, take, length, List, ap, get_or, slice_get, Some}
+use Rattle.std.proofs.lemmas.List.{length-take, length-map}
 use Rattle.std.proofs.lemmas.Option.{slice_get-get_or}
 use Rattle.chip_lang.specs.Line.{Reading, bad}
 use Rattle.chip_lang.specs.declared.fault.Fault.TheVariants.{UnclosedIf}

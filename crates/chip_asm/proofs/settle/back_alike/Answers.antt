@@ -2,7 +2,7 @@ use Rattle.std.proofs.Common.{◌≡◌, ◌∙◌, ◌<◌, ◌-◌, ◌+◌, �
 use Rattle.std.proofs.lemmas.Bool.{eqb-true, eqb-false}
 use Rattle.std.proofs.lemmas.Option.{slice_get-get_or}
 use Rattle.chip_asm.specs.declared.placement.Placement.{Placement}
-use Rattle.chip_asm.specs.inner.Span.{StandsAlike, IsBack}
+use Rattle.chip_asm.specs.inner.Span.{StandsAlike}
 use Rattle.chip_asm.proofs.settle.back_alike.Goals as goal
 
 pub returns-then-limit-eq0-clause-alike : goal.returns-then-limit-eq0-clause-alike

@@ -1,4 +1,4 @@
-use Rattle.std.proofs.Common.{◌≡◌, ◌∙◌, ◌+◌, ◌≤◌, ◌<◌, arith, length, sym, ap, get_or}
+use Rattle.std.proofs.Common.{◌∙◌, ◌<◌, arith, length, sym, ap}
 use Rattle.std.proofs.lemmas.List.{get_or-map, length-map}
 use Rattle.chip_asm.specs.inner.Records.{reading_in, readings_in}
 use Rattle.chip_asm.specs.inner.Traits.{traits_of}

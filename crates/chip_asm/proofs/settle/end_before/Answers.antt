@@ -1,4 +1,4 @@
-use Rattle.std.proofs.Common.{◌≡◌, ◌+◌, ◌-◌, ℕ, zero, suc, List, Option, Some, None, slice_get, length, refl, arith}
+use Rattle.std.proofs.Common.{◌≡◌, ◌+◌, ◌-◌, ℕ, zero, suc, List, Some, None, slice_get, length, refl, arith}
 use Rattle.std.proofs.lemmas.Option.{slice_get_read, slice_get_past}
 use Rattle.chip_lang.specs.declared.limits.TheConstants.{IMAGE_START}
 use Rattle.chip_asm.specs.declared.placement.Placement.{Placement}

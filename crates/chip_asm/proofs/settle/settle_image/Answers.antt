@@ -1,16 +1,15 @@
-use Rattle.std.proofs.Common.{◌≡◌, ◌∙◌, ◌+◌, ◌-◌, ◌<◌, ◌≤◌, ℕ, true, List, length, get_or, slice_get, refl, ap, sym, subst, arith, Some, None, All, ◌⊎◌}
+use Rattle.std.proofs.Common.{◌≡◌, ◌∙◌, ◌+◌, ◌-◌, ◌<◌, ℕ, List, length, get_or, ap, sym, subst, arith, None, All, ◌⊎◌}
 use Rattle.std.proofs.lemmas.Option.{slice_get-get_or}
 use Rattle.chip_lang.specs.Line.{Reading}
 use Rattle.chip_lang.specs.declared.code.Coded.{Coded}
 use Rattle.chip_lang.specs.declared.limits.TheConstants.{IMAGE_BYTES, IMAGE_START}
-use Rattle.chip_asm.specs.declared.kept_line.KeptLine.{KeptLine}
 use Rattle.chip_asm.specs.Layout.{placed}
 use Rattle.chip_asm.specs.Program.{byte_at, faults_of_lines}
 use Rattle.chip_asm.specs.inner.KeptCodes.{coded_fault}
 use Rattle.chip_asm.specs.inner.Kept.{AreCurrent, IsMerged}
 use Rattle.chip_asm.specs.inner.Layouts.{IsLayoutOf}
 use Rattle.chip_asm.specs.inner.Records.{readings_in}
-use Rattle.chip_asm.specs.inner.Span.{MayMove, moved_byte}
+use Rattle.chip_asm.specs.inner.Span.{MayMove}
 use Rattle.chip_asm.specs.inner.Writing.{AreRight, Waits, WaitsForCode}
 use Rattle.chip_asm.proofs.ImageWhole.{length-kept}
 use Rattle.chip_asm.proofs.LinesByPlace.{in-memory}

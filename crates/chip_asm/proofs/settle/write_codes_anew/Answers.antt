@@ -1,10 +1,9 @@
-use Rattle.std.proofs.Common.{◌≡◌, ◌∙◌, ◌+◌, ◌<◌, ◌≤◌, ℕ, Bool, true, false, ◌&&◌, eqb, List, length, take, get_or, slice_get, All, Option, Some, None, refl, ap, sym, subst, arith}
+use Rattle.std.proofs.Common.{◌≡◌, ◌<◌, ℕ, length, take, slice_get, Some, refl, sym, subst, arith}
 use Rattle.std.proofs.lemmas.List.{take_all}
 use Rattle.std.proofs.lemmas.Bool.{and_parts}
 use Rattle.std.proofs.lemmas.List.Elements.{All-get_or}
 use Rattle.std.proofs.lemmas.Option.{slice_get_read, slice_get-get_or}
 use Rattle.chip_lang.specs.declared.code.Coded.{Coded}
-use Rattle.chip_asm.specs.inner.KeptCodes.{coded_fault, coded_bytes}
 use Rattle.chip_asm.proofs.Writes.{all-more, code-written, codes-written}
 use Rattle.chip_asm.proofs.settle.write_codes_anew.Goals as goal
 

@@ -1,5 +1,5 @@
-use Rattle.std.proofs.Common.{◌≡◌, ◌∙◌, ◌+◌, ap, arith, length}
-use Rattle.chip_asm.proofs.ShiftedLayout.{bounded, next-inside}
+use Rattle.std.proofs.Common.{ap, arith, length}
+use Rattle.chip_asm.proofs.ShiftedLayout.{bounded}
 use Rattle.chip_asm.proofs.layout.Layout.shift.Goals as goal
 
 pub overflow_add-old_address : goal.overflow_add-old_address

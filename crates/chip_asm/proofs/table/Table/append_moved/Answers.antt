@@ -1,9 +1,9 @@
-use Rattle.std.proofs.Common.{◌≡◌, ◌∙◌, ◌++◌, ◌∷◌, [], ℕ, List, pos, length, take, drop, map, ap, sym, subst, arith, IfSome, length-append}
-use Rattle.std.proofs.lemmas.List.{take_more, take_all, length-take, append-nil}
+use Rattle.std.proofs.Common.{◌≡◌, ◌∙◌, ◌++◌, ◌∷◌, [], ℕ, List, pos, length, take, drop, map, ap, sym, subst, arith, IfSome}
+use Rattle.std.proofs.lemmas.List.{take_more, take_all, length-take}
 use Rattle.std.specs.Global.{Vec}
 use Rattle.chip_asm.specs.Names.{Name}
 use Rattle.chip_asm.specs.declared.table.Symbol.{Symbol}
-use Rattle.chip_asm.specs.inner.Shift.{moved_name, moved_symbol}
+use Rattle.chip_asm.specs.inner.Shift.{moved_name}
 use Rattle.chip_asm.proofs.ShiftedNames.{missing-moved, moved-push, none-moved}
 use Rattle.chip_asm.proofs.TableSteps.{seen, entry-taken, within-count, seen-at, seen-first, next-missing}
 use Rattle.chip_asm.proofs.table.Table.append_moved.Goals as goal
