@@ -38,4 +38,5 @@ pub mod OwnCodes
 pub mod NamesDiffer
 pub mod ShiftedLines
 pub mod ShiftedNames
+mod ShiftedSpan
 pub mod ShiftedLayout

@@ -12,7 +12,7 @@ use Rattle.chip_lang.specs.declared.limits.TheConstants.{IMAGE_BYTES, IMAGE_STAR
 use Rattle.chip_asm.specs.declared.kept_line.KeptLine.{KeptLine}
 use Rattle.chip_asm.specs.declared.layout.Layout.{Layout}
 use Rattle.chip_asm.specs.declared.placement.Placement.{Placement}
-use Rattle.chip_asm.specs.declared.settle.Span.{Span}
+use Rattle.chip_asm.specs.declared.span.Span.{Span}
 use Rattle.chip_asm.specs.Layout.{body_of, placed}
 use Rattle.chip_asm.specs.Program.{byte_at}
 use Rattle.chip_asm.specs.inner.Kept.{AreCurrent, IsMerged}

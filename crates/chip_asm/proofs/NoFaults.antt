@@ -12,7 +12,7 @@ use Rattle.chip_lang.specs.declared.fault.Fault.{Fault}
 use Rattle.chip_asm.specs.declared.kept_line.KeptLine.{KeptLine}
 use Rattle.chip_asm.specs.declared.layout.Layout.{Layout}
 use Rattle.chip_asm.specs.declared.placement.Placement.{Placement}
-use Rattle.chip_asm.specs.declared.settle.Span.{Span}
+use Rattle.chip_asm.specs.declared.span.Span.{Span}
 use Rattle.chip_asm.specs.Layout.{Placed, body_of, placed}
 use Rattle.chip_asm.specs.Program.{fault_of, faults_of_lines, numbered_fault}
 use Rattle.chip_asm.specs.inner.Kept.{AreCurrent, IsMerged}

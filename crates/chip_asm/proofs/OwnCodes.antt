@@ -11,7 +11,7 @@ use Rattle.chip_lang.specs.Line.{Reading, bad}
 use Rattle.chip_asm.specs.declared.edit.Edit.{Edit}
 use Rattle.chip_asm.specs.declared.edit.Edit.TheVariants.{Insert, Replace, Delete, Keep}
 use Rattle.chip_asm.specs.declared.kept_line.KeptLine.{KeptLine}
-use Rattle.chip_asm.specs.declared.settle.Span.{Span}
+use Rattle.chip_asm.specs.declared.span.Span.{Span}
 use Rattle.chip_asm.specs.Layout.{body_of}
 use Rattle.chip_asm.specs.inner.Recode.{has_code, is_encoded_again, new_code, new_codes, codes_placed, code_at}
 use Rattle.chip_asm.specs.inner.Records.{reading_in, readings_in, IsPlaceWithin, lines_after, count_after, place_before}

@@ -188,7 +188,7 @@ address-before lines n q h is =
 
 -- names
 
-abbrev UpTo : ℕ → List (Name × Symbol) → Type 0
+abbrev pub UpTo : ℕ → List (Name × Symbol) → Type 0
 UpTo n [] = Unit {0}
 UpTo n (e ∷ es) = (e.1.line ≤ n) × UpTo n es
 
@@ -229,7 +229,7 @@ symbols-none : symbols [] ≡ []
 unfolding symbols
 symbols-none = refl
 
-given-up-to : (n : ℕ) (before : List Placed) → IsNumbered before → length before ≤ n → UpTo n (symbols before)
+pub given-up-to : (n : ℕ) (before : List Placed) → IsNumbered before → length before ≤ n → UpTo n (symbols before)
 given-up-to n [] numbered h = rw symbols-none tt
 given-up-to n (p ∷ before) numbered h =
     rw symbols-cons (up-append n (symbols before) (option_to_list (symbol_of p)) (given-up-to n before numbered.2 (omega arith)) (given n p (omega (arith, numbered.0))))

@@ -1,5 +1,5 @@
 -- Lines that only move: while they are plain and accepted, they say what they said, some lines and bytes further.
-use Rattle.std.proofs.Common.{◌≡◌, ℕ, ◌+◌, ◌%◌, ◌≤◌, ℤ, pos, Bool, true, false, cond, ◌&&◌, nat_lt, is_none, is_some, List, [], ◌∷◌, ◌++◌, map, reverse, length, fold, filter_map, refl, ap, sym, subst, ◌∙◌, arith, Option, Some, None, option_map, option_to_list, append_assoc, if◌then◌else◌, min}
+use Rattle.std.proofs.Common.{◌≡◌, ℕ, zero, suc, slice_get, ◌+◌, ◌%◌, ◌≤◌, ℤ, pos, Bool, true, false, cond, ◌&&◌, nat_lt, is_none, is_some, List, [], ◌∷◌, ◌++◌, map, reverse, length, fold, filter_map, refl, ap, sym, subst, ◌∙◌, arith, Option, Some, None, option_map, option_to_list, append_assoc, if◌then◌else◌, min}
 use Rattle.std.specs.List.{list_all, cons_option}
 use Rattle.std.specs.Str.{bytes_eq}
 use Rattle.std.proofs.lemmas.Bool.{false≢true, and_parts}
@@ -11,6 +11,7 @@ use Rattle.chip_lang.specs.Line.{Body, Reading, bad, read}
 use Rattle.chip_lang.specs.Uses.{name_defined}
 use Rattle.chip_asm.specs.Names.{Name, lookup_name}
 use Rattle.chip_asm.specs.declared.limits.TheConstants.{MOST_LINES}
+use Rattle.chip_asm.specs.declared.placement.Placement.{Placement}
 use Rattle.chip_asm.specs.declared.shift.Shift.{Shift}
 use Rattle.chip_asm.specs.declared.table.Symbol.{Symbol}
 use Rattle.chip_asm.specs.inner.Effect.{is_plain, is_plain_line}
@@ -225,6 +226,22 @@ pub record Moved (s : Shift) (xs ys : List Placed) (lines : List Reading) : Type
   pub placements : map placement_of (run ys lines) ≡ map (moved_placement s) (map placement_of (run xs lines))
   pub names : filter_map symbol_of (run ys lines) ≡ map (moved_name s) (filter_map symbol_of (run xs lines))
   pub after : Apart s (fold onto xs lines) (fold onto ys lines)
+  -- each stands as far from the other as the first ones do
+  pub heres : (i : ℕ) (p q : Placement) → slice_get (map placement_of (run xs lines)) i ≡ Some p → slice_get (map placement_of (run ys lines)) i ≡ Some q
+      → p.here + s.new_address ≡ q.here + s.old_address
+
+abbrev Heres : Shift → List Placed → List Placed → List Reading → Type 0
+Heres s xs ys lines = (i : ℕ) (p q : Placement) → slice_get (map placement_of (run xs lines)) i ≡ Some p → slice_get (map placement_of (run ys lines)) i ≡ Some q
+    → p.here + s.new_address ≡ q.here + s.old_address
+
+heres-cons : (s : Shift) (xs ys : List Placed) (line : Reading) (lines : List Reading) → Apart s xs ys → Heres s (place xs line ∷ xs) (place ys line ∷ ys) lines → Heres s xs ys (line ∷ lines)
+heres-cons s xs ys line lines a rest zero p q was now =
+    let old : placement_of (place xs line) ≡ p = cc in
+    let new : placement_of (place ys line) ≡ q = cc in
+    let old_here : p.here ≡ address xs = ap (λ r. r.here) (sym old) ∙ (parts xs line).here in
+    let new_here : q.here ≡ address ys = ap (λ r. r.here) (sym new) ∙ (parts ys line).here in
+    omega (arith, old_here, new_here, a.at)
+heres-cons s xs ys line lines a rest (suc i) p q was now = rest i p q was now
 
 names-cons : (s : Shift) (o : Option (Name × Symbol)) (names : List (Name × Symbol)) → cons_option (option_map (moved_name s) o) (map (moved_name s) names) ≡ map (moved_name s) (cons_option o names)
 names-cons s None names = refl
@@ -233,7 +250,7 @@ names-cons s (Some x) names = refl
 pub moved-lines : (s : Shift) (xs ys : List Placed) (lines : List Reading) → IsSmall s → Apart s xs ys → list_all is_plain_line lines ≡ true
     → list_all is_placed (map placement_of (run xs lines)) ≡ true → length xs + length lines ≤ MOST_LINES → address (fold onto xs lines) ≤ MEMORY_BYTES
     → address (fold onto xs lines) + s.new_address ≤ MEMORY_BYTES + s.old_address → Moved s xs ys lines
-moved-lines s xs ys [] small a plain_lines accepted few low fits = record { placements = refl; names = refl; after = a }
+moved-lines s xs ys [] small a plain_lines accepted few low fits = record { placements = refl; names = refl; after = a; heres = λ i p q was now. cc }
 moved-lines s xs ys (line ∷ lines) small a plain_lines accepted few low fits =
     let p : Placed = place xs line in
     let q = parts xs line in
@@ -255,4 +272,5 @@ moved-lines s xs ys (line ∷ lines) small a plain_lines accepted few low fits =
       names = ap (λ x. cons_option (symbol_of x) (filter_map symbol_of (run (x ∷ ys) lines))) same
           ∙ (rw (symbol-moved s xs ys (place xs line) m body, rest.names) (names-cons s (symbol_of (place xs line)) (filter_map symbol_of (run (place xs line ∷ xs) lines))));
       after = subst (λ (x : Placed). Apart s (fold onto (place xs line ∷ xs) lines) (fold onto (x ∷ ys) lines)) (sym same) rest.after;
+      heres = heres-cons s xs ys line lines a (subst (λ (x : Placed). Heres s (place xs line ∷ xs) (x ∷ ys) lines) (sym same) rest.heres);
     }

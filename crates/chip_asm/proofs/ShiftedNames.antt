@@ -1,6 +1,6 @@
 -- The names of lines that only move.
 use Rattle.std.proofs.Common.{◌≡◌, ℕ, zero, suc, ◌≤◌, false, List, [], ◌∷◌, ◌++◌, map, length, take, drop, refl, ap, sym, ◌∙◌, arith, Option, Some, None, is_some}
-use Rattle.std.proofs.lemmas.List.{take-append-drop, map-append}
+use Rattle.std.proofs.lemmas.List.{take-append-drop, map-append, take-map, length-take}
 use Rattle.chip_asm.specs.Names.{Name, lookup_name}
 use Rattle.chip_asm.specs.declared.shift.Shift.{Shift}
 use Rattle.chip_asm.specs.declared.table.Symbol.{Symbol}
@@ -25,7 +25,10 @@ moved-push s n mine others e h =
     ∙ ap (λ l. mine ++ l) (sym (map-append (moved_name s) (drop n others) (e ∷ [])))
     ∙ ap (λ l. mine ++ map (moved_name s) l) (sym (drop-push n others e h))
 
-keys-moved : (s : Shift) (names : List (Name × Symbol)) → keys (map (moved_name s) names) ≡ keys names
+abbrev key : Name × Symbol → Name
+key e = e.0
+
+pub keys-moved : (s : Shift) (names : List (Name × Symbol)) → keys (map (moved_name s) names) ≡ keys names
 keys-moved s [] = refl
 keys-moved s (e ∷ names) = ap (λ l. e.0 ∷ l) (keys-moved s names)
 
@@ -34,24 +37,32 @@ none-found None e = refl
 none-found (Some x) e = cc
 
 -- a name that isn't among the first ones isn't among them after they moved
-pub missing-moved : (s : Shift) (n i : ℕ) (mine others : List (Name × Symbol)) (name : Name) → mine ≡ take n others → n ≤ i → lookup_name (take i others) name ≡ None
+pub missing-moved : (s : Shift) (n i : ℕ) (mine others : List (Name × Symbol)) (name : Name) → keys mine ≡ take n (keys others) → n ≤ i → lookup_name (take i others) name ≡ None
     → lookup_name (mine ++ map (moved_name s) (drop n (take i others))) name ≡ None
 missing-moved s n i mine others name is h none =
-    let first : mine ≡ take n (take i others) = is ∙ sym (take-shorter n i others h) in
+    let first : keys mine ≡ keys (take n (take i others)) = is ∙ take-map key n others ∙ ap keys (sym (take-shorter n i others h)) in
     let same : keys (mine ++ map (moved_name s) (drop n (take i others))) ≡ keys (take i others)
-    = keys-append mine (map (moved_name s) (drop n (take i others))) ∙ ap (λ l. keys mine ++ l) (keys-moved s (drop n (take i others))) ∙ sym (keys-append mine (drop n (take i others)))
-    ∙ ap keys (ap (λ l. l ++ drop n (take i others)) first ∙ take-append-drop n (take i others)) in
+    = keys-append mine (map (moved_name s) (drop n (take i others))) ∙ ap (λ l. keys mine ++ l) (keys-moved s (drop n (take i others)))
+    ∙ ap (λ l. l ++ keys (drop n (take i others))) first ∙ sym (keys-append (take n (take i others)) (drop n (take i others)))
+    ∙ ap keys (take-append-drop n (take i others)) in
     none-found (lookup_name (mine ++ map (moved_name s) (drop n (take i others))) name)
     (given-same (mine ++ map (moved_name s) (drop n (take i others))) (take i others) name same ∙ ap is_some none)
 
-none-dropped : {X : Type 0} (xs : List X) → drop (length xs) xs ≡ []
-none-dropped [] = refl
-none-dropped (x ∷ xs) = none-dropped xs
+drop_all : {X : Type 0} (n : ℕ) (xs : List X) → length xs ≤ n → drop n xs ≡ []
+drop_all zero [] h = refl
+drop_all (suc n) [] h = refl
+drop_all zero (x ∷ xs) h = absurd (omega arith)
+drop_all (suc n) (x ∷ xs) h = drop_all n xs (omega arith)
 
 none-added : {X : Type 0} (xs : List X) → xs ≡ xs ++ []
 none-added [] = refl
 none-added (x ∷ xs) = ap (λ l. x ∷ l) (none-added xs)
 
-pub none-moved : (s : Shift) (n : ℕ) (mine others : List (Name × Symbol)) → mine ≡ take n others → length mine ≡ n → mine ≡ mine ++ map (moved_name s) (drop (length mine) (take n others))
+none-left : (n : ℕ) (mine others : List (Name × Symbol)) → keys mine ≡ take n (keys others) → length mine ≡ n → drop n (take n others) ≡ []
+none-left n mine others is long =
+    let count : length (take n others) ≤ n = omega (arith, length-take n others) in
+    drop_all n (take n others) count
+
+pub none-moved : (s : Shift) (n : ℕ) (mine others : List (Name × Symbol)) → keys mine ≡ take n (keys others) → length mine ≡ n → mine ≡ mine ++ map (moved_name s) (drop (length mine) (take n others))
 none-moved s n mine others is long =
-    none-added mine ∙ ap (λ l. mine ++ map (moved_name s) l) (sym (ap (drop (length mine)) (sym is) ∙ none-dropped mine))
+    none-added mine ∙ ap (λ l. mine ++ map (moved_name s) l) (sym (ap (λ k. drop k (take n others)) long ∙ none-left n mine others is long))

@@ -8,7 +8,7 @@ ghost use Rattle.chip_asm.specs.Changes.{ChangesWithin};
 ghost use Rattle.chip_asm.specs.Edits.{before_replace};
 ghost use Rattle.chip_asm.specs.inner.Effect.{HasSameEffectAt};
 ghost use Rattle.chip_asm.specs.Program.{image_of_lines};
-ghost use Rattle.chip_asm.specs.inner.Records.{IsPlaceWithin, lines_after, reading_in, readings_in, texts_in, place_before};
+ghost use Rattle.chip_asm.specs.inner.Records.{IsPlaceWithin, count_after, lines_after, reading_in, readings_in, texts_in, place_before};
 ghost use Rattle.chip_asm.specs.Work.{needs_count};
 ghost use Rattle.chip_asm.specs.inner.Recode.{new_codes};
 ghost use Rattle.chip_asm.specs.inner.Layouts.{IsLayoutOf};
@@ -17,6 +17,7 @@ ghost use Rattle.chip_asm.specs.inner.Shift.{is_keep};
 ghost use Rattle.chip_asm.specs.inner.Hints.{names_in, hint_in};
 ghost use Rattle.chip_asm.specs.inner.Traits.{traits_of};
 ghost use Rattle.chip_asm.specs.inner.Kept.{HasCodeAt, IsKept};
+ghost use Rattle.chip_asm.specs.inner.Span.{IsSpan, IsSpanOf, later_lines};
 ghost use Rattle.chip_asm.specs.inner.Stood.{AreOwn, MakesCurrent, StoodBefore};
 
 use crate::changed::Changed;
@@ -28,7 +29,8 @@ use crate::kept_line::{KeptLine, with_code};
 use crate::layout::Layout;
 use crate::limits::MOST_LINES;
 use crate::recode::{Remaking, code_if_accepted, moves_by_hint};
-use crate::settle::{NO_SPAN, Settling, Span, settle_image, span_of};
+use crate::settle::{Settling, settle_image};
+use crate::span::{NO_SPAN, Span, span_of};
 use crate::traits::{Traits, traits_after, traits_of, traits_of_all};
 use chip_lang::laws::same_code;
 use chip_lang::limits::{IMAGE_BYTES, IMAGE_START};
@@ -59,7 +61,26 @@ struct Prepared {
     traits: Vec<Traits>,
     hints: Vec<usize>,
     layout: Layout,
+    /// The span of lines that stay or move by one distance, where the layout told it.
+    span: Option<Span>,
     codes: Vec<(usize, Coded)>,
+}
+
+impl Prepared {
+    /// The span of an edit of a layout: as it is known, or found by the places of all lines.
+    fn span(&self, old: &Layout, edit: &Edit) -> Span
+        requires within { IsPlaceWithin (length old.now.placements.items) edit.now }
+        requires long { length self.now.layout.placements.items ≡ count_after (length old.now.placements.items) edit.now }
+        requires known { IfSome self.now.span (λ span. IsSpanOf old.now self.now.layout (length old.now.placements.items) edit.now span) }
+        ensures front { result.front ≤ first_changed edit.now }
+        ensures back { result.back ≤ later_lines (length old.now.placements.items) edit.now }
+        ensures span { IsSpan old.now.placements.items self.now.layout.placements.items result }
+    {
+        match self.span {
+            Some(span) => span,
+            None => span_of(&old.placements, &self.layout.placements, edit),
+        }
+    }
 }
 
 impl Kept {
@@ -234,7 +255,7 @@ impl Kept {
     {
         let prepared = self.prepare(alloc, meter, &edit)?;
         same_code();
-        let span = span_of(&self.layout.placements, &prepared.layout.placements, &edit);
+        let span = prepared.span(&self.layout, &edit);
         make_edit(&mut self.lines, edit);
         self.settle(prepared, span);
         Ok(Changed {
@@ -270,6 +291,7 @@ impl Kept {
         ensures long { vec_len self.old.image ≡ IMAGE_BYTES → vec_len self.new.image ≡ IMAGE_BYTES }
         ensures room { OnOk result ((vec_len self.new.lines < vec_capacity self.new.lines) × (vec_len self.new.image ≡ IMAGE_BYTES)) }
         ensures after { IfOk result (λ prepared. IsLayoutOf prepared.layout (readings_in (lines_after self.old.lines.items edit.now))) }
+        ensures span { IfOk result (λ prepared. IfSome prepared.span (λ span. IsSpanOf self.old.layout prepared.layout (vec_len self.old.lines) edit.now span)) }
         ensures codes { (before : List Reading) → IsLayoutOf self.old.layout before → IfOk result (λ prepared. prepared.codes.items ≡ new_codes before (readings_in (lines_after self.old.lines.items edit.now)) (place_before edit.now)) }
         ensures encoded { (before : List Reading) → IsLayoutOf self.old.layout before → meter.new.encoded ≤ meter.old.encoded + needs_count before (readings_in (lines_after self.old.lines.items edit.now)) (place_before edit.now) }
         ensures not_lowered { meter.old.encoded ≤ meter.new.encoded }
@@ -279,8 +301,9 @@ impl Kept {
         fill_up(&mut self.image)?;
         let spare = mem::replace(&mut self.spare, Layout::new(alloc));
         let traits = traits_after(alloc, &self.traits, edit)?;
-        let layout = Layout::after(alloc, spare, &self.layout, &self.lines, &traits, edit)?;
-        let same_names = self.layout.names.has_same_names(&layout.names);
+        let (layout, span) =
+            Layout::after(alloc, spare, &self.layout, &self.lines, &traits, edit)?;
+        let same_names = span.is_some() || self.layout.names.has_same_names(&layout.names);
         let hints = hints_after(
             alloc,
             same_names,
@@ -305,6 +328,7 @@ impl Kept {
             traits,
             hints,
             layout,
+            span,
             codes,
         })
     }
@@ -327,6 +351,7 @@ impl Kept {
             traits,
             hints,
             layout,
+            span: _,
             codes,
         } = prepared;
         let settling = Settling {

@@ -9,7 +9,9 @@ ghost use Rattle.chip_asm.specs.inner.Follows.{Follows, placement_of};
 ghost use Rattle.std.specs.List.{list_any};
 ghost use Rattle.chip_asm.specs.inner.Marks.{marked};
 ghost use Rattle.chip_asm.specs.inner.Records.{IsPlaceWithin, lines_after, readings_in, count_after as count_of_after};
-ghost use Rattle.chip_asm.specs.inner.Shift.{IsShift, IsWalked, is_keep, moved_address, moved_name, moved_placement};
+ghost use Rattle.chip_asm.specs.inner.Hints.{names_in};
+ghost use Rattle.chip_asm.specs.inner.Shift.{IsShift, IsWalked, added_by, is_keep, moved_address, moved_name, moved_placement};
+ghost use Rattle.chip_asm.specs.inner.Span.{IsSpanOf};
 ghost use Rattle.chip_asm.specs.inner.Traits.{is_steady, traits_of};
 
 use crate::block::Block;
@@ -19,8 +21,9 @@ use crate::limits::MOST_LINES;
 use crate::pass::Pass;
 use crate::placement::Placement;
 use crate::shift::{
-    Shift, add_moved, added_by, are_accepted, are_plain, is_quiet_edit, removed_by,
+    Shift, add_moved, added_by, are_accepted, first_plain, removed_by, takes_steady,
 };
+use crate::span::{Span, clean_lines};
 use crate::table::Table;
 use crate::traits::Traits;
 use chip_lang::limits::{IMAGE_START, MEMORY_BYTES};
@@ -201,34 +204,28 @@ impl Layout {
         }
     }
 
-    /// How far the lines after an edit move, where they do nothing else: the pass stands before them at an address, and each line before
-    /// the place of the edit is steady.
-    fn shift(
-        &self,
-        traits: &[Traits],
-        lines: &[KeptLine],
-        edit: &Edit,
-        here: usize,
-    ) -> Option<Shift>
+    /// How far the lines from a place on move, which are plain, where they only move: the pass stands before them at an address, and
+    /// each line before them is steady.
+    fn shift(&self, lines: &[KeptLine], edit: &Edit, next: usize, here: usize) -> Option<Shift>
         requires within { IsPlaceWithin (length lines.now) edit.now }
+        requires next { first_changed_by edit.now + added_by edit.now ≤ next }
+        requires end { next ≤ count_of_after (length lines.now) edit.now }
+        requires few { length lines.now ≤ MOST_LINES }
         requires before { is_keep edit.now ≡ false → IsLayoutOf self.now (readings_in lines.now) }
-        requires traits { traits.now ≡ map traits_of (readings_in (lines_after lines.now edit.now)) }
         requires low { here ≤ MEMORY_BYTES }
-        ensures { IfSome result (λ shift. IsShift shift self.now (readings_in lines.now) traits.now edit.now here) }
+        ensures { IfSome result (λ shift. IsShift shift self.now (readings_in lines.now) edit.now next here) }
     {
-        if !is_quiet_edit(lines, edit) {
+        if !takes_steady(lines, edit) {
             return None;
         }
         let added = added_by(edit);
         let removed = removed_by(edit);
-        let from = first_changed(edit) + removed;
+        let from = next + removed - added;
         let old_address = self.address_at(from);
         if (old_address + here) % 2 != 0 || self.end + here > MEMORY_BYTES + old_address {
             return None;
         }
-        if are_plain(&traits[first_changed(edit) + added..])
-            && are_accepted(&self.placements[from..])
-        {
+        if are_accepted(&self.placements[from..]) {
             Some(Shift {
                 added: added as u16,
                 removed: removed as u16,
@@ -249,7 +246,7 @@ impl Layout {
         from: usize,
     ) -> Result<Self, AllocError>
         requires from { from ≤ vec_len self.now.placements }
-        requires names { walked.1.names ≡ take (length walked.1.names) self.now.names }
+        requires names { names_in walked.1.names ≡ take (length walked.1.names) (names_in self.now.names) }
         requires end { self.now.end ≤ MEMORY_BYTES }
         ensures placements { IfOk result (λ made. made.placements.items ≡ walked.0.items ++ map (moved_placement shift) (drop from self.now.placements.items)) }
         ensures names { IfOk result (λ made. made.names ≡ walked.1.names ++ map (moved_name shift) (drop (length walked.1.names) self.now.names)) }
@@ -266,35 +263,23 @@ impl Layout {
         })
     }
 
-    /// The layout of the lines after an edit, where another one is that before it, in the room of a third one, whose names serve again
-    /// where they still come in this order. The pass begins at the edit, unless a line before it is no steady one. It ends there too, where
-    /// the later lines only move.
-    pub(crate) fn after(
+    /// The layout of all lines, where the pass stands before those from a place on.
+    fn walked_on(
+        walked: (Vec<Placement>, Pass),
         alloc: Global,
-        spare: Layout,
-        old: &Layout,
-        lines: &[KeptLine],
         traits: &[Traits],
+        lines: &[KeptLine],
         edit: &Edit,
+        next: usize,
     ) -> Result<Self, AllocError>
         requires within { IsPlaceWithin (length lines.now) edit.now }
-        requires continues { Continues old.now (readings_in (lines_after lines.now edit.now)) (first_changed_by edit.now) }
-        requires before { is_keep edit.now ≡ false → IsLayoutOf old.now (readings_in lines.now) }
         requires few { length lines.now ≤ MOST_LINES }
         requires traits { traits.now ≡ map traits_of (readings_in (lines_after lines.now edit.now)) }
+        requires walked { IsWalked walked (readings_in (lines_after lines.now edit.now)) next }
+        requires next { next ≤ count_of_after (length lines.now) edit.now }
         ensures { IfOk result (λ layout. IsLayoutOf layout (readings_in (lines_after lines.now edit.now))) }
     {
         let count = count_after(lines.len(), edit);
-        let place = first_changed(edit);
-        let first = steady_lines(traits, place);
-        let next = first + added_by(edit);
-        let walked = first_lines(alloc, spare, old, first, count)?;
-        let walked = walk(walked, alloc, traits, lines, edit, first, next)?;
-        if first == place {
-            if let Some(shift) = old.shift(traits, lines, edit, walked.1.here) {
-                return old.shifted(alloc, walked, shift, place + removed_by(edit));
-            }
-        }
         let (placements, pass) = walk(walked, alloc, traits, lines, edit, next, count)?;
         let placements = mark_unclosed(alloc, placements, pass.ended, &pass.blocks)?;
         let end = pass.here;
@@ -303,5 +288,49 @@ impl Layout {
             names: pass.into_names(),
             end,
         })
+    }
+
+    /// The layout of the lines after an edit, where another one is that before it, in the room of a third one, whose names serve again
+    /// where they still come in this order. The pass begins at the edit, unless a line before it is no steady one. It ends where the later
+    /// lines only move: then it is known which lines stand where they stood, or moved by one distance.
+    pub(crate) fn after(
+        alloc: Global,
+        spare: Layout,
+        old: &Layout,
+        lines: &[KeptLine],
+        traits: &[Traits],
+        edit: &Edit,
+    ) -> Result<(Self, Option<Span>), AllocError>
+        requires within { IsPlaceWithin (length lines.now) edit.now }
+        requires continues { Continues old.now (readings_in (lines_after lines.now edit.now)) (first_changed_by edit.now) }
+        requires before { is_keep edit.now ≡ false → IsLayoutOf old.now (readings_in lines.now) }
+        requires few { length lines.now ≤ MOST_LINES }
+        requires traits { traits.now ≡ map traits_of (readings_in (lines_after lines.now edit.now)) }
+        ensures layout { IfOk result (λ made. IsLayoutOf made.0 (readings_in (lines_after lines.now edit.now))) }
+        ensures span { IfOk result (λ made. IfSome made.1 (λ span. IsSpanOf old.now made.0 (length lines.now) edit.now span)) }
+    {
+        let count = count_after(lines.len(), edit);
+        let place = first_changed(edit);
+        let next = first_plain(traits, place + added_by(edit));
+        let steady = steady_lines(traits, next);
+        let first = steady.min(place);
+        let walked = first_lines(alloc, spare, old, first, count)?;
+        let known = walked.1.names.len();
+        let walked = walk(walked, alloc, traits, lines, edit, first, next)?;
+        if steady == next {
+            if let Some(shift) = old.shift(lines, edit, next, walked.1.here) {
+                let from = next + removed_by(edit) - added_by(edit);
+                if walked.1.names.are_those_up_to(&old.names, from, known) {
+                    let span = Span {
+                        front: clean_lines(&old.placements, place),
+                        back: lines.len() - from,
+                    };
+                    let layout = old.shifted(alloc, walked, shift, from)?;
+                    return Ok((layout, Some(span)));
+                }
+            }
+        }
+        let layout = Layout::walked_on(walked, alloc, traits, lines, edit, next)?;
+        Ok((layout, None))
     }
 }

@@ -21,6 +21,7 @@ mod refusal;
 mod settle;
 mod shift;
 mod source;
+mod span;
 mod table;
 mod traits;
 

@@ -1,10 +1,9 @@
 //! How far the lines after an edit move, where they do nothing else.
-ghost use Rattle.std.specs.Prelude.{◌≡◌, ◌++◌, OnOk, length, map};
+ghost use Rattle.std.specs.Prelude.{◌≡◌, ◌≤◌, ◌++◌, true, OnOk, drop, length, map};
 ghost use Rattle.std.specs.List.{list_all};
-ghost use Rattle.chip_lang.specs.SeenLine.{seen_line};
 ghost use Rattle.chip_asm.specs.inner.Placements.{is_placed};
 ghost use Rattle.chip_asm.specs.inner.Records.{IsPlaceWithin, readings_in};
-ghost use Rattle.chip_asm.specs.inner.Shift.{added_by, removed_by, is_quiet, is_quiet_edit, moved_placement};
+ghost use Rattle.chip_asm.specs.inner.Shift.{added_by, removed_by, takes_steady, moved_placement};
 
 use crate::edit::Edit;
 use crate::kept_line::KeptLine;
@@ -13,7 +12,6 @@ use crate::placement::Placement;
 use crate::table::Symbol;
 use crate::traits::{Traits, is_steady};
 use chip_lang::limits::MEMORY_BYTES;
-use chip_lang::{Line, defines};
 use std::alloc::AllocError;
 
 /// How far lines move: their numbers, and their addresses.
@@ -98,31 +96,33 @@ pub(crate) fn removed_by(edit: &Edit) -> usize
     }
 }
 
-/// Whether a line does nothing to the others but by where it leaves the address.
-fn is_quiet(line: &Line) -> bool
-    ensures { result ≡ is_quiet (seen_line line.now) }
-{
-    is_steady(line) && defines(line).is_none()
-}
-
-/// Whether the line that comes and the line that goes do nothing to the others but by where they leave the address.
-pub(crate) fn is_quiet_edit(lines: &[KeptLine], edit: &Edit) -> bool
+/// Whether the line that an edit takes away, if it takes one, opens no block, ends no source and switches no alignment.
+pub(crate) fn takes_steady(lines: &[KeptLine], edit: &Edit) -> bool
     requires { IsPlaceWithin (length lines.now) edit.now }
-    ensures { result ≡ is_quiet_edit (readings_in lines.now) edit.now }
+    ensures { result ≡ takes_steady (readings_in lines.now) edit.now }
 {
     match edit {
-        Edit::Insert(_, added) => is_quiet(&added.line),
-        Edit::Replace(at, added) => is_quiet(&added.line) && is_quiet(&lines[*at].line),
-        Edit::Delete(at) => is_quiet(&lines[*at].line),
+        Edit::Insert(_, _) => true,
+        Edit::Replace(at, _) | Edit::Delete(at) => is_steady(&lines[*at].line),
         Edit::Keep => false,
     }
 }
 
-/// Whether the first pass asks only the size of the statement of each line.
-pub(crate) fn are_plain(traits: &[Traits]) -> bool
-    ensures { result ≡ list_all (λ t. t.is_plain) traits.now }
+/// The first place, from a lowest one on, from which the first pass asks only the size of the statement of each line.
+pub(crate) fn first_plain(traits: &[Traits], lowest: usize) -> usize
+    requires { lowest ≤ length traits.now }
+    ensures low { lowest ≤ result }
+    ensures within { result ≤ length traits.now }
+    ensures plain { list_all (λ t. t.is_plain) (drop result traits.now) ≡ true }
 {
-    traits.iter().all(|line| line.is_plain)
+    let mut place = traits.len();
+    while place > lowest {
+        if !traits[place - 1].is_plain {
+            return place;
+        }
+        place -= 1;
+    }
+    place
 }
 
 /// Whether each line is accepted.

@@ -1,5 +1,5 @@
 //! The names of a source.
-ghost use Rattle.std.specs.Prelude.{◌≡◌, ◌≢◌, ◌++◌, [], ◌∷◌, OnOk, IfOk, IfSome, None, Some, true, false, length, map, take, drop, slice_get, ◌<◌};
+ghost use Rattle.std.specs.Prelude.{◌≡◌, ◌≢◌, ◌++◌, [], ◌∷◌, ℕ, OnOk, IfOk, IfSome, None, Some, true, false, length, map, take, drop, slice_get, slice_index_or, ◌<◌, ◌≤◌};
 ghost use Rattle.std.specs.Str.{bytes_eq};
 ghost use Rattle.chip_lang.specs.Line.{upper};
 ghost use Rattle.chip_lang.specs.Value.{value_of_name};
@@ -119,7 +119,7 @@ impl Table {
         other: &Table,
         shift: Shift,
     ) -> Result<(), AllocError>
-        requires { self.old ≡ take (length self.old) other.now }
+        requires { names_in self.old ≡ take (length self.old) (names_in other.now) }
         ensures { OnOk result (self.new ≡ self.old ++ map (moved_name shift) (drop (length self.old) other.now)) }
     {
         let first = self.count;
@@ -133,6 +133,34 @@ impl Table {
             self.define(alloc, name, shift.symbol(symbol))?;
         }
         Ok(())
+    }
+
+    /// Whether the names are those that lines up to a number give, of another table, with which it shares so many first ones.
+    pub(crate) fn are_those_up_to(&self, other: &Table, number: usize, known: usize) -> bool
+        requires mine { known ≤ length self.now }
+        requires others { known ≤ length other.now }
+        requires same { take known (names_in self.now) ≡ take known (names_in other.now) }
+        requires early { (index : ℕ) (e : Name × Symbol) → index < known → (slice_index_or other.now index e).1.line ≤ number }
+        ensures { result ≡ true → names_in self.now ≡ names_in (names_up_to number other.now) }
+    {
+        for index in known..other.symbols.len() {
+            let Some((_, symbol)) = other.symbols.get_index(index) else {
+                unreachable!();
+            };
+            if index >= other.count {
+                return index == self.count;
+            }
+            if symbol.line > number {
+                return index == self.count;
+            }
+            if index >= self.count {
+                return false;
+            }
+            if !self.has_same_name_at(other, index) {
+                return false;
+            }
+        }
+        other.count == self.count
     }
 
     /// How many names there are.

@@ -1,5 +1,5 @@
 -- What moves where the lines after an edit only move (own). The sums stay far below where they would end.
-use Rattle.std.specs.Prelude.{◌≡◌, ℕ, ◌+◌, ◌-◌, ◌^◌, ◌%◌, ◌≤◌, min, pos, unsigned_abs, Bool, true, false, not, ◌&&◌, List, take, drop, slice_get}
+use Rattle.std.specs.Prelude.{◌≡◌, ℕ, ◌+◌, ◌-◌, ◌^◌, ◌%◌, ◌≤◌, min, pos, unsigned_abs, Bool, true, false, List, take, drop, slice_get}
 use Rattle.std.specs.List.{list_all}
 use Rattle.std.specs.Global.{Vec}
 use Rattle.std.specs.Option.{option_map_or}
@@ -13,13 +13,10 @@ use Rattle.chip_asm.specs.declared.pass.Pass.{Pass}
 use Rattle.chip_asm.specs.declared.placement.Placement.{Placement}
 use Rattle.chip_asm.specs.declared.shift.Shift.{Shift}
 use Rattle.chip_asm.specs.declared.table.Symbol.{Symbol}
-use Rattle.chip_asm.specs.declared.traits.Traits.{Traits}
 use Rattle.chip_asm.specs.inner.Follows.{Follows}
 use Rattle.chip_asm.specs.inner.Layouts.{first_placements}
 use Rattle.chip_asm.specs.inner.Placements.{is_placed}
-use Rattle.chip_asm.specs.inner.Records.{reading_in}
-use Rattle.chip_asm.specs.inner.Resume.{first_changed}
-use Rattle.chip_asm.specs.inner.Traits.{gives_name, is_steady}
+use Rattle.chip_asm.specs.inner.Traits.{is_steady}
 use Rattle.chip_asm.specs.Layout.{body_of, placed, address}
 use Rattle.chip_asm.specs.Names.{Name}
 
@@ -59,31 +56,31 @@ removed_by (Replace at line) = 1
 removed_by (Delete at) = 1
 removed_by _ = 0
 
--- the line does nothing to the others but by where it leaves the address
-abbrev pub is_quiet : Reading → Bool
-is_quiet line = is_steady (body_of line) && not (gives_name line)
+-- the line at a place opens no block, ends no source and switches no alignment
+abbrev pub is_steady_at : List Reading → ℕ → Bool
+is_steady_at lines at = option_map_or (λ line. is_steady (body_of line)) (slice_get lines at) false
 
-abbrev pub is_quiet_at : List Reading → ℕ → Bool
-is_quiet_at lines at = option_map_or is_quiet (slice_get lines at) false
+-- so is the line that goes, if one does
+abbrev pub takes_steady : List Reading → Edit → Bool
+takes_steady lines (Insert at line) = true
+takes_steady lines (Replace at line) = is_steady_at lines at
+takes_steady lines (Delete at) = is_steady_at lines at
+takes_steady lines Keep = false
 
--- so are the line that comes and the line that goes
-abbrev pub is_quiet_edit : List Reading → Edit → Bool
-is_quiet_edit lines (Insert at line) = is_quiet (reading_in line)
-is_quiet_edit lines (Replace at line) = is_quiet (reading_in line) && is_quiet_at lines at
-is_quiet_edit lines (Delete at) = is_quiet_at lines at
-is_quiet_edit lines Keep = false
+-- the place that a line past the edit had before it
+abbrev pub old_place : Edit → ℕ → ℕ
+old_place edit place = place + removed_by edit - added_by edit
 
--- the lines after an edit only move, where the pass stands before them at an address
-pub record IsShift (shift : Shift) (old : Layout) (lines : List Reading) (traits : List Traits) (edit : Edit) (here : ℕ) : Type 0 where
-  pub quiet : is_quiet_edit lines edit ≡ true
+-- from a place on the lines after an edit only move, if they are plain, where the pass stands before them at an address
+pub record IsShift (shift : Shift) (old : Layout) (lines : List Reading) (edit : Edit) (next here : ℕ) : Type 0 where
+  pub steady : takes_steady lines edit ≡ true
   pub added : shift.added ≡ added_by edit
   pub removed : shift.removed ≡ removed_by edit
   pub new_address : shift.new_address ≡ here
-  pub old_address : shift.old_address ≡ address (placed (take (first_changed edit + removed_by edit) lines))
+  pub old_address : shift.old_address ≡ address (placed (take (old_place edit next) lines))
   pub even : (shift.old_address + shift.new_address) % 2 ≡ 0
   pub fits : old.end + shift.new_address ≤ MEMORY_BYTES + shift.old_address
-  pub plain : list_all (λ t. t.is_plain) (drop (first_changed edit + added_by edit) traits) ≡ true
-  pub accepted : list_all is_placed (drop (first_changed edit + removed_by edit) old.placements.items) ≡ true
+  pub accepted : list_all is_placed (drop (old_place edit next) old.placements.items) ≡ true
 
 -- the pass stands after the first of some lines, with what it found of them
 pub record IsWalked (walked : Vec Placement × Pass) (lines : List Reading) (place : ℕ) : Type 0 where

@@ -5,8 +5,11 @@ use Rattle.chip_lang.specs.declared.limits.TheConstants.{IMAGE_START, MEMORY_BYT
 use Rattle.chip_asm.specs.declared.edit.Edit.{Edit}
 use Rattle.chip_asm.specs.declared.edit.Edit.TheVariants.{Insert, Replace, Delete, Keep}
 use Rattle.chip_asm.specs.declared.kept_line.KeptLine.{KeptLine}
+use Rattle.chip_asm.specs.declared.layout.Layout.{Layout}
 use Rattle.chip_asm.specs.declared.placement.Placement.{Placement}
-use Rattle.chip_asm.specs.declared.settle.Span.{Span}
+use Rattle.chip_asm.specs.declared.span.Span.{Span}
+use Rattle.chip_asm.specs.inner.Hints.{names_in}
+use Rattle.chip_asm.specs.inner.Resume.{first_changed}
 
 -- a line without a fault stands where another one stood, but for the distance between two addresses, and takes the same space
 pub record StandsAlike (from to : ℕ) (old new : Placement) : Type 0 where
@@ -75,3 +78,10 @@ byte_behind first from to image k =
 abbrev pub moved_byte : (old new : List Placement) → Span → List ℕ → ℕ → ℕ
 moved_byte old new span image k =
     byte_behind (end_before old span.front) (start_at old (length old - span.back)) (start_at new (length new - span.back)) image k
+
+-- the span that an edit of so many lines leaves between two layouts, with the same names in both
+pub record IsSpanOf (old new : Layout) (count : ℕ) (edit : Edit) (span : Span) : Type 0 where
+  pub front : span.front ≤ first_changed edit
+  pub back : span.back ≤ later_lines count edit
+  pub span_is : IsSpan old.placements.items new.placements.items span
+  pub same_names : names_in old.names ≡ names_in new.names

@@ -1,10 +1,11 @@
-use Rattle.std.proofs.Common.{◌≡◌, ◌∙◌, ◌≤◌, ℕ, List, length, ap, arith, subst, sym}
+use Rattle.std.proofs.Common.{◌≡◌, ◌∙◌, ◌≤◌, ℕ, List, length, ap, arith, subst, sym, vec_len, Option, Some, None, IfSome}
+use Rattle.chip_asm.specs.declared.edit.Edit.{Edit}
 use Rattle.chip_asm.specs.declared.kept_line.KeptLine.{KeptLine}
 use Rattle.chip_asm.specs.declared.layout.Layout.{Layout}
-use Rattle.chip_asm.specs.declared.placement.Placement.{Placement}
+use Rattle.chip_asm.specs.declared.span.Span.{Span}
 use Rattle.chip_asm.specs.inner.Layouts.{IsLayoutOf}
 use Rattle.chip_asm.specs.inner.Resume.{first_changed}
-use Rattle.chip_asm.specs.inner.Span.{IsSpan, KeepsEnds, later_lines}
+use Rattle.chip_asm.specs.inner.Span.{IsSpanOf, KeepsEnds, later_lines}
 use Rattle.chip_asm.proofs.Edited.{length-lines_after}
 use Rattle.chip_asm.proofs.ImageWhole.{length-kept}
 use Rattle.chip_asm.specs.inner.Records.{readings_in, lines_after, place_before, count_after, IsPlaceWithin}
@@ -15,22 +16,35 @@ use Rattle.chip_asm.proofs.KeptSteps.{kept-same}
 use Rattle.chip_asm.proofs.ChangedBytes.{all-places}
 use Rattle.chip_asm.proofs.kept.Kept.remake.Goals as goal
 
-pub span_of-span-requires-clause-within : goal.span_of-span-requires-clause-within
-span_of-span-requires-clause-within c =
+pub span-span-requires-clause-within : goal.span-span-requires-clause-within
+span-span-requires-clause-within c =
     let within : IsPlaceWithin (length c.args.self.now.lines.items) c.args.edit = subst (λ n. IsPlaceWithin n c.args.edit) c.args.self.now.lines.ok.0 c.requires.within in
-    let count : length c.deref.result.now ≡ length c.args.self.now.lines.items
-    = ap length c.deref.ensures.value ∙ ap (λ (l : Layout). length l.placements.items) c.in_ok-prepared.ensures.layout ∙ length-kept c.args.self.now.lines.items c.args.self.now.layout c.requires.kept.laid_out in
+    let count : length c.prepare.new.self.layout.placements.items ≡ length c.args.self.now.lines.items
+    = ap (λ (l : Layout). length l.placements.items) c.in_ok-prepared.ensures.layout ∙ length-kept c.args.self.now.lines.items c.args.self.now.layout c.requires.kept.laid_out in
     subst (λ n. IsPlaceWithin n c.args.edit) (sym count) within
 
-pub span_of-span-requires-clause-long : goal.span_of-span-requires-clause-long
-span_of-span-requires-clause-long c =
+pub span-span-requires-clause-long : goal.span-span-requires-clause-long
+span-span-requires-clause-long c =
     let within : IsPlaceWithin (length c.args.self.now.lines.items) c.args.edit = subst (λ n. IsPlaceWithin n c.args.edit) c.args.self.now.lines.ok.0 c.requires.within in
-    let count : length c.deref.result.now ≡ length c.args.self.now.lines.items
-    = ap length c.deref.ensures.value ∙ ap (λ (l : Layout). length l.placements.items) c.in_ok-prepared.ensures.layout ∙ length-kept c.args.self.now.lines.items c.args.self.now.layout c.requires.kept.laid_out in
-    ap length c.deref-2.ensures.value
-    ∙ length-kept (lines_after c.args.self.now.lines.items c.args.edit) c.in_ok-prepared.prepared.layout c.in_ok-prepared.ensures.after
+    let count : length c.prepare.new.self.layout.placements.items ≡ length c.args.self.now.lines.items
+    = ap (λ (l : Layout). length l.placements.items) c.in_ok-prepared.ensures.layout ∙ length-kept c.args.self.now.lines.items c.args.self.now.layout c.requires.kept.laid_out in
+    length-kept (lines_after c.args.self.now.lines.items c.args.edit) c.in_ok-prepared.prepared.layout c.in_ok-prepared.ensures.after
     ∙ length-lines_after c.args.self.now.lines.items c.args.edit within
     ∙ ap (λ n. count_after n c.args.edit) (sym count)
+
+-- what is told of a span of some lines is so of as many lines in another layout that is the same
+known-there : (old other new : Layout) (count long : ℕ) (edit : Edit) (o : Option Span) → other ≡ old → count ≡ long
+    → IfSome o (λ (span : Span). IsSpanOf old new count edit span) → IfSome o (λ (span : Span). IsSpanOf other new long edit span)
+known-there old other new count long edit None same e known = tt
+known-there old other new count long edit (Some span) same e known =
+    subst (λ (n : ℕ). IsSpanOf other new n edit span) e (subst (λ (l : Layout). IsSpanOf l new count edit span) (sym same) known)
+
+pub span-span-requires-clause-known : goal.span-span-requires-clause-known
+span-span-requires-clause-known c =
+    let count : length c.prepare.new.self.layout.placements.items ≡ length c.args.self.now.lines.items
+    = ap (λ (l : Layout). length l.placements.items) c.in_ok-prepared.ensures.layout ∙ length-kept c.args.self.now.lines.items c.args.self.now.layout c.requires.kept.laid_out in
+    known-there c.args.self.now.layout c.prepare.new.self.layout c.in_ok-prepared.prepared.layout (vec_len c.args.self.now.lines) (length c.prepare.new.self.layout.placements.items) c.args.edit c.in_ok-prepared.prepared.span
+    c.in_ok-prepared.ensures.layout (c.args.self.now.lines.ok.0 ∙ sym count) c.in_ok-prepared.ensures.span
 
 pub settle-requires-clause-own : goal.settle-requires-clause-own
 settle-requires-clause-own c =
@@ -58,12 +72,10 @@ settle-requires-clause-stood c =
     = ap (λ (l : Layout). length l.placements.items) c.in_ok-prepared.ensures.layout ∙ length-kept c.args.self.now.lines.items c.args.self.now.layout c.requires.kept.laid_out in
     let new_count : length c.in_ok-prepared.prepared.layout.placements.items ≡ count_after (length c.args.self.now.lines.items) c.args.edit
     = length-kept (lines_after c.args.self.now.lines.items c.args.edit) c.in_ok-prepared.prepared.layout c.in_ok-prepared.ensures.after ∙ length-lines_after c.args.self.now.lines.items c.args.edit within in
-    let count : length c.deref.result.now ≡ length c.args.self.now.lines.items = ap length c.deref.ensures.value ∙ old_count in
-    let front : c.span_of-span.result.front ≤ first_changed c.args.edit = c.span_of-span.ensures.front in
-    let back : c.span_of-span.result.back ≤ later_lines (length c.args.self.now.lines.items) c.args.edit
-    = subst (λ (n : ℕ). c.span_of-span.result.back ≤ later_lines n c.args.edit) count c.span_of-span.ensures.back in
+    let front : c.span-span.result.front ≤ first_changed c.args.edit = c.span-span.ensures.front in
+    let back : c.span-span.result.back ≤ later_lines (length c.args.self.now.lines.items) c.args.edit
+    = subst (λ (n : ℕ). c.span-span.result.back ≤ later_lines n c.args.edit) old_count c.span-span.ensures.back in
     let long = ends-long (length c.args.self.now.lines.items) c.args.edit within in
-    let is_span : IsSpan c.deref.result.now c.deref-2.result.now c.span_of-span.result = c.span_of-span.ensures.span in
     let fewer = long.0 in
     let few_after = long.1 in
     record {
@@ -72,9 +84,8 @@ settle-requires-clause-stood c =
       current = c.requires.kept.current;
       imaged = λ k h. c.in_ok-prepared.ensures.image k ∙ c.requires.kept.imaged k h;
       counted = c.in_ok-prepared.ensures.faults ∙ c.requires.kept.counted;
-      ends = subst (λ (lines : List KeptLine). KeepsEnds c.args.self.now.lines.items lines c.span_of-span.result) (sym made) (keeps-ends c.args.self.now.lines.items c.args.edit c.span_of-span.result within front back);
-      span_is = subst (λ (ps : List Placement). IsSpan c.prepare.new.self.layout.placements.items ps c.span_of-span.result) c.deref-2.ensures.value
-          (subst (λ (ps : List Placement). IsSpan ps c.deref-2.result.now c.span_of-span.result) c.deref.ensures.value is_span);
+      ends = subst (λ (lines : List KeptLine). KeepsEnds c.args.self.now.lines.items lines c.span-span.result) (sym made) (keeps-ends c.args.self.now.lines.items c.args.edit c.span-span.result within front back);
+      span_is = c.span-span.ensures.span;
       old_long = omega (arith, old_count, front, back, fewer);
       new_long = omega (arith, new_count, front, back, few_after);
     }

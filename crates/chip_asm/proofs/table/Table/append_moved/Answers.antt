@@ -3,6 +3,7 @@ use Rattle.std.proofs.lemmas.List.{take_more, take_all, length-take}
 use Rattle.std.specs.Global.{Vec}
 use Rattle.chip_asm.specs.Names.{Name}
 use Rattle.chip_asm.specs.declared.table.Symbol.{Symbol}
+use Rattle.chip_asm.specs.inner.Hints.{names_in}
 use Rattle.chip_asm.specs.inner.Shift.{moved_name}
 use Rattle.chip_asm.proofs.ShiftedNames.{missing-moved, moved-push, none-moved}
 use Rattle.chip_asm.proofs.TableSteps.{seen, entry-taken, within-count, seen-at, seen-first, next-missing}
@@ -26,7 +27,7 @@ define-requires c =
 pub loop-index-init : goal.loop-index-init
 loop-index-init c =
     let mine = within-count c.self.inside.count c.self.inside.symbols.entries c.args.self.now c.self.invariant c.self.view_is in
-    none-moved c.args.shift c.self.inside.count c.args.self.now c.args.other.now (subst (λ n. c.args.self.now ≡ take n c.args.other.now) mine c.requires) mine
+    none-moved c.args.shift c.self.inside.count c.args.self.now c.args.other.now (subst (λ n. names_in c.args.self.now ≡ take n (names_in c.args.other.now)) mine c.requires) mine
 
 pub loop-index-preserved : goal.loop-index-preserved
 loop-index-preserved c =

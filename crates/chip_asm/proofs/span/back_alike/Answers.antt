@@ -3,7 +3,7 @@ use Rattle.std.proofs.lemmas.Bool.{eqb-true, eqb-false}
 use Rattle.std.proofs.lemmas.Option.{slice_get-get_or}
 use Rattle.chip_asm.specs.declared.placement.Placement.{Placement}
 use Rattle.chip_asm.specs.inner.Span.{StandsAlike}
-use Rattle.chip_asm.proofs.settle.back_alike.Goals as goal
+use Rattle.chip_asm.proofs.span.back_alike.Goals as goal
 
 pub returns-then-limit-eq0-clause-alike : goal.returns-then-limit-eq0-clause-alike
 returns-then-limit-eq0-clause-alike c = record { from = 0; to = 0; old_long = omega arith; new_long = omega arith; each = λ place p q h a b. absurd (omega arith) }
