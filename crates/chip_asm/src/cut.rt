@@ -8,7 +8,7 @@ ghost use Rattle.chip_asm.specs.Lines.{lines_of, open_fault, is_newline, first_t
 ghost use Rattle.chip_asm.specs.inner.Records.{readings_in, texts_in};
 ghost use Rattle.chip_asm.specs.declared.refusal.OpenError.{OpenError};
 
-use crate::kept_line::{KeptLine, read_kept};
+use crate::kept_line::{BoxedLine, read_kept};
 use crate::limits::{LINE_BYTES, MOST_LINES};
 use crate::refusal::OpenError;
 use chip_lang::Meter;
@@ -64,7 +64,7 @@ fn after_line(bytes: &[u8], end: usize) -> &[u8]
 fn push_line(
     alloc: Global,
     meter: &mut Meter,
-    lines: &mut Vec<KeptLine>,
+    lines: &mut Vec<BoxedLine>,
     text: &[u8],
 ) -> Result<(), AllocError>
     ensures texts { OnOk result (texts_in lines.new.items ≡ texts_in lines.old.items ++ text.now ∷ []) }
@@ -82,7 +82,7 @@ pub(crate) fn read_lines(
     alloc: Global,
     meter: &mut Meter,
     source: &[u8],
-) -> Result<Vec<KeptLine>, OpenError>
+) -> Result<Vec<BoxedLine>, OpenError>
     requires { meter.old ≡ record { parsed = 0; encoded = 0 } }
     ensures ok { IfOk result (λ lines. (open_fault source.now ≡ None) × (texts_in lines.items ≡ lines_of source.now)) }
     ensures read { IfOk result (λ lines. readings_in lines.items ≡ map reading_of (texts_in lines.items)) }
@@ -92,7 +92,7 @@ pub(crate) fn read_lines(
     ensures err { IfErr result (λ e. (e ≡ OpenError.OutOfMemory) ⊎ (open_fault source.now ≡ Some e)) }
 {
     let most = source.len().min(MOST_LINES);
-    let mut lines: Vec<KeptLine> = Vec::with_capacity(alloc, most + 1)?;
+    let mut lines: Vec<BoxedLine> = Vec::with_capacity(alloc, most + 1)?;
     let mut rest = source;
     while !rest.is_empty() {
         let end = line_length(rest);

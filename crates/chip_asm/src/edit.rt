@@ -4,7 +4,7 @@ ghost use Rattle.chip_asm.specs.inner.Records.{IsPlaceWithin, lines_after, readi
 ghost use Rattle.chip_asm.specs.inner.Resume.{first_changed};
 ghost use Rattle.chip_lang.specs.SeenLine.{seen_line};
 
-use crate::kept_line::KeptLine;
+use crate::kept_line::BoxedLine;
 use crate::limits::MOST_LINES;
 use chip_lang::Line;
 use std::alloc::{AllocError, Global};
@@ -13,9 +13,9 @@ use std::alloc::{AllocError, Global};
 #[derive(Drop)]
 pub(crate) enum Edit {
     /// The line comes before the one at the place.
-    Insert(usize, KeptLine),
+    Insert(usize, BoxedLine),
     /// The line takes the place of the one there.
-    Replace(usize, KeptLine),
+    Replace(usize, BoxedLine),
     /// The line at the place goes.
     Delete(usize),
     /// All lines stay.
@@ -23,7 +23,7 @@ pub(crate) enum Edit {
 }
 
 /// The reading of the line at a place after the edit.
-pub(crate) fn line_after<'a>(lines: &'a [KeptLine], edit: &'a Edit, place: usize) -> &'a Line
+pub(crate) fn line_after<'a>(lines: &'a [BoxedLine], edit: &'a Edit, place: usize) -> &'a Line
     requires within { IsPlaceWithin (length lines.now) edit.now }
     requires place { place < count_after (length lines.now) edit.now }
     ensures { slice_get (readings_in (lines_after lines.now edit.now)) place ≡ Some (seen_line result.now) }
@@ -31,28 +31,28 @@ pub(crate) fn line_after<'a>(lines: &'a [KeptLine], edit: &'a Edit, place: usize
     match edit {
         Edit::Insert(at, added) => {
             if place < *at {
-                &lines[place].line
+                &lines[place].get().line
             } else if place == *at {
-                &added.line
+                &added.get().line
             } else {
-                &lines[place - 1].line
+                &lines[place - 1].get().line
             }
         }
         Edit::Replace(at, added) => {
             if place == *at {
-                &added.line
+                &added.get().line
             } else {
-                &lines[place].line
+                &lines[place].get().line
             }
         }
         Edit::Delete(at) => {
             if place < *at {
-                &lines[place].line
+                &lines[place].get().line
             } else {
-                &lines[place + 1].line
+                &lines[place + 1].get().line
             }
         }
-        Edit::Keep => &lines[place].line,
+        Edit::Keep => &lines[place].get().line,
     }
 }
 
@@ -106,7 +106,7 @@ pub(crate) fn place_before(edit: &Edit, place: usize) -> Option<usize>
 }
 
 /// Makes the edit in a list with room for one line more.
-pub(crate) fn make_edit(lines: &mut Vec<KeptLine>, edit: Edit)
+pub(crate) fn make_edit(lines: &mut Vec<BoxedLine>, edit: Edit)
     requires within { IsPlaceWithin (vec_len lines.old) edit }
     requires room { vec_len lines.old < vec_capacity lines.old }
     ensures { lines.new.items ≡ lines_after lines.old.items edit }
@@ -124,7 +124,7 @@ pub(crate) fn make_edit(lines: &mut Vec<KeptLine>, edit: Edit)
 }
 
 /// Puts a line in the place of another one.
-pub(crate) fn replace_line(lines: &mut Vec<KeptLine>, at: usize, added: KeptLine)
+pub(crate) fn replace_line(lines: &mut Vec<BoxedLine>, at: usize, added: BoxedLine)
     requires { at < vec_len lines.old }
     ensures { lines.new.items ≡ slice_set lines.old.items at added }
 {

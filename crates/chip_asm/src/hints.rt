@@ -8,7 +8,7 @@ ghost use Rattle.chip_asm.specs.inner.Traits.{traits_of};
 ghost use Rattle.chip_asm.specs.declared.kept_line.KeptLine.{KeptLine};
 
 use crate::edit::{Edit, count_after, line_after, with_item, without_item};
-use crate::kept_line::KeptLine;
+use crate::kept_line::BoxedLine;
 use crate::limits::MOST_LINES;
 use crate::table::Table;
 use crate::traits::Traits;
@@ -42,7 +42,7 @@ fn hint_by(names: &Table, traits: Traits, line: &Line) -> usize
 }
 
 /// The hints of lines where no names are known yet.
-pub(crate) fn no_hints(alloc: Global, lines: &[KeptLine]) -> Result<Vec<usize>, AllocError>
+pub(crate) fn no_hints(alloc: Global, lines: &[BoxedLine]) -> Result<Vec<usize>, AllocError>
     ensures { IfOk result (λ hints. hints.items ≡ map (λ kept. 0) lines.now) }
 {
     let mut hints = Vec::with_capacity(alloc, lines.len())?;
@@ -56,7 +56,7 @@ pub(crate) fn no_hints(alloc: Global, lines: &[KeptLine]) -> Result<Vec<usize>, 
 fn hints_of_all(
     alloc: Global,
     names: &Table,
-    lines: &[KeptLine],
+    lines: &[BoxedLine],
     traits: &[Traits],
     edit: &Edit,
 ) -> Result<Vec<usize>, AllocError>
@@ -86,10 +86,10 @@ fn edited_hints(
         → IfOk result (λ after. after.items ≡ map (hint_in (names_in names.now)) (readings_in (lines_after lines edit.now))) }
 {
     match edit {
-        Edit::Insert(at, added) => with_item(alloc, hints, *at, hint_of(names, &added.line)),
+        Edit::Insert(at, added) => with_item(alloc, hints, *at, hint_of(names, &added.get().line)),
         Edit::Replace(at, added) => {
             let mut after = Vec::from_slice(alloc, hints)?;
-            after[*at] = hint_of(names, &added.line);
+            after[*at] = hint_of(names, &added.get().line);
             Ok(after)
         }
         Edit::Delete(at) => without_item(alloc, hints, *at),
@@ -103,7 +103,7 @@ pub(crate) fn hints_after(
     same_names: bool,
     names: &Table,
     hints: &[usize],
-    lines: &[KeptLine],
+    lines: &[BoxedLine],
     traits: &[Traits],
     edit: &Edit,
 ) -> Result<Vec<usize>, AllocError>

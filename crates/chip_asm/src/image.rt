@@ -9,7 +9,7 @@ ghost use Rattle.chip_asm.specs.inner.Traits.{traits_of};
 ghost use Rattle.chip_asm.specs.inner.Kept.{AreCurrent};
 ghost use Rattle.chip_asm.specs.inner.KeptCodes.{coded_bytes, kept_fault, kept_bytes, count_of};
 
-use crate::kept_line::KeptLine;
+use crate::kept_line::BoxedLine;
 use crate::layout::Layout;
 use crate::placement::Placement;
 use crate::traits::{Traits, has_code};
@@ -18,14 +18,14 @@ use chip_lang::{Coded, Fault};
 use std::alloc::{AllocError, Global};
 
 /// The fault of a line, from what is kept of it.
-pub(crate) fn kept_fault(placement: &Placement, kept: &KeptLine) -> Option<Fault>
+pub(crate) fn kept_fault(placement: &Placement, kept: &BoxedLine) -> Option<Fault>
     ensures { result ≡ kept_fault placement.now kept.now }
 {
-    fault_by(placement, has_code(&kept.line), kept)
+    fault_by(placement, has_code(&kept.get().line), kept)
 }
 
 /// The same, where it is known whether the line has bytes of its own.
-pub(crate) fn fault_by(placement: &Placement, is_coded: bool, kept: &KeptLine) -> Option<Fault>
+pub(crate) fn fault_by(placement: &Placement, is_coded: bool, kept: &BoxedLine) -> Option<Fault>
     requires { is_coded ≡ has_code (body_of (reading_in kept.now)) }
     ensures { result ≡ kept_fault placement.now kept.now }
 {
@@ -38,7 +38,7 @@ pub(crate) fn fault_by(placement: &Placement, is_coded: bool, kept: &KeptLine) -
     if !is_coded {
         return None;
     }
-    match &kept.code {
+    match &kept.get().code {
         Coded::Bytes(_) => None,
         Coded::Faulty(fault) => Some(*fault),
     }
@@ -55,18 +55,18 @@ pub(crate) fn count_of(fault: Option<Fault>) -> usize
 }
 
 /// The bytes of a line, from what is kept of it.
-pub(crate) fn kept_bytes(kept: &KeptLine) -> &[u8]
+pub(crate) fn kept_bytes(kept: &BoxedLine) -> &[u8]
     ensures { result.now ≡ kept_bytes kept.now }
 {
-    bytes_by(has_code(&kept.line), kept)
+    bytes_by(has_code(&kept.get().line), kept)
 }
 
 /// The same, where it is known whether the line has bytes of its own.
-pub(crate) fn bytes_by(is_coded: bool, kept: &KeptLine) -> &[u8]
+pub(crate) fn bytes_by(is_coded: bool, kept: &BoxedLine) -> &[u8]
     requires { is_coded ≡ has_code (body_of (reading_in kept.now)) }
     ensures { result.now ≡ kept_bytes kept.now }
 {
-    if is_coded { bytes_of(&kept.code) } else { &[] }
+    if is_coded { bytes_of(&kept.get().code) } else { &[] }
 }
 
 /// The bytes of a code; none of a fault.
@@ -136,7 +136,7 @@ pub(crate) fn fill_up(image: &mut Vec<u8>) -> Result<(), AllocError>
 }
 
 /// The fault of the line with this number.
-pub(crate) fn fault_of_number(lines: &[KeptLine], layout: &Layout, number: usize) -> Option<Fault>
+pub(crate) fn fault_of_number(lines: &[BoxedLine], layout: &Layout, number: usize) -> Option<Fault>
     requires laid_out { IsLayoutOf layout.now (readings_in lines.now) }
     requires current { AreCurrent lines.now }
     ensures { result ≡ fault_of_line (readings_in lines.now) number }
@@ -168,7 +168,7 @@ fn push_fault(
 /// The faults of the lines, in line order, each with the line's number.
 pub(crate) fn faults_in(
     alloc: Global,
-    lines: &[KeptLine],
+    lines: &[BoxedLine],
     layout: &Layout,
 ) -> Result<Vec<(usize, Fault)>, AllocError>
     requires laid_out { IsLayoutOf layout.now (readings_in lines.now) }

@@ -25,7 +25,7 @@ use crate::edit::{Edit, make_edit, replace_line};
 use crate::effect::has_same_effect;
 use crate::hints::{hint_of, hints_after, no_hints};
 use crate::image::{count_of, fill_up, kept_bytes, kept_fault, write_line};
-use crate::kept_line::{KeptLine, with_code};
+use crate::kept_line::{BoxedLine, with_code};
 use crate::layout::Layout;
 use crate::limits::MOST_LINES;
 use crate::recode::{Remaking, code_if_accepted, moves_by_hint};
@@ -41,7 +41,7 @@ use std::mem;
 /// The lines of a source, with all that is known of them.
 #[derive(Drop)]
 pub(crate) struct Kept {
-    pub(crate) lines: Vec<KeptLine>,
+    pub(crate) lines: Vec<BoxedLine>,
     pub(crate) layout: Layout,
     /// The layout before the last edit, for its room.
     pub(crate) spare: Layout,
@@ -104,7 +104,7 @@ impl Kept {
     pub(crate) fn open(
         alloc: Global,
         meter: &mut Meter,
-        lines: Vec<KeptLine>,
+        lines: Vec<BoxedLine>,
     ) -> Result<Self, AllocError>
         requires few { length lines.items ≤ MOST_LINES }
         requires are_read { readings_in lines.items ≡ map reading_of (texts_in lines.items) }
@@ -158,7 +158,7 @@ impl Kept {
     {
         match edit {
             Edit::Replace(at, added) => {
-                if self.has_same_effect(at, &added.line) {
+                if self.has_same_effect(at, &added.get().line) {
                     self.rewrite(alloc, meter, at, added)
                 } else {
                     self.remake(alloc, meter, Edit::Replace(at, added))
@@ -175,7 +175,7 @@ impl Kept {
         ensures { result ≡ true → HasSameEffectAt (readings_in self.now.lines.items) at (seen_line line.now) }
     {
         let placement = self.layout.placements[at];
-        has_same_effect(placement.live, &self.lines[at].line, line)
+        has_same_effect(placement.live, &self.lines[at].get().line, line)
     }
 
     /// Puts a line in the place of one with the same effect. Its code is made first.
@@ -184,7 +184,7 @@ impl Kept {
         alloc: Global,
         meter: &mut Meter,
         at: usize,
-        added: KeptLine,
+        added: BoxedLine,
     ) -> Result<Changed, AllocError>
         requires kept { IsKept self.old }
         requires inside { at < vec_len self.old.lines }
@@ -199,12 +199,12 @@ impl Kept {
         ensures parsed { meter.new.parsed ≡ meter.old.parsed }
     {
         let accepted = self.layout.placements[at].is_accepted();
-        let code = code_if_accepted(accepted, alloc, meter, &added.line, &self.layout.names)?;
+        let code = code_if_accepted(accepted, alloc, meter, &added.get().line, &self.layout.names)?;
         Ok(self.put(at, with_code(added, code)))
     }
 
     /// Puts a line with its code in the place of one with the same effect: its bytes, and whether it has a fault, are all that changes.
-    fn put(&mut self, at: usize, added: KeptLine) -> Changed
+    fn put(&mut self, at: usize, added: BoxedLine) -> Changed
         requires kept { IsKept self.old }
         requires inside { at < vec_len self.old.lines }
         requires is_read { reading_in added ≡ reading_of added.text }
@@ -224,8 +224,8 @@ impl Kept {
             placement.size as usize,
             kept_bytes(&added),
         );
-        self.traits[at] = traits_of(&added.line);
-        self.hints[at] = hint_of(&self.layout.names, &added.line);
+        self.traits[at] = traits_of(&added.get().line);
+        self.hints[at] = hint_of(&self.layout.names, &added.get().line);
         replace_line(&mut self.lines, at, added);
         let first = placement.here as usize - IMAGE_START;
         Changed {

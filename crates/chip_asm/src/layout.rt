@@ -16,7 +16,7 @@ ghost use Rattle.chip_asm.specs.inner.Traits.{is_steady, traits_of};
 
 use crate::block::Block;
 use crate::edit::{Edit, count_after, first_changed, line_after};
-use crate::kept_line::KeptLine;
+use crate::kept_line::BoxedLine;
 use crate::limits::MOST_LINES;
 use crate::pass::Pass;
 use crate::placement::Placement;
@@ -87,7 +87,7 @@ fn step_at(
     pass: &mut Pass,
     alloc: Global,
     traits: Traits,
-    lines: &[KeptLine],
+    lines: &[BoxedLine],
     edit: &Edit,
     place: usize,
 ) -> Result<Placement, AllocError>
@@ -158,7 +158,7 @@ fn walk(
     walked: (Vec<Placement>, Pass),
     alloc: Global,
     traits: &[Traits],
-    lines: &[KeptLine],
+    lines: &[BoxedLine],
     edit: &Edit,
     place: usize,
     end: usize,
@@ -206,7 +206,7 @@ impl Layout {
 
     /// How far the lines from a place on move, which are plain, where they only move: the pass stands before them at an address, and
     /// each line before them is steady.
-    fn shift(&self, lines: &[KeptLine], edit: &Edit, next: usize, here: usize) -> Option<Shift>
+    fn shift(&self, lines: &[BoxedLine], edit: &Edit, next: usize, here: usize) -> Option<Shift>
         requires within { IsPlaceWithin (length lines.now) edit.now }
         requires next { first_changed_by edit.now + added_by edit.now ≤ next }
         requires end { next ≤ count_of_after (length lines.now) edit.now }
@@ -268,7 +268,7 @@ impl Layout {
         walked: (Vec<Placement>, Pass),
         alloc: Global,
         traits: &[Traits],
-        lines: &[KeptLine],
+        lines: &[BoxedLine],
         edit: &Edit,
         next: usize,
     ) -> Result<Self, AllocError>
@@ -297,7 +297,7 @@ impl Layout {
         alloc: Global,
         spare: Layout,
         old: &Layout,
-        lines: &[KeptLine],
+        lines: &[BoxedLine],
         traits: &[Traits],
         edit: &Edit,
     ) -> Result<(Self, Option<Span>), AllocError>

@@ -11,7 +11,7 @@ ghost use Rattle.chip_asm.specs.inner.Kept.{AreCurrent};
 ghost use Rattle.chip_asm.specs.inner.KeptCodes.{kept_fault, kept_bytes};
 
 use crate::image::{byte_or_zero, kept_bytes, kept_fault};
-use crate::kept_line::KeptLine;
+use crate::kept_line::BoxedLine;
 use crate::layout::Layout;
 use crate::placement::Placement;
 use chip_lang::{Body, Fault, Line};
@@ -143,7 +143,7 @@ fn push_field(
     out: &mut Vec<u8>,
     fault: Option<Fault>,
     placement: &Placement,
-    kept: &KeptLine,
+    kept: &BoxedLine,
 ) -> Result<(), AllocError>
     ensures { OnOk result (out.new.items
         ≡ out.old.items ++ field_shown fault placement.now.live (body_of (reading_in kept.now)) placement.now.here placement.now.value placement.now.size (kept_bytes kept.now)) }
@@ -156,8 +156,9 @@ fn push_field(
     if !placement.live {
         return Ok(());
     }
-    if is_definition(&kept.line) {
-        let value = value_given(&kept.line, placement.value);
+    let line = &kept.get().line;
+    if is_definition(line) {
+        let value = value_given(line, placement.value);
         push_value(out, value)?;
         return Ok(());
     }
@@ -203,11 +204,11 @@ fn push_line(
 const BESIDE_TEXT: usize = 25;
 
 /// How many bytes the listing of some lines has, at least.
-fn listing_bytes(lines: &[KeptLine]) -> usize {
+fn listing_bytes(lines: &[BoxedLine]) -> usize {
     let mut bytes = 0usize;
     for kept in lines {
         bytes = bytes
-            .saturating_add(kept.text.get().len())
+            .saturating_add(kept.text().len())
             .saturating_add(BESIDE_TEXT);
     }
     bytes
@@ -216,7 +217,7 @@ fn listing_bytes(lines: &[KeptLine]) -> usize {
 /// The listing of all lines.
 pub(crate) fn listing_in(
     alloc: Global,
-    lines: &[KeptLine],
+    lines: &[BoxedLine],
     layout: &Layout,
 ) -> Result<Vec<u8>, AllocError>
     requires laid_out { IsLayoutOf layout.now (readings_in lines.now) }
@@ -232,7 +233,7 @@ pub(crate) fn listing_in(
         field.clear();
         push_field(&mut field, fault, &placement, kept)?;
         let more = more_sign(fault, placement.size as usize);
-        push_line(&mut listing, &placement, &field, more, kept.text.get())?;
+        push_line(&mut listing, &placement, &field, more, kept.text())?;
     }
     Ok(listing)
 }

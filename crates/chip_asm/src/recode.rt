@@ -18,7 +18,7 @@ ghost use Rattle.chip_asm.specs.inner.Traits.{traits_of};
 
 use crate::edit::{Edit, count_after, first_changed, line_after, place_before};
 use crate::hints::Hinted;
-use crate::kept_line::KeptLine;
+use crate::kept_line::BoxedLine;
 use crate::layout::Layout;
 use crate::limits::MOST_LINES;
 use crate::placement::Placement;
@@ -66,7 +66,7 @@ pub(crate) enum Moved {
 #[derive(Clone, Copy)]
 pub(crate) struct Remaking<'a> {
     /// The lines before the edit.
-    pub(crate) lines: &'a [KeptLine],
+    pub(crate) lines: &'a [BoxedLine],
     pub(crate) edit: &'a Edit,
     /// The traits and the hints of the lines after it.
     pub(crate) traits: &'a [Traits],
@@ -437,14 +437,14 @@ pub(crate) fn code_if_accepted(
     encode_if(wanted, alloc, meter, line, names)
 }
 
-fn write_code(kept: &mut KeptLine, code: Coded)
+fn write_code(kept: &mut BoxedLine, code: Coded)
     ensures { kept.new ≡ record kept.old { code = code } }
 {
-    kept.code = code;
+    kept.set_code(code);
 }
 
 /// Writes the new codes over the kept ones.
-pub(crate) fn write_codes(lines: &mut [KeptLine], fresh: Vec<(usize, Coded)>)
+pub(crate) fn write_codes(lines: &mut [BoxedLine], fresh: Vec<(usize, Coded)>)
     requires { All (λ e. e.0 < length lines.old) fresh.items }
     ensures { IsMerged lines.old fresh.items lines.new }
 {

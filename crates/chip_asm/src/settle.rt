@@ -14,7 +14,7 @@ ghost use Rattle.chip_asm.specs.Program.{byte_at, faults_of_lines};
 ghost use Rattle.chip_lang.specs.declared.code.Coded.{Coded};
 
 use crate::image::{bytes_by, bytes_of, count_of, fault_by, write_line};
-use crate::kept_line::KeptLine;
+use crate::kept_line::BoxedLine;
 use crate::layout::Layout;
 use crate::placement::Placement;
 use crate::recode::write_codes;
@@ -108,7 +108,7 @@ fn has_none(fault: Option<Fault>) -> bool
 /// Writes the bytes of the lines from a place up to another one. Whether none of them has a fault.
 fn write_lines_anew(
     image: &mut [u8],
-    lines: &[KeptLine],
+    lines: &[BoxedLine],
     traits: &[Traits],
     layout: &Layout,
     first: usize,
@@ -141,7 +141,7 @@ fn write_lines_anew(
 }
 
 /// How many lines have a fault.
-fn count_faults(lines: &[KeptLine], traits: &[Traits], layout: &Layout) -> usize
+fn count_faults(lines: &[BoxedLine], traits: &[Traits], layout: &Layout) -> usize
     requires traits { traits.now ≡ map traits_of (readings_in lines.now) }
     requires laid_out { IsLayoutOf layout.now (readings_in lines.now) }
     requires current { AreCurrent lines.now }
@@ -191,7 +191,7 @@ pub(crate) struct Settling<'a> {
 /// How many lines have a fault.
 pub(crate) fn settle_image(
     image: &mut [u8],
-    lines: &mut [KeptLine],
+    lines: &mut [BoxedLine],
     codes: Vec<(usize, Coded)>,
     settling: &Settling,
 ) -> usize

@@ -6,7 +6,7 @@ ghost use Rattle.chip_asm.specs.inner.Records.{IsPlaceWithin, readings_in};
 ghost use Rattle.chip_asm.specs.inner.Shift.{added_by, removed_by, takes_steady, moved_placement};
 
 use crate::edit::Edit;
-use crate::kept_line::KeptLine;
+use crate::kept_line::BoxedLine;
 use crate::limits::MOST_LINES;
 use crate::placement::Placement;
 use crate::table::Symbol;
@@ -97,13 +97,13 @@ pub(crate) fn removed_by(edit: &Edit) -> usize
 }
 
 /// Whether the line that an edit takes away, if it takes one, opens no block, ends no source and switches no alignment.
-pub(crate) fn takes_steady(lines: &[KeptLine], edit: &Edit) -> bool
+pub(crate) fn takes_steady(lines: &[BoxedLine], edit: &Edit) -> bool
     requires { IsPlaceWithin (length lines.now) edit.now }
     ensures { result ≡ takes_steady (readings_in lines.now) edit.now }
 {
     match edit {
         Edit::Insert(_, _) => true,
-        Edit::Replace(at, _) | Edit::Delete(at) => is_steady(&lines[*at].line),
+        Edit::Replace(at, _) | Edit::Delete(at) => is_steady(&lines[*at].get().line),
         Edit::Keep => false,
     }
 }

@@ -12,7 +12,7 @@ ghost use Rattle.chip_asm.specs.inner.Traits.{is_bare_line, uses_name, is_steady
 ghost use Rattle.chip_asm.specs.declared.kept_line.KeptLine.{KeptLine};
 
 use crate::edit::{Edit, with_item, without_item};
-use crate::kept_line::KeptLine;
+use crate::kept_line::BoxedLine;
 use chip_lang::{Body, Line, defines, uses};
 use std::alloc::{AllocError, Global};
 
@@ -118,12 +118,12 @@ impl Traits {
 }
 
 /// The traits of all lines.
-pub(crate) fn traits_of_all(alloc: Global, lines: &[KeptLine]) -> Result<Vec<Traits>, AllocError>
+pub(crate) fn traits_of_all(alloc: Global, lines: &[BoxedLine]) -> Result<Vec<Traits>, AllocError>
     ensures { IfOk result (λ traits. traits.items ≡ map (λ kept. traits_of (seen_line kept.line)) lines.now) }
 {
     let mut traits = Vec::with_capacity(alloc, lines.len())?;
     for place in 0..lines.len() {
-        traits.push(traits_of(&lines[place].line))?;
+        traits.push(traits_of(&lines[place].get().line))?;
     }
     Ok(traits)
 }
@@ -139,10 +139,10 @@ pub(crate) fn traits_after(
         → IfOk result (λ after. after.items ≡ map traits_of (readings_in (lines_after lines edit.now))) }
 {
     match edit {
-        Edit::Insert(at, added) => with_item(alloc, traits, *at, traits_of(&added.line)),
+        Edit::Insert(at, added) => with_item(alloc, traits, *at, traits_of(&added.get().line)),
         Edit::Replace(at, added) => {
             let mut after = Vec::from_slice(alloc, traits)?;
-            after[*at] = traits_of(&added.line);
+            after[*at] = traits_of(&added.get().line);
             Ok(after)
         }
         Edit::Delete(at) => without_item(alloc, traits, *at),

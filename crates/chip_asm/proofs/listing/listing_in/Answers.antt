@@ -26,10 +26,10 @@ loop-place-preserved c =
     ∙ ap (λ f. field_shown f q.live (body_of (reading_in kept)) q.here q.value q.size (kept_bytes kept)) c.kept_fault-fault.ensures in
     let more_is : c.more_sign-more.result ≡ more_shown (kept_fault q kept) q.size = c.more_sign-more.ensures ∙ ap (λ f. more_shown f q.size) c.kept_fault-fault.ensures in
     c.in_ok-push_line.ensures
-    ∙ ap (λ l. l ++ shown q.number q.live q.here c.deref.result.now c.more_sign-more.result c.get.result.now) c.loop-place.invariant
-    ∙ ap (λ f. listed c.args.lines.now c.loop-place.place ++ shown q.number q.live q.here f c.more_sign-more.result c.get.result.now) field_is
-    ∙ ap (λ m. listed c.args.lines.now c.loop-place.place ++ shown q.number q.live q.here (field_shown (kept_fault q kept) q.live (body_of (reading_in kept)) q.here q.value q.size (kept_bytes kept)) m c.get.result.now) more_is
-    ∙ ap (λ t. listed c.args.lines.now c.loop-place.place ++ shown q.number q.live q.here (field_shown (kept_fault q kept) q.live (body_of (reading_in kept)) q.here q.value q.size (kept_bytes kept)) (more_shown (kept_fault q kept) q.size) t) c.get.ensures
+    ∙ ap (λ l. l ++ shown q.number q.live q.here c.deref.result.now c.more_sign-more.result c.text.result.now) c.loop-place.invariant
+    ∙ ap (λ f. listed c.args.lines.now c.loop-place.place ++ shown q.number q.live q.here f c.more_sign-more.result c.text.result.now) field_is
+    ∙ ap (λ m. listed c.args.lines.now c.loop-place.place ++ shown q.number q.live q.here (field_shown (kept_fault q kept) q.live (body_of (reading_in kept)) q.here q.value q.size (kept_bytes kept)) m c.text.result.now) more_is
+    ∙ ap (λ t. listed c.args.lines.now c.loop-place.place ++ shown q.number q.live q.here (field_shown (kept_fault q kept) q.live (body_of (reading_in kept)) q.here q.value q.size (kept_bytes kept)) (more_shown (kept_fault q kept) q.size) t) c.text.ensures
     ∙ sym (listed-more c.args.lines.now q kept c.loop-place.place a c.loop-place-test.true c.index-lines-place.is)
 
 pub overflow_cast-placement : goal.overflow_cast-placement

@@ -1,6 +1,9 @@
 use Rattle.std.proofs.Common.{◌≡◌, ◌∙◌, ◌+◌, ◌-◌, ap, arith, length, get_or, set, refl}
+use Rattle.chip_asm.specs.declared.kept_line.KeptLine.{KeptLine}
+use Rattle.chip_asm.specs.inner.Hints.{names_in, hint_in}
 use Rattle.chip_asm.specs.inner.KeptCodes.{kept_fault, count_of}
 use Rattle.chip_asm.specs.inner.Records.{reading_in, readings_in, texts_in}
+use Rattle.chip_asm.specs.inner.Traits.{traits_of}
 use Rattle.chip_asm.proofs.EditTexts.{texts-set}
 use Rattle.chip_asm.proofs.ImageWhole.{length-kept, one-fault}
 use Rattle.std.proofs.lemmas.List.{length-map}
@@ -59,7 +62,8 @@ returns-clause-kept c =
     (λ k.
     ap (λ xs. get_or xs k 0) (refilled c.args.self.now.image.len c.write_line.new.image c.args.self.now.image.items long)
     ∙ (rw (← c.kept_bytes.ensures, ← c.deref_mut.ensures.value) (c.write_line.ensures k)))
-    refl faults (ap (λ t. set c.args.self.now.traits.items c.args.at t) c.traits_of.ensures) (ap (λ h. set c.args.self.now.hints.items c.args.at h) c.hint_of.ensures)
+    refl faults (ap (λ t. set c.args.self.now.traits.items c.args.at t) (c.traits_of.ensures ∙ ap (λ (k : KeptLine). traits_of (reading_in k)) c.get.ensures))
+    (ap (λ h. set c.args.self.now.hints.items c.args.at h) (c.hint_of.ensures ∙ ap (λ (k : KeptLine). hint_in (names_in c.args.self.now.layout.names) (reading_in k)) c.get-2.ensures))
 
 pub returns-clause-changed : goal.returns-clause-changed
 returns-clause-changed c =
