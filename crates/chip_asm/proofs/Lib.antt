@@ -39,3 +39,5 @@ pub mod NamesDiffer
 pub mod ShiftedLines
 pub mod ShiftedNames
 pub mod ShiftedLayout
+pub mod LastLine
+pub mod PlacesAgree
