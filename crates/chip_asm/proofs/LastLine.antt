@@ -85,10 +85,10 @@ search-miss test p r before e (found j q last there sum) =
       latest = λ k o s. last.latest k o (passed-side test before p k o e s);
     })
     (rw e there)
-    (rw (take_while-cons, e, drop-append-le (j + 1) before (p ∷ []) (omega arith), sum_by-cons, sum_by_push, sum) (omega arith))
+    (rw (take_while-cons, e, drop-append-le (j + 1) before (p ∷ []) (omega arith), sum_by-cons (λ (o : Placed). o.size), sum_by_push (λ (o : Placed). o.size), sum) (omega arith))
 search-miss test p r before e (nowhere none there sum) =
     nowhere (λ k o s. none k o (passed-side test before p k o e s)) (rw e there)
-    (rw (take_while-cons, e, sum_by-cons, sum_by_push, sum) (omega arith))
+    (rw (take_while-cons, e, sum_by-cons (λ (o : Placed). o.size), sum_by_push (λ (o : Placed). o.size), sum) (omega arith))
 
 pub search-last : (test : Placed → Bool) (r : List Placed) → Search test r (reverse r)
 search-last test [] = nowhere (λ j p s. (let there = s.there in cc)) refl refl
@@ -100,12 +100,15 @@ search-last test (p ∷ r) = subst (λ (l : List Placed). Search test (p ∷ r) 
 
 -- the IF lines that enclose what follows
 
-between-at : (r : List Placed) (k : ℕ) → slice_get (with_between r) k ≡ option_map (λ p. (take k r, p)) (slice_get r k)
+abbrev line_after : List Placed → Placed → List Placed × Placed
+line_after between p = (between, p)
+
+between-at : (r : List Placed) (k : ℕ) → slice_get (with_between r) k ≡ option_map (line_after (take k r)) (slice_get r k)
 between-at [] k = refl
 between-at (p ∷ r) zero = refl
 between-at (p ∷ r) (suc k) = slice_get-map (λ (s : List Placed × Placed). (p ∷ s.0, s.1)) (with_between r) k ∙ ap (option_map (λ (s : List Placed × Placed). (p ∷ s.0, s.1))) (between-at r k) ∙ by (slice_get r k)
   where
-    by : (o : Option Placed) → option_map (λ (s : List Placed × Placed). (p ∷ s.0, s.1)) (option_map (λ q. (take k r, q)) o) ≡ option_map (λ q. (take (suc k) (p ∷ r), q)) o
+    by : (o : Option Placed) → option_map (λ (s : List Placed × Placed). (p ∷ s.0, s.1)) (option_map (line_after (take k r)) o) ≡ option_map (line_after (take (suc k) (p ∷ r))) o
     by None = refl
     by (Some q) = refl
 
@@ -128,12 +131,12 @@ Never xs = (n : ℕ) → count_by is_endif (take n xs) ≤ count_by is_if (take 
 never-from : (b : List Placed) → closes_no_more b ≡ true → Never (reverse b)
 never-from [] h zero = omega arith
 never-from [] h (suc n) = omega arith
-never-from (p ∷ b) h n = rw (reverse-cons p b) (by (leb n (length (reverse b))) refl (and_parts (leb (count_by is_endif (p ∷ b)) (count_by is_if (p ∷ b))) (closes_no_more b) h))
+never-from (p ∷ b) h n = rw (reverse-cons p b) (by (leb n (length (reverse b))) refl (and_parts (leb (count_by is_endif (p ∷ b)) (count_by is_if (p ∷ b))) (closes_no_more b) h) (λ c. never-from b c n))
   where
     by : (t : Bool) → leb n (length (reverse b)) ≡ t → (leb (count_by is_endif (p ∷ b)) (count_by is_if (p ∷ b)) ≡ true) × (closes_no_more b ≡ true)
-        → count_by is_endif (take n (reverse b ++ p ∷ [])) ≤ count_by is_if (take n (reverse b ++ p ∷ []))
-    by true e two = rw (take-append-le n (reverse b) (p ∷ []) (leb-true n (length (reverse b)) e)) (never-from b two.1 n)
-    by false e two =
+        → (closes_no_more b ≡ true → count_by is_endif (take n (reverse b)) ≤ count_by is_if (take n (reverse b))) → count_by is_endif (take n (reverse b ++ p ∷ [])) ≤ count_by is_if (take n (reverse b ++ p ∷ []))
+    by true e two rest = rw (take-append-le n (reverse b) (p ∷ []) (leb-true n (length (reverse b)) e)) (rest two.1)
+    by false e two rest =
         let past : length (reverse b) < n = leb-false n (length (reverse b)) e in
         let long : length (reverse b ++ p ∷ []) ≡ length (reverse b) + 1 = Rattle.std.proofs.Common.length-append (reverse b) (p ∷ []) in
         let all : take n (reverse b ++ p ∷ []) ≡ reverse b ++ p ∷ [] = take_all n (reverse b ++ p ∷ []) (omega arith) in
@@ -176,12 +179,12 @@ to-between r j o e =
     let after : j + 1 ≡ length r - back r j = omega arith in
     let tail : drop (j + 1) (reverse r) ≡ reverse (take (back r j) r) = ap (λ n. drop n (reverse r)) after ∙ drop-turned r (back r j) (omega arith) in
     let open_still : closes_no_more (take (back r j) r) ≡ true = never-to (take (back r j) r) (subst Never tail e.stays_open) in
-    (between-at r (back r j) ∙ ap (option_map (λ p. (take (back r j) r, p))) there, rw (e.opens, open_still) refl)
+    (between-at r (back r j) ∙ ap (option_map (line_after (take (back r j) r))) there, rw (e.opens, open_still) refl)
 
 pub from-between : (r : List Placed) (k : ℕ) (s : List Placed × Placed) → slice_get (with_between r) k ≡ Some s → encloses s ≡ true → (k < length r) × Encloses (reverse r) (back r k) s.1
 from-between r k s h e = by (slice_get r k) refl (sym (between-at r k) ∙ h)
   where
-    by : (o : Option Placed) → slice_get r k ≡ o → option_map (λ p. (take k r, p)) o ≡ Some s → (k < length r) × Encloses (reverse r) (back r k) s.1
+    by : (o : Option Placed) → slice_get r k ≡ o → option_map (line_after (take k r)) o ≡ Some s → (k < length r) × Encloses (reverse r) (back r k) s.1
     by None there is = cc
     by (Some p) there is =
         let within : k < length r = slice_get_within r k p there in

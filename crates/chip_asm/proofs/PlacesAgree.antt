@@ -9,9 +9,9 @@ use Rattle.std.proofs.lemmas.List.{append-nil, length-append, length-reverse, ta
 use Rattle.std.proofs.lemmas.Option.{get_or_from_slice_get, slice_get_within, slice_get_past}
 use Rattle.chip_lang.specs.declared.limits.TheConstants.{IMAGE_START}
 use Rattle.chip_lang.specs.declared.fault.Fault.{Fault}
-use Rattle.chip_lang.specs.declared.fault.Fault.TheVariants.{OutOfRange, OrgBelowHere, PastMemory}
+use Rattle.chip_lang.specs.declared.fault.Fault.TheVariants.{DefinedTwice, StrayBranch, OutOfRange, OrgBelowHere, PastMemory}
 use Rattle.chip_lang.specs.Line.{Body, else_line, endif, Reading, bad, read}
-use Rattle.chip_asm.specs.Layout.{Placed, place, placed, body_of, is_else, is_number, is_side_or_end, is_origin, is_align, is_align_off_body, is_aligning, address, symbols, enclosing, first_of, has_else, has_ended, holds, is_live, is_misplaced, is_negative_space, is_backwards, is_past_end, value_at, value_or_zero, condition_of, first_fault, fault_of_value, full_size}
+use Rattle.chip_asm.specs.Layout.{Placed, place, placed, body_of, is_else, is_number, is_side_or_end, is_origin, is_align, is_align_off_body, is_aligning, address, symbols, enclosing, first_of, has_else, has_ended, holds, is_live, is_misplaced, is_redefinition, is_negative_space, is_backwards, is_past_end, value_at, value_or_zero, condition_of, first_fault, fault_of_value, full_size}
 use Rattle.chip_asm.specs.Places.{Passes, IsLast, IsOfLast, Encloses, IsLive, sizes, fault_if, fault_in_value, is_stray, faults_in_order, first_fault_of, IsPlaced, ArePlaced}
 use Rattle.chip_asm.proofs.BlockSteps.{reverse-cons}
 use Rattle.chip_asm.proofs.LastLine.{at-left, at-end, one-side, same-there, Search, found, nowhere, search-last, Opener, opener, closed, last-opener, all-enclosing, enclosing-all, any-turned}
@@ -74,7 +74,7 @@ abbrev is_on : ℕ → Placed → Bool
 is_on j align = not (is_align_off_body (body_of align.line))
 
 abbrev number_in : ℕ → Placed → Option ℕ
-number_in j opener = Some opener.number
+number_in j o = Some o.number
 
 address-of : (r : List Placed) → IsOfLast (Passes is_origin (reverse r)) (after_org (reverse r)) (IMAGE_START + sizes (reverse r)) (address r)
 unfolding address
@@ -171,6 +171,9 @@ first-if : (b : Bool) (fault : Fault) (rest : List (Option Fault)) → first_fau
 first-if true fault rest = refl
 first-if false fault rest = refl
 
+next-fault : (a b : Bool) (fault : Fault) (rest : List (Option Fault)) (later : Option Fault) → a ≡ b → first_fault_of rest ≡ later → first_fault_of (fault_if a fault ∷ rest) ≡ cond b (Some fault) later
+next-fault a b fault rest later e g = first-if a fault rest ∙ ap (λ t. cond t (Some fault) (first_fault_of rest)) e ∙ ap (λ o. cond b (Some fault) o) g
+
 stray-else : (r : List Placed) (o : Option Placed) → is_stray (reverse r) (option_map (λ p. p.number) o) else_line ≡ option_map_or (has_else r) o true
 unfolding has_else
 stray-else r None = refl
@@ -197,18 +200,28 @@ later_faults aligning here body value =
 value-same : (aligning : Bool) (here : ℕ) (body : Body) (v : Result ℤ Fault) → first_fault_of (fault_in_value v ∷ later_faults aligning here body (value_or_zero v)) ≡ fault_of_value aligning here body v
 unfolding fault_of_value
 value-same aligning here body (Err fault) = refl
-value-same aligning here body (Ok v) = rw (first-if, first-if, first-if) refl
+value-same aligning here body (Ok v) =
+    let last : List (Option Fault) = fault_if (is_past_end aligning here body v) PastMemory ∷ [] in
+    next-fault (is_negative_space body v) (is_negative_space body v) OutOfRange (fault_if (is_backwards here body v) OrgBelowHere ∷ last) _ refl
+    (next-fault (is_backwards here body v) (is_backwards here body v) OrgBelowHere last _ refl (next-fault (is_past_end aligning here body v) (is_past_end aligning here body v) PastMemory [] None refl refl))
 
 abbrev with_parts : ℕ → Reading → Option ℕ → Bool → Bool → ℕ → ℤ → Option Fault → ℕ → Placed
 with_parts number line block condition live here value fault size =
     record { number = number; line = line; block = block; condition = condition; live = live; here = here; value = value; fault = fault; size = size }
 
-fault-same : (r : List Placed) (line : Reading) (number : ℕ) (condition live : Bool) (fault : Option Fault) (size : ℕ)
-    → first_fault_of (faults_in_order (reverse r) (is_aligning r) (with_parts number line (block_in r) condition live (address r) (value_or_zero (value_at (symbols r) (body_of line))) fault size)) ≡ first_fault r line
+-- of the parts of a line that its fault depends on
+abbrev looked_for : List Placed → Bool → Reading → Option ℕ → ℕ → ℤ → List (Option Fault)
+looked_for before aligning line block here value = faults_in_order before aligning (with_parts 0 line block false false here value None 0)
+
+fault-same : (r : List Placed) (line : Reading)
+    → first_fault_of (looked_for (reverse r) (is_aligning r) line (block_in r) (address r) (value_or_zero (value_at (symbols r) (body_of line)))) ≡ first_fault r line
 unfolding first_fault symbols
-fault-same r (bad why) number condition live fault size = refl
-fault-same r (read label body) number condition live fault size =
-    rw (first-if, first-if, stray-same r body, value-same (is_aligning r) (address r) body (value_at (symbols r) body)) refl
+fault-same r (bad why) = refl
+fault-same r (read label body) =
+    let v : Result ℤ Fault = value_at (symbols r) body in
+    let rest : List (Option Fault) = fault_in_value v ∷ later_faults (is_aligning r) (address r) body (value_or_zero v) in
+    next-fault (is_stray (reverse r) (block_in r) body) (is_misplaced r body) StrayBranch (fault_if (is_redefinition (symbols r) label) DefinedTwice ∷ rest) _ (stray-same r body)
+    (next-fault (is_redefinition (symbols r) label) (is_redefinition (symbols r) label) DefinedTwice rest _ refl (value-same (is_aligning r) (address r) body v))
 
 -- a line after those before it
 
@@ -224,7 +237,7 @@ is-placed r line = record {
   value = refl;
   aligning = is_aligning r;
   is_aligning = aligning-of r;
-  fault = ap (λ fault. cond (is_live r (body_of line)) fault None) (sym (fault-same r line _ _ _ _ _));
+  fault = ap (λ fault. cond (is_live r (body_of line)) fault None) (sym (fault-same r line));
   size = refl;
 }
 
@@ -233,11 +246,10 @@ same-parts : (number number2 : ℕ) (line line2 : Reading) (block block2 : Optio
     → with_parts number line block condition live here value fault size ≡ with_parts number2 line2 block2 condition2 live2 here2 value2 fault2 size2
 same-parts number number2 line line2 block block2 condition condition2 live live2 here here2 value value2 fault fault2 size size2 a b c d e f g h i = rw (a, b, c, d, e, f, g, h, i) refl
 
-same-fault : (r : List Placed) (a b : Bool) (number : ℕ) (line line2 : Reading) (block block2 : Option ℕ) (condition live live2 : Bool) (here here2 : ℕ) (value value2 : ℤ) (fault : Option Fault) (size : ℕ)
+same-fault : (before : List Placed) (a b : Bool) (line line2 : Reading) (block block2 : Option ℕ) (live live2 : Bool) (here here2 : ℕ) (value value2 : ℤ)
     → a ≡ b → line ≡ line2 → block ≡ block2 → live ≡ live2 → here ≡ here2 → value ≡ value2
-    → cond live (first_fault_of (faults_in_order (reverse r) a (with_parts number line block condition live here value fault size))) None
-    ≡ cond live2 (first_fault_of (faults_in_order (reverse r) b (with_parts number line2 block2 condition live2 here2 value2 fault size))) None
-same-fault r a b number line line2 block block2 condition live live2 here here2 value value2 fault size e f g h i j = rw (e, f, g, h, i, j) refl
+    → cond live (first_fault_of (looked_for before a line block here value)) None ≡ cond live2 (first_fault_of (looked_for before b line2 block2 here2 value2)) None
+same-fault before a b line line2 block block2 live live2 here here2 value value2 e f g h i j = rw (e, f, g, h, i, j) refl
 
 same-size : (a b live live2 : Bool) (fault fault2 : Option Fault) (here here2 : ℕ) (body : Body) (value value2 : ℤ) → a ≡ b → live ≡ live2 → fault ≡ fault2 → here ≡ here2 → value ≡ value2
     → (let size : ℕ = cond (live && is_none fault) (full_size a here body value) 0 in size) ≡ cond (live2 && is_none fault2) (full_size b here2 body value2) 0
@@ -253,8 +265,8 @@ only-this r line p h =
     let live : p.live ≡ is_live r (body_of line) = one_answer p.live (is_live r (body_of line)) h.live (live-decides r (body_of line)) in
     let fault : p.fault ≡ cond (is_live r (body_of line)) (first_fault r line) None
     = h.fault
-    ∙ same-fault r h.aligning (is_aligning r) p.number p.line line p.block (block_in r) p.condition p.live (is_live r (body_of line)) p.here (address r) p.value (value_or_zero (value_at (symbols r) (body_of line))) p.fault p.size aligned h.is_line block live here h.value
-    ∙ ap (λ fault. cond (is_live r (body_of line)) fault None) (fault-same r line p.number p.condition (is_live r (body_of line)) p.fault p.size) in
+    ∙ same-fault (reverse r) h.aligning (is_aligning r) p.line line p.block (block_in r) p.live (is_live r (body_of line)) p.here (address r) p.value (value_or_zero (value_at (symbols r) (body_of line))) aligned h.is_line block live here h.value
+    ∙ ap (λ fault. cond (is_live r (body_of line)) fault None) (fault-same r line) in
     same-parts _ _ _ _ _ _ _ _ _ _ _ _ _ _ _ _ _ _
     (h.number ∙ ap (λ n. n + 1) (length-reverse r)) h.is_line block h.condition live here h.value fault
     (h.size ∙ same-size h.aligning (is_aligning r) p.live (is_live r (body_of line)) p.fault (cond (is_live r (body_of line)) (first_fault r line) None) p.here (address r) (body_of line) p.value (value_or_zero (value_at (symbols r) (body_of line))) aligned live fault here h.value)
@@ -294,27 +306,28 @@ agree lines = agree-fold [] [] lines none-placed
 
 only-fold : (done lines : List Reading) (r all : List Placed) → ArePlaced (done ++ lines) all → length (reverse r) ≡ length done → take (length done) all ≡ reverse r → all ≡ reverse (fold onto r lines)
 only-fold done [] r all a n e = sym (take_all (length done) all (omega (arith, a.count, ap length (append-nil done)))) ∙ e
-only-fold done (line ∷ lines) r all a n e = by (slice_get all (length done)) refl
+only-fold done (line ∷ lines) r all a n e = by (slice_get all (length done)) refl (only-fold (done ++ line ∷ []) lines (onto r line) all)
   where
     whole : length all ≡ length done + length (line ∷ lines)
     whole = a.count ∙ length-append done (line ∷ lines)
 
-    by : (o : Option Placed) → slice_get all (length done) ≡ o → all ≡ reverse (fold onto (onto r line) lines)
-    by None there = absurd (missing all (length done) there (omega (arith, whole)))
+    by : (o : Option Placed) → slice_get all (length done) ≡ o
+        → (ArePlaced ((done ++ line ∷ []) ++ lines) all → length (reverse (onto r line)) ≡ length (done ++ line ∷ []) → take (length (done ++ line ∷ [])) all ≡ reverse (onto r line) → all ≡ reverse (fold onto (onto r line) lines))
+        → all ≡ reverse (fold onto (onto r line) lines)
+    by None there rest = absurd (missing all (length done) there (omega (arith, whole)))
       where
         missing : (xs : List Placed) (k : ℕ) → slice_get xs k ≡ None → k < length xs → ⊥
         missing [] k e h = omega arith
         missing (x ∷ xs) zero e h = cc
         missing (x ∷ xs) (suc k) e h = missing xs k e (omega arith)
-    by (Some p) there =
+    by (Some p) there rest =
         let inside : length done < length all = slice_get_within all (length done) p there in
         let this : IsPlaced (take (length done) all) line p = a.each (length done) line p (at-end done lines line) there in
         let is : p ≡ place r line = only-this r line p (rw e at this) in
         let front : take (length done + 1) all ≡ reverse (place r line ∷ r)
         = take_more all (length done) p inside ∙ ap (λ q. take (length done) all ++ q ∷ []) (get_or_from_slice_get all (length done) p p there ∙ is) ∙ ap (λ l. l ++ place r line ∷ []) e ∙ sym (reverse-cons (place r line) r) in
         let long : length (done ++ line ∷ []) ≡ length done + 1 = length-append done (line ∷ []) in
-        only-fold (done ++ line ∷ []) lines (onto r line) all
-        (subst (λ (ls : List Reading). ArePlaced ls all) (sym (append_assoc done (line ∷ []) lines)) a)
+        rest (subst (λ (ls : List Reading). ArePlaced ls all) (sym (append_assoc done (line ∷ []) lines)) a)
         (ap length (reverse-cons (place r line) r) ∙ length-append (reverse r) (place r line ∷ []) ∙ ap (λ m. m + 1) n ∙ sym long)
         (ap (λ m. take m all) long ∙ front)
 
