@@ -2,14 +2,14 @@
 -- nearest line back have what the relations say.
 use Rattle.std.proofs.Common.{◌≡◌, ℕ, zero, suc, ◌+◌, ◌-◌, ◌<◌, ◌≤◌, Bool, true, false, cond, not, ◌&&◌, leb, List, [], ◌∷◌, ◌++◌, map, reverse, length, take, drop, filter, find, take_while, sum_by, count_by, slice_get, get_or, refl, ap, sym, subst, ◌∙◌, arith, Option, Some, None, option_map, ◌⊎◌, inl, inr, leb-true, le-leb, leb-false}
 use Rattle.std.specs.List.{list_any, list_all}
-use Rattle.std.proofs.Math.Seq.{take-append_seam, drop-append_seam}
+use Rattle.std.proofs.Math.Seq.{drop-append_seam}
 use Rattle.std.proofs.lemmas.Bool.{and_parts}
-use Rattle.std.proofs.lemmas.List.{take-append-le, take_all, take-append-drop, length-reverse, reverse-reverse, reverse-append, drop-append-le, get_or-reverse, length-take-le}
+use Rattle.std.proofs.lemmas.List.{take-append-le, take_all, take-append-drop, length-reverse, reverse-reverse, reverse-append, drop-append-le, get_or-reverse}
 use Rattle.std.proofs.lemmas.List.Sorted.{IsPermutation-reverse, sum_by-IsPermutation, list_any-IsPermutation}
 use Rattle.std.proofs.lemmas.List.Sums.{sum_by-cons, sum_by_push, take_while-cons}
 use Rattle.std.proofs.lemmas.Option.{get_or_from_slice_get, slice_get_read, slice_get_within, slice_get-map}
 use Rattle.chip_asm.specs.Layout.{Placed, is_if, is_endif, with_between, closes_no_more, encloses, enclosing, first_of}
-use Rattle.chip_asm.specs.Places.{Passes, IsLast, IsOfLast, Encloses, sizes}
+use Rattle.chip_asm.specs.Places.{Passes, IsLast, Encloses, sizes}
 use Rattle.chip_asm.proofs.BlockSteps.{reverse-cons}
 
 -- places of a list with one element more
@@ -66,7 +66,7 @@ search-hit : (test : Placed → Bool) (p : Placed) (r : List Placed) → test p 
 search-hit test p r e =
     found (length (reverse r)) p
     (record {
-      so = record { there = at-end (reverse r) [] p; passes = e };
+      fits = record { there = at-end (reverse r) [] p; passes = e };
       latest = λ k q s. (let within = slice_get_within (reverse r ++ p ∷ []) k q s.there in let long = ap length (reverse-cons p r) in let one = length-reverse (p ∷ r) in let two = length-reverse r in omega arith);
     })
     (rw e refl)
@@ -78,10 +78,10 @@ search-hit test p r e =
 
 search-miss : (test : Placed → Bool) (p : Placed) (r before : List Placed) → test p ≡ false → Search test r before → Search test (p ∷ r) (before ++ p ∷ [])
 search-miss test p r before e (found j q last there sum) =
-    let inside : j < length before = slice_get_within before j q last.so.there in
+    let inside : j < length before = slice_get_within before j q last.fits.there in
     found j q
     (record {
-      so = record { there = at-left before (p ∷ []) j q last.so.there; passes = last.so.passes };
+      fits = record { there = at-left before (p ∷ []) j q last.fits.there; passes = last.fits.passes };
       latest = λ k o s. last.latest k o (passed-side test before p k o e s);
     })
     (rw e there)
@@ -194,11 +194,8 @@ from-between r k s h e = by (slice_get r k) refl (sym (between-at r k) ∙ h)
         let two = and_parts (is_if s.1) (closes_no_more s.0) e in
         let after : length r - k ≡ back r k + 1 = omega arith in
         let tail : reverse s.0 ≡ drop (back r k + 1) (reverse r) = ap reverse (sym between) ∙ sym (drop-turned r k (omega arith)) ∙ ap (λ n. drop n (reverse r)) after in
-        (within, record {
-          there = turned r k p there ∙ ap Some opener;
-          opens = two.0;
-          stays_open = subst Never tail (never-from s.0 two.1);
-        })
+        let it : Encloses (reverse r) (back r k) s.1 = record { there = turned r k p there ∙ ap Some opener; opens = two.0; stays_open = subst Never tail (never-from s.0 two.1) } in
+        (within, it)
 
 -- the first of a list that passes, and what each that passes has
 
@@ -240,7 +237,7 @@ last-opener r = by (find-first (with_between r))
         let here = from-between r k s there e in
         opener (back r k) s.1
         (record {
-          so = here.1;
+          fits = here.1;
           latest = λ j o h. (let two = to-between r j o h in let low = least (back r j) (take (back r j) r, o) two.0 two.1 in let within = slice_get_within (reverse r) j o h.there in let long = length-reverse r in let inside = here.0 in omega arith);
         }) is
     by (none no_one is) = closed (λ j o h. (let two = to-between r j o h in no_one (back r j) (take (back r j) r, o) two.0 two.1)) is

@@ -1,27 +1,27 @@
 -- What is placed line by line is what holds of the lines by place, and nothing else is.
-use Rattle.std.proofs.Common.{◌≡◌, ℕ, zero, suc, ◌+◌, ◌<◌, ◌≤◌, ℤ, Bool, true, false, cond, not, ◌&&◌, List, [], ◌∷◌, ◌++◌, reverse, length, take, drop, fold, find, slice_get, refl, ap, sym, subst, ◌∙◌, arith, append_assoc, Option, Some, None, is_none, option_map, unsigned_abs, Result, Ok, Err, ◌⊎◌, inl, inr, le_antisymm, Decides}
-use Rattle.std.specs.List.{list_any, list_all}
+use Rattle.std.proofs.Common.{◌≡◌, ℕ, zero, suc, ◌+◌, ◌<◌, ℤ, Bool, true, false, cond, not, ◌&&◌, List, [], ◌∷◌, ◌++◌, reverse, length, take, drop, fold, slice_get, refl, ap, sym, subst, ◌∙◌, arith, append_assoc, Option, Some, None, is_none, option_map, unsigned_abs, Result, Ok, Err, ◌⊎◌, inl, inr, le_antisymm, Decides}
+use Rattle.std.specs.List.{list_all}
 use Rattle.std.specs.Bool.{one_answer}
 use Rattle.std.specs.Option.{option_map_or}
 use Rattle.std.proofs.Math.Seq.{take-append_seam}
 use Rattle.std.proofs.lemmas.Bool.{and_parts}
 use Rattle.std.proofs.lemmas.List.{append-nil, length-append, length-reverse, take-append-le, take_all, take_more}
-use Rattle.std.proofs.lemmas.Option.{get_or_from_slice_get, slice_get_within, slice_get_past}
+use Rattle.std.proofs.lemmas.Option.{get_or_from_slice_get, slice_get_within}
 use Rattle.chip_lang.specs.declared.limits.TheConstants.{IMAGE_START}
 use Rattle.chip_lang.specs.declared.fault.Fault.{Fault}
 use Rattle.chip_lang.specs.declared.fault.Fault.TheVariants.{DefinedTwice, StrayBranch, OutOfRange, OrgBelowHere, PastMemory}
 use Rattle.chip_lang.specs.Line.{Body, else_line, endif, Reading, bad, read}
-use Rattle.chip_asm.specs.Layout.{Placed, place, placed, body_of, is_else, is_number, is_side_or_end, is_origin, is_align, is_align_off_body, is_aligning, address, symbols, enclosing, first_of, has_else, has_ended, holds, is_live, is_misplaced, is_redefinition, is_negative_space, is_backwards, is_past_end, value_at, value_or_zero, condition_of, first_fault, fault_of_value, full_size}
-use Rattle.chip_asm.specs.Places.{Passes, IsLast, IsOfLast, Encloses, IsLive, sizes, fault_if, fault_in_value, is_stray, faults_in_order, first_fault_of, IsPlaced, ArePlaced}
+use Rattle.chip_asm.specs.Layout.{Placed, place, placed, body_of, is_side_or_end, is_origin, is_align, is_align_off_body, is_aligning, address, symbols, enclosing, first_of, has_else, has_ended, holds, is_live, is_misplaced, is_redefinition, is_negative_space, is_backwards, is_past_end, value_at, value_or_zero, first_fault, fault_of_value, full_size}
+use Rattle.chip_asm.specs.Places.{Passes, IsLast, IsFromLast, Encloses, IsLive, sizes, fault_if, fault_in_value, is_stray, faults_in_order, first_fault_of, IsPlaced, ArePlaced}
 use Rattle.chip_asm.proofs.BlockSteps.{reverse-cons}
-use Rattle.chip_asm.proofs.LastLine.{at-left, at-end, one-side, same-there, Search, found, nowhere, search-last, Opener, opener, closed, last-opener, all-enclosing, enclosing-all, any-turned}
-use Rattle.chip_asm.proofs.Placing.{onto, length-placed}
+use Rattle.chip_asm.proofs.LastLine.{at-end, one-side, same-there, Search, found, nowhere, search-last, Opener, opener, closed, last-opener, all-enclosing, enclosing-all, any-turned}
+use Rattle.chip_asm.proofs.Placing.{onto}
 
 -- what the last such line gives
 
-data Decided (IsSo : ℕ → Placed → Type 0) : Type 0 where
-  last : (j : ℕ) (p : Placed) → IsLast IsSo j p → Decided IsSo
-  never : ((j : ℕ) (p : Placed) → IsSo j p → ⊥) → Decided IsSo
+data Decided (Fits : ℕ → Placed → Type 0) : Type 0 where
+  last : (j : ℕ) (p : Placed) → IsLast Fits j p → Decided Fits
+  never : ((j : ℕ) (p : Placed) → Fits j p → ⊥) → Decided Fits
 
 passing : (test : Placed → Bool) (r : List Placed) → Decided (Passes test (reverse r))
 passing test r = by (search-last test r)
@@ -37,26 +37,26 @@ enclosed r = by (last-opener r)
     by (opener j o l is) = last j o l
     by (closed none is) = never none
 
-one-of-last : {X : Type 0} (IsSo : ℕ → Placed → Type 0) (given : ℕ → Placed → X) (otherwise x y : X) → Decided IsSo → IsOfLast IsSo given otherwise x → IsOfLast IsSo given otherwise y → x ≡ y
-one-of-last IsSo given otherwise x y (last j p l) a b = a.of_last j p l ∙ sym (b.of_last j p l)
-one-of-last IsSo given otherwise x y (never none) a b = a.of_none none ∙ sym (b.of_none none)
+one-of-last : {X : Type 0} (Fits : ℕ → Placed → Type 0) (gives : ℕ → Placed → X) (otherwise x y : X) → Decided Fits → IsFromLast Fits gives otherwise x → IsFromLast Fits gives otherwise y → x ≡ y
+one-of-last Fits gives otherwise x y (last j p l) a b = a.from_last j p l ∙ sym (b.from_last j p l)
+one-of-last Fits gives otherwise x y (never none) a b = a.from_none none ∙ sym (b.from_none none)
 
 abbrev HasOne : (ℕ → Placed → Type 0) → Type 0
-HasOne IsSo = (j : ℕ) (p q : Placed) → IsSo j p → IsSo j q → p ≡ q
+HasOne Fits = (j : ℕ) (p q : Placed) → Fits j p → Fits j q → p ≡ q
 
-given-last : {X : Type 0} (IsSo : ℕ → Placed → Type 0) (given : ℕ → Placed → X) (otherwise x : X) → HasOne IsSo → (j : ℕ) (p : Placed) → IsLast IsSo j p → x ≡ given j p → IsOfLast IsSo given otherwise x
-given-last IsSo given otherwise x one j p l e = record {
-  of_last = λ k q m.
-      (let at : j ≡ k = le_antisymm (m.latest j p l.so) (l.latest k q m.so) in
-      let same : p ≡ q = one k p q (subst (λ (n : ℕ). IsSo n p) at l.so) m.so in
-      e ∙ ap (λ n. given n p) at ∙ ap (given k) same);
-  of_none = λ none. absurd (none j p l.so);
+given-last : {X : Type 0} (Fits : ℕ → Placed → Type 0) (gives : ℕ → Placed → X) (otherwise x : X) → HasOne Fits → (j : ℕ) (p : Placed) → IsLast Fits j p → x ≡ gives j p → IsFromLast Fits gives otherwise x
+given-last Fits gives otherwise x one j p l e = record {
+  from_last = λ k q m.
+      (let at : j ≡ k = le_antisymm (m.latest j p l.fits) (l.latest k q m.fits) in
+      let same : p ≡ q = one k p q (subst (λ (n : ℕ). Fits n p) at l.fits) m.fits in
+      e ∙ ap (λ n. gives n p) at ∙ ap (gives k) same);
+  from_none = λ none. absurd (none j p l.fits);
 }
 
-given-none : {X : Type 0} (IsSo : ℕ → Placed → Type 0) (given : ℕ → Placed → X) (otherwise x : X) → ((j : ℕ) (p : Placed) → IsSo j p → ⊥) → x ≡ otherwise → IsOfLast IsSo given otherwise x
-given-none IsSo given otherwise x none e = record {
-  of_last = λ j p l. absurd (none j p l.so);
-  of_none = λ any. e;
+given-none : {X : Type 0} (Fits : ℕ → Placed → Type 0) (gives : ℕ → Placed → X) (otherwise x : X) → ((j : ℕ) (p : Placed) → Fits j p → ⊥) → x ≡ otherwise → IsFromLast Fits gives otherwise x
+given-none Fits gives otherwise x none e = record {
+  from_last = λ j p l. absurd (none j p l.fits);
+  from_none = λ any. e;
 }
 
 one-passes : (test : Placed → Bool) (before : List Placed) → HasOne (Passes test before)
@@ -76,29 +76,29 @@ is_on j align = not (is_align_off_body (body_of align.line))
 abbrev number_in : ℕ → Placed → Option ℕ
 number_in j o = Some o.number
 
-address-of : (r : List Placed) → IsOfLast (Passes is_origin (reverse r)) (after_org (reverse r)) (IMAGE_START + sizes (reverse r)) (address r)
+address-of : (r : List Placed) → IsFromLast (Passes is_origin (reverse r)) (after_org (reverse r)) (IMAGE_START + sizes (reverse r)) (address r)
 unfolding address
 address-of r = by (search-last is_origin r)
   where
-    by : Search is_origin r (reverse r) → IsOfLast (Passes is_origin (reverse r)) (after_org (reverse r)) (IMAGE_START + sizes (reverse r)) (address r)
+    by : Search is_origin r (reverse r) → IsFromLast (Passes is_origin (reverse r)) (after_org (reverse r)) (IMAGE_START + sizes (reverse r)) (address r)
     by (found j p l there sum) = given-last (Passes is_origin (reverse r)) (after_org (reverse r)) _ _ (one-passes is_origin (reverse r)) j p l (rw (there, sum) refl)
     by (nowhere none there sum) = given-none (Passes is_origin (reverse r)) (after_org (reverse r)) _ _ none (rw (there, sum) refl)
 
-aligning-of : (r : List Placed) → IsOfLast (Passes is_align (reverse r)) is_on true (is_aligning r)
+aligning-of : (r : List Placed) → IsFromLast (Passes is_align (reverse r)) is_on true (is_aligning r)
 unfolding is_aligning
 aligning-of r = by (search-last is_align r)
   where
-    by : Search is_align r (reverse r) → IsOfLast (Passes is_align (reverse r)) is_on true (is_aligning r)
+    by : Search is_align r (reverse r) → IsFromLast (Passes is_align (reverse r)) is_on true (is_aligning r)
     by (found j p l there sum) = given-last (Passes is_align (reverse r)) is_on _ _ (one-passes is_align (reverse r)) j p l (rw there refl)
     by (nowhere none there sum) = given-none (Passes is_align (reverse r)) is_on _ _ none (rw there refl)
 
 abbrev block_in : List Placed → Option ℕ
 block_in r = option_map (λ o. o.number) (first_of (enclosing r))
 
-block-of : (r : List Placed) → IsOfLast (Encloses (reverse r)) number_in None (block_in r)
+block-of : (r : List Placed) → IsFromLast (Encloses (reverse r)) number_in None (block_in r)
 block-of r = by (last-opener r)
   where
-    by : Opener r → IsOfLast (Encloses (reverse r)) number_in None (block_in r)
+    by : Opener r → IsFromLast (Encloses (reverse r)) number_in None (block_in r)
     by (opener j o l is) = given-last (Encloses (reverse r)) number_in _ _ (one-encloses (reverse r)) j o l (rw is refl)
     by (closed none is) = given-none (Encloses (reverse r)) number_in _ _ none (rw is refl)
 
@@ -123,10 +123,10 @@ side-live r h j o l = by (last-opener r)
   where
     by : Opener r → o.live ≡ true
     by (opener k q m is) =
-        let at : j ≡ k = le_antisymm (m.latest j o l.so) (l.latest k q m.so) in
-        let same : o ≡ q = one-encloses (reverse r) k o q (subst (λ (n : ℕ). Encloses (reverse r) n o) at l.so) m.so in
+        let at : j ≡ k = le_antisymm (m.latest j o l.fits) (l.latest k q m.fits) in
+        let same : o ≡ q = one-encloses (reverse r) k o q (subst (λ (n : ℕ). Encloses (reverse r) n o) at l.fits) m.fits in
         ap (λ (p : Placed). p.live) same ∙ (rw is at h)
-    by (closed none is) = absurd (none j o l.so)
+    by (closed none is) = absurd (none j o l.fits)
 
 live-side : (r : List Placed) → ((j : ℕ) (o : Placed) → IsLast (Encloses (reverse r)) j o → o.live ≡ true) → option_map_or (λ o. o.live) (first_of (enclosing r)) true ≡ true
 live-side r h = by (last-opener r)

@@ -1,6 +1,6 @@
--- What holds of each line of a source, by its place in the list of all (Chipper manual; own where it is silent). It is a relation
--- between the lines and what holds of them. The laws say that what `Layout` computes is in it, and nothing else.
--- `before` has the lines before a line, the first one first.
+-- What holds of each line of a source, by its place in the list of all (Chipper manual; own where it is silent): a
+-- relation between the lines and what holds of them. The laws say that what `Layout` computes line by line is in it,
+-- and nothing else. `before` has the lines before a line, the first one first.
 use Rattle.std.specs.Prelude.{◌≡◌, ℕ, ◌+◌, ◌≤◌, ℤ, unsigned_abs, Bool, true, false, not, ◌&&◌, List, [], ◌∷◌, length, take, drop, Option, Some, None, Result, Ok, Err, if◌then◌else◌, sum_by, count_by, filter_map, slice_get, Decides}
 use Rattle.std.specs.List.{list_any}
 use Rattle.chip_lang.specs.declared.limits.TheConstants.{IMAGE_START}
@@ -12,38 +12,42 @@ use Rattle.chip_asm.specs.declared.table.Symbol.{Symbol}
 use Rattle.chip_asm.specs.Names.{Name}
 use Rattle.chip_asm.specs.Layout.{Placed, body_of, is_if, is_else, is_endif, is_else_body, is_side_or_end, is_number, is_origin, is_align, is_align_off_body, takes_effect, symbol_of, holds, has_ended, condition_of, value_at, value_or_zero, full_size, first_of, is_redefinition, is_negative_space, is_backwards, is_past_end}
 
--- the last line that ..
+-- the last line that fits
 
--- at place j stands this line, and it passes the test
+-- the line at place j is this one, and passes the test
 pub record Passes (test : Placed → Bool) (before : List Placed) (j : ℕ) (p : Placed) : Type 0 where
   pub there : slice_get before j ≡ Some p
   pub passes : test p ≡ true
 
--- it is so of the line at place j, and of no later one
-pub record IsLast (IsSo : ℕ → Placed → Type 0) (j : ℕ) (p : Placed) : Type 0 where
-  pub so : IsSo j p
-  pub latest : (k : ℕ) (q : Placed) → IsSo k q → k ≤ j
+-- this line at place j fits, and no later one does
+pub record IsLast (Fits : ℕ → Placed → Type 0) (j : ℕ) (p : Placed) : Type 0 where
+  pub fits : Fits j p
+  pub latest : (k : ℕ) (q : Placed) → Fits k q → k ≤ j
 
--- x is what the last line of which it is so gives, and `otherwise` where it is so of none
-pub record IsOfLast {X : Type 0} (IsSo : ℕ → Placed → Type 0) (given : ℕ → Placed → X) (otherwise x : X) : Type 0 where
-  pub of_last : (j : ℕ) (p : Placed) → IsLast IsSo j p → x ≡ given j p
-  pub of_none : ((j : ℕ) (p : Placed) → IsSo j p → ⊥) → x ≡ otherwise
+-- x is what the last line that fits gives, and `otherwise` where none does
+pub record IsFromLast {X : Type 0} (Fits : ℕ → Placed → Type 0) (gives : ℕ → Placed → X) (otherwise x : X)
+    : Type 0 where
+  pub from_last : (j : ℕ) (p : Placed) → IsLast Fits j p → x ≡ gives j p
+  pub from_none : ((j : ℕ) (p : Placed) → Fits j p → ⊥) → x ≡ otherwise
 
 -- blocks
 
--- the IF line at place j encloses what follows: however many of the lines after it are taken, the first one first, no more of them are
--- ENDIF lines than IF lines
+-- The IF line at place j encloses what follows: of the first n lines after it, whatever n, no more are ENDIF lines than
+-- are IF lines.
 pub record Encloses (before : List Placed) (j : ℕ) (opener : Placed) : Type 0 where
   pub there : slice_get before j ≡ Some opener
   pub opens : is_if opener ≡ true
-  pub stays_open : (n : ℕ) → count_by is_endif (take n (drop (j + 1) before)) ≤ count_by is_if (take n (drop (j + 1) before))
+  pub stays_open : (n : ℕ)
+      → count_by is_endif (take n (drop (j + 1) before)) ≤ count_by is_if (take n (drop (j + 1) before))
 
--- No line before is a live END. An ELSE or ENDIF is live where the last IF that encloses it is, and another line where the condition of
--- each IF that encloses it holds on the side that is reached.
+-- No line before is a live END. An ELSE or ENDIF is live where the last IF that encloses it is, or none does; another
+-- line where the condition of each IF that encloses it holds on the side that is reached.
 pub record IsLive (before : List Placed) (body : Body) : Type 0 where
   pub not_ended : has_ended before ≡ false
-  pub side_or_end : is_side_or_end body ≡ true → (j : ℕ) (opener : Placed) → IsLast (Encloses before) j opener → opener.live ≡ true
-  pub other : is_side_or_end body ≡ false → (j : ℕ) (opener : Placed) → Encloses before j opener → holds before opener ≡ true
+  pub side_or_end : is_side_or_end body ≡ true
+      → (j : ℕ) (opener : Placed) → IsLast (Encloses before) j opener → opener.live ≡ true
+  pub other : is_side_or_end body ≡ false
+      → (j : ℕ) (opener : Placed) → Encloses before j opener → holds before opener ≡ true
 
 -- addresses and names
 
@@ -92,20 +96,23 @@ first_fault_of faults = first_of (filter_map (λ fault. fault) faults)
 pub record IsPlaced (before : List Placed) (line : Reading) (p : Placed) : Type 0 where
   pub number : p.number ≡ length before + 1
   pub is_line : p.line ≡ line
-  -- the last IF line that encloses it, if one does
-  pub block : IsOfLast (Encloses before) (λ j opener. Some opener.number) None p.block
+  -- the last IF line that encloses it
+  pub block : IsFromLast (Encloses before) (λ j opener. Some opener.number) None p.block
   pub condition : p.condition ≡ condition_of (names_given before) (body_of line)
   pub live : Decides p.live (IsLive before (body_of line))
   -- the value of the last ORG that takes effect, or where the image stands, and the sizes since
-  pub here : IsOfLast (Passes is_origin before) (λ j org. unsigned_abs org.value + sizes (drop (j + 1) before)) (IMAGE_START + sizes before) p.here
+  pub here : IsFromLast (Passes is_origin before) (λ j org. unsigned_abs org.value + sizes (drop (j + 1) before))
+      (IMAGE_START + sizes before) p.here
   pub value : p.value ≡ value_or_zero (value_at (names_given before) (body_of line))
   -- the last ALIGN that takes effect is not OFF
   pub aligning : Bool
-  pub is_aligning : IsOfLast (Passes is_align before) (λ j align. not (is_align_off_body (body_of align.line))) true aligning
+  pub is_aligning : IsFromLast (Passes is_align before) (λ j align. not (is_align_off_body (body_of align.line)))
+      true aligning
   pub fault : p.fault ≡ (if p.live then first_fault_of (faults_in_order before aligning p) else None)
   pub size : p.size ≡ (if takes_effect p then full_size aligning p.here (body_of line) p.value else 0)
 
 -- what holds of each line of a source, in line order
 pub record ArePlaced (lines : List Reading) (all : List Placed) : Type 0 where
   pub count : length all ≡ length lines
-  pub each : (i : ℕ) (line : Reading) (p : Placed) → slice_get lines i ≡ Some line → slice_get all i ≡ Some p → IsPlaced (take i all) line p
+  pub each : (i : ℕ) (line : Reading) (p : Placed)
+      → slice_get lines i ≡ Some line → slice_get all i ≡ Some p → IsPlaced (take i all) line p
