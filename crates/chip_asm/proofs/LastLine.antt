@@ -273,3 +273,48 @@ enclosing-all f r h = each-to f (with_between r) (λ m t at g. h (back r m) t.1 
 
 pub any-turned : (test : Placed → Bool) (r : List Placed) → list_any test (reverse r) ≡ list_any test r
 any-turned test r = sym (list_any-IsPermutation test r (reverse r) (IsPermutation-reverse r))
+
+-- one that passes
+
+data Hit (f : Placed → Bool) (xs : List (List Placed × Placed)) : Type 0 where
+  hit : (m : ℕ) (t : List Placed × Placed) → slice_get xs m ≡ Some t → encloses t ≡ true → f t.1 ≡ true → Hit f xs
+
+later-hit : (f : Placed → Bool) (x : List Placed × Placed) (xs : List (List Placed × Placed)) → Hit f xs → Hit f (x ∷ xs)
+later-hit f x xs (hit m t at e g) = hit (suc m) t at e g
+
+any-hit : (f : Placed → Bool) (xs : List (List Placed × Placed)) → list_any f (openers_in xs) ≡ true → Hit f xs
+any-hit f [] h = cc
+any-hit f (x ∷ xs) h = by (encloses x) (f x.1) refl refl h (any-hit f xs)
+  where
+    by : (b c : Bool) → encloses x ≡ b → f x.1 ≡ c → list_any f (openers_in (x ∷ xs)) ≡ true → (list_any f (openers_in xs) ≡ true → Hit f xs) → Hit f (x ∷ xs)
+    by true true e g k rest = hit zero x refl e g
+    by true false e g k rest = later-hit f x xs (rest (rw (e, g) at k))
+    by false c e g k rest = later-hit f x xs (rest (rw e at k))
+
+hit-any : (f : Placed → Bool) (xs : List (List Placed × Placed)) (m : ℕ) (t : List Placed × Placed) → slice_get xs m ≡ Some t → encloses t ≡ true → f t.1 ≡ true → list_any f (openers_in xs) ≡ true
+hit-any f [] m t at e g = cc
+hit-any f (x ∷ xs) zero t at e g =
+    let same : x ≡ t = cc in
+    let now : encloses x ≡ true = ap encloses same ∙ e in
+    let passes : f x.1 ≡ true = ap (λ (s : List Placed × Placed). f s.1) same ∙ g in
+    rw (now, passes) refl
+hit-any f (x ∷ xs) (suc m) t at e g = by (encloses x) (f x.1) refl refl (hit-any f xs m t at e g)
+  where
+    by : (b c : Bool) → encloses x ≡ b → f x.1 ≡ c → list_any f (openers_in xs) ≡ true → list_any f (openers_in (x ∷ xs)) ≡ true
+    by true true k p rest = rw (k, p) refl
+    by true false k p rest = rw (k, p) rest
+    by false c k p rest = rw k rest
+
+pub data Enclosing (f : Placed → Bool) (r : List Placed) : Type 0 where
+  one_encloses : (j : ℕ) (o : Placed) → Encloses (reverse r) j o → f o ≡ true → Enclosing f r
+
+pub any-enclosing : (f : Placed → Bool) (r : List Placed) → list_any f (enclosing r) ≡ true → Enclosing f r
+unfolding enclosing
+any-enclosing f r h = by (any-hit f (with_between r) h)
+  where
+    by : Hit f (with_between r) → Enclosing f r
+    by (hit m t at e g) = one_encloses (back r m) t.1 (from-between r m t at e).1 g
+
+pub enclosing-any : (f : Placed → Bool) (r : List Placed) (j : ℕ) (o : Placed) → Encloses (reverse r) j o → f o ≡ true → list_any f (enclosing r) ≡ true
+unfolding enclosing
+enclosing-any f r j o e g = let two = to-between r j o e in hit-any f (with_between r) (back r j) (take (back r j) r, o) two.0 two.1 g

@@ -41,3 +41,4 @@ pub mod ShiftedNames
 pub mod ShiftedLayout
 pub mod LastLine
 pub mod PlacesAgree
+pub mod UnclosedByPlace

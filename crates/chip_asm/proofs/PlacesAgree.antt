@@ -104,7 +104,7 @@ block-of r = by (last-opener r)
 
 -- whether a line is live
 
-ended-turned : (r : List Placed) → has_ended (reverse r) ≡ has_ended r
+pub ended-turned : (r : List Placed) → has_ended (reverse r) ≡ has_ended r
 unfolding has_ended
 ended-turned r = any-turned _ r
 

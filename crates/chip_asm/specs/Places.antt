@@ -116,3 +116,9 @@ pub record ArePlaced (lines : List Reading) (all : List Placed) : Type 0 where
   pub count : length all ≡ length lines
   pub each : (i : ℕ) (line : Reading) (p : Placed)
       → slice_get lines i ≡ Some line → slice_get all i ≡ Some p → IsPlaced (take i all) line p
+
+-- an IF without ENDIF, of a whole source: it is live, it encloses what would follow, and no live END stands in the source
+pub record IsUnclosed (all : List Placed) (i : ℕ) (p : Placed) : Type 0 where
+  pub encloses : Encloses all i p
+  pub live : p.live ≡ true
+  pub not_ended : has_ended all ≡ false
