@@ -1,12 +1,12 @@
 -- An IF without ENDIF, by place.
-use Rattle.std.proofs.Common.{◌≡◌, ℕ, zero, suc, ◌+◌, ◌<◌, Bool, true, false, not, ◌&&◌, eqb, List, [], ◌∷◌, reverse, length, take, slice_get, refl, ap, sym, subst, ◌∙◌, arith, Option, Some, None, Decides, eq-eqb, eqb-true}
+use Rattle.std.proofs.Common.{◌≡◌, ℕ, zero, suc, ◌+◌, ◌<◌, Bool, true, false, not, ◌&&◌, eqb, List, [], ◌∷◌, reverse, length, slice_get, refl, ap, sym, subst, ◌∙◌, arith, Option, Some, None, Decides, eq-eqb, eqb-true}
 use Rattle.std.specs.List.{list_any}
 use Rattle.std.proofs.lemmas.Bool.{and_parts}
-use Rattle.std.proofs.lemmas.List.{length-reverse, length-take-le}
+use Rattle.std.proofs.lemmas.List.{length-take-le}
 use Rattle.std.proofs.lemmas.Option.{slice_get_within}
 use Rattle.chip_lang.specs.Line.{Reading}
 use Rattle.chip_asm.specs.Layout.{Placed, placed, is_if, enclosing, has_ended}
-use Rattle.chip_asm.specs.Places.{Encloses, IsPlaced, ArePlaced, IsUnclosed}
+use Rattle.chip_asm.specs.Places.{Encloses, ArePlaced, IsUnclosed}
 use Rattle.chip_asm.specs.Program.{is_unclosed}
 use Rattle.chip_asm.proofs.LastLine.{same-there, Enclosing, one_encloses, any-enclosing, enclosing-any}
 use Rattle.chip_asm.proofs.PlacesAgree.{agree, ended-turned}

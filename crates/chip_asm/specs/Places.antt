@@ -12,8 +12,6 @@ use Rattle.chip_asm.specs.declared.table.Symbol.{Symbol}
 use Rattle.chip_asm.specs.Names.{Name}
 use Rattle.chip_asm.specs.Layout.{Placed, body_of, is_if, is_else, is_endif, is_else_body, is_side_or_end, is_number, is_origin, is_align, is_align_off_body, takes_effect, symbol_of, holds, has_ended, condition_of, value_at, value_or_zero, full_size, first_of, is_redefinition, is_negative_space, is_backwards, is_past_end}
 
--- the last line that fits
-
 -- the line at place j is this one, and passes the test
 pub record Passes (test : Placed → Bool) (before : List Placed) (j : ℕ) (p : Placed) : Type 0 where
   pub there : slice_get before j ≡ Some p
@@ -24,16 +22,15 @@ pub record IsLast (Fits : ℕ → Placed → Type 0) (j : ℕ) (p : Placed) : Ty
   pub fits : Fits j p
   pub latest : (k : ℕ) (q : Placed) → Fits k q → k ≤ j
 
--- x is what the last line that fits gives, and `otherwise` where none does
-pub record IsFromLast {X : Type 0} (Fits : ℕ → Placed → Type 0) (gives : ℕ → Placed → X) (otherwise x : X)
-    : Type 0 where
+-- x is what the last line that fits gives, and `other` where none does
+pub record IsFromLast {X : Type 0} (Fits : ℕ → Placed → Type 0) (gives : ℕ → Placed → X) (other x : X) : Type 0 where
   pub from_last : (j : ℕ) (p : Placed) → IsLast Fits j p → x ≡ gives j p
-  pub from_none : ((j : ℕ) (p : Placed) → Fits j p → ⊥) → x ≡ otherwise
+  pub from_none : ((j : ℕ) (p : Placed) → Fits j p → ⊥) → x ≡ other
 
 -- blocks
 
--- The IF line at place j encloses what follows: of the first n lines after it, whatever n, no more are ENDIF lines than
--- are IF lines.
+-- The IF line at place j encloses what follows: of the first n lines after it, for each n, no more are ENDIF lines
+-- than IF lines.
 pub record Encloses (before : List Placed) (j : ℕ) (opener : Placed) : Type 0 where
   pub there : slice_get before j ≡ Some opener
   pub opens : is_if opener ≡ true
@@ -61,8 +58,7 @@ names_given = filter_map symbol_of
 -- faults of the first pass
 
 abbrev pub fault_if : Bool → Fault → Option Fault
-fault_if true fault = Some fault
-fault_if false fault = None
+fault_if is_so fault = if is_so then Some fault else None
 
 abbrev pub fault_of_reading : Reading → Option Fault
 fault_of_reading (bad fault) = Some fault
@@ -106,8 +102,7 @@ pub record IsPlaced (before : List Placed) (line : Reading) (p : Placed) : Type 
   pub value : p.value ≡ value_or_zero (value_at (names_given before) (body_of line))
   -- the last ALIGN that takes effect is not OFF
   pub aligning : Bool
-  pub is_aligning : IsFromLast (Passes is_align before) (λ j align. not (is_align_off_body (body_of align.line)))
-      true aligning
+  pub is_aligning : IsFromLast (Passes is_align before) (λ j p. not (is_align_off_body (body_of p.line))) true aligning
   pub fault : p.fault ≡ (if p.live then first_fault_of (faults_in_order before aligning p) else None)
   pub size : p.size ≡ (if takes_effect p then full_size aligning p.here (body_of line) p.value else 0)
 
@@ -117,7 +112,7 @@ pub record ArePlaced (lines : List Reading) (all : List Placed) : Type 0 where
   pub each : (i : ℕ) (line : Reading) (p : Placed)
       → slice_get lines i ≡ Some line → slice_get all i ≡ Some p → IsPlaced (take i all) line p
 
--- an IF without ENDIF, of a whole source: it is live, it encloses what would follow, and no live END stands in the source
+-- an IF without ENDIF in a whole source: it is live, it encloses what would follow, and there is no live END
 pub record IsUnclosed (all : List Placed) (i : ℕ) (p : Placed) : Type 0 where
   pub encloses : Encloses all i p
   pub live : p.live ≡ true
