@@ -40,3 +40,6 @@ pub mod ShiftedLines
 pub mod ShiftedNames
 mod ShiftedSpan
 pub mod ShiftedLayout
+pub mod LastLine
+pub mod PlacesAgree
+pub mod UnclosedByPlace

@@ -3,6 +3,7 @@
 --     Edits        when an edit is refused
 --     Names        names and tables of names
 --     Layout       where each line stands, what is wrong with it, which names it gives
+--     Places       the same, said by place of the list of all lines
 --     Program      names, faults and image of a source
 --     Listing      the listing
 --     Work         which lines an edit makes encode anew
@@ -15,6 +16,7 @@ pub mod Layout
 pub mod Lines
 pub mod Listing
 pub mod Names
+pub mod Places
 pub mod Program
 pub mod Sources
 pub mod Work

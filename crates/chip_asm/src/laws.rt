@@ -1,11 +1,12 @@
 //! Laws of whole sources.
-ghost use Rattle.std.specs.Prelude.{ℕ, ◌≤◌, List, length, map, filter};
+ghost use Rattle.std.specs.Prelude.{ℕ, ◌≡◌, ◌≤◌, List, length, map, filter, reverse, Some, slice_get, Decides};
 ghost use Rattle.std.specs.List.{IsDistinct};
 ghost use Rattle.std.specs.Str.{bytes_eq};
-ghost use Rattle.chip_lang.specs.Line.{reading_of};
-ghost use Rattle.chip_asm.specs.Layout.{placed};
+ghost use Rattle.chip_lang.specs.Line.{Reading, reading_of};
+ghost use Rattle.chip_asm.specs.Layout.{Placed, placed};
 ghost use Rattle.chip_asm.specs.Names.{Name};
-ghost use Rattle.chip_asm.specs.Program.{symbols_of, covers};
+ghost use Rattle.chip_asm.specs.Places.{ArePlaced, IsUnclosed};
+ghost use Rattle.chip_asm.specs.Program.{symbols_of, covers, is_unclosed};
 
 /// No name stands twice among the names that a source gives.
 pub fn names_differ()
@@ -15,4 +16,20 @@ pub fn names_differ()
 /// At most one line of a source covers an address.
 pub fn one_line_covers()
     ensures { (texts : List (List ℕ)) (address : ℕ) → length (filter (covers address) (placed (map reading_of texts))) ≤ 1 }
+{}
+
+/// What holds of the lines of a source one after another is what holds of them by place.
+pub fn lines_are_placed()
+    ensures { (lines : List Reading) → ArePlaced lines (reverse (placed lines)) }
+{}
+
+/// Nothing else holds of them by place.
+pub fn only_these_are_placed()
+    ensures { (lines : List Reading) (all : List Placed) → ArePlaced lines all → all ≡ reverse (placed lines) }
+{}
+
+/// The IF lines without ENDIF, by place.
+pub fn unclosed_by_place()
+    ensures { (lines : List Reading) (i : ℕ) (p : Placed) → slice_get (reverse (placed lines)) i ≡ Some p
+        → Decides (is_unclosed (placed lines) p) (IsUnclosed (reverse (placed lines)) i p) }
 {}

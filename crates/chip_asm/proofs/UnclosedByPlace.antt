@@ -1,0 +1,62 @@
+-- An IF without ENDIF, by place.
+use Rattle.std.proofs.Common.{◌≡◌, ℕ, zero, suc, ◌+◌, ◌<◌, Bool, true, false, not, ◌&&◌, eqb, List, [], ◌∷◌, reverse, length, slice_get, refl, ap, sym, subst, ◌∙◌, arith, Option, Some, None, Decides, eq-eqb, eqb-true}
+use Rattle.std.specs.List.{list_any}
+use Rattle.std.proofs.lemmas.Bool.{and_parts}
+use Rattle.std.proofs.lemmas.List.{length-take-le}
+use Rattle.std.proofs.lemmas.Option.{slice_get_within}
+use Rattle.chip_lang.specs.Line.{Reading}
+use Rattle.chip_asm.specs.Layout.{Placed, placed, is_if, enclosing, has_ended}
+use Rattle.chip_asm.specs.Places.{Encloses, ArePlaced, IsUnclosed}
+use Rattle.chip_asm.specs.Program.{is_unclosed}
+use Rattle.chip_asm.proofs.LastLine.{same-there, Enclosing, one_encloses, any-enclosing, enclosing-any}
+use Rattle.chip_asm.proofs.PlacesAgree.{agree, ended-turned}
+
+missing : {A : Type 0} (xs : List A) (k : ℕ) → slice_get xs k ≡ None → k < length xs → ⊥
+missing [] k e h = omega arith
+missing (x ∷ xs) zero e h = cc
+missing (x ∷ xs) (suc k) e h = missing xs k e (omega arith)
+
+-- the line at a place has the next number
+number-at : (lines : List Reading) (i : ℕ) (p : Placed) → slice_get (reverse (placed lines)) i ≡ Some p → p.number ≡ i + 1
+number-at lines i p there = by (slice_get lines i) refl (agree lines)
+  where
+    by : (o : Option Reading) → slice_get lines i ≡ o → ArePlaced lines (reverse (placed lines)) → p.number ≡ i + 1
+    by None e a = absurd (missing lines i e (let inside = slice_get_within (reverse (placed lines)) i p there in omega (arith, a.count)))
+    by (Some line) e a =
+        let inside : i < length (reverse (placed lines)) = slice_get_within (reverse (placed lines)) i p there in
+        let this = a.each i line p e there in
+        this.number ∙ ap (λ n. n + 1) (length-take-le i (reverse (placed lines)) (omega arith))
+
+abbrev has_number : ℕ → Placed → Bool
+has_number n o = eqb o.number n
+
+same-place : (lines : List Reading) (i : ℕ) (p : Placed) → slice_get (reverse (placed lines)) i ≡ Some p → Enclosing (has_number p.number) (placed lines) → Encloses (reverse (placed lines)) i p
+same-place lines i p there (one_encloses j o e g) =
+    let same : o.number ≡ p.number = eqb-true o.number p.number g in
+    let at : j ≡ i = omega (arith, same, number-at lines j o e.there, number-at lines i p there) in
+    let moved : Encloses (reverse (placed lines)) i o = subst (λ (n : ℕ). Encloses (reverse (placed lines)) n o) at e in
+    subst (Encloses (reverse (placed lines)) i) (same-there (reverse (placed lines)) i o p moved.there there) moved
+
+unclosed-from : (lines : List Reading) (i : ℕ) (p : Placed) → slice_get (reverse (placed lines)) i ≡ Some p → is_unclosed (placed lines) p ≡ true → IsUnclosed (reverse (placed lines)) i p
+unclosed-from lines i p there h =
+    let two = and_parts (is_if p && p.live && not (has_ended (placed lines))) (list_any (has_number p.number) (enclosing (placed lines))) h in
+    let more = and_parts (is_if p && p.live) (not (has_ended (placed lines))) two.0 in
+    let first = and_parts (is_if p) p.live more.0 in
+    record {
+      encloses = same-place lines i p there (any-enclosing (has_number p.number) (placed lines) two.1);
+      live = first.1;
+      not_ended = ended-turned (placed lines) ∙ negated (has_ended (placed lines)) more.1;
+    }
+  where
+    negated : (b : Bool) → not b ≡ true → b ≡ false
+    negated true k = cc
+    negated false k = refl
+
+unclosed-to : (lines : List Reading) (i : ℕ) (p : Placed) → IsUnclosed (reverse (placed lines)) i p → is_unclosed (placed lines) p ≡ true
+unclosed-to lines i p u =
+    let yet : has_ended (placed lines) ≡ false = sym (ended-turned (placed lines)) ∙ u.not_ended in
+    let any : list_any (has_number p.number) (enclosing (placed lines)) ≡ true = enclosing-any (has_number p.number) (placed lines) i p u.encloses (eq-eqb p.number p.number refl) in
+    rw (u.encloses.opens, u.live, yet, any) refl
+
+pub unclosed : (lines : List Reading) (i : ℕ) (p : Placed) → slice_get (reverse (placed lines)) i ≡ Some p → Decides (is_unclosed (placed lines) p) (IsUnclosed (reverse (placed lines)) i p)
+unclosed lines i p there = (unclosed-from lines i p there, unclosed-to lines i p)

@@ -1,0 +1,119 @@
+-- What holds of each line of a source, by its place in the list of all (Chipper manual; own where it is silent): a
+-- relation between the lines and what holds of them. The laws say that what `Layout` computes line by line is in it,
+-- and nothing else. `before` has the lines before a line, the first one first.
+use Rattle.std.specs.Prelude.{◌≡◌, ℕ, ◌+◌, ◌≤◌, ℤ, unsigned_abs, Bool, true, false, not, ◌&&◌, List, [], ◌∷◌, length, take, drop, Option, Some, None, Result, Ok, Err, if◌then◌else◌, sum_by, count_by, filter_map, slice_get, Decides}
+use Rattle.std.specs.List.{list_any}
+use Rattle.chip_lang.specs.declared.limits.TheConstants.{IMAGE_START}
+use Rattle.chip_lang.specs.declared.fault.Fault.{Fault}
+use Rattle.chip_lang.specs.declared.fault.Fault.TheVariants.{DefinedTwice, OutOfRange, OrgBelowHere, PastMemory, StrayBranch}
+use Rattle.chip_lang.specs.Line.{Body, Reading, bad, read}
+use Rattle.chip_lang.specs.Uses.{name_defined}
+use Rattle.chip_asm.specs.declared.table.Symbol.{Symbol}
+use Rattle.chip_asm.specs.Names.{Name}
+use Rattle.chip_asm.specs.Layout.{Placed, body_of, is_if, is_else, is_endif, is_else_body, is_side_or_end, is_number, is_origin, is_align, is_align_off_body, takes_effect, symbol_of, holds, has_ended, condition_of, value_at, value_or_zero, full_size, first_of, is_redefinition, is_negative_space, is_backwards, is_past_end}
+
+-- the line at place j is this one, and passes the test
+pub record Passes (test : Placed → Bool) (before : List Placed) (j : ℕ) (p : Placed) : Type 0 where
+  pub there : slice_get before j ≡ Some p
+  pub passes : test p ≡ true
+
+-- this line at place j fits, and no later one does
+pub record IsLast (Fits : ℕ → Placed → Type 0) (j : ℕ) (p : Placed) : Type 0 where
+  pub fits : Fits j p
+  pub latest : (k : ℕ) (q : Placed) → Fits k q → k ≤ j
+
+-- x is what the last line that fits gives, and `other` where none does
+pub record IsFromLast {X : Type 0} (Fits : ℕ → Placed → Type 0) (gives : ℕ → Placed → X) (other x : X) : Type 0 where
+  pub from_last : (j : ℕ) (p : Placed) → IsLast Fits j p → x ≡ gives j p
+  pub from_none : ((j : ℕ) (p : Placed) → Fits j p → ⊥) → x ≡ other
+
+-- blocks
+
+-- The IF line at place j encloses what follows: of the first n lines after it, for each n, no more are ENDIF lines
+-- than IF lines.
+pub record Encloses (before : List Placed) (j : ℕ) (opener : Placed) : Type 0 where
+  pub there : slice_get before j ≡ Some opener
+  pub opens : is_if opener ≡ true
+  pub stays_open : (n : ℕ)
+      → count_by is_endif (take n (drop (j + 1) before)) ≤ count_by is_if (take n (drop (j + 1) before))
+
+-- No line before is a live END. An ELSE or ENDIF is live where the last IF that encloses it is, or none does; another
+-- line where the condition of each IF that encloses it holds on the side that is reached.
+pub record IsLive (before : List Placed) (body : Body) : Type 0 where
+  pub not_ended : has_ended before ≡ false
+  pub side_or_end : is_side_or_end body ≡ true
+      → (j : ℕ) (opener : Placed) → IsLast (Encloses before) j opener → opener.live ≡ true
+  pub other : is_side_or_end body ≡ false
+      → (j : ℕ) (opener : Placed) → Encloses before j opener → holds before opener ≡ true
+
+-- addresses and names
+
+abbrev pub sizes : List Placed → ℕ
+sizes = sum_by (λ p. p.size)
+
+-- the names that these lines give, in line order
+abbrev pub names_given : List Placed → List (Name × Symbol)
+names_given = filter_map symbol_of
+
+-- faults of the first pass
+
+abbrev pub fault_if : Bool → Fault → Option Fault
+fault_if is_so fault = if is_so then Some fault else None
+
+abbrev pub fault_of_reading : Reading → Option Fault
+fault_of_reading (bad fault) = Some fault
+fault_of_reading (read label body) = None
+
+abbrev pub fault_in_value : Result ℤ Fault → Option Fault
+fault_in_value (Err fault) = Some fault
+fault_in_value (Ok value) = None
+
+-- an ELSE or ENDIF that no IF encloses, or an ELSE after another one of the same IF
+abbrev pub is_stray : List Placed → Option ℕ → Body → Bool
+is_stray before None body = is_side_or_end body
+is_stray before (Some number) body = is_else_body body && list_any (λ q. is_else q && is_number number q.block) before
+
+-- those of a line, in the order in which they are looked for
+abbrev pub faults_in_order : List Placed → Bool → Placed → List (Option Fault)
+faults_in_order before aligning p =
+    fault_of_reading p.line
+    ∷ fault_if (is_stray before p.block (body_of p.line)) StrayBranch
+    ∷ fault_if (is_redefinition (names_given before) (name_defined p.line)) DefinedTwice
+    ∷ fault_in_value (value_at (names_given before) (body_of p.line))
+    ∷ fault_if (is_negative_space (body_of p.line) p.value) OutOfRange
+    ∷ fault_if (is_backwards p.here (body_of p.line) p.value) OrgBelowHere
+    ∷ fault_if (is_past_end aligning p.here (body_of p.line) p.value) PastMemory
+    ∷ []
+
+abbrev pub first_fault_of : List (Option Fault) → Option Fault
+first_fault_of faults = first_of (filter_map (λ fault. fault) faults)
+
+-- what holds of a line after the lines before it
+pub record IsPlaced (before : List Placed) (line : Reading) (p : Placed) : Type 0 where
+  pub number : p.number ≡ length before + 1
+  pub is_line : p.line ≡ line
+  -- the last IF line that encloses it
+  pub block : IsFromLast (Encloses before) (λ j opener. Some opener.number) None p.block
+  pub condition : p.condition ≡ condition_of (names_given before) (body_of line)
+  pub live : Decides p.live (IsLive before (body_of line))
+  -- the value of the last ORG that takes effect, or where the image stands, and the sizes since
+  pub here : IsFromLast (Passes is_origin before) (λ j org. unsigned_abs org.value + sizes (drop (j + 1) before))
+      (IMAGE_START + sizes before) p.here
+  pub value : p.value ≡ value_or_zero (value_at (names_given before) (body_of line))
+  -- the last ALIGN that takes effect is not OFF
+  pub aligning : Bool
+  pub is_aligning : IsFromLast (Passes is_align before) (λ j p. not (is_align_off_body (body_of p.line))) true aligning
+  pub fault : p.fault ≡ (if p.live then first_fault_of (faults_in_order before aligning p) else None)
+  pub size : p.size ≡ (if takes_effect p then full_size aligning p.here (body_of line) p.value else 0)
+
+-- what holds of each line of a source, in line order
+pub record ArePlaced (lines : List Reading) (all : List Placed) : Type 0 where
+  pub count : length all ≡ length lines
+  pub each : (i : ℕ) (line : Reading) (p : Placed)
+      → slice_get lines i ≡ Some line → slice_get all i ≡ Some p → IsPlaced (take i all) line p
+
+-- an IF without ENDIF in a whole source: it is live, it encloses what would follow, and there is no live END
+pub record IsUnclosed (all : List Placed) (i : ℕ) (p : Placed) : Type 0 where
+  pub encloses : Encloses all i p
+  pub live : p.live ≡ true
+  pub not_ended : has_ended all ≡ false
