@@ -1,5 +1,5 @@
 -- Where the one name that a line uses stands among the names.
-use Rattle.std.proofs.Common.{◌≡◌, ◌≢◌, ℕ, ℤ, zero, suc, ◌+◌, ◌<◌, ◌≤◌, Bool, true, false, cond, ◌&&◌, List, [], ◌∷◌, map, length, take, slice_get, insert, set, remove, refl, ap, sym, ◌∙◌, arith, Option, Some, None, option_map, nat_lt, nat_eq, is_some, Bor}
+use Rattle.std.proofs.Common.{◌≡◌, ◌≢◌, ℕ, ℤ, zero, suc, ◌+◌, ◌^◌, ◌<◌, ◌≤◌, Bool, true, false, cond, ◌&&◌, List, [], ◌∷◌, map, length, take, slice_get, insert, set, remove, refl, ap, sym, ◌∙◌, arith, Option, Some, None, option_map, nat_lt, nat_eq, is_some, Bor}
 use Rattle.std.specs.Global.{Vec}
 use Rattle.std.specs.List.{position_or_len, position, list_all}
 use Rattle.std.specs.Map.{keys_of}
@@ -17,7 +17,7 @@ use Rattle.chip_asm.specs.Names.{Name, lookup_name, values_of}
 use Rattle.chip_asm.specs.Program.{names_of_lines}
 use Rattle.chip_asm.specs.declared.kept_line.KeptLine.{KeptLine}
 use Rattle.chip_asm.specs.declared.table.Symbol.{Symbol}
-use Rattle.chip_asm.specs.inner.Hints.{names_in, number_of, number_of_one, hint_in}
+use Rattle.chip_asm.specs.inner.Hints.{names_in, number_of, number_of_one, as_hint, hint_in}
 use Rattle.chip_asm.specs.inner.Records.{reading_in, readings_in}
 use Rattle.chip_asm.proofs.EditTexts.{map-insert, map-remove}
 use Rattle.std.proofs.lemmas.List.{map-set}
@@ -137,7 +137,7 @@ pub hint-none : (names : List Name) (line : Reading) → is_some (slice_get (nam
 unfolding hint_in
 hint-none names line e = by (names_used line) e
   where
-    by : (used : List Name) → is_some (slice_get used 0) ≡ false → 0 ≡ number_of_one names used
+    by : (used : List Name) → is_some (slice_get used 0) ≡ false → 0 ≡ as_hint (number_of_one names used)
     by [] e = refl
     by (name ∷ others) e = cc
 
@@ -145,23 +145,39 @@ pub hint-more : (names : List Name) (line : Reading) → is_some (slice_get (nam
 unfolding hint_in
 hint-more names line e = by (names_used line) e
   where
-    by : (used : List Name) → is_some (slice_get used 1) ≡ true → 0 ≡ number_of_one names used
+    by : (used : List Name) → is_some (slice_get used 1) ≡ true → 0 ≡ as_hint (number_of_one names used)
     by [] e = refl
     by (first ∷ []) e = cc
     by (first ∷ other ∷ others) e = refl
 
-pub hint-one : (names : List Name) (line : Reading) (name : Name) → slice_get (names_used line) 0 ≡ Some name → is_some (slice_get (names_used line) 1) ≡ false → number_of names name ≡ hint_in names line
+pub hint-one : (names : List Name) (line : Reading) (name : Name) → slice_get (names_used line) 0 ≡ Some name → is_some (slice_get (names_used line) 1) ≡ false → as_hint (number_of names name) ≡ hint_in names line
 unfolding hint_in
 hint-one names line name e k = by (names_used line) e k
   where
-    by : (used : List Name) → slice_get used 0 ≡ Some name → is_some (slice_get used 1) ≡ false → number_of names name ≡ number_of_one names used
+    by : (used : List Name) → slice_get used 0 ≡ Some name → is_some (slice_get used 1) ≡ false → as_hint (number_of names name) ≡ as_hint (number_of_one names used)
     by [] e k = cc
     by (first ∷ []) e k = let same : first ≡ name = cc in rw same refl
     by (first ∷ other ∷ others) e k = cc
 
+-- a hint is no more than the number, and the number where it is no 0
+
+as-hint-few : (n : ℕ) → as_hint n ≤ n
+as-hint-few n = by (nat_lt n (2 ^ 16)) refl
+  where
+    by : (b : Bool) → nat_lt n (2 ^ 16) ≡ b → as_hint n ≤ n
+    by true e = rw e (omega arith)
+    by false e = rw e (omega arith)
+
+as-hint-some : (n i : ℕ) → as_hint n ≡ i + 1 → n ≡ i + 1
+as-hint-some n i h = by (nat_lt n (2 ^ 16)) refl h
+  where
+    by : (b : Bool) → nat_lt n (2 ^ 16) ≡ b → cond b n 0 ≡ i + 1 → n ≡ i + 1
+    by true e k = k
+    by false e k = absurd (omega (arith, k))
+
 pub hint-few : (names : List Name) (line : Reading) → hint_in names line ≤ length names
 unfolding hint_in
-hint-few names line = by (names_used line)
+hint-few names line = (let few = as-hint-few (number_of_one names (names_used line)) in let most = by (names_used line) in omega (arith, few, most))
   where
     by : (used : List Name) → number_of_one names used ≤ length names
     by [] = omega arith
@@ -181,7 +197,7 @@ pub agree-at : (old new : List (Name × Symbol)) (line : Reading) (i : ℕ) (a b
     → slice_get old i ≡ Some a → slice_get new i ≡ Some b → (same ≡ true → a.1.value ≡ b.1.value) → (same ≡ false → a.1.value ≢ b.1.value)
     → same ≡ agree_on (values_of old) (values_of new) line
 unfolding hint_in
-agree-at old new line i a b same names hint before after equal other = by (names_used line) hint
+agree-at old new line i a b same names hint before after equal other = by (names_used line) (as-hint-some (number_of_one (names_in new) (names_used line)) i hint)
   where
     value-in : (table : List (Name × Symbol)) (name : Name) (e : Name × Symbol) → number_of (names_in table) name ≡ i + 1 → slice_get table i ≡ Some e → value_of_name (values_of table) name ≡ Some e.1.value
     value-in table name e h at = value-of-name table name ∙ ap (option_map (λ (s : Symbol). s.value)) (found-numbered table name i e h at)
@@ -214,7 +230,7 @@ no-number (name ∷ other ∷ others) = refl
 
 no-hint : (line : Reading) → hint_in [] line ≡ 0
 unfolding hint_in
-no-hint line = no-number (names_used line)
+no-hint line = ap as_hint (no-number (names_used line))
 
 pub none-hinted : (names : List (Name × Symbol)) (lines : List KeptLine) → names ≡ [] → map (λ (kept : KeptLine). 0) lines ≡ map (hint_in (names_in names)) (readings_in lines)
 none-hinted names [] e = refl

@@ -1,7 +1,7 @@
 //! Where the one name that a line uses stands in the table of names, so that steps over all lines needn't look for it.
 ghost use Rattle.std.specs.Prelude.{◌≡◌, ◌≤◌, true, List, IfOk, length, map};
 ghost use Rattle.chip_asm.specs.Names.{values_of};
-ghost use Rattle.chip_asm.specs.inner.Hints.{names_in, hint_in};
+ghost use Rattle.chip_asm.specs.inner.Hints.{names_in, as_hint, hint_in};
 ghost use Rattle.chip_asm.specs.inner.Records.{IsPlaceWithin, lines_after, readings_in};
 ghost use Rattle.chip_lang.specs.SeenLine.{seen_line};
 ghost use Rattle.chip_asm.specs.inner.Traits.{traits_of};
@@ -15,9 +15,16 @@ use crate::traits::Traits;
 use chip_lang::{Line, Names, uses};
 use std::alloc::{AllocError, Global};
 
+/// A number of 16 bits; 0 in the place of a greater one.
+fn as_hint(number: usize) -> u16
+    ensures { result ≡ as_hint number }
+{
+    if number < 1 << 16 { number as u16 } else { 0 }
+}
+
 /// The number, counted from 1, of the one name that a line uses, among those of a table; 0 where it uses more or none, or the name isn't
 /// there.
-pub(crate) fn hint_of(names: &Table, line: &Line) -> usize
+pub(crate) fn hint_of(names: &Table, line: &Line) -> u16
     ensures { result ≡ hint_in (names_in names.now) (seen_line line.now) }
 {
     let Some(name) = uses(line, 0) else {
@@ -26,11 +33,11 @@ pub(crate) fn hint_of(names: &Table, line: &Line) -> usize
     if uses(line, 1).is_some() {
         return 0;
     }
-    names.number_of(name)
+    as_hint(names.number_of(name))
 }
 
 /// The same, where the traits of the line are known.
-fn hint_by(names: &Table, traits: Traits, line: &Line) -> usize
+fn hint_by(names: &Table, traits: Traits, line: &Line) -> u16
     requires { traits ≡ traits_of (seen_line line.now) }
     ensures { result ≡ hint_in (names_in names.now) (seen_line line.now) }
 {
@@ -42,7 +49,7 @@ fn hint_by(names: &Table, traits: Traits, line: &Line) -> usize
 }
 
 /// The hints of lines where no names are known yet.
-pub(crate) fn no_hints(alloc: Global, lines: &[BoxedLine]) -> Result<Vec<usize>, AllocError>
+pub(crate) fn no_hints(alloc: Global, lines: &[BoxedLine]) -> Result<Vec<u16>, AllocError>
     ensures { IfOk result (λ hints. hints.items ≡ map (λ kept. 0) lines.now) }
 {
     let mut hints = Vec::with_capacity(alloc, lines.len())?;
@@ -59,7 +66,7 @@ fn hints_of_all(
     lines: &[BoxedLine],
     traits: &[Traits],
     edit: &Edit,
-) -> Result<Vec<usize>, AllocError>
+) -> Result<Vec<u16>, AllocError>
     requires within { IsPlaceWithin (length lines.now) edit.now }
     requires few { length lines.now ≤ MOST_LINES }
     requires traits { traits.now ≡ map traits_of (readings_in (lines_after lines.now edit.now)) }
@@ -78,9 +85,9 @@ fn hints_of_all(
 fn edited_hints(
     alloc: Global,
     names: &Table,
-    hints: &[usize],
+    hints: &[u16],
     edit: &Edit,
-) -> Result<Vec<usize>, AllocError>
+) -> Result<Vec<u16>, AllocError>
     requires within { IsPlaceWithin (length hints.now) edit.now }
     ensures { (lines : List KeptLine) → hints.now ≡ map (hint_in (names_in names.now)) (readings_in lines)
         → IfOk result (λ after. after.items ≡ map (hint_in (names_in names.now)) (readings_in (lines_after lines edit.now))) }
@@ -102,11 +109,11 @@ pub(crate) fn hints_after(
     alloc: Global,
     same_names: bool,
     names: &Table,
-    hints: &[usize],
+    hints: &[u16],
     lines: &[BoxedLine],
     traits: &[Traits],
     edit: &Edit,
-) -> Result<Vec<usize>, AllocError>
+) -> Result<Vec<u16>, AllocError>
     requires within { IsPlaceWithin (length lines.now) edit.now }
     requires few { length lines.now ≤ MOST_LINES }
     requires traits { traits.now ≡ map traits_of (readings_in (lines_after lines.now edit.now)) }

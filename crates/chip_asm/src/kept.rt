@@ -46,7 +46,7 @@ pub(crate) struct Kept {
     /// The layout before the last edit, for its room.
     pub(crate) spare: Layout,
     /// At the place of each line that uses one name: the number of the name in the layout's table, counted from 1; else 0.
-    pub(crate) hints: Vec<usize>,
+    pub(crate) hints: Vec<u16>,
     /// The byte at each address from `IMAGE_START` on, also where a line has a fault. Empty until there is a line.
     pub(crate) image: Vec<u8>,
     /// How many lines have a fault.
@@ -59,7 +59,7 @@ pub(crate) struct Kept {
 #[derive(Drop)]
 struct Prepared {
     traits: Vec<Traits>,
-    hints: Vec<usize>,
+    hints: Vec<u16>,
     layout: Layout,
     /// The span of lines that stay or move by one distance, where the layout told it.
     span: Option<Span>,

@@ -70,7 +70,7 @@ pub(crate) struct Remaking<'a> {
     pub(crate) edit: &'a Edit,
     /// The traits and the hints of the lines after it.
     pub(crate) traits: &'a [Traits],
-    pub(crate) hints: &'a [usize],
+    pub(crate) hints: &'a [u16],
     /// What it does to the names of a line, by the line's hint.
     pub(crate) moves: &'a [Moved],
     /// The layouts before and after it.
@@ -133,7 +133,7 @@ impl<'a> Remaking<'a> {
         requires place { place < length (lines_then self.now) }
         ensures { (line : Reading) → result ≡ true → slice_get (lines_then self.now) place ≡ Some line → agree_on (values_of self.now.old.now.names) (values_of self.now.new.now.names) line ≡ true }
     {
-        !self.traits[place].has_names || matches!(self.moves[self.hints[place]], Moved::No)
+        !self.traits[place].has_names || matches!(self.moves[self.hints[place] as usize], Moved::No)
     }
 
     /// Whether each name of the line at a place has one value, or none, under both layouts. The names need a search only where the line
@@ -146,7 +146,7 @@ impl<'a> Remaking<'a> {
         if self.is_unmoved(place) {
             return true;
         }
-        let hint = self.hints[place];
+        let hint = self.hints[place] as usize;
         match self.moves[hint] {
             Moved::Yes => false,
             _ => {
@@ -197,7 +197,7 @@ impl<'a> Remaking<'a> {
         if wanted {
             let names = Hinted {
                 table: &self.new.names,
-                index: self.hints[place].saturating_sub(1),
+                index: self.hints[place].saturating_sub(1) as usize,
             };
             let line = line_after(self.lines, self.edit, place);
             let code = encode(alloc, meter, line, &names)?;

@@ -52,15 +52,10 @@ impl Shift {
     pub(crate) fn placement(self, placement: &Placement) -> Placement
         ensures { result ≡ moved_placement self placement.now }
     {
-        Placement {
-            value: placement.value,
-            number: self.number(placement.number),
-            here: self.address(placement.here),
-            size: placement.size,
-            fault: placement.fault,
-            live: placement.live,
-            is_if: placement.is_if,
-        }
+        let mut moved = *placement;
+        moved.number = self.number(placement.number);
+        moved.here = self.address(placement.here);
+        moved
     }
 
     /// What the name of an address means at a line that moves.

@@ -1,5 +1,5 @@
 -- Where the name that a line uses stands in the table of names (own).
-use Rattle.std.specs.Prelude.{ℕ, ◌+◌, List, [], ◌∷◌, map, if◌then◌else◌, nat_eq}
+use Rattle.std.specs.Prelude.{ℕ, ◌+◌, ◌^◌, List, [], ◌∷◌, map, if◌then◌else◌, nat_eq, nat_lt}
 use Rattle.std.specs.Str.{bytes_eq}
 use Rattle.chip_lang.specs.Line.{Reading}
 use Rattle.chip_lang.specs.Uses.{names_used}
@@ -21,5 +21,9 @@ number_of_one names [] = 0
 number_of_one names (name ∷ []) = number_of names name
 number_of_one names (name ∷ other ∷ others) = 0
 
+-- a number of 16 bits; 0 in the place of a greater one
+abbrev pub as_hint : ℕ → ℕ
+as_hint number = if nat_lt number (2 ^ 16) then number else 0
+
 unfoldable pub hint_in : List Name → Reading → ℕ
-hint_in names line = number_of_one names (names_used line)
+hint_in names line = as_hint (number_of_one names (names_used line))
