@@ -10,7 +10,8 @@ use Rattle.chip_asm.specs.declared.placement.Placement.{Placement}
 use Rattle.chip_asm.specs.declared.table.Symbol.{Symbol}
 use Rattle.chip_asm.specs.Names.{Name}
 use Rattle.chip_asm.specs.inner.Bare.{is_bare, IsBare, fault_of_bare}
-use Rattle.chip_asm.specs.Layout.{Placed, place, placed, body_of, is_live, first_fault, fault_of_value, full_size, own_size, symbols, is_aligning, address, value_at, value_or_zero, is_if_body, is_redefinition, is_side_or_end, symbol_given, value_given}
+use Rattle.chip_asm.specs.Layout.{Placed, body_of, full_size, own_size, value_at, value_or_zero, is_if_body, is_redefinition, is_side_or_end, symbol_given, value_given}
+use Rattle.chip_asm.specs.computed.Walk.{place, placed, is_live, first_fault, fault_of_value, symbols, is_aligning, address}
 use Rattle.chip_asm.specs.inner.Follows.{Follows, placement_of}
 use Rattle.chip_asm.specs.inner.Placements.{is_placed}
 use Rattle.chip_asm.specs.inner.Recode.{has_code}

@@ -8,7 +8,8 @@ use Rattle.chip_lang.specs.declared.line.Body.{Body as Line_body}
 use Rattle.chip_lang.specs.declared.line.Body.TheVariants.{Else, Endif}
 use Rattle.chip_lang.specs.SeenLine.{seen_body}
 use Rattle.chip_asm.specs.declared.block.Block.{Block}
-use Rattle.chip_asm.specs.Layout.{Placed, is_live, has_ended, enclosing, is_side_or_end}
+use Rattle.chip_asm.specs.Layout.{Placed, has_ended, is_side_or_end}
+use Rattle.chip_asm.specs.computed.Walk.{is_live, enclosing}
 use Rattle.chip_asm.specs.declared.pass.Pass.{Pass}
 use Rattle.chip_asm.specs.inner.Follows.{Follows, block_of}
 use Rattle.chip_asm.specs.inner.Turns.{turned, turn_first}

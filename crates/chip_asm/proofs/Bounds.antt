@@ -5,7 +5,8 @@ use Rattle.std.proofs.lemmas.Bool.{ltb-false}
 use Rattle.chip_lang.specs.declared.limits.TheConstants.{IMAGE_START, MEMORY_BYTES}
 use Rattle.chip_lang.specs.declared.fault.Fault.{Fault}
 use Rattle.chip_lang.specs.Line.{Body, org, Reading, bad, read}
-use Rattle.chip_asm.specs.Layout.{Placed, place, placed, body_of, is_live, first_fault, full_size, symbols, is_aligning, address, value_at, value_or_zero, takes_effect, is_org_body, fault_of_value, is_backwards, is_past_end, is_negative_space, is_misplaced, is_redefinition}
+use Rattle.chip_asm.specs.Layout.{Placed, body_of, full_size, value_at, value_or_zero, takes_effect, is_org_body, is_backwards, is_past_end, is_negative_space, is_redefinition}
+use Rattle.chip_asm.specs.computed.Walk.{place, placed, is_live, first_fault, symbols, is_aligning, address, fault_of_value, is_misplaced}
 use Rattle.chip_asm.proofs.BlockSteps.{reverse-cons}
 use Rattle.chip_asm.proofs.NextLine.{none_from}
 use Rattle.chip_asm.proofs.PlaceSteps.{address-cons}

@@ -11,7 +11,7 @@ use Rattle.chip_asm.specs.Changes.{ChangesWithin}
 use Rattle.chip_asm.specs.declared.kept_line.KeptLine.{KeptLine}
 use Rattle.chip_asm.specs.declared.placement.Placement.{Placement}
 use Rattle.chip_asm.specs.inner.KeptCodes.{kept_bytes}
-use Rattle.chip_asm.specs.Layout.{placed, address}
+use Rattle.chip_asm.specs.computed.Walk.{placed, address}
 use Rattle.chip_asm.specs.Program.{faults_of_lines, byte_at, bytes_of_lines, unless_faulty, image_of_lines}
 use Rattle.chip_asm.specs.inner.Records.{reading_in, readings_in}
 use Rattle.chip_asm.proofs.Bounds.{end-high}

@@ -12,7 +12,7 @@ use Rattle.std.proofs.lemmas.Option.{slice_get-map}
 use Rattle.chip_lang.specs.Line.{Reading}
 use Rattle.chip_lang.specs.Uses.{names_used, has_same_value, agree_on}
 use Rattle.chip_lang.specs.Value.{value_of_name}
-use Rattle.chip_asm.specs.Layout.{symbols, placed}
+use Rattle.chip_asm.specs.computed.Walk.{symbols, placed}
 use Rattle.chip_asm.specs.Names.{Name, lookup_name, values_of}
 use Rattle.chip_asm.specs.Program.{names_of_lines}
 use Rattle.chip_asm.specs.declared.kept_line.KeptLine.{KeptLine}

@@ -15,7 +15,8 @@ use Rattle.chip_asm.specs.declared.kept_line.KeptLine.{KeptLine}
 use Rattle.chip_asm.specs.declared.layout.Layout.{Layout}
 use Rattle.chip_asm.specs.declared.placement.Placement.{Placement}
 use Rattle.chip_asm.specs.Names.{values_of}
-use Rattle.chip_asm.specs.Layout.{Placed, placed, place, body_of, symbols, is_if, is_if_body, takes_effect}
+use Rattle.chip_asm.specs.Layout.{Placed, body_of, is_if, is_if_body, takes_effect}
+use Rattle.chip_asm.specs.computed.Walk.{placed, place, symbols}
 use Rattle.chip_asm.specs.inner.Layouts.{IsLayoutOf, placements_of, final_placement}
 use Rattle.chip_asm.specs.inner.Placements.{is_placed}
 use Rattle.chip_asm.specs.Program.{fault_of, fault_of_line, first_pass_fault, code_under, fault_in_code, bytes_in_code, names_of_lines}

@@ -14,7 +14,8 @@ use Rattle.chip_lang.specs.Line.{Reading}
 use Rattle.chip_asm.specs.declared.kept_line.KeptLine.{KeptLine}
 use Rattle.chip_asm.specs.declared.layout.Layout.{Layout}
 use Rattle.chip_asm.specs.declared.placement.Placement.{Placement}
-use Rattle.chip_asm.specs.Layout.{Placed, placed, address}
+use Rattle.chip_asm.specs.Layout.{Placed}
+use Rattle.chip_asm.specs.computed.Walk.{placed, address}
 use Rattle.chip_asm.specs.inner.Layouts.{IsLayoutOf, placements_of, final_placement}
 use Rattle.chip_asm.specs.Program.{fault_of_line, faults_of_lines, numbered_fault, code_under, bytes_in_code, covers, byte_at, bytes_of_lines, unless_faulty, image_of_lines}
 use Rattle.chip_asm.specs.inner.Records.{reading_in, readings_in}

@@ -20,7 +20,8 @@ use Rattle.chip_asm.specs.inner.Placements.{is_placed}
 use Rattle.chip_asm.specs.inner.Effect.{HasSameEffect, HasSameEffectAt}
 use Rattle.chip_asm.specs.inner.Kept.{AreCurrent, HasCodeAt, IsKept}
 use Rattle.chip_asm.specs.inner.KeptCodes.{kept_fault, kept_bytes, count_of}
-use Rattle.chip_asm.specs.Layout.{Placed, placed, body_of}
+use Rattle.chip_asm.specs.Layout.{Placed, body_of}
+use Rattle.chip_asm.specs.computed.Walk.{placed}
 use Rattle.chip_asm.specs.inner.Layouts.{IsLayoutOf, placements_of}
 use Rattle.chip_asm.specs.Program.{names_of_lines, faults_of_lines, fault_of, byte_at, bytes_in_code, code_under, covers}
 use Rattle.chip_asm.specs.inner.Recode.{has_code, is_placed_at, is_encoded_again, code_among}

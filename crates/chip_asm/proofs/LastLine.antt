@@ -8,7 +8,8 @@ use Rattle.std.proofs.lemmas.List.{take-append-le, take_all, take-append-drop, l
 use Rattle.std.proofs.lemmas.List.Sorted.{IsPermutation-reverse, sum_by-IsPermutation, list_any-IsPermutation}
 use Rattle.std.proofs.lemmas.List.Sums.{sum_by-cons, sum_by_push, take_while-cons}
 use Rattle.std.proofs.lemmas.Option.{get_or_from_slice_get, slice_get_read, slice_get_within, slice_get-map}
-use Rattle.chip_asm.specs.Layout.{Placed, is_if, is_endif, with_between, closes_no_more, encloses, enclosing, first_of}
+use Rattle.chip_asm.specs.Layout.{Placed, is_if, is_endif, first_of}
+use Rattle.chip_asm.specs.computed.Walk.{with_between, closes_no_more, encloses, enclosing}
 use Rattle.chip_asm.specs.Places.{Passes, IsLast, Encloses, sizes}
 use Rattle.chip_asm.proofs.BlockSteps.{reverse-cons}
 

@@ -3,7 +3,7 @@ use Rattle.std.proofs.Common.{◌≡◌, ℕ, ◌+◌, ◌<◌, List, [], ◌∷
 use Rattle.std.proofs.lemmas.List.{map-append, take_more}
 use Rattle.std.proofs.lemmas.Option.{get_or_from_slice_get}
 use Rattle.chip_lang.specs.Line.{Reading}
-use Rattle.chip_asm.specs.Layout.{placed, place}
+use Rattle.chip_asm.specs.computed.Walk.{placed, place}
 use Rattle.chip_asm.specs.inner.Layouts.{first_placements}
 use Rattle.chip_asm.specs.inner.Follows.{placement_of}
 use Rattle.chip_asm.proofs.BlockSteps.{reverse-cons}

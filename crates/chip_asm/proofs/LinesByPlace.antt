@@ -8,7 +8,8 @@ use Rattle.chip_lang.specs.Line.{Reading, bad}
 use Rattle.chip_asm.specs.declared.kept_line.KeptLine.{KeptLine}
 use Rattle.chip_asm.specs.declared.layout.Layout.{Layout}
 use Rattle.chip_asm.specs.declared.placement.Placement.{Placement}
-use Rattle.chip_asm.specs.Layout.{Placed, place, placed, address}
+use Rattle.chip_asm.specs.Layout.{Placed}
+use Rattle.chip_asm.specs.computed.Walk.{place, placed, address}
 use Rattle.chip_asm.specs.inner.Kept.{AreCurrent}
 use Rattle.chip_asm.specs.inner.KeptCodes.{kept_bytes}
 use Rattle.chip_asm.specs.inner.Layouts.{IsLayoutOf, placements_of, final_placement}

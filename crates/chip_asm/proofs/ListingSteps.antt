@@ -9,7 +9,8 @@ use Rattle.chip_lang.specs.Show.{hex_byte}
 use Rattle.chip_lang.specs.Line.{Body}
 use Rattle.chip_asm.specs.declared.kept_line.KeptLine.{KeptLine}
 use Rattle.chip_asm.specs.declared.placement.Placement.{Placement}
-use Rattle.chip_asm.specs.Layout.{Placed, placed, body_of}
+use Rattle.chip_asm.specs.Layout.{Placed, body_of}
+use Rattle.chip_asm.specs.computed.Walk.{placed}
 use Rattle.chip_asm.specs.Listing.{bytes_shown, field_shown, more_shown, shown, line_shown, lines_shown}
 use Rattle.chip_asm.specs.Program.{fault_of, code_under, bytes_in_code}
 use Rattle.chip_asm.specs.inner.Records.{reading_in, readings_in, texts_in}

@@ -7,7 +7,8 @@ use Rattle.chip_lang.specs.declared.fault.Fault.TheVariants.{UnclosedIf}
 use Rattle.chip_lang.specs.Line.{Reading}
 use Rattle.chip_asm.specs.declared.block.Block.{Block}
 use Rattle.chip_asm.specs.declared.placement.Placement.{Placement}
-use Rattle.chip_asm.specs.Layout.{Placed, placed, has_ended, enclosing}
+use Rattle.chip_asm.specs.Layout.{Placed, has_ended}
+use Rattle.chip_asm.specs.computed.Walk.{placed, enclosing}
 use Rattle.chip_asm.specs.Program.{is_unclosed}
 use Rattle.chip_asm.specs.inner.Follows.{block_of, placement_of}
 use Rattle.chip_asm.specs.inner.Layouts.{first_placements, placements_of, final_placement}

@@ -13,7 +13,8 @@ use Rattle.chip_asm.specs.declared.kept_line.KeptLine.{KeptLine}
 use Rattle.chip_asm.specs.declared.layout.Layout.{Layout}
 use Rattle.chip_asm.specs.declared.placement.Placement.{Placement}
 use Rattle.chip_asm.specs.declared.span.Span.{Span}
-use Rattle.chip_asm.specs.Layout.{body_of, placed}
+use Rattle.chip_asm.specs.Layout.{body_of}
+use Rattle.chip_asm.specs.computed.Walk.{placed}
 use Rattle.chip_asm.specs.Program.{byte_at}
 use Rattle.chip_asm.specs.inner.Kept.{AreCurrent, IsMerged}
 use Rattle.chip_asm.specs.inner.KeptCodes.{kept_bytes, coded_bytes}

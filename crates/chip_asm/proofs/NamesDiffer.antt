@@ -11,7 +11,8 @@ use Rattle.chip_lang.specs.Line.{Reading, bad, read}
 use Rattle.chip_lang.specs.Uses.{name_defined}
 use Rattle.chip_asm.specs.declared.table.Symbol.{Symbol}
 use Rattle.chip_asm.specs.Names.{Name, lookup_name}
-use Rattle.chip_asm.specs.Layout.{Placed, place, placed, body_of, is_live, first_fault, symbols, symbol_of, symbol_given, value_given, takes_effect, is_redefinition, is_misplaced}
+use Rattle.chip_asm.specs.Layout.{Placed, body_of, symbol_of, symbol_given, value_given, takes_effect, is_redefinition}
+use Rattle.chip_asm.specs.computed.Walk.{place, placed, is_live, first_fault, symbols, is_misplaced}
 use Rattle.chip_asm.proofs.Bounds.{no_fault}
 use Rattle.chip_asm.proofs.NextLine.{none_from}
 use Rattle.chip_asm.proofs.PlaceSteps.{symbols-cons}

@@ -9,7 +9,8 @@ use Rattle.std.proofs.lemmas.Option.{slice_get-map}
 use Rattle.chip_lang.specs.Line.{Reading}
 use Rattle.chip_lang.specs.Uses.{agree_on}
 use Rattle.chip_asm.specs.Names.{values_of}
-use Rattle.chip_asm.specs.Layout.{Placed, placed, place}
+use Rattle.chip_asm.specs.Layout.{Placed}
+use Rattle.chip_asm.specs.computed.Walk.{placed, place}
 use Rattle.chip_asm.specs.inner.Layouts.{placements_of, final_placement}
 use Rattle.chip_asm.specs.inner.Placements.{is_placed}
 use Rattle.chip_asm.specs.Program.{names_of_lines}

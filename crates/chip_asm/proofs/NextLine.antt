@@ -6,7 +6,8 @@ use Rattle.chip_lang.specs.Line.{Body, Reading}
 use Rattle.chip_asm.specs.declared.block.Block.{Block}
 use Rattle.chip_asm.specs.declared.pass.Pass.{Pass}
 use Rattle.chip_asm.specs.declared.placement.Placement.{Placement}
-use Rattle.chip_asm.specs.Layout.{Placed, is_if_body, place, placed, body_of, is_live, first_fault, full_size, symbols, is_aligning, address, value_at, value_or_zero, is_end_body, fault_of_value, condition_of, symbol_given, enclosing}
+use Rattle.chip_asm.specs.Layout.{Placed, is_if_body, body_of, full_size, value_at, value_or_zero, is_end_body, condition_of, symbol_given}
+use Rattle.chip_asm.specs.computed.Walk.{place, placed, is_live, first_fault, symbols, is_aligning, address, fault_of_value, enclosing}
 use Rattle.chip_asm.specs.inner.Follows.{Follows, block_of, placement_of, next_address, next_aligning}
 use Rattle.chip_asm.specs.inner.Placements.{is_placed}
 use Rattle.chip_asm.specs.inner.Turns.{moved}

@@ -13,7 +13,8 @@ use Rattle.chip_asm.specs.declared.kept_line.KeptLine.{KeptLine}
 use Rattle.chip_asm.specs.declared.layout.Layout.{Layout}
 use Rattle.chip_asm.specs.declared.placement.Placement.{Placement}
 use Rattle.chip_asm.specs.declared.span.Span.{Span}
-use Rattle.chip_asm.specs.Layout.{Placed, body_of, placed}
+use Rattle.chip_asm.specs.Layout.{Placed, body_of}
+use Rattle.chip_asm.specs.computed.Walk.{placed}
 use Rattle.chip_asm.specs.Program.{fault_of, faults_of_lines, numbered_fault}
 use Rattle.chip_asm.specs.inner.Kept.{AreCurrent, IsMerged}
 use Rattle.chip_asm.specs.inner.KeptCodes.{coded_fault, kept_fault}

@@ -1,7 +1,8 @@
 -- The open blocks have falling numbers, so an ELSE turns one block alone.
 use Rattle.std.proofs.Common.{◌≡◌, ℕ, ◌+◌, ◌<◌, ◌≤◌, Bool, true, false, cond, ◌&&◌, ◌||◌, eqb, List, [], ◌∷◌, map, length, refl, ap, sym, subst, ◌∙◌, arith, Some, option_map, ne_eqb, eq-eqb}
 use Rattle.chip_lang.specs.Line.{Body, else_line, endif, ifdef, ifund}
-use Rattle.chip_asm.specs.Layout.{Placed, is_if, is_else, is_endif, is_else_body, is_if_body, is_endif_body, body_of, enclosing, has_else, is_number, first_of}
+use Rattle.chip_asm.specs.Layout.{Placed, is_if, is_else, is_endif, is_else_body, is_if_body, is_endif_body, body_of, has_else, is_number, first_of}
+use Rattle.chip_asm.specs.computed.Walk.{enclosing}
 use Rattle.chip_asm.specs.inner.Follows.{block_of}
 use Rattle.chip_asm.specs.inner.Turns.{moved, turned, turn_first, close_first}
 use Rattle.chip_asm.proofs.OpenBlocks.{open_blocks, rest_of, enclosing-open}

@@ -4,7 +4,8 @@ use Rattle.std.proofs.lemmas.Bool.Decides.{nat_tests}
 use Rattle.std.proofs.lemmas.List.Sums.{sum_by-cons}
 use Rattle.std.proofs.lemmas.Bool.{and_parts}
 use Rattle.chip_lang.specs.Line.{Body, endif}
-use Rattle.chip_asm.specs.Layout.{Placed, body_of, is_if_body, is_endif_body, is_if, is_endif, with_between, closes_no_more, enclosing}
+use Rattle.chip_asm.specs.Layout.{Placed, body_of, is_if_body, is_endif_body, is_if, is_endif}
+use Rattle.chip_asm.specs.computed.Walk.{with_between, closes_no_more, enclosing}
 
 -- the rest of a list after its first element
 abbrev pub rest_of : {X : Type 0} → List X → List X

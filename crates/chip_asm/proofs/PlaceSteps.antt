@@ -7,7 +7,8 @@ use Rattle.std.proofs.lemmas.List.Elements.{filter_map-append}
 use Rattle.chip_lang.specs.Line.{Body, align}
 use Rattle.chip_asm.specs.Names.{Name}
 use Rattle.chip_asm.specs.declared.table.Symbol.{Symbol}
-use Rattle.chip_asm.specs.Layout.{Placed, is_end_body, body_of, takes_effect, is_origin, is_align, is_align_body, is_align_off_body, address, is_aligning, has_ended, symbols, symbol_of}
+use Rattle.chip_asm.specs.Layout.{Placed, is_end_body, body_of, takes_effect, is_origin, is_align, is_align_body, is_align_off_body, has_ended, symbol_of}
+use Rattle.chip_asm.specs.computed.Walk.{address, is_aligning, symbols}
 use Rattle.chip_asm.specs.inner.Follows.{next_aligning}
 use Rattle.chip_asm.proofs.BlockSteps.{reverse-cons}
 

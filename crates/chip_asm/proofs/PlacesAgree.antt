@@ -11,7 +11,8 @@ use Rattle.chip_lang.specs.declared.limits.TheConstants.{IMAGE_START}
 use Rattle.chip_lang.specs.declared.fault.Fault.{Fault}
 use Rattle.chip_lang.specs.declared.fault.Fault.TheVariants.{DefinedTwice, StrayBranch, OutOfRange, OrgBelowHere, PastMemory}
 use Rattle.chip_lang.specs.Line.{Body, else_line, endif, Reading, bad, read}
-use Rattle.chip_asm.specs.Layout.{Placed, place, placed, body_of, is_side_or_end, is_origin, is_align, is_align_off_body, is_aligning, address, symbols, enclosing, first_of, has_else, has_ended, holds, is_live, is_misplaced, is_redefinition, is_negative_space, is_backwards, is_past_end, value_at, value_or_zero, first_fault, fault_of_value, full_size}
+use Rattle.chip_asm.specs.Layout.{Placed, body_of, is_side_or_end, is_origin, is_align, is_align_off_body, first_of, has_else, has_ended, holds, is_redefinition, is_negative_space, is_backwards, is_past_end, value_at, value_or_zero, full_size}
+use Rattle.chip_asm.specs.computed.Walk.{place, placed, is_aligning, address, symbols, enclosing, is_live, is_misplaced, first_fault, fault_of_value}
 use Rattle.chip_asm.specs.Places.{Passes, IsLast, IsFromLast, Encloses, IsLive, sizes, fault_if, fault_in_value, is_stray, faults_in_order, first_fault_of, IsPlaced, ArePlaced}
 use Rattle.chip_asm.proofs.BlockSteps.{reverse-cons}
 use Rattle.chip_asm.proofs.LastLine.{at-end, one-side, same-there, Search, found, nowhere, search-last, Opener, opener, closed, last-opener, all-enclosing, enclosing-all, any-turned}

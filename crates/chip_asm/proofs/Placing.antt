@@ -1,7 +1,8 @@
 -- Lists of lines, and what is placed of them.
 use Rattle.std.proofs.Common.{◌≡◌, ◌+◌, List, [], ◌∷◌, ◌++◌, length, fold, refl, ap, arith, option_map}
 use Rattle.chip_lang.specs.Line.{Reading}
-use Rattle.chip_asm.specs.Layout.{Placed, place, placed, first_of}
+use Rattle.chip_asm.specs.Layout.{Placed, first_of}
+use Rattle.chip_asm.specs.computed.Walk.{place, placed}
 use Rattle.chip_asm.proofs.OpenBlocks.{enclosing-open}
 use Rattle.chip_asm.proofs.Numbers.{IsNumbered}
 

@@ -11,7 +11,8 @@ use Rattle.chip_asm.specs.Names.{Name}
 use Rattle.chip_asm.specs.declared.table.Symbol.{Symbol}
 use Rattle.chip_asm.specs.inner.Effect.{is_plain, is_plain_line, is_idle, TakesSameSpace, AreAlike, HasSameEffect}
 use Rattle.chip_asm.specs.inner.Follows.{next_aligning}
-use Rattle.chip_asm.specs.Layout.{Placed, place, body_of, is_if_body, is_else_body, is_endif_body, is_end_body, is_org_body, is_if, is_else, is_endif, takes_effect, is_origin, symbol_of, value_given, condition_of, value_at, value_or_zero, full_size, first_fault, fault_of_value, is_redefinition, is_misplaced, is_live, has_ended, enclosing, has_else, holds, first_of, symbols, address, is_aligning}
+use Rattle.chip_asm.specs.Layout.{Placed, body_of, is_if_body, is_else_body, is_endif_body, is_end_body, is_org_body, is_if, is_else, is_endif, takes_effect, is_origin, symbol_of, value_given, condition_of, value_at, value_or_zero, full_size, is_redefinition, has_ended, has_else, holds, first_of}
+use Rattle.chip_asm.specs.computed.Walk.{place, first_fault, fault_of_value, is_misplaced, is_live, enclosing, symbols, address, is_aligning}
 use Rattle.chip_asm.proofs.OpenBlocks.{open_blocks, enclosing-open}
 use Rattle.chip_asm.proofs.PlaceSteps.{address-cons, aligning-cons, has_ended-cons, symbols-cons}
 

@@ -13,7 +13,8 @@ use Rattle.chip_asm.specs.declared.layout.Layout.{Layout}
 use Rattle.chip_asm.specs.declared.placement.Placement.{Placement}
 use Rattle.chip_asm.specs.declared.table.Symbol.{Symbol}
 use Rattle.chip_asm.specs.declared.traits.Traits.{Traits}
-use Rattle.chip_asm.specs.Layout.{Placed, place, placed, body_of, is_if, is_if_body, is_end_body, is_align_body, is_endif, takes_effect, address, is_aligning, has_ended, enclosing, symbols, symbol_of, symbol_given, value_given}
+use Rattle.chip_asm.specs.Layout.{Placed, body_of, is_if, is_if_body, is_end_body, is_align_body, is_endif, takes_effect, has_ended, symbol_of, symbol_given, value_given}
+use Rattle.chip_asm.specs.computed.Walk.{place, placed, address, is_aligning, enclosing, symbols}
 use Rattle.chip_asm.specs.Program.{names_of_lines}
 use Rattle.chip_asm.specs.inner.Follows.{placement_of, next_aligning}
 use Rattle.chip_asm.specs.inner.Layouts.{IsLayoutOf, first_placements, final_placement, placements_of}
@@ -279,14 +280,14 @@ pub record Known (layout : Layout) (lines : List Reading) (n : ℕ) (here : ℕ)
   pub ended : has_ended (placed (take n lines)) ≡ false
   pub open_blocks : enclosing (placed (take n lines)) ≡ []
 
-pub known : (layout : Layout) (lines : List Reading) (n here : ℕ) (k : Continues layout lines n) → here ≡ Rattle.chip_asm.specs.Layout.address (placed (take n k.earlier))
+pub known : (layout : Layout) (lines : List Reading) (n here : ℕ) (k : Continues layout lines n) → here ≡ Rattle.chip_asm.specs.computed.Walk.address (placed (take n k.earlier))
     → All (λ line. is_steady (body_of line) ≡ true) (take n lines) → Known layout lines n here
 known layout lines n here k at steady =
     let s : AreSteady (placed (take n lines)) = steady-placed (take n lines) steady in
     let t : AreSteady (placed (take n k.earlier)) = subst (λ (ls : List Reading). AreSteady (placed ls)) (sym k.same) s in
     record {
       placements = ap (take n) k.laid_out.placements ∙ placements-before k.earlier n k.long t ∙ ap first_placements k.same;
-      address = at ∙ ap (λ ls. Rattle.chip_asm.specs.Layout.address (placed ls)) k.same;
+      address = at ∙ ap (λ ls. Rattle.chip_asm.specs.computed.Walk.address (placed ls)) k.same;
       names = ap (names_up_to n) k.laid_out.names ∙ names-before k.earlier n k.long ∙ ap (λ ls. symbols (placed ls)) k.same;
       aligning = still-aligning (placed (take n lines)) s;
       ended = not-ended (placed (take n lines)) s;

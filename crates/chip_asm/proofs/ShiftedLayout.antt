@@ -20,7 +20,8 @@ use Rattle.chip_asm.specs.declared.placement.Placement.{Placement}
 use Rattle.chip_asm.specs.declared.shift.Shift.{Shift}
 use Rattle.chip_asm.specs.declared.table.Symbol.{Symbol}
 use Rattle.chip_asm.specs.declared.traits.Traits.{Traits}
-use Rattle.chip_asm.specs.Layout.{Placed, place, placed, body_of, is_if, has_ended, enclosing, symbols, symbol_of, takes_effect, address}
+use Rattle.chip_asm.specs.Layout.{Placed, body_of, is_if, has_ended, symbol_of, takes_effect}
+use Rattle.chip_asm.specs.computed.Walk.{place, placed, enclosing, symbols, address}
 use Rattle.chip_asm.specs.Names.{Name}
 use Rattle.chip_asm.specs.Program.{names_of_lines}
 use Rattle.chip_asm.specs.inner.Effect.{is_plain, is_plain_line}

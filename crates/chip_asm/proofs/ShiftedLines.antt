@@ -18,7 +18,8 @@ use Rattle.chip_asm.specs.inner.Effect.{is_plain, is_plain_line}
 use Rattle.chip_asm.specs.inner.Follows.{placement_of}
 use Rattle.chip_asm.specs.inner.Placements.{is_placed}
 use Rattle.chip_asm.specs.inner.Shift.{moved_number, moved_address, moved_placement, moved_name}
-use Rattle.chip_asm.specs.Layout.{Placed, place, body_of, own_size, full_size, first_fault, is_redefinition, is_live, has_ended, enclosing, first_of, symbols, symbol_of, symbol_given, value_given, address, is_aligning, takes_effect, value_or_zero}
+use Rattle.chip_asm.specs.Layout.{Placed, body_of, own_size, full_size, is_redefinition, has_ended, first_of, symbol_of, symbol_given, value_given, takes_effect, value_or_zero}
+use Rattle.chip_asm.specs.computed.Walk.{place, first_fault, is_live, enclosing, symbols, address, is_aligning}
 use Rattle.chip_asm.proofs.BlockSteps.{reverse-cons}
 use Rattle.chip_asm.proofs.Bounds.{no_fault, passes}
 use Rattle.chip_asm.proofs.OpenBlocks.{enclosing-open}

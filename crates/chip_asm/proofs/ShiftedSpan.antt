@@ -18,7 +18,8 @@ use Rattle.chip_asm.specs.declared.shift.Shift.{Shift}
 use Rattle.chip_asm.specs.declared.span.Span.{Span}
 use Rattle.chip_asm.specs.declared.table.Symbol.{Symbol}
 use Rattle.chip_asm.specs.declared.traits.Traits.{Traits}
-use Rattle.chip_asm.specs.Layout.{body_of, placed, symbols, symbol_of}
+use Rattle.chip_asm.specs.Layout.{body_of, symbol_of}
+use Rattle.chip_asm.specs.computed.Walk.{placed, symbols}
 use Rattle.chip_asm.specs.Names.{Name}
 use Rattle.chip_asm.specs.inner.Effect.{is_plain_line}
 use Rattle.chip_asm.specs.inner.Follows.{placement_of}

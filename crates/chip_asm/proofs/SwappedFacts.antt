@@ -8,7 +8,8 @@ use Rattle.chip_lang.specs.declared.fault.Fault.{Fault}
 use Rattle.chip_lang.specs.Line.{Reading}
 use Rattle.chip_asm.specs.declared.placement.Placement.{Placement}
 use Rattle.chip_asm.specs.inner.KeptCodes.{count_of}
-use Rattle.chip_asm.specs.Layout.{Placed, placed, address, symbols}
+use Rattle.chip_asm.specs.Layout.{Placed}
+use Rattle.chip_asm.specs.computed.Walk.{placed, address, symbols}
 use Rattle.chip_asm.specs.inner.Layouts.{placements_of, final_placement}
 use Rattle.chip_asm.specs.Program.{names_of_lines, code_under, bytes_in_code, fault_of, numbered_fault, faults_of_lines, covers, byte_at}
 use Rattle.chip_asm.proofs.BlockSteps.{reverse-cons}

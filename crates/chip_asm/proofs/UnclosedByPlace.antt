@@ -5,7 +5,8 @@ use Rattle.std.proofs.lemmas.Bool.{and_parts}
 use Rattle.std.proofs.lemmas.List.{length-take-le}
 use Rattle.std.proofs.lemmas.Option.{slice_get_within}
 use Rattle.chip_lang.specs.Line.{Reading}
-use Rattle.chip_asm.specs.Layout.{Placed, placed, is_if, enclosing, has_ended}
+use Rattle.chip_asm.specs.Layout.{Placed, is_if, has_ended}
+use Rattle.chip_asm.specs.computed.Walk.{placed, enclosing}
 use Rattle.chip_asm.specs.Places.{Encloses, ArePlaced, IsUnclosed}
 use Rattle.chip_asm.specs.Program.{is_unclosed}
 use Rattle.chip_asm.proofs.LastLine.{same-there, Enclosing, one_encloses, any-enclosing, enclosing-any}

@@ -3,7 +3,7 @@ use Rattle.std.proofs.Common.{◌≡◌, ℕ, List, map, refl, ap, subst, ◌∙
 use Rattle.chip_lang.specs.Line.{Reading, reading_of}
 use Rattle.chip_asm.specs.declared.kept_line.KeptLine.{KeptLine}
 use Rattle.chip_asm.specs.Program.{fault_of_line, fault_at, image_of_lines, image_of, names_of_lines, symbols_of, faults_of_lines, faults_of}
-use Rattle.chip_asm.specs.Layout.{placed}
+use Rattle.chip_asm.specs.computed.Walk.{placed}
 use Rattle.chip_asm.specs.Listing.{lines_shown, listing_of}
 use Rattle.chip_asm.specs.Changes.{ChangesWithin}
 use Rattle.chip_asm.specs.inner.Records.{readings_in, texts_in}

@@ -13,7 +13,7 @@ use Rattle.chip_asm.specs.inner.KeptCodes.{coded_bytes, coded_fault, kept_bytes}
 use Rattle.chip_asm.specs.inner.Layouts.{IsLayoutOf}
 use Rattle.chip_asm.specs.inner.Records.{readings_in}
 use Rattle.chip_asm.specs.inner.Writing.{covers_byte, Waits, WaitsForCode, AreRight}
-use Rattle.chip_asm.specs.Layout.{placed}
+use Rattle.chip_asm.specs.computed.Walk.{placed}
 use Rattle.chip_asm.specs.Program.{byte_at}
 use Rattle.chip_asm.proofs.LinesByPlace.{IsLineAt, byte-line}
 

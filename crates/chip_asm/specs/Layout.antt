@@ -1,6 +1,5 @@
--- Where each line of a source stands, what is wrong with it, and which names it gives (Chipper manual; own where it is silent).
--- The lines before a line are listed from the nearest one back. What holds of a line follows from it and from what holds of the
--- lines before it.
+-- Words for what holds of a line of a source: what it says, what it gives, how much it takes, what can be wrong with it (Chipper
+-- manual; own where it is silent). What holds of which line says Places.
 use Rattle.std.specs.Prelude.{ℕ, ◌+◌, ◌*◌, ◌%◌, ℤ, pos, unsigned_abs, int_lt, Bool, true, false, not, ◌&&◌, ◌||◌, List, [], ◌∷◌, reverse, map, length, Option, Some, None, is_some, is_none, Result, Ok, Err, if◌then◌else◌, nat_eq, nat_lt, nat_le, ◌==◌, fold, sum_by, count_by, filter, find, take_while, filter_map, option_map}
 use Rattle.std.specs.List.{list_any, list_all}
 use Rattle.std.specs.Option.{option_map_or}
@@ -89,30 +88,7 @@ symbol_given number here value line =
 abbrev pub symbol_of : Placed → Option (Name × Symbol)
 symbol_of p = if takes_effect p then symbol_given p.number p.here p.value p.line else None
 
--- the names given by the lines so far, in line order
-unfoldable pub symbols : List Placed → List (Name × Symbol)
-symbols before = filter_map symbol_of (reverse before)
-
 -- blocks
-
--- the earlier lines, each with the lines between
-abbrev pub with_between : List Placed → List (List Placed × Placed)
-with_between [] = []
-with_between (p ∷ before) = ([], p) ∷ map (λ s. (p ∷ s.0, s.1)) (with_between before)
-
--- in no run of these lines from the first on are there more ENDIF lines than IF lines
-abbrev pub closes_no_more : List Placed → Bool
-closes_no_more [] = true
-closes_no_more (p ∷ earlier) =
-    nat_le (count_by is_endif (p ∷ earlier)) (count_by is_if (p ∷ earlier)) && closes_no_more earlier
-
--- an IF line encloses what follows while no run of lines after it closes more than it opens
-abbrev pub encloses : List Placed × Placed → Bool
-encloses s = is_if s.1 && closes_no_more s.0
-
--- the IF lines that enclose the next line, the last one first
-unfoldable pub enclosing : List Placed → List Placed
-enclosing before = map (λ s. s.1) (filter encloses (with_between before))
 
 abbrev pub first_of : {X : Type 0} → List X → Option X
 first_of [] = None
@@ -143,21 +119,8 @@ has_ended before = list_any (λ p. p.live && is_end_body (body_of p.line)) befor
 abbrev pub is_side_or_end : Body → Bool
 is_side_or_end body = is_else_body body || is_endif_body body
 
-unfoldable pub is_live : List Placed → Body → Bool
-is_live before body =
-    not (has_ended before)
-    && (if is_side_or_end body
-    then option_map_or (λ opener. opener.live) (first_of (enclosing before)) true
-    else list_all (holds before) (enclosing before))
-
 abbrev pub is_origin : Placed → Bool
 is_origin p = takes_effect p && is_org_body (body_of p.line)
-
--- the value of the last ORG that takes effect, or where the image stands, and the sizes since
-unfoldable pub address : List Placed → ℕ
-address before =
-    option_map_or (λ p. unsigned_abs p.value) (find is_origin before) IMAGE_START
-    + sum_by (λ p. p.size) (take_while (λ p. not (is_origin p)) before)
 
 abbrev pub is_align_body : Body → Bool
 is_align_body (align on) = true
@@ -169,10 +132,6 @@ is_align p = takes_effect p && is_align_body (body_of p.line)
 abbrev pub is_align_off_body : Body → Bool
 is_align_off_body (align on) = not on
 is_align_off_body _ = false
-
--- the last ALIGN that takes effect is not OFF
-unfoldable pub is_aligning : List Placed → Bool
-is_aligning before = option_map_or (λ p. not (is_align_off_body (body_of p.line))) (find is_align before) true
 
 -- the value of the expression of an EQU, ORG or DS line; 0 for another line
 unfoldable pub value_at : List (Name × Symbol) → Body → Result ℤ Fault
@@ -204,13 +163,7 @@ padding aligning here body value =
 abbrev pub full_size : Bool → ℕ → Body → ℤ → ℕ
 full_size aligning here body value = own_size body value + padding aligning here body value
 
--- faults of the first pass, in the order in which they are looked for
-
--- an ELSE or ENDIF that no IF encloses, or an ELSE after another one of its IF
-abbrev pub is_misplaced : List Placed → Body → Bool
-is_misplaced before else_line = option_map_or (has_else before) (first_of (enclosing before)) true
-is_misplaced before endif = is_none (first_of (enclosing before))
-is_misplaced before _ = false
+-- what can be wrong with a name or a value
 
 abbrev pub is_redefinition : List (Name × Symbol) → Option Name → Bool
 is_redefinition names None = false
@@ -228,44 +181,6 @@ abbrev pub is_past_end : Bool → ℕ → Body → ℤ → Bool
 is_past_end aligning here (org e) value = int_lt (pos MEMORY_BYTES) value
 is_past_end aligning here body value = nat_lt MEMORY_BYTES (here + full_size aligning here body value)
 
-unfoldable pub fault_of_value : Bool → ℕ → Body → Result ℤ Fault → Option Fault
-fault_of_value aligning here body (Err fault) = Some fault
-fault_of_value aligning here body (Ok value) =
-    if is_negative_space body value then Some OutOfRange
-    else (if is_backwards here body value then Some OrgBelowHere
-    else (if is_past_end aligning here body value then Some PastMemory else None))
-
--- the first fault of a live line, but for an IF without ENDIF
-unfoldable pub first_fault : List Placed → Reading → Option Fault
-first_fault before (bad fault) = Some fault
-first_fault before (read label body) =
-    if is_misplaced before body then Some StrayBranch
-    else (if is_redefinition (symbols before) label then Some DefinedTwice
-    else fault_of_value (is_aligning before) (address before) body (value_at (symbols before) body))
-
 abbrev pub value_or_zero : Result ℤ Fault → ℤ
 value_or_zero (Ok value) = value
 value_or_zero (Err fault) = pos 0
-
--- what holds of a line that follows these
-unfoldable pub place : List Placed → Reading → Placed
-place before line =
-    let body = body_of line in
-    let live = is_live before body in
-    let number_value = value_or_zero (value_at (symbols before) body) in
-    let fault = if live then first_fault before line else None in
-    record {
-      number = length before + 1;
-      line = line;
-      block = option_map (λ opener. opener.number) (first_of (enclosing before));
-      condition = condition_of (symbols before) body;
-      live = live;
-      here = address before;
-      value = number_value;
-      fault = fault;
-      size = if live && is_none fault then full_size (is_aligning before) (address before) body number_value else 0;
-    }
-
--- what holds of each line, the last one first
-unfoldable pub placed : List Reading → List Placed
-placed lines = fold (λ before line. place before line ∷ before) [] lines

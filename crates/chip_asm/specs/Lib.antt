@@ -9,6 +9,7 @@
 --     Work         which lines an edit makes encode anew
 --     Changes      which places of the image an edit changes
 --     Sources      what contracts see of a source
+--     computed     functions that find what Places states as a relation; laws say that the two agree
 --     inner        what the functions inside say of what they keep; no public clause cites it, and a reader may skip it
 pub mod Changes
 pub mod Edits
@@ -20,4 +21,5 @@ pub mod Places
 pub mod Program
 pub mod Sources
 pub mod Work
+pub mod computed
 pub mod inner

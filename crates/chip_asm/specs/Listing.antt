@@ -6,7 +6,8 @@ use Rattle.chip_lang.specs.declared.fault.Fault.{Fault}
 use Rattle.chip_lang.specs.FaultNumber.{number_of_fault}
 use Rattle.chip_lang.specs.Show.{hex_byte, hex_word}
 use Rattle.chip_lang.specs.Line.{Body, equ, define, reading_of}
-use Rattle.chip_asm.specs.Layout.{Placed, placed, body_of, value_given}
+use Rattle.chip_asm.specs.Layout.{Placed, body_of, value_given}
+use Rattle.chip_asm.specs.computed.Walk.{placed}
 use Rattle.chip_asm.specs.Program.{fault_of, code_under, bytes_in_code}
 
 -- a text at the right of so many places, and at the left

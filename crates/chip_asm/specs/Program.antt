@@ -9,7 +9,8 @@ use Rattle.chip_lang.specs.Line.{Reading, reading_of}
 use Rattle.chip_lang.specs.Code.{own_bytes}
 use Rattle.chip_asm.specs.declared.table.Symbol.{Symbol}
 use Rattle.chip_asm.specs.Names.{Name, values_of}
-use Rattle.chip_asm.specs.Layout.{Placed, placed, symbols, is_if, enclosing, has_ended, address, body_of}
+use Rattle.chip_asm.specs.Layout.{Placed, is_if, has_ended, body_of}
+use Rattle.chip_asm.specs.computed.Walk.{placed, symbols, enclosing, address}
 
 -- the table of names of some lines
 abbrev pub names_of_lines : List Reading → List (Name × Symbol)

@@ -1,6 +1,7 @@
 //! The image, and the faults of lines, from what is kept.
 ghost use Rattle.std.specs.Prelude.{◌≡◌, ℕ, ◌+◌, ◌-◌, ◌<◌, ◌≤◌, ◌&&◌, nat_le, nat_lt, length, slice_index, if◌then◌else◌, option_map, IfOk, OnOk, ◌++◌, ◌∷◌, [], option_to_list, map, vec_len};
-ghost use Rattle.chip_asm.specs.Layout.{body_of, placed};
+ghost use Rattle.chip_asm.specs.Layout.{body_of};
+ghost use Rattle.chip_asm.specs.computed.Walk.{placed};
 ghost use Rattle.chip_asm.specs.inner.Layouts.{IsLayoutOf};
 ghost use Rattle.chip_asm.specs.Program.{faults_of_lines, byte_at, fault_of_line};
 ghost use Rattle.chip_asm.specs.inner.Recode.{has_code};

@@ -3,7 +3,8 @@ ghost use Rattle.std.specs.Prelude.{ℕ, ◌≡◌, ◌≤◌, List, length, map
 ghost use Rattle.std.specs.List.{IsDistinct};
 ghost use Rattle.std.specs.Str.{bytes_eq};
 ghost use Rattle.chip_lang.specs.Line.{Reading, reading_of};
-ghost use Rattle.chip_asm.specs.Layout.{Placed, placed};
+ghost use Rattle.chip_asm.specs.Layout.{Placed};
+ghost use Rattle.chip_asm.specs.computed.Walk.{placed};
 ghost use Rattle.chip_asm.specs.Names.{Name};
 ghost use Rattle.chip_asm.specs.Places.{ArePlaced, IsUnclosed};
 ghost use Rattle.chip_asm.specs.Program.{symbols_of, covers, is_unclosed};

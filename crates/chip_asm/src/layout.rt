@@ -2,7 +2,8 @@
 ghost use Rattle.std.specs.Prelude.{◌≡◌, ℕ, ◌+◌, ◌<◌, ◌≤◌, true, false, List, All, [], ◌∷◌, ◌++◌, IfOk, IfSome, OnOk, Some, length, map, nat_eq, slice_get, slice_index_or, drop, take, vec_len};
 ghost use Rattle.chip_lang.specs.declared.limits.TheConstants.{MEMORY_BYTES};
 ghost use Rattle.chip_lang.specs.Line.{Reading};
-ghost use Rattle.chip_asm.specs.Layout.{address, body_of, placed, place as place_next};
+ghost use Rattle.chip_asm.specs.Layout.{body_of};
+ghost use Rattle.chip_asm.specs.computed.Walk.{address, placed, place as place_next};
 ghost use Rattle.chip_asm.specs.inner.Layouts.{first_placements};
 ghost use Rattle.chip_asm.specs.inner.Resume.{Continues, first_changed as first_changed_by};
 ghost use Rattle.chip_asm.specs.inner.Follows.{Follows, placement_of};
@@ -193,7 +194,7 @@ impl Layout {
     }
 
     /// The layout of no lines.
-    #[tactic(auto, unfolding(crate::specs::Layout::placed, crate::specs::Layout::address, crate::specs::Layout::symbols, crate::specs::inner::Layouts::placements_of))]
+    #[tactic(auto, unfolding(crate::specs::computed::Walk::placed, crate::specs::computed::Walk::address, crate::specs::computed::Walk::symbols, crate::specs::inner::Layouts::placements_of))]
     pub(crate) fn new(alloc: Global) -> Self
         ensures { IsLayoutOf result [] }
     {

@@ -3,7 +3,8 @@ ghost use Rattle.std.specs.Prelude.{◌≡◌, ◌+◌, ◌-◌, ◌≤◌, ◌+
 ghost use Rattle.chip_lang.specs.SeenLine.{seen_line};
 ghost use Rattle.std.specs.Fmt.{decimal, signed_decimal};
 ghost use Rattle.chip_lang.specs.Show.{hex_byte, hex_word, hex_digit};
-ghost use Rattle.chip_asm.specs.Layout.{placed, value_given, body_of};
+ghost use Rattle.chip_asm.specs.Layout.{value_given, body_of};
+ghost use Rattle.chip_asm.specs.computed.Walk.{placed};
 ghost use Rattle.chip_asm.specs.inner.Layouts.{IsLayoutOf};
 ghost use Rattle.chip_asm.specs.Listing.{at_right, at_left, address_shown, bytes_shown, field_shown, more_shown, is_definition, shown, lines_shown};
 ghost use Rattle.chip_asm.specs.inner.Records.{reading_in, readings_in, texts_in};

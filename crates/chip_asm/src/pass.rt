@@ -3,7 +3,8 @@ ghost use Rattle.std.specs.Prelude.{◌≡◌, ℕ, ◌+◌, ◌-◌, ◌≤◌,
 ghost use Rattle.std.specs.List.{list_all};
 ghost use Rattle.chip_asm.specs.inner.Bare.{IsBare, fault_of_bare};
 ghost use Rattle.chip_asm.specs.Names.{Name};
-ghost use Rattle.chip_asm.specs.Layout.{value_at, own_size, is_padded, full_size, is_negative_space, is_backwards, is_past_end, fault_of_value, is_redefinition, is_if_body, body_of, value_or_zero, condition_of, is_org_body, is_end_body, symbol_given};
+ghost use Rattle.chip_asm.specs.Layout.{value_at, own_size, is_padded, full_size, is_negative_space, is_backwards, is_past_end, is_redefinition, is_if_body, body_of, value_or_zero, condition_of, is_org_body, is_end_body, symbol_given};
+ghost use Rattle.chip_asm.specs.computed.Walk.{fault_of_value};
 ghost use Rattle.chip_lang.specs.SeenLine.{seen_line, seen_body};
 ghost use Rattle.chip_lang.specs.Line.{Reading, empty as empty_body};
 ghost use Rattle.chip_lang.specs.Uses.{name_defined};
@@ -86,7 +87,8 @@ pub(crate) fn is_data(body: &Body) -> bool
 }
 
 impl Pass {
-    ghost use Rattle.chip_asm.specs.Layout.{Placed, address, is_aligning, has_ended, enclosing, is_live, is_misplaced, first_fault, symbols, place, placed};
+    ghost use Rattle.chip_asm.specs.Layout.{Placed, has_ended};
+    ghost use Rattle.chip_asm.specs.computed.Walk.{address, is_aligning, enclosing, is_live, is_misplaced, first_fault, symbols, place, placed};
     ghost use Rattle.chip_asm.specs.inner.Placements.{is_placed};
     ghost use Rattle.chip_asm.specs.inner.Follows.{Follows, placement_of, next_address, next_aligning};
 
@@ -105,7 +107,7 @@ impl Pass {
         }
     }
 
-    #[tactic(auto, unfolding(crate::specs::Layout::is_live))]
+    #[tactic(auto, unfolding(crate::specs::computed::Walk::is_live))]
     fn is_live(&self, body: &Body) -> bool
         ensures { (before : List Placed) → Follows self.now before → result ≡ is_live before (seen_body body.now) }
     {
@@ -185,7 +187,7 @@ impl Pass {
         }
     }
 
-    #[tactic(auto, unfolding(crate::specs::Layout::fault_of_value))]
+    #[tactic(auto, unfolding(crate::specs::computed::Walk::fault_of_value))]
     fn fault_of_value(&self, body: &Body, value: Result<i32, Fault>) -> Option<Fault>
         ensures { result ≡ fault_of_value self.now.aligning self.now.here (seen_body body.now) value }
     {
@@ -206,7 +208,7 @@ impl Pass {
     }
 
     /// The first fault of a live line, but for an IF without ENDIF.
-    #[tactic(auto, unfolding(crate::specs::Layout::first_fault))]
+    #[tactic(auto, unfolding(crate::specs::computed::Walk::first_fault))]
     fn first_fault(&self, line: &Line, value: Result<i32, Fault>) -> Option<Fault>
         ensures fault { (before : List Placed) → Follows self.now before → value ≡ value_at (symbols before) (body_of (seen_line line.now))
             → result ≡ first_fault before (seen_line line.now) }
@@ -242,7 +244,7 @@ impl Pass {
     }
 
     /// The size of the line, where it is accepted.
-    #[tactic(auto, unfolding(crate::specs::Layout::fault_of_value))]
+    #[tactic(auto, unfolding(crate::specs::computed::Walk::fault_of_value))]
     fn size_of(&self, accepted: bool, body: &Body, value: i32) -> usize
         requires { accepted ≡ true → fault_of_value self.now.aligning self.now.here (seen_body body.now) (Ok value) ≡ None }
         ensures bound { result ≤ MEMORY_BYTES }
@@ -488,7 +490,7 @@ impl Pass {
     }
 
     /// Moves past a line of this size.
-    #[tactic(auto, unfolding(crate::specs::Layout::fault_of_value))]
+    #[tactic(auto, unfolding(crate::specs::computed::Walk::fault_of_value))]
     fn advance(&mut self, body: &Body, live: bool, accepted: bool, value: i32, size: usize)
         requires fits { accepted ≡ true → fault_of_value self.old.aligning self.old.here (seen_body body.now) (Ok value) ≡ None }
         requires size { size ≡ (if accepted then full_size self.old.aligning self.old.here (seen_body body.now) value else 0) }

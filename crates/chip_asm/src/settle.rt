@@ -9,7 +9,7 @@ ghost use Rattle.chip_asm.specs.inner.Kept.{AreCurrent, IsMerged};
 ghost use Rattle.chip_asm.specs.inner.Stood.{StoodBefore, AreOwn, MakesCurrent};
 ghost use Rattle.chip_asm.specs.inner.Layouts.{IsLayoutOf};
 ghost use Rattle.chip_asm.specs.inner.Traits.{traits_of};
-ghost use Rattle.chip_asm.specs.Layout.{placed};
+ghost use Rattle.chip_asm.specs.computed.Walk.{placed};
 ghost use Rattle.chip_asm.specs.Program.{byte_at, faults_of_lines};
 ghost use Rattle.chip_lang.specs.declared.code.Coded.{Coded};
 

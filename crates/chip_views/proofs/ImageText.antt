@@ -20,7 +20,8 @@ use Rattle.chip_lang.specs.Show.{show_of, hex_word, hex_byte}
 use Rattle.chip_lang.specs.Examples.{none}
 use Rattle.chip_asm.specs.Lines.{is_long, fault_of_lines, open_fault}
 use Rattle.chip_asm.specs.Names.{values_of}
-use Rattle.chip_asm.specs.Layout.{Placed, place, placed, is_align_body}
+use Rattle.chip_asm.specs.Layout.{Placed, is_align_body}
+use Rattle.chip_asm.specs.computed.Walk.{place, placed}
 use Rattle.chip_asm.specs.Program.{image_of}
 use Rattle.chip_views.specs.Dis.{is_visible, is_plain, is_word, gives_word, word_text, lines_of_image, source_of_image}
 use Rattle.chip_views.proofs.DataLines.{good, word_line, byte_line}

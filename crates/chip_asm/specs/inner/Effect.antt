@@ -2,7 +2,8 @@
 use Rattle.std.specs.Prelude.{◌≡◌, ℕ, pos, Bool, true, false, List, reverse, slice_get, Some}
 use Rattle.chip_lang.specs.Line.{Body, empty, equ, org, ds, db, dw, da, code, ifdef, ifund, else_line, endif, options, used, xref, Reading, bad, read}
 use Rattle.chip_lang.specs.Uses.{name_defined}
-use Rattle.chip_asm.specs.Layout.{Placed, placed, body_of, own_size, is_padded}
+use Rattle.chip_asm.specs.Layout.{Placed, body_of, own_size, is_padded}
+use Rattle.chip_asm.specs.computed.Walk.{placed}
 
 -- all that the first pass asks of the statement is its size
 abbrev pub is_plain : Body → Bool

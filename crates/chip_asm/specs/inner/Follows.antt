@@ -2,7 +2,8 @@
 use Rattle.std.specs.Prelude.{◌≡◌, ℕ, ◌+◌, ℤ, Bool, not, ◌&&◌, List, reverse, map, if◌then◌else◌, unsigned_abs}
 use Rattle.std.specs.List.{list_all}
 use Rattle.chip_lang.specs.Line.{Body, align}
-use Rattle.chip_asm.specs.Layout.{Placed, is_if, address, is_aligning, has_ended, enclosing, holds, has_else, symbols, is_org_body}
+use Rattle.chip_asm.specs.Layout.{Placed, is_if, has_ended, holds, has_else, is_org_body}
+use Rattle.chip_asm.specs.computed.Walk.{address, is_aligning, enclosing, symbols}
 use Rattle.chip_asm.specs.declared.block.Block.{Block}
 use Rattle.chip_asm.specs.declared.placement.Placement.{Placement}
 use Rattle.chip_asm.specs.declared.pass.Pass.{Pass}

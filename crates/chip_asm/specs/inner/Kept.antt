@@ -6,7 +6,8 @@ use Rattle.chip_lang.specs.declared.code.Coded.{Coded}
 use Rattle.chip_lang.specs.Line.{Reading, reading_of}
 use Rattle.chip_asm.specs.declared.kept_line.KeptLine.{KeptLine}
 use Rattle.chip_asm.specs.declared.kept.Kept.{Kept}
-use Rattle.chip_asm.specs.Layout.{body_of, placed}
+use Rattle.chip_asm.specs.Layout.{body_of}
+use Rattle.chip_asm.specs.computed.Walk.{placed}
 use Rattle.chip_asm.specs.inner.Layouts.{IsLayoutOf, placements_of}
 use Rattle.chip_asm.specs.Program.{faults_of_lines, byte_at}
 use Rattle.chip_asm.specs.inner.Records.{reading_in, readings_in, texts_in}

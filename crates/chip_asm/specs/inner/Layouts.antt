@@ -1,7 +1,8 @@
 -- The layout of a list of lines (own).
 use Rattle.std.specs.Prelude.{◌≡◌, List, map, reverse}
 use Rattle.chip_lang.specs.Line.{Reading}
-use Rattle.chip_asm.specs.Layout.{Placed, placed, address}
+use Rattle.chip_asm.specs.Layout.{Placed}
+use Rattle.chip_asm.specs.computed.Walk.{placed, address}
 use Rattle.chip_asm.specs.Program.{names_of_lines, first_pass_fault}
 use Rattle.chip_asm.specs.inner.Follows.{placement_of}
 use Rattle.chip_asm.specs.declared.placement.Placement.{Placement}

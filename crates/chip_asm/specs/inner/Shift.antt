@@ -17,7 +17,8 @@ use Rattle.chip_asm.specs.inner.Follows.{Follows}
 use Rattle.chip_asm.specs.inner.Layouts.{first_placements}
 use Rattle.chip_asm.specs.inner.Placements.{is_placed}
 use Rattle.chip_asm.specs.inner.Traits.{is_steady}
-use Rattle.chip_asm.specs.Layout.{body_of, placed, address}
+use Rattle.chip_asm.specs.Layout.{body_of}
+use Rattle.chip_asm.specs.computed.Walk.{placed, address}
 use Rattle.chip_asm.specs.Names.{Name}
 
 abbrev pub moved_number : Shift → ℕ → ℕ

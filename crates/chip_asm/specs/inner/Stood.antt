@@ -5,7 +5,8 @@ use Rattle.chip_lang.specs.declared.limits.TheConstants.{IMAGE_BYTES, IMAGE_STAR
 use Rattle.chip_asm.specs.declared.kept_line.KeptLine.{KeptLine}
 use Rattle.chip_asm.specs.declared.layout.Layout.{Layout}
 use Rattle.chip_asm.specs.declared.span.Span.{Span}
-use Rattle.chip_asm.specs.Layout.{body_of, placed}
+use Rattle.chip_asm.specs.Layout.{body_of}
+use Rattle.chip_asm.specs.computed.Walk.{placed}
 use Rattle.chip_asm.specs.Program.{byte_at, faults_of_lines}
 use Rattle.chip_asm.specs.inner.Kept.{AreCurrent, IsMerged}
 use Rattle.chip_asm.specs.inner.Layouts.{IsLayoutOf}

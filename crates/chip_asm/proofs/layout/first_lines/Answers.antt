@@ -1,5 +1,5 @@
 use Rattle.std.proofs.Common.{◌∙◌, ◌++◌, arith, ap, take}
-use Rattle.chip_asm.specs.Layout.{placed}
+use Rattle.chip_asm.specs.computed.Walk.{placed}
 use Rattle.chip_asm.proofs.Bounds.{end-high}
 use Rattle.chip_asm.proofs.Resumed.{Known, known}
 use Rattle.chip_asm.proofs.layout.first_lines.Goals as goal

@@ -5,7 +5,7 @@ use Rattle.chip_asm.specs.declared.placement.Placement.{Placement}
 use Rattle.chip_asm.specs.inner.KeptCodes.{kept_fault}
 use Rattle.chip_asm.specs.inner.Records.{readings_in}
 use Rattle.chip_asm.specs.inner.Writing.{Waits}
-use Rattle.chip_asm.specs.Layout.{placed}
+use Rattle.chip_asm.specs.computed.Walk.{placed}
 use Rattle.chip_asm.specs.Program.{byte_at}
 use Rattle.chip_asm.proofs.settle.write_lines_anew.Given as goal
 

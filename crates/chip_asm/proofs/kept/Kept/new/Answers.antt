@@ -1,6 +1,6 @@
 use Rattle.std.proofs.Common.{◌≡◌, ℕ, ◌+◌, ap, arith, refl, length, get_or, []}
 use Rattle.chip_lang.specs.declared.limits.TheConstants.{IMAGE_START}
-use Rattle.chip_asm.specs.Layout.{placed}
+use Rattle.chip_asm.specs.computed.Walk.{placed}
 use Rattle.chip_asm.specs.Program.{faults_of_lines, byte_at}
 use Rattle.chip_asm.proofs.kept.Kept.new.Goals as goal
 

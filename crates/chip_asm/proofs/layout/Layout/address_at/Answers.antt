@@ -1,6 +1,6 @@
 use Rattle.std.proofs.Common.{◌∙◌, ◌<◌, arith, ap, sym, length, get_or}
 use Rattle.std.proofs.lemmas.List.{take_all}
-use Rattle.chip_asm.specs.Layout.{address, placed}
+use Rattle.chip_asm.specs.computed.Walk.{address, placed}
 use Rattle.chip_asm.proofs.Resumed.{address-before, length-laid}
 use Rattle.chip_asm.proofs.layout.Layout.address_at.Goals as goal
 

@@ -1,5 +1,5 @@
 use Rattle.std.proofs.Common.{◌≡◌, ◌∙◌, ◌+◌, ◌-◌, sym, ap, arith, refl, length, take}
-use Rattle.chip_asm.specs.Layout.{address, placed}
+use Rattle.chip_asm.specs.computed.Walk.{address, placed}
 use Rattle.chip_asm.specs.inner.Records.{readings_in}
 use Rattle.chip_asm.specs.inner.Shift.{old_place}
 use Rattle.chip_asm.proofs.ShiftedLayout.{bounded, no-keep}

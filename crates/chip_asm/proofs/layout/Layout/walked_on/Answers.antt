@@ -3,7 +3,7 @@ use Rattle.std.proofs.lemmas.List.{take_all}
 use Rattle.chip_lang.specs.Line.{Reading}
 use Rattle.chip_asm.specs.inner.Records.{lines_after, readings_in}
 use Rattle.chip_asm.specs.inner.Shift.{IsWalked}
-use Rattle.chip_asm.specs.Layout.{placed}
+use Rattle.chip_asm.specs.computed.Walk.{placed}
 use Rattle.chip_asm.specs.inner.Follows.{Follows}
 use Rattle.chip_asm.proofs.Edited.{length-readings_after}
 use Rattle.chip_asm.proofs.MarkSteps.{marked-placements}

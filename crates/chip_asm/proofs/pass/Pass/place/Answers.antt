@@ -2,7 +2,8 @@ use Rattle.std.proofs.Common.{◌≡◌, ◌∙◌, true, ◌&&◌, is_none, if�
 use Rattle.std.proofs.lemmas.Int.{to_z-of_z}
 use Rattle.std.proofs.lemmas.Bool.{and_parts}
 use Rattle.chip_lang.specs.SeenLine.{seen_line}
-use Rattle.chip_asm.specs.Layout.{value_at, value_or_zero, symbols, body_of, is_if_body, is_live, full_size, is_aligning}
+use Rattle.chip_asm.specs.Layout.{value_at, value_or_zero, body_of, is_if_body, full_size}
+use Rattle.chip_asm.specs.computed.Walk.{symbols, is_live, is_aligning}
 use Rattle.chip_asm.proofs.NextLine.{placement-at, fits_at, none_from}
 use Rattle.chip_asm.proofs.pass.Pass.place.Goals as goal
 

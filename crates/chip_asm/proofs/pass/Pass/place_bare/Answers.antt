@@ -1,6 +1,6 @@
 use Rattle.std.proofs.Common.{◌≡◌, refl}
 use Rattle.chip_lang.specs.Line.{empty}
-use Rattle.chip_asm.specs.Layout.{placed, is_live}
+use Rattle.chip_asm.specs.computed.Walk.{placed, is_live}
 use Rattle.chip_asm.proofs.BareLines.{bare-placed}
 use Rattle.chip_asm.proofs.BlockSteps.{live_here}
 use Rattle.chip_asm.proofs.pass.Pass.place_bare.Goals as goal
