@@ -1,8 +1,8 @@
 //! The reading of a line.
 
-ghost use Rattle.std.specs.Prelude.{◌≡◌, ◌≤◌, ◌*◌, IfOk, length};
+ghost use Rattle.std.specs.Prelude.{◌≡◌, ◌≤◌, ◌*◌, IfOk, length, [], true};
 ghost use Rattle.std.specs.Option.{option_copied};
-ghost use Rattle.chip_lang.specs.Line.{bad_token, too_deep, front_directive, statement_of, begins_with_no_word, begins_with_unknown_word, faults_in_order, first_fault, reading_of_tokens, reading_of};
+ghost use Rattle.chip_lang.specs.Line.{bad_token, too_deep, front_directive, statement_of, begins_with_no_word, begins_with_unknown_word, faults_in_order, first_fault, lexemes_of, reading_of_tokens, reading_of};
 ghost use Rattle.chip_lang.specs.SeenLine.{seen_line};
 ghost use Rattle.chip_lang.specs.inner.SeenShape.{seen_shape};
 ghost use Rattle.chip_lang.specs.Uses.{names_used};
@@ -85,6 +85,27 @@ pub fn read_line(alloc: Global, meter: &mut Meter, text: &[u8]) -> Result<Line, 
     ensures counted { meter.new ≡ record meter.old { parsed = one_more meter.old.parsed } }
 {
     meter.parsed = meter.parsed.saturating_add(1);
+    if is_plainly_empty(text) {
+        return Ok(Line::Read {
+            label: None,
+            body: Body::Empty,
+        });
+    }
+    reading_of_text(alloc, text)
+}
+
+/// Whether a line has no tokens, as its first byte shows: many lines are of a comment alone, or of no bytes.
+fn is_plainly_empty(text: &[u8]) -> bool
+    ensures { result ≡ true → lexemes_of text.now ≡ [] }
+{
+    matches!(text, [] | [b';', ..])
+}
+
+/// The reading of a line with tokens, or of any other.
+#[inline(never)]
+fn reading_of_text(alloc: Global, text: &[u8]) -> Result<Line, AllocError>
+    ensures { IfOk result (λ line. seen_line line ≡ reading_of_tokens (lexemes_of text.now)) }
+{
     let tokens = lexemes(alloc, text)?;
     reading_of_tokens(alloc, &tokens)
 }
