@@ -6,6 +6,7 @@ pub mod Numbers
 pub mod OneForm
 pub mod OneWord
 pub mod OwnDigits
+pub mod NamedForms
 pub mod OneToken
 pub mod Pieces
 pub mod SameCode

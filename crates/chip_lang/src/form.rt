@@ -2,10 +2,11 @@
 
 ghost use Rattle.std.specs.Prelude.{◌≡◌, map, Option, ◌<◌, ◌≤◌, ◌+◌, ◌^◌, length};
 ghost use Rattle.chip_lang.specs.Operand.{operand_of};
+ghost use Rattle.chip_lang.specs.inner.NamedForms.{from_name};
 ghost use Rattle.std.specs.List.{list_any};
 ghost use Rattle.std.specs.Str.{bytes_eq};
 ghost use Rattle.chip_lang.specs.Reserved.{is_mnemonic};
-ghost use Rattle.chip_lang.specs.Table.{Row};
+ghost use Rattle.chip_lang.specs.Table.{Row, forms as all_forms};
 ghost use Rattle.chip_lang.specs.Form.{row_of_form, option_row, is_special, matches, all_match, fits, find_form, form_of};
 
 use crate::expr::Expr;
@@ -324,29 +325,41 @@ pub(crate) const FORMS: [Form; 46] = [
     },
 ];
 
-/// The form that a name and operands are, if they are one.
-pub(crate) fn find_form(name: &[u8], operands: &[Operand]) -> Option<Form>
+/// The form that a name and operands are, if they are one, where the forms of the name are known.
+#[tactic(auto, using(crate::proofs::NamedForms::form_among))]
+pub(crate) fn find_form(forms: &[Form], name: &[u8], operands: &[Operand]) -> Option<Form>
+    requires forms { map row_of_form forms.now ≡ from_name name.now all_forms }
     ensures { option_row result ≡ form_of name.now (map operand_of operands.now) }
 {
-    find_in(&FORMS, name, operands)
+    find_in(forms, name, operands)
 }
 
 /// Whether some form has this name, given in upper case.
+#[tactic(auto, using(crate::proofs::NamedForms::some_among))]
 pub(crate) fn is_mnemonic(word: &[u8]) -> bool
     ensures { result ≡ is_mnemonic word.now }
 {
-    has_name(&FORMS, word)
+    !forms_of(word).is_empty()
 }
 
-fn has_name(forms: &[Form], word: &[u8]) -> bool
-    ensures { result ≡ list_any (λ r. bytes_eq r.name word.now) (map row_of_form forms.now) }
+/// All forms from the first of a name on, given in upper case; none where no form has it.
+pub(crate) fn forms_of(name: &[u8]) -> &'static [Form]
+    ensures { map row_of_form result.now ≡ from_name name.now all_forms }
 {
-    for form in forms {
-        if form.name.as_bytes() == word {
-            return true;
+    from_first(&FORMS, name)
+}
+
+/// Some forms from the first of a name on.
+#[inline(never)]
+fn from_first<'a>(forms: &'a [Form], name: &[u8]) -> &'a [Form]
+    ensures { map row_of_form result.now ≡ from_name name.now (map row_of_form forms.now) }
+{
+    for (index, form) in forms.iter().enumerate() {
+        if form.name.as_bytes() == name {
+            return &forms[index..];
         }
     }
-    false
+    &[]
 }
 
 fn find_in(forms: &[Form], name: &[u8], operands: &[Operand]) -> Option<Form>

@@ -1,9 +1,11 @@
 //! The reading of a line.
 
-ghost use Rattle.std.specs.Prelude.{◌≡◌, ◌≤◌, ◌*◌, IfOk, length, [], true};
+ghost use Rattle.std.specs.Prelude.{◌≡◌, ◌≤◌, ◌*◌, IfOk, length, map, [], true, false};
 ghost use Rattle.std.specs.Option.{option_copied};
 ghost use Rattle.chip_lang.specs.Line.{bad_token, too_deep, front_directive, statement_of, begins_with_no_word, begins_with_unknown_word, faults_in_order, first_fault, lexemes_of, reading_of_tokens, reading_of};
+ghost use Rattle.chip_lang.specs.Form.{row_of_form};
 ghost use Rattle.chip_lang.specs.SeenLine.{seen_line};
+ghost use Rattle.chip_lang.specs.inner.NamedForms.{front_forms};
 ghost use Rattle.chip_lang.specs.inner.SeenShape.{seen_shape};
 ghost use Rattle.chip_lang.specs.Uses.{names_used};
 ghost use Rattle.chip_lang.specs.Meter.{one_more};
@@ -12,7 +14,7 @@ use crate::bytes::Bytes;
 use crate::directive::Directive;
 use crate::expr::Expr;
 use crate::fault::Fault;
-use crate::form::{Form, Operand, is_mnemonic};
+use crate::form::{Form, Operand, forms_of};
 use crate::lexeme::{Lexeme, is_sign_of, lexemes};
 use crate::limits::OPEN_PARENTHESES;
 use crate::meter::Meter;
@@ -116,10 +118,11 @@ fn reading_of_tokens(alloc: Global, tokens: &[Lexeme]) -> Result<Line, AllocErro
 {
     let shape = shape_of(tokens);
     let front = front_directive(&shape);
-    if let Some(fault) = first_fault(tokens, &shape, front) {
+    let forms = front_forms(front, statement_of(&shape));
+    if let Some(fault) = first_fault(tokens, &shape, front, forms) {
         return Ok(Line::Bad(fault));
     }
-    match body_of_shape(alloc, &shape, front)? {
+    match body_of_shape(alloc, &shape, front, forms)? {
         Some(body) => {
             let label = owned(alloc, first_name(&shape, front))?;
             Ok(Line::Read { label, body })
@@ -128,10 +131,26 @@ fn reading_of_tokens(alloc: Global, tokens: &[Lexeme]) -> Result<Line, AllocErro
     }
 }
 
+/// The forms of an instruction at the front of a statement; none where it begins otherwise.
+fn front_forms(front: Option<Directive>, statement: &[Lexeme]) -> &'static [Form]
+    ensures { map row_of_form result.now ≡ front_forms front statement.now }
+{
+    match (front, statement) {
+        (None, [Lexeme::Word(word), ..]) => forms_of(word.get()),
+        _ => &[],
+    }
+}
+
 /// The first fault of a reading, but for one of operands that fit nothing. `front` is the directive at
-/// the front of the statement.
-fn first_fault(tokens: &[Lexeme], shape: &Shape, front: Option<Directive>) -> Option<Fault>
+/// the front of the statement, and `forms` has those of an instruction there.
+fn first_fault(
+    tokens: &[Lexeme],
+    shape: &Shape,
+    front: Option<Directive>,
+    forms: &[Form],
+) -> Option<Fault>
     requires front { front ≡ front_directive (statement_of (seen_shape shape.now)) }
+    requires forms { map row_of_form forms.now ≡ front_forms front (statement_of (seen_shape shape.now)) }
     ensures { result ≡ first_fault (faults_in_order tokens.now (seen_shape shape.now)) }
 {
     if let Some(fault) = bad_token(tokens) {
@@ -144,7 +163,7 @@ fn first_fault(tokens: &[Lexeme], shape: &Shape, front: Option<Directive>) -> Op
     if begins_with_no_word(statement) {
         return Some(Fault::WrongOperands);
     }
-    if begins_with_unknown_word(front, statement) {
+    if begins_with_unknown_word(front, forms, statement) {
         return Some(Fault::UnknownWord);
     }
     if is_outside(front, statement) {
@@ -164,13 +183,19 @@ fn begins_with_no_word(statement: &[Lexeme]) -> bool
 }
 
 /// Whether a statement begins with a word that is no directive, of which `front` tells, nor an
-/// instruction.
-fn begins_with_unknown_word(front: Option<Directive>, statement: &[Lexeme]) -> bool
-    requires { front ≡ front_directive statement.now }
+/// instruction, whose forms there would be.
+fn begins_with_unknown_word(
+    front: Option<Directive>,
+    forms: &[Form],
+    statement: &[Lexeme],
+) -> bool
+    requires word { begins_with_no_word statement.now ≡ false }
+    requires front { front ≡ front_directive statement.now }
+    requires forms { map row_of_form forms.now ≡ front_forms front statement.now }
     ensures { result ≡ begins_with_unknown_word statement.now }
 {
-    match statement {
-        [Lexeme::Word(word), ..] => front.is_none() && !is_mnemonic(word.get()),
+    match (front, statement) {
+        (None, [Lexeme::Word(_), ..]) => forms.is_empty(),
         _ => false,
     }
 }

@@ -1,14 +1,17 @@
 //! What the statement of a line says.
 
-ghost use Rattle.std.specs.Prelude.{◌≡◌, ℕ, Bool, List, Some, None, IfOk, option_map};
+ghost use Rattle.std.specs.Prelude.{◌≡◌, ℕ, Bool, List, Some, None, IfOk, map, option_map};
 ghost use Rattle.std.specs.Option.{option_copied};
 ghost use Rattle.chip_lang.specs.Line.{one_text, one_name, one_switch, is_known_option, directive_body, takes_label, is_outside, is_skipped, instruction_body, statement_of, front_directive, statement_body, body_of_shape};
+ghost use Rattle.chip_lang.specs.Form.{row_of_form};
+ghost use Rattle.chip_lang.specs.Table.{forms as all_forms};
 ghost use Rattle.chip_lang.specs.SeenLine.{seen_statement};
+ghost use Rattle.chip_lang.specs.inner.NamedForms.{from_name, front_forms};
 ghost use Rattle.chip_lang.specs.inner.SeenShape.{seen_shape};
 
 use crate::bytes::Bytes;
 use crate::directive::Directive;
-use crate::form::find_form;
+use crate::form::{Form, find_form};
 use crate::front::free_name;
 use crate::lexeme::{Lexeme, is_the};
 use crate::line::Body;
@@ -18,18 +21,22 @@ use crate::shape::Shape;
 use std::alloc::{AllocError, Global};
 
 /// What a line says, if all that follows its first word fits. `front` is the directive at the front
-/// of its statement. Errors: memory ran out.
+/// of its statement, and `forms` has those of an instruction there. Errors: memory ran out.
 pub(crate) fn body_of_shape(
     alloc: Global,
     shape: &Shape,
     front: Option<Directive>,
+    forms: &[Form],
 ) -> Result<Option<Body>, AllocError>
     requires front { front ≡ front_directive (statement_of (seen_shape shape.now)) }
+    requires forms { map row_of_form forms.now ≡ front_forms front (statement_of (seen_shape shape.now)) }
     ensures { IfOk result (λ body. seen_statement body ≡ body_of_shape (seen_shape shape.now)) }
 {
     match shape {
         Shape::Definition { value, .. } => Ok(parse_expression(alloc, value)?.map(Body::Equ)),
-        Shape::Statement { label, tokens } => statement_body(alloc, label.is_some(), front, tokens),
+        Shape::Statement { label, tokens } => {
+            statement_body(alloc, label.is_some(), front, forms, tokens)
+        }
     }
 }
 
@@ -38,9 +45,11 @@ fn statement_body(
     alloc: Global,
     labelled: bool,
     front: Option<Directive>,
+    forms: &[Form],
     tokens: &[Lexeme],
 ) -> Result<Option<Body>, AllocError>
     requires front { front ≡ front_directive tokens.now }
+    requires forms { map row_of_form forms.now ≡ front_forms front tokens.now }
     ensures { IfOk result (λ body. seen_statement body ≡ statement_body labelled tokens.now) }
 {
     match tokens {
@@ -48,7 +57,7 @@ fn statement_body(
         [Lexeme::Word(word), operands @ ..] => match front {
             Some(directive) if labelled && !takes_label(directive) => Ok(None),
             Some(directive) => directive_body(alloc, directive, operands),
-            None => instruction_body(alloc, word.get(), operands),
+            None => instruction_body(alloc, forms, word.get(), operands),
         },
         _ => Ok(None),
     }
@@ -57,15 +66,17 @@ fn statement_body(
 /// The source form of an instruction, and its operands.
 fn instruction_body(
     alloc: Global,
+    forms: &[Form],
     name: &[u8],
     tokens: &[Lexeme],
 ) -> Result<Option<Body>, AllocError>
+    requires forms { map row_of_form forms.now ≡ from_name name.now all_forms }
     ensures { IfOk result (λ body. seen_statement body ≡ instruction_body name.now tokens.now) }
 {
     let Some(operands) = operands_of(alloc, tokens)? else {
         return Ok(None);
     };
-    match find_form(name, &operands) {
+    match find_form(forms, name, &operands) {
         Some(form) => Ok(Some(Body::Code(form, operands))),
         None => Ok(None),
     }
