@@ -67,6 +67,7 @@ impl BoxedLine {
 }
 
 /// Reads a text. It is not encoded yet.
+#[inline]
 pub(crate) fn read_kept(
     alloc: Global,
     meter: &mut Meter,

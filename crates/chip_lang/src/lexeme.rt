@@ -48,6 +48,7 @@ pub fn lexemes(alloc: Global, line: &[u8]) -> Result<Vec<Lexeme>, AllocError>
 }
 
 /// What a token of a line holds.
+#[inline(always)]
 pub(crate) fn lexeme_of(alloc: Global, line: &[u8], token: Token) -> Result<Lexeme, AllocError>
     requires rises { token.start ≤ token.end }
     requires inside { token.end ≤ length line.now }

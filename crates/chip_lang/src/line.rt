@@ -81,6 +81,7 @@ pub enum Line {
 /// Reads the text of a line, any bytes at all. Each text has one reading, which uses at most half as many names as the text has bytes.
 /// Adds 1 to `parsed`, also where memory runs out.
 #[tactic(auto, unfolding(crate::specs::Line::reading_of), using(crate::proofs::NamesBound::names_bound_of))]
+#[inline]
 pub fn read_line(alloc: Global, meter: &mut Meter, text: &[u8]) -> Result<Line, AllocError>
     ensures reading { IfOk result (λ line. seen_line line ≡ reading_of text.now) }
     ensures names { IfOk result (λ line. 2 * length (names_used (seen_line line)) ≤ length text.now) }

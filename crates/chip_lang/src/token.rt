@@ -265,6 +265,7 @@ fn token_at(first: u8, bytes: &[u8]) -> (Kind, usize)
 }
 
 /// The first token that stands at a place or after it; none where only blanks or a comment follow.
+#[inline(always)]
 pub(crate) fn token_from(line: &[u8], from: usize) -> Option<Token>
     requires { from ≤ length line.now }
     ensures rest { tokens_from from 0 (drop from line.now) ≡ with_rest line.now result }
