@@ -18,7 +18,7 @@ use Rattle.chip_lang.specs.Statement.{DecodesTo}
 use Rattle.chip_lang.specs.Keyword.{directive_of, special_of, register_of}
 use Rattle.chip_lang.specs.Line.{lexemes_of, Shape, definition, statement, shape_of, names_of, Body, org, ds, db, dw, da, equ, code, align, ifdef, ifund, define, else_line, endif, end_line, pieces, all_some, named, is_at_index, part_of_machine, or_expression, operand_of_tokens, operands_of, values_of, one_text, one_name, one_switch, nothing, directive_body, takes_label, word_body, statement_body, Reading, bad, read, reading_of, body_of_shape, fault_or_body, first_fault, faults_in_order, first_name}
 use Rattle.chip_lang.specs.Operand.{Operand, special, is_of_machine}
-use Rattle.chip_lang.specs.Parse.{expression_of}
+use Rattle.chip_lang.specs.computed.Parse.{expression_of}
 use Rattle.chip_lang.specs.Tree.{Tree}
 use Rattle.chip_lang.specs.Value.{Symbols}
 use Rattle.chip_lang.specs.Token.{is_between, digit_value}

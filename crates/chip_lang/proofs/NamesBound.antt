@@ -12,13 +12,14 @@ use Rattle.chip_lang.specs.declared.lexeme.Lexeme.{Lexeme}
 use Rattle.chip_lang.specs.declared.lexeme.Lexeme.TheVariants.{Word, Sign}
 use Rattle.chip_lang.specs.declared.token.Token.{Token}
 use Rattle.chip_lang.specs.Keyword.{directive_of, special_of, register_of}
-use Rattle.chip_lang.specs.Token.{is_blank, token_at, tokens_from, tokens_of}
+use Rattle.chip_lang.specs.Token.{is_blank, token_at}
+use Rattle.chip_lang.specs.computed.Tokens.{tokens_from, tokens_of}
 use Rattle.chip_lang.specs.Tree.{Tree}
 use Rattle.chip_lang.specs.Operand.{Operand, special}
 use Rattle.chip_lang.specs.Table.{Row}
 use Rattle.chip_lang.specs.Form.{form_of}
 use Rattle.chip_lang.specs.Grammar.{Parses, a_number, a_name, a_text, in_parentheses, with_prefix, with_operator, stronger}
-use Rattle.chip_lang.specs.Parse.{expression_of}
+use Rattle.chip_lang.specs.computed.Parse.{expression_of}
 use Rattle.chip_lang.specs.Line.{lexeme_of, lexemes_of, is_sign_of, is_equ, Shape, definition, statement, after_label, after_word, shape_of, names_of, Body, org, ds, db, dw, da, equ, align, ifdef, ifund, define, else_line, endif, end_line, pieces, all_some, named, is_at_index, part_of_machine, or_expression, operand_of_tokens, operands_of, values_of, one_text, one_name, one_switch, nothing, directive_body, takes_label, word_body, statement_body, Reading, reading_of_tokens, reading_of, body_of_shape, fault_or_body, first_fault, faults_in_order, first_name, code}
 use Rattle.chip_lang.specs.Uses.{names_in, names_in_operand, names_in_body, names_used}
 use Rattle.chip_lang.proofs.Sound.{only_expressions}

@@ -6,7 +6,7 @@ use Rattle.chip_lang.specs.declared.expr.Prefix.{Prefix}
 use Rattle.chip_lang.specs.Tree.{Tree, number, name}
 use Rattle.chip_lang.specs.Reserved.{is_reserved}
 use Rattle.chip_lang.specs.Grammar.{prefix_of}
-use Rattle.chip_lang.specs.Parse.{expression_of, one_byte, whole}
+use Rattle.chip_lang.specs.computed.Parse.{expression_of, one_byte, whole}
 
 -- a name, a number or a text of one byte
 abbrev pub atom_of : Lexeme → Option Tree

@@ -11,7 +11,7 @@ use Rattle.std.specs.declared.alloc.AllocError.{AllocError}
 use Rattle.std.specs.Result.{IfOk}
 use Rattle.chip_lang.specs.inner.Seen.{Answer, seen}
 use Rattle.chip_lang.proofs.Scan.{to_end}
-use Rattle.chip_lang.specs.Parse.{Parsed, front_prefix, front_operator, after, below, on_found, closed, prefixed, with_right, parse, further, sign_then, unless_sign, prefixes, after_prefixes, signed}
+use Rattle.chip_lang.specs.computed.Parse.{Parsed, front_prefix, front_operator, after, below, on_found, closed, prefixed, with_right, parse, further, sign_then, unless_sign, prefixes, after_prefixes, signed}
 
 -- a level: what the stronger level finds, and the operators after it
 pub level_step : (n k : ℕ) (ts rest : List Lexeme) (left : Tree) (y : Parsed) → 1 ≤ k → 9 * length ts + suc k < n → length rest < length ts →

@@ -12,7 +12,8 @@ use Rattle.chip_lang.specs.declared.fault.Fault.TheVariants.{BadCharacter}
 use Rattle.chip_lang.specs.declared.token.Kind.TheVariants.{Word, Sign, Bad}
 use Rattle.chip_lang.specs.declared.token.Kind.{Kind}
 use Rattle.chip_lang.specs.declared.token.Token.{Token}
-use Rattle.chip_lang.specs.Token.{is_blank, is_digit, is_sign, is_name_start, kind_of_digits, is_name_byte, is_run_byte, token_at, text_at, tokens_from, tokens_of}
+use Rattle.chip_lang.specs.Token.{is_blank, is_digit, is_sign, is_name_start, kind_of_digits, is_name_byte, is_run_byte, token_at, text_at}
+use Rattle.chip_lang.specs.computed.Tokens.{tokens_from, tokens_of}
 use Rattle.chip_lang.specs.Scan.{AllBlank, IsToken, IsOver, AreTokens}
 use Rattle.chip_lang.proofs.Scan.{token_step}
 

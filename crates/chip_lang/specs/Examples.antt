@@ -9,7 +9,7 @@ use Rattle.chip_lang.specs.declared.expr.Prefix.TheVariants.{Not}
 use Rattle.chip_lang.specs.declared.expr.Operator.TheVariants.{ShiftLeft, ShiftRight, Multiply, Add, Subtract, Xor, Divide}
 use Rattle.chip_lang.specs.declared.form.Pattern.TheVariants.{Vx, V0, Byte, Address, AtIndex as at_index}
 use Rattle.chip_lang.specs.declared.form.Special.TheVariants.{AtIndex}
-use Rattle.chip_lang.specs.Token.{tokens_of}
+use Rattle.chip_lang.specs.computed.Tokens.{tokens_of}
 use Rattle.chip_lang.specs.Tree.{number, name, unary, binary}
 use Rattle.chip_lang.specs.Value.{value, Symbols}
 use Rattle.chip_lang.specs.Operand.{register, special, expression}

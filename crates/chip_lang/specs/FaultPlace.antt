@@ -12,9 +12,9 @@ use Rattle.chip_lang.specs.declared.lexeme.Lexeme.TheVariants.{Word, Bad}
 use Rattle.chip_lang.specs.declared.token.Token.{Token}
 use Rattle.chip_lang.specs.Keyword.{directive_of}
 use Rattle.chip_lang.specs.Line.{Shape, definition, statement, shape_of, is_sign_of, is_bad_name, takes_label, pieces, operand_of_tokens, lexeme_of, lexemes_of}
-use Rattle.chip_lang.specs.Parse.{expression_of}
+use Rattle.chip_lang.specs.computed.Parse.{expression_of}
 use Rattle.chip_lang.specs.Reserved.{is_mnemonic, is_reserved}
-use Rattle.chip_lang.specs.Token.{tokens_of}
+use Rattle.chip_lang.specs.computed.Tokens.{tokens_of}
 
 -- ---- tokens are counted from 0
 

@@ -1,11 +1,11 @@
 -- What the language of the assembler is: a reader believes these files.
 --     Table      the table of instructions: their source forms and their words
 --     Decoding   the instruction of a word
---     Token      the tokens of a line
+--     Token      the token at a place of a line
 --     Scan       what makes a list the tokens of a line
 --     Named, Keyword, Reserved      words of the language
 --     Form       the source form of a name and operands
---     Tree, Grammar, Parse, Value   expressions, and their values
+--     Tree, Grammar, Value          expressions, and their values
 --     Show       the source text of a word
 --     Operand, Encoding             operands, and the word of a form
 --     Statement  the word of a statement, and what it decodes to
@@ -17,6 +17,8 @@
 --     FaultPlace       at which tokens a fault lies
 --     SeenLine   the values of a line without where they lie in memory
 --     Examples   worked examples
+--     computed   the tokens of a line and the expression that tokens are, found step by step; laws say that they are
+--                those of Scan and of Grammar
 --     inner      what the functions inside say; no public clause cites it, and a reader may skip it
 pub mod Code
 pub mod Decoding
@@ -31,7 +33,6 @@ pub mod Line
 pub mod Meter
 pub mod Named
 pub mod Operand
-pub mod Parse
 pub mod Reserved
 pub mod Scan
 pub mod SeenLine
@@ -42,4 +43,5 @@ pub mod Token
 pub mod Tree
 pub mod Uses
 pub mod Value
+pub mod computed
 pub mod inner

@@ -18,9 +18,10 @@ use Rattle.chip_lang.specs.declared.token.Kind.{Kind}
 use Rattle.chip_lang.specs.declared.token.Kind.TheVariants.{Word as word_kind, Number as number_kind, Text as text_kind, Sign as sign_kind, Bad as bad_kind}
 use Rattle.chip_lang.specs.declared.lexeme.Lexeme.{Lexeme}
 use Rattle.chip_lang.specs.declared.lexeme.Lexeme.TheVariants.{Word, Number, Text, Sign, Bad}
-use Rattle.chip_lang.specs.Token.{is_between, tokens_of}
+use Rattle.chip_lang.specs.Token.{is_between}
+use Rattle.chip_lang.specs.computed.Tokens.{tokens_of}
 use Rattle.chip_lang.specs.Tree.{Tree}
-use Rattle.chip_lang.specs.Parse.{expression_of}
+use Rattle.chip_lang.specs.computed.Parse.{expression_of}
 use Rattle.chip_lang.specs.Reserved.{is_reserved, is_mnemonic}
 
 -- a byte in upper case

@@ -1,8 +1,7 @@
--- The tokens of a line, as a list of the bytes that they cover (Chipper manual; own for what is no token).
+-- What stands at a place of a line: the kind and the length of the token there (Chipper manual; own for what is no token).
 use Rattle.std.specs.Prelude.{ℕ, zero, suc, ◌+◌, ◌*◌, ◌-◌, ◌==◌, ◌||◌, ◌&&◌, not, Bool, if◌then◌else◌, nat_le, nat_lt, List, [], ◌∷◌, length, fold, take, pos}
 use Rattle.std.specs.List.{list_all, prefix_len}
 use Rattle.chip_lang.specs.declared.fault.Fault.TheVariants.{BadCharacter, UnfinishedString, NumberTooLarge}
-use Rattle.chip_lang.specs.declared.token.Token.{Token}
 use Rattle.chip_lang.specs.declared.token.Kind.{Kind}
 use Rattle.chip_lang.specs.declared.token.Kind.TheVariants.{Word, Number, Text, Sign, Bad}
 
@@ -95,17 +94,3 @@ token_at b bytes =
     else (if b == 39 || b == 34 then text_at b bytes
     else (if is_sign b then (Sign b, 1)
     else (Bad BadCharacter, 1)))))))
-
--- The tokens of bytes that stand at a place, where the first skip of them belong to a token before.
-abbrev pub tokens_from : (place skip : ℕ) → List ℕ → List Token
-tokens_from place skip [] = []
-tokens_from place (suc skip) (b ∷ bytes) = tokens_from (place + 1) skip bytes
-tokens_from place zero (b ∷ bytes) =
-    if is_blank b then tokens_from (place + 1) zero bytes
-    else (if b == 59 then []
-    else (record { kind = (token_at b bytes).0; start = place; end = place + (token_at b bytes).1 }
-    ∷ tokens_from (place + 1) ((token_at b bytes).1 - 1) bytes))
-
--- the tokens of a line
-abbrev pub tokens_of : List ℕ → List Token
-tokens_of line = tokens_from 0 0 line

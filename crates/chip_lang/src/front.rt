@@ -2,7 +2,7 @@
 
 ghost use Rattle.std.specs.Prelude.{[], ◌≡◌, ◌<◌, ◌≤◌, ◌+◌, length, IfSome, IfOk, if◌then◌else◌};
 ghost use Rattle.chip_lang.specs.Grammar.{prefix_of, operator_of, level_of};
-ghost use Rattle.chip_lang.specs.Parse.{Parsed, front_prefix, front_operator, closed, one_byte, whole};
+ghost use Rattle.chip_lang.specs.computed.Parse.{Parsed, front_prefix, front_operator, closed, one_byte, whole};
 ghost use Rattle.chip_lang.specs.inner.Seen.{seen, seen_whole};
 ghost use Rattle.chip_lang.specs.Tree.{tree_of, name};
 ghost use Rattle.chip_lang.specs.Reserved.{is_reserved};

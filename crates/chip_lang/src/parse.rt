@@ -2,7 +2,7 @@
 
 ghost use Rattle.std.specs.Prelude.{[], ◌∷◌, ◌≡◌, ◌<◌, ◌≤◌, ◌+◌, ◌*◌, ℕ, length, IfOk, IfSome, IfNone, Option, Some, None, OnOk};
 ghost use Rattle.chip_lang.specs.Grammar.{IsExpression, prefix_of, operator_of, level_of};
-ghost use Rattle.chip_lang.specs.Parse.{Parsed, front_prefix, front_operator, after, expression_of, parse, further, prefixes, after_prefixes, signed};
+ghost use Rattle.chip_lang.specs.computed.Parse.{Parsed, front_prefix, front_operator, after, expression_of, parse, further, prefixes, after_prefixes, signed};
 ghost use Rattle.chip_lang.specs.inner.Seen.{seen, seen_whole};
 ghost use Rattle.chip_lang.specs.Tree.{Tree, tree_of, binary};
 ghost use Rattle.chip_lang.specs.Reserved.{is_reserved};

@@ -7,10 +7,11 @@ use Rattle.chip_lang.specs.declared.token.Token.{Token}
 use Rattle.chip_lang.specs.declared.token.Kind.{Kind}
 use Rattle.chip_lang.specs.declared.token.Kind.TheVariants.{Number, Word, Bad}
 use Rattle.chip_lang.specs.declared.fault.Fault.TheVariants.{BadCharacter, NumberTooLarge}
-use Rattle.chip_lang.specs.Token.{is_hexadecimal, is_name_byte, is_digit_of, digit_value, number_of, kind_of_number, kind_of_digits, token_at, tokens_from, tokens_of}
+use Rattle.chip_lang.specs.Token.{is_hexadecimal, is_name_byte, is_digit_of, digit_value, number_of, kind_of_number, kind_of_digits, token_at}
+use Rattle.chip_lang.specs.computed.Tokens.{tokens_from, tokens_of}
 use Rattle.chip_lang.specs.Show.{hex_digit, hex_word, hex_address, hex_byte}
 use Rattle.chip_lang.specs.Keyword.{directive_of}
-use Rattle.chip_lang.specs.Parse.{expression_of}
+use Rattle.chip_lang.specs.computed.Parse.{expression_of}
 use Rattle.chip_lang.specs.Tree.{number}
 use Rattle.chip_views.specs.Dis.{is_visible}
 use Rattle.chip_lang.specs.Line.{Reading, reading_of, reading_of_tokens, lexeme_of, read, dw, db}

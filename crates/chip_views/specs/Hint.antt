@@ -7,7 +7,7 @@ use Rattle.chip_lang.specs.declared.token.Token.{Token}
 use Rattle.chip_lang.specs.declared.token.Kind.{Kind}
 use Rattle.chip_lang.specs.declared.token.Kind.TheVariants.{Word, Number, Text, Sign}
 use Rattle.chip_lang.specs.Line.{Reading, bad, read, reading_of}
-use Rattle.chip_lang.specs.Token.{tokens_of}
+use Rattle.chip_lang.specs.computed.Tokens.{tokens_of}
 use Rattle.chip_views.specs.declared.hint.Hint.{Hint}
 use Rattle.chip_views.specs.declared.hint.Hint.TheVariants.{ByteOrderMark, NotText, Slashes, Hexadecimal, DoubledSign, LongText, Comma, Colon}
 

@@ -6,7 +6,7 @@ use Rattle.chip_lang.specs.declared.fault_place.Span.{Span}
 use Rattle.chip_lang.specs.declared.token.Token.{Token}
 use Rattle.chip_lang.specs.FaultPlace.{span_of_fault, name_of_token}
 use Rattle.chip_lang.specs.Line.{equ, org, ds, Reading, read, reading_of, upper}
-use Rattle.chip_lang.specs.Token.{tokens_of}
+use Rattle.chip_lang.specs.computed.Tokens.{tokens_of}
 use Rattle.chip_asm.specs.declared.table.Symbol.{Symbol}
 use Rattle.chip_asm.specs.Names.{Name, lookup_name}
 use Rattle.chip_asm.specs.Program.{symbols_of}

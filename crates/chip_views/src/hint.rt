@@ -4,7 +4,7 @@ ghost use Rattle.std.specs.Prelude.{◌≡◌, ◌≤◌, IfOk, length, drop};
 ghost use Rattle.chip_lang.specs.Line.{reading_of};
 ghost use Rattle.chip_lang.specs.SeenLine.{seen_line};
 ghost use Rattle.chip_lang.specs.Scan.{AreTokens};
-ghost use Rattle.chip_lang.specs.Token.{tokens_of};
+ghost use Rattle.chip_lang.specs.computed.Tokens.{tokens_of};
 ghost use Rattle.chip_views.specs.Hint.{sentence_of_hint, is_marked, is_unprintable, is_hexadecimal, is_kind_of_sign, begins_with, has_twice, is_atom, is_text, is_long_text, hint_between, hint_of_operands, is_read, hint_of_word, hint_of_operators, hint_of_character, hint_by_fault, is_of_form, hint_of};
 
 use chip_lang::{Fault, Kind, Line, Meter, Token, read_line, tokens};

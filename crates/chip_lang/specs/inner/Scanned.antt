@@ -1,7 +1,7 @@
 -- The tokens that are still to come while a line is read.
 use Rattle.std.specs.Prelude.{ℕ, List, [], ◌∷◌, Option, Some, None, drop}
 use Rattle.chip_lang.specs.declared.token.Token.{Token}
-use Rattle.chip_lang.specs.Token.{tokens_from}
+use Rattle.chip_lang.specs.computed.Tokens.{tokens_from}
 
 -- a token of a line and those after it, or none
 abbrev pub with_rest : List ℕ → Option Token → List Token

@@ -4,7 +4,7 @@ use Rattle.std.specs.Borrow.{Bor}
 use Rattle.chip_lang.specs.declared.lexeme.Lexeme.{Lexeme}
 use Rattle.chip_lang.specs.declared.expr.Expr.{Expr}
 use Rattle.chip_lang.specs.Tree.{Tree, tree_of}
-use Rattle.chip_lang.specs.Parse.{Parsed}
+use Rattle.chip_lang.specs.computed.Parse.{Parsed}
 
 -- what a function of the parser answers
 abbrev pub Answer : Type 0

@@ -1,4 +1,4 @@
-use Rattle.chip_lang.specs.Token.{tokens_of}
+use Rattle.chip_lang.specs.computed.Tokens.{tokens_of}
 use Rattle.chip_lang.proofs.TokenList.{these_tokens, each_lies_in}
 use Rattle.chip_lang.proofs.laws.tokens_lie_in_line.Goals as goal
 

@@ -1,5 +1,5 @@
 use Rattle.std.proofs.Common.{◌≡◌, ◌≤◌, ◌-◌, ◌++◌, length, drop, map}
-use Rattle.chip_lang.specs.Token.{tokens_from}
+use Rattle.chip_lang.specs.computed.Tokens.{tokens_from}
 use Rattle.chip_lang.specs.Line.{lexeme_of, lexemes_of}
 use Rattle.chip_lang.proofs.lexeme.lexemes.Given as goal
 

@@ -1,7 +1,7 @@
 use Rattle.std.proofs.Common.{◌≡◌, length, map}
 use Rattle.std.specs.Option.{option_copied}
 use Rattle.chip_lang.specs.Tree.{tree_of}
-use Rattle.chip_lang.specs.Parse.{expression_of}
+use Rattle.chip_lang.specs.computed.Parse.{expression_of}
 use Rattle.chip_lang.specs.Line.{pieces_in, all_some, values_of}
 use Rattle.chip_lang.proofs.Pieces.{after}
 use Rattle.chip_lang.proofs.operands.values_of.Given as goal

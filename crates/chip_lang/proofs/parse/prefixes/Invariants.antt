@@ -1,5 +1,5 @@
 use Rattle.std.proofs.Common.{◌≡◌, ◌++◌, ◌≤◌, length}
-use Rattle.chip_lang.specs.Parse.{prefixes, after_prefixes}
+use Rattle.chip_lang.specs.computed.Parse.{prefixes, after_prefixes}
 use Rattle.chip_lang.proofs.parse.prefixes.Given as goal
 
 abbrev pub invariant-loop-sign : goal.invariant-loop-sign

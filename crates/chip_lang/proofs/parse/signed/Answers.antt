@@ -1,6 +1,6 @@
 use Rattle.std.proofs.Common.{◌≡◌, ◌++◌, ◌∷◌, [], ◌∙◌, ap, sym, rules}
 use Rattle.chip_lang.specs.Tree.{tree_of}
-use Rattle.chip_lang.specs.Parse.{signed}
+use Rattle.chip_lang.specs.computed.Parse.{signed}
 use Rattle.chip_lang.proofs.Steps.{signed_last}
 use Rattle.chip_lang.proofs.parse.signed.Goals as goal
 

@@ -1,6 +1,6 @@
 use Rattle.std.proofs.Common.{◌≡◌, length}
 use Rattle.chip_lang.specs.Tree.{tree_of}
-use Rattle.chip_lang.specs.Parse.{signed}
+use Rattle.chip_lang.specs.computed.Parse.{signed}
 use Rattle.chip_lang.proofs.parse.signed.Given as goal
 
 abbrev pub invariant-loop-sign : goal.invariant-loop-sign

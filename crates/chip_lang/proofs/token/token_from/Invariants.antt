@@ -1,5 +1,5 @@
 use Rattle.std.proofs.Common.{◌≡◌, ◌≤◌, ◌-◌, length, drop}
-use Rattle.chip_lang.specs.Token.{tokens_from}
+use Rattle.chip_lang.specs.computed.Tokens.{tokens_from}
 use Rattle.chip_lang.proofs.token.token_from.Given as goal
 
 abbrev pub invariant-loop-place : goal.invariant-loop-place
