@@ -13,7 +13,7 @@ use Rattle.chip_asm.specs.declared.layout.Layout.{Layout}
 use Rattle.chip_asm.specs.declared.placement.Placement.{Placement}
 use Rattle.chip_asm.specs.declared.table.Symbol.{Symbol}
 use Rattle.chip_asm.specs.declared.traits.Traits.{Traits}
-use Rattle.chip_asm.specs.Layout.{Placed, body_of, is_if, is_if_body, is_end_body, is_align_body, is_endif, takes_effect, has_ended, symbol_of, symbol_given, value_given}
+use Rattle.chip_asm.specs.Layout.{Placed, body_of, is_if, is_if_body, is_end_body, is_align_body, is_endif, takes_effect, has_ended, symbol_of, value_given}
 use Rattle.chip_asm.specs.computed.Walk.{place, placed, address, is_aligning, enclosing, symbols}
 use Rattle.chip_asm.specs.Program.{names_of_lines}
 use Rattle.chip_asm.specs.inner.Follows.{placement_of, next_aligning}

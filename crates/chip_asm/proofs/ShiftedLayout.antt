@@ -1,5 +1,5 @@
 -- The layout of the lines after an edit, where those after its place only move.
-use Rattle.std.proofs.Common.{◌≡◌, ℕ, zero, suc, ◌+◌, ◌-◌, ◌<◌, ◌≤◌, nat_lt, get_or, length-drop, Bool, true, false, not, ◌&&◌, List, [], ◌∷◌, ◌++◌, map, reverse, length, take, drop, set, insert, remove, fold, filter_map, slice_get, refl, ap, sym, subst, ◌∙◌, arith, Option, Some, None, option_to_list, All}
+use Rattle.std.proofs.Common.{◌≡◌, ℕ, zero, suc, ◌+◌, ◌-◌, ◌<◌, ◌≤◌, nat_lt, get_or, length-drop, Bool, true, false, not, ◌&&◌, List, [], ◌∷◌, ◌++◌, map, reverse, length, take, drop, set, insert, remove, fold, filter_map, slice_get, refl, ap, sym, ◌∙◌, arith, Some, All}
 use Rattle.std.specs.List.{list_all}
 use Rattle.std.specs.Option.{option_map_or}
 use Rattle.std.proofs.Math.Seq.{take-append_seam, drop-append_seam, drop-nil}
@@ -10,7 +10,6 @@ use Rattle.std.proofs.lemmas.List.Elements.{filter_map-append}
 use Rattle.std.proofs.lemmas.Option.{slice_get-get_or}
 use Rattle.chip_lang.specs.declared.limits.TheConstants.{MEMORY_BYTES}
 use Rattle.chip_lang.specs.Line.{Reading}
-use Rattle.chip_lang.specs.Uses.{name_defined}
 use Rattle.chip_asm.specs.declared.edit.Edit.{Edit}
 use Rattle.chip_asm.specs.declared.edit.Edit.TheVariants.{Insert, Replace, Delete, Keep}
 use Rattle.chip_asm.specs.declared.kept_line.KeptLine.{KeptLine}
@@ -20,7 +19,7 @@ use Rattle.chip_asm.specs.declared.placement.Placement.{Placement}
 use Rattle.chip_asm.specs.declared.shift.Shift.{Shift}
 use Rattle.chip_asm.specs.declared.table.Symbol.{Symbol}
 use Rattle.chip_asm.specs.declared.traits.Traits.{Traits}
-use Rattle.chip_asm.specs.Layout.{Placed, body_of, is_if, has_ended, symbol_of, takes_effect}
+use Rattle.chip_asm.specs.Layout.{Placed, body_of, is_if, has_ended, symbol_of}
 use Rattle.chip_asm.specs.computed.Walk.{place, placed, enclosing, symbols, address}
 use Rattle.chip_asm.specs.Names.{Name}
 use Rattle.chip_asm.specs.Program.{names_of_lines}
@@ -36,9 +35,7 @@ use Rattle.chip_asm.proofs.Bounds.{end-high}
 use Rattle.chip_asm.proofs.Edited.{length-readings_after}
 use Rattle.chip_asm.proofs.NeedsSteps.{length-numbered}
 use Rattle.chip_asm.proofs.EditTexts.{map-insert, map-remove}
-use Rattle.chip_asm.proofs.LayoutSteps.{take-next}
-use Rattle.chip_asm.proofs.PlaceSteps.{symbols-cons}
-use Rattle.chip_asm.proofs.Placing.{onto, fold-append, placed-push, length-placed}
+use Rattle.chip_asm.proofs.Placing.{onto, fold-append, length-placed}
 use Rattle.chip_asm.proofs.QuietLines.{calm-idle, plain-idle, plain-body}
 use Rattle.chip_asm.proofs.HintSteps.{length-names}
 use Rattle.chip_asm.proofs.Resumed.{AreSteady, line-next, steady-placed, no-blocks, not-ended, still-aligning, final-steady, first-same, length-laid, names-before}

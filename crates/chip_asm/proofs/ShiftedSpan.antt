@@ -1,5 +1,5 @@
 -- What is known of the names and of the places of lines, where those after an edit only move.
-use Rattle.std.proofs.Common.{◌≡◌, ℕ, zero, suc, ◌+◌, ◌-◌, ◌<◌, ◌≤◌, true, false, ◌&&◌, is_none, get_or, List, [], ◌∷◌, ◌++◌, map, reverse, length, length-drop, take, drop, filter_map, slice_get, refl, ap, sym, subst, ◌∙◌, arith, Option, Some, None}
+use Rattle.std.proofs.Common.{◌≡◌, ℕ, zero, suc, ◌+◌, ◌-◌, ◌<◌, ◌≤◌, true, false, is_none, get_or, List, [], ◌∷◌, ◌++◌, map, reverse, length, length-drop, take, drop, filter_map, slice_get, refl, ap, sym, subst, ◌∙◌, arith, Option, Some, None}
 use Rattle.std.specs.Global.{Vec}
 use Rattle.std.specs.List.{list_all}
 use Rattle.std.proofs.Math.Seq.{take-append_seam}

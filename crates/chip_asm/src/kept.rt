@@ -199,7 +199,13 @@ impl Kept {
         ensures parsed { meter.new.parsed ≡ meter.old.parsed }
     {
         let accepted = self.layout.placements[at].is_accepted();
-        let code = code_if_accepted(accepted, alloc, meter, &added.get().line, &self.layout.names)?;
+        let code = code_if_accepted(
+            accepted,
+            alloc,
+            meter,
+            &added.get().line,
+            &self.layout.names,
+        )?;
         Ok(self.put(at, with_code(added, code)))
     }
 
@@ -301,8 +307,7 @@ impl Kept {
         fill_up(&mut self.image)?;
         let spare = mem::replace(&mut self.spare, Layout::new(alloc));
         let traits = traits_after(alloc, &self.traits, edit)?;
-        let (layout, span) =
-            Layout::after(alloc, spare, &self.layout, &self.lines, &traits, edit)?;
+        let (layout, span) = Layout::after(alloc, spare, &self.layout, &self.lines, &traits, edit)?;
         let same_names = span.is_some() || self.layout.names.has_same_names(&layout.names);
         let hints = hints_after(
             alloc,

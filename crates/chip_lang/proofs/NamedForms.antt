@@ -1,5 +1,5 @@
 -- A name's form is found among the forms from the first of that name on.
-use Rattle.std.proofs.Common.{◌≡◌, ℕ, suc, ◌==◌, ◌&&◌, ◌≤◌, not, arith, Bool, true, false, List, [], ◌∷◌, map, length, is_none, Option, Some, None, refl, sym, ap, ◌∙◌}
+use Rattle.std.proofs.Common.{◌≡◌, ℕ, suc, ◌==◌, ◌&&◌, ◌≤◌, not, arith, Bool, true, false, List, [], ◌∷◌, map, length, is_none, None, refl, sym, ap, ◌∙◌}
 use Rattle.std.proofs.Math.Dec.{eqb-suc-zero}
 use Rattle.std.specs.List.{list_any}
 use Rattle.std.specs.Str.{bytes_eq}

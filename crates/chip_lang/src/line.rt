@@ -185,11 +185,7 @@ fn begins_with_no_word(statement: &[Lexeme]) -> bool
 
 /// Whether a statement begins with a word that is no directive, of which `front` tells, nor an
 /// instruction, whose forms there would be.
-fn begins_with_unknown_word(
-    front: Option<Directive>,
-    forms: &[Form],
-    statement: &[Lexeme],
-) -> bool
+fn begins_with_unknown_word(front: Option<Directive>, forms: &[Form], statement: &[Lexeme]) -> bool
     requires word { begins_with_no_word statement.now ≡ false }
     requires front { front ≡ front_directive statement.now }
     requires forms { map row_of_form forms.now ≡ front_forms front statement.now }

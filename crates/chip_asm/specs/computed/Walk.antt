@@ -1,7 +1,7 @@
 -- What holds of each line, found line by line (own). The lines before a line are listed from the nearest one back. Laws say that
 -- this is what Places states, and that nothing else is.
-use Rattle.std.specs.Prelude.{ℕ, ◌+◌, ℤ, pos, unsigned_abs, int_lt, Bool, true, false, not, ◌&&◌, List, [], ◌∷◌, reverse, map, length, Option, Some, None, is_some, is_none, Result, Ok, Err, if◌then◌else◌, nat_le, fold, sum_by, count_by, filter, find, take_while, filter_map, option_map}
-use Rattle.std.specs.List.{list_any, list_all}
+use Rattle.std.specs.Prelude.{ℕ, ◌+◌, ℤ, unsigned_abs, Bool, true, false, not, ◌&&◌, List, [], ◌∷◌, reverse, map, length, Option, Some, None, is_none, Result, Ok, Err, if◌then◌else◌, nat_le, fold, sum_by, count_by, filter, find, take_while, filter_map, option_map}
+use Rattle.std.specs.List.{list_all}
 use Rattle.std.specs.Option.{option_map_or}
 use Rattle.chip_lang.specs.declared.limits.TheConstants.{IMAGE_START}
 use Rattle.chip_lang.specs.declared.fault.Fault.{Fault}

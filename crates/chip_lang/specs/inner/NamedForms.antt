@@ -1,5 +1,5 @@
 -- From which form on those of a name stand (own).
-use Rattle.std.specs.Prelude.{ℕ, if◌then◌else◌, List, [], ◌∷◌, Option, Some, None}
+use Rattle.std.specs.Prelude.{ℕ, if◌then◌else◌, List, [], ◌∷◌, Option, None}
 use Rattle.std.specs.Str.{bytes_eq}
 use Rattle.chip_lang.specs.declared.directive.Directive.{Directive}
 use Rattle.chip_lang.specs.declared.lexeme.Lexeme.{Lexeme}

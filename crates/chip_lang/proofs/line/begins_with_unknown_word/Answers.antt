@@ -1,4 +1,4 @@
-use Rattle.std.proofs.Common.{◌≡◌, sym, ap, ◌∙◌}
+use Rattle.std.proofs.Common.{sym, ap, ◌∙◌}
 use Rattle.chip_lang.specs.inner.NamedForms.{front_forms}
 use Rattle.chip_lang.proofs.NamedForms.{unknown_word}
 use Rattle.chip_lang.proofs.line.begins_with_unknown_word.Goals as goal
