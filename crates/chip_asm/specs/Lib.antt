@@ -2,8 +2,8 @@
 --     Lines        the lines of a source, and whether it opens
 --     Edits        when an edit is refused
 --     Names        names and tables of names
---     Layout       where each line stands, what is wrong with it, which names it gives
---     Places       the same, said by place of the list of all lines
+--     Layout       words for a line: what it says, which name it gives, how much it takes
+--     Places       what holds of each line: whether it is live, where it stands, what is wrong with it
 --     Program      names, faults and image of a source
 --     Listing      the listing
 --     Work         which lines an edit makes encode anew

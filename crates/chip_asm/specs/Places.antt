@@ -1,6 +1,6 @@
 -- What holds of each line of a source, by its place in the list of all (Chipper manual; own where it is silent): a
--- relation between the lines and what holds of them. The laws say that what `Layout` computes line by line is in it,
--- and nothing else. `before` has the lines before a line, the first one first.
+-- relation between the lines and what holds of them. The laws say that what `computed/Walk` finds line by line is in
+-- it, and nothing else. `before` has the lines before a line, the first one first.
 use Rattle.std.specs.Prelude.{◌≡◌, ℕ, ◌+◌, ◌≤◌, ℤ, unsigned_abs, Bool, true, false, not, ◌&&◌, List, [], ◌∷◌, length, take, drop, Option, Some, None, Result, Ok, Err, if◌then◌else◌, sum_by, count_by, filter_map, slice_get, Decides}
 use Rattle.std.specs.List.{list_any}
 use Rattle.chip_lang.specs.declared.limits.TheConstants.{IMAGE_START}
