@@ -1,5 +1,5 @@
 -- Where the one name that a line uses stands among the names.
-use Rattle.std.proofs.Common.{◌≡◌, ◌≢◌, ℕ, ℤ, zero, suc, ◌+◌, ◌^◌, ◌<◌, ◌≤◌, Bool, true, false, cond, ◌&&◌, List, [], ◌∷◌, map, length, take, slice_get, insert, set, remove, refl, ap, sym, ◌∙◌, arith, Option, Some, None, option_map, nat_lt, nat_eq, is_some, Bor}
+use Rattle.std.proofs.Common.{◌≡◌, ◌≢◌, ℕ, ℤ, zero, suc, ◌+◌, ◌-◌, ◌^◌, ◌<◌, ◌≤◌, Bool, true, false, cond, ◌&&◌, List, [], ◌∷◌, map, length, take, slice_get, insert, set, remove, refl, ap, sym, ◌∙◌, arith, Option, Some, None, option_map, nat_lt, nat_eq, is_some, Bor}
 use Rattle.std.specs.Global.{Vec}
 use Rattle.std.specs.List.{position_or_len, position, list_all}
 use Rattle.std.specs.Map.{keys_of}
@@ -17,8 +17,10 @@ use Rattle.chip_asm.specs.Names.{Name, lookup_name, values_of}
 use Rattle.chip_asm.specs.Program.{names_of_lines}
 use Rattle.chip_asm.specs.declared.kept_line.KeptLine.{KeptLine}
 use Rattle.chip_asm.specs.declared.table.Symbol.{Symbol}
-use Rattle.chip_asm.specs.inner.Hints.{names_in, number_of, number_of_one, as_hint, hint_in}
+use Rattle.chip_asm.specs.inner.Hints.{names_in, number_of, hint_for, as_hint, hint_in}
 use Rattle.chip_asm.specs.inner.Records.{reading_in, readings_in}
+use Rattle.chip_asm.specs.inner.Traits.{traits_of, uses_name}
+use Rattle.chip_asm.specs.declared.traits.Traits.{Traits}
 use Rattle.chip_asm.proofs.EditTexts.{map-insert, map-remove}
 use Rattle.std.proofs.lemmas.List.{map-set}
 use Rattle.chip_asm.proofs.TableSteps.{seen, value-of-name}
@@ -137,16 +139,16 @@ pub hint-none : (names : List Name) (line : Reading) → is_some (slice_get (nam
 unfolding hint_in
 hint-none names line e = by (names_used line) e
   where
-    by : (used : List Name) → is_some (slice_get used 0) ≡ false → 0 ≡ as_hint (number_of_one names used)
+    by : (used : List Name) → is_some (slice_get used 0) ≡ false → 0 ≡ hint_for names used
     by [] e = refl
     by (name ∷ others) e = cc
 
-pub hint-more : (names : List Name) (line : Reading) → is_some (slice_get (names_used line) 1) ≡ true → 0 ≡ hint_in names line
+pub hint-more : (names : List Name) (line : Reading) → is_some (slice_get (names_used line) 1) ≡ true → 1 ≡ hint_in names line
 unfolding hint_in
 hint-more names line e = by (names_used line) e
   where
-    by : (used : List Name) → is_some (slice_get used 1) ≡ true → 0 ≡ as_hint (number_of_one names used)
-    by [] e = refl
+    by : (used : List Name) → is_some (slice_get used 1) ≡ true → 1 ≡ hint_for names used
+    by [] e = cc
     by (first ∷ []) e = cc
     by (first ∷ other ∷ others) e = refl
 
@@ -154,34 +156,51 @@ pub hint-one : (names : List Name) (line : Reading) (name : Name) → slice_get 
 unfolding hint_in
 hint-one names line name e k = by (names_used line) e k
   where
-    by : (used : List Name) → slice_get used 0 ≡ Some name → is_some (slice_get used 1) ≡ false → as_hint (number_of names name) ≡ as_hint (number_of_one names used)
+    by : (used : List Name) → slice_get used 0 ≡ Some name → is_some (slice_get used 1) ≡ false → as_hint (number_of names name) ≡ hint_for names used
     by [] e k = cc
     by (first ∷ []) e k = let same : first ≡ name = cc in rw same refl
     by (first ∷ other ∷ others) e k = cc
 
--- a hint is no more than the number, and the number where it is no 0
+-- a hint is at most one more than the number, and one more than it from 2 on
 
-as-hint-few : (n : ℕ) → as_hint n ≤ n
-as-hint-few n = by (nat_lt n (2 ^ 16)) refl
+as-hint-few : (n : ℕ) → as_hint n ≤ n + 1
+as-hint-few n = by (nat_lt n (2 ^ 16 - 1)) refl
   where
-    by : (b : Bool) → nat_lt n (2 ^ 16) ≡ b → as_hint n ≤ n
+    by : (b : Bool) → nat_lt n (2 ^ 16 - 1) ≡ b → as_hint n ≤ n + 1
     by true e = rw e (omega arith)
     by false e = rw e (omega arith)
 
-as-hint-some : (n i : ℕ) → as_hint n ≡ i + 1 → n ≡ i + 1
-as-hint-some n i h = by (nat_lt n (2 ^ 16)) refl h
+as-hint-some : (n i : ℕ) → as_hint n ≡ i + 2 → n ≡ i + 1
+as-hint-some n i h = by (nat_lt n (2 ^ 16 - 1)) refl h
   where
-    by : (b : Bool) → nat_lt n (2 ^ 16) ≡ b → cond b n 0 ≡ i + 1 → n ≡ i + 1
-    by true e k = k
+    by : (b : Bool) → nat_lt n (2 ^ 16 - 1) ≡ b → cond b (n + 1) 1 ≡ i + 2 → n ≡ i + 1
+    by true e k = omega (arith, k)
     by false e k = absurd (omega (arith, k))
 
-pub hint-few : (names : List Name) (line : Reading) → hint_in names line ≤ length names
-unfolding hint_in
-hint-few names line = (let few = as-hint-few (number_of_one names (names_used line)) in let most = by (names_used line) in omega (arith, few, most))
+as-hint-more : (n : ℕ) → 1 ≤ as_hint n
+as-hint-more n = by (nat_lt n (2 ^ 16 - 1)) refl
   where
-    by : (used : List Name) → number_of_one names used ≤ length names
+    by : (b : Bool) → nat_lt n (2 ^ 16 - 1) ≡ b → 1 ≤ as_hint n
+    by true e = rw e (omega arith)
+    by false e = rw e (omega arith)
+
+-- a line without a hint uses no name
+pub nameless-by : (names : List Name) (line : Reading) → hint_in names line ≡ 0 → is_some (slice_get (names_used line) 0) ≡ false
+unfolding hint_in
+nameless-by names line h = by (names_used line) h
+  where
+    by : (used : List Name) → hint_for names used ≡ 0 → is_some (slice_get used 0) ≡ false
+    by [] e = refl
+    by (name ∷ []) e = absurd (omega (arith, e, as-hint-more (number_of names name)))
+    by (name ∷ other ∷ others) e = absurd (omega (arith, e))
+
+pub hint-few : (names : List Name) (line : Reading) → hint_in names line ≤ length names + 1
+unfolding hint_in
+hint-few names line = by (names_used line)
+  where
+    by : (used : List Name) → hint_for names used ≤ length names + 1
     by [] = omega arith
-    by (name ∷ []) = number-few names name
+    by (name ∷ []) = omega (arith, as-hint-few (number_of names name), number-few names name)
     by (name ∷ other ∷ others) = omega arith
 
 int-same : (x y : ℤ) (same : Bool) → (same ≡ true → x ≡ y) → (same ≡ false → x ≢ y) → same ≡ (option_eq int_eq (Some x) (Some y) && true)
@@ -193,18 +212,19 @@ int-same x y false h k = by (int_eq x y) refl
     by false e = refl
 
 -- two tables with the same names agree on a line with one name where the values at its number are the same
-pub agree-at : (old new : List (Name × Symbol)) (line : Reading) (i : ℕ) (a b : Name × Symbol) (same : Bool) → names_in old ≡ names_in new → hint_in (names_in new) line ≡ i + 1
+pub agree-at : (old new : List (Name × Symbol)) (line : Reading) (i : ℕ) (a b : Name × Symbol) (same : Bool) → names_in old ≡ names_in new → hint_in (names_in new) line ≡ i + 2
     → slice_get old i ≡ Some a → slice_get new i ≡ Some b → (same ≡ true → a.1.value ≡ b.1.value) → (same ≡ false → a.1.value ≢ b.1.value)
     → same ≡ agree_on (values_of old) (values_of new) line
 unfolding hint_in
-agree-at old new line i a b same names hint before after equal other = by (names_used line) (as-hint-some (number_of_one (names_in new) (names_used line)) i hint)
+agree-at old new line i a b same names hint before after equal other = by (names_used line) hint
   where
     value-in : (table : List (Name × Symbol)) (name : Name) (e : Name × Symbol) → number_of (names_in table) name ≡ i + 1 → slice_get table i ≡ Some e → value_of_name (values_of table) name ≡ Some e.1.value
     value-in table name e h at = value-of-name table name ∙ ap (option_map (λ (s : Symbol). s.value)) (found-numbered table name i e h at)
 
-    by : (used : List Name) → number_of_one (names_in new) used ≡ i + 1 → same ≡ list_all (has_same_value (values_of old) (values_of new)) used
+    by : (used : List Name) → hint_for (names_in new) used ≡ i + 2 → same ≡ list_all (has_same_value (values_of old) (values_of new)) used
     by [] h = absurd (omega arith)
-    by (name ∷ []) h =
+    by (name ∷ []) hinted =
+        let h : number_of (names_in new) name ≡ i + 1 = as-hint-some (number_of (names_in new) name) i hinted in
         let old_value : value_of_name (values_of old) name ≡ Some a.1.value = value-in old name a (ap (λ ns. number_of ns name) names ∙ h) before in
         let new_value : value_of_name (values_of new) name ≡ Some b.1.value = value-in new name b h after in
         rw (old_value, new_value) (int-same a.1.value b.1.value same equal other)
@@ -223,20 +243,20 @@ mapped-remove f lines at = ap (map f) (map-remove reading_in lines at) ∙ map-r
 
 -- no names
 
-no-number : (used : List Name) → number_of_one [] used ≡ 0
-no-number [] = refl
-no-number (name ∷ []) = refl
-no-number (name ∷ other ∷ others) = refl
-
-no-hint : (line : Reading) → hint_in [] line ≡ 0
+no-hint : (line : Reading) → cond (uses_name line) 1 0 ≡ hint_in [] line
 unfolding hint_in
-no-hint line = ap as_hint (no-number (names_used line))
+no-hint line = by (names_used line)
+  where
+    by : (used : List Name) → cond (is_some (slice_get used 0)) 1 0 ≡ hint_for [] used
+    by [] = refl
+    by (name ∷ []) = refl
+    by (name ∷ other ∷ others) = refl
 
-pub none-hinted : (names : List (Name × Symbol)) (lines : List KeptLine) → names ≡ [] → map (λ (kept : KeptLine). 0) lines ≡ map (hint_in (names_in names)) (readings_in lines)
+pub none-hinted : (names : List (Name × Symbol)) (lines : List Reading) → names ≡ [] → map (λ (t : Traits). cond t.has_names 1 0) (map traits_of lines) ≡ map (hint_in (names_in names)) lines
 none-hinted names [] e = refl
-none-hinted names (kept ∷ lines) e =
-    let first : hint_in (names_in names) (reading_in kept) ≡ 0 = ap (λ ns. hint_in (names_in ns) (reading_in kept)) e ∙ no-hint (reading_in kept) in
-    rw (first, none-hinted names lines e) refl
+none-hinted names (line ∷ lines) e =
+    let first : cond (uses_name line) 1 0 ≡ hint_in (names_in names) line = no-hint line ∙ ap (λ ns. hint_in (names_in ns) line) (sym e) in
+    rw (none-hinted names lines e, ← first) refl
 
 pub no-names : names_of_lines [] ≡ []
 unfolding symbols placed

@@ -20,7 +20,7 @@ use Rattle.chip_asm.specs.declared.recode.Moved.TheVariants.{No, Yes, Unknown}
 use Rattle.chip_asm.specs.declared.table.Symbol.{Symbol}
 use Rattle.chip_asm.specs.inner.Hints.{names_in, hint_in}
 use Rattle.chip_asm.specs.inner.Moves.{SaysMove, AreMoves}
-use Rattle.chip_asm.proofs.HintSteps.{hint-few, length-names, agree-at}
+use Rattle.chip_asm.proofs.HintSteps.{hint-few, length-names, agree-at, nameless-by}
 use Rattle.chip_lang.specs.Value.{Symbols, value_of_name}
 use Rattle.chip_lang.specs.Uses.{names_used, has_same_value, agree_on}
 use Rattle.chip_lang.specs.Code.{own_bytes, coded, code_of}
@@ -161,16 +161,17 @@ no-entry : Name × Symbol
 no-entry = ([], record { value = pos 0; line = 0 })
 
 -- what is said of the one name that a line uses
-pub said : (moves : List Moved) (old new : List (Name × Symbol)) (line : Reading) (hint : ℕ) (other : Moved) → AreMoves moves old new → length moves ≡ length new + 1 → hint ≡ hint_in (names_in new) line
-    → get_or moves hint other ≢ Unknown → (same : Bool) → (same ≡ true → get_or moves hint other ≡ No) → (same ≡ false → get_or moves hint other ≡ Yes)
+pub said : (moves : List Moved) (old new : List (Name × Symbol)) (line : Reading) (hint : ℕ) (other : Moved) → AreMoves moves old new → length moves ≡ length new + 2 → hint ≡ hint_in (names_in new) line
+    → 0 < hint → get_or moves hint other ≢ Unknown → (same : Bool) → (same ≡ true → get_or moves hint other ≡ No) → (same ≡ false → get_or moves hint other ≡ Yes)
     → same ≡ agree_on (values_of old) (values_of new) line
-said moves old new line zero other m long e known same n y = absurd (known (m.none other))
-said moves old new line (suc i) other m long e known same n y =
-    let next : suc i ≡ i + 1 = omega arith in
+said moves old new line zero other m long e named known same n y = absurd (omega (arith, named))
+said moves old new line (suc zero) other m long e named known same n y = absurd (known (m.several other))
+said moves old new line (suc (suc i)) other m long e named known same n y =
+    let next : suc (suc i) ≡ i + 2 = omega arith in
     let few = hint-few (names_in new) line in
     let inside : i < length new = omega (arith, e, few, length-names new) in
-    let s : SaysMove (get_or moves (i + 1) other) old new i = m.each i other (omega arith) in
-    let is : get_or moves (i + 1) other ≡ get_or moves (suc i) other = ap (λ k. get_or moves k other) (sym next) in
+    let s : SaysMove (get_or moves (i + 2) other) old new i = m.each i other (omega arith) in
+    let is : get_or moves (i + 2) other ≡ get_or moves (suc (suc i)) other = ap (λ k. get_or moves k other) (sym next) in
     let names : names_in old ≡ names_in new = s.same_names (λ u. known (sym is ∙ u)) in
     let there : i < length old = omega (arith, ap length names, length-names old, length-names new) in
     agree-at old new line i (get_or old i no-entry) (get_or new i no-entry) same names (sym e ∙ next) (slice_get-get_or old i no-entry there) (slice_get-get_or new i no-entry inside)
@@ -181,6 +182,18 @@ pub no-unknown : (moved : Moved) → moved ≡ No → moved ≢ Unknown
 no-unknown No e = λ u. cc
 no-unknown Yes e = cc
 no-unknown Unknown e = cc
+
+-- a hint by which a name moves is that of a name
+pub yes-named : (moves : List Moved) (old new : List (Name × Symbol)) (hint : ℕ) (other : Moved) → AreMoves moves old new → get_or moves hint other ≡ Yes → 0 < hint
+yes-named moves old new zero other m e = (let no : No ≡ Yes = sym (m.none other) ∙ e in cc)
+yes-named moves old new (suc i) other m e = omega arith
+
+-- where nothing moves that is known of a line, its names keep their values
+pub said-unmoved : (moves : List Moved) (old new : List (Name × Symbol)) (line : Reading) (hint : ℕ) (other : Moved) → AreMoves moves old new → length moves ≡ length new + 2 → hint ≡ hint_in (names_in new) line
+    → get_or moves hint other ≡ No → agree_on (values_of old) (values_of new) line ≡ true
+said-unmoved moves old new line zero other m long e still = agree-nameless (values_of old) (values_of new) line (nameless-by (names_in new) line (sym e))
+said-unmoved moves old new line (suc i) other m long e still =
+    sym (said moves old new line (suc i) other m long e (omega arith) (no-unknown _ still) true (λ b. still) (λ b. cc))
 
 pub yes-unknown : (moved : Moved) → moved ≡ Yes → moved ≢ Unknown
 yes-unknown No e = cc

@@ -412,12 +412,6 @@ no-keep lines (Replace at line) h = refl
 no-keep lines (Delete at) h = refl
 no-keep lines Keep h = cc
 
-pub next-inside : (count : ℕ) (edit : Edit) → IsPlaceWithin count edit → first_changed edit + added_by edit ≤ count_after count edit
-next-inside count (Insert at line) h = omega (arith, h)
-next-inside count (Replace at line) h = omega (arith, h)
-next-inside count (Delete at) h = omega (arith, h)
-next-inside count Keep h = omega arith
-
 pub record IsBounded (old : Layout) (from at : ℕ) : Type 0 where
   pub high : at ≤ MEMORY_BYTES
   pub end_high : old.end ≤ MEMORY_BYTES

@@ -1,6 +1,6 @@
 -- The names of lines that only move.
 use Rattle.std.proofs.Common.{◌≡◌, ℕ, zero, suc, ◌≤◌, false, List, [], ◌∷◌, ◌++◌, map, length, take, drop, refl, ap, sym, ◌∙◌, arith, Option, Some, None, is_some}
-use Rattle.std.proofs.lemmas.List.{take-append-drop, map-append, take-map, length-take}
+use Rattle.std.proofs.lemmas.List.{drop_all, take-append-drop, map-append, take-map, length-take}
 use Rattle.chip_asm.specs.Names.{Name, lookup_name}
 use Rattle.chip_asm.specs.declared.shift.Shift.{Shift}
 use Rattle.chip_asm.specs.declared.table.Symbol.{Symbol}
@@ -47,12 +47,6 @@ missing-moved s n i mine others name is h none =
     ∙ ap keys (take-append-drop n (take i others)) in
     none-found (lookup_name (mine ++ map (moved_name s) (drop n (take i others))) name)
     (given-same (mine ++ map (moved_name s) (drop n (take i others))) (take i others) name same ∙ ap is_some none)
-
-drop_all : {X : Type 0} (n : ℕ) (xs : List X) → length xs ≤ n → drop n xs ≡ []
-drop_all zero [] h = refl
-drop_all (suc n) [] h = refl
-drop_all zero (x ∷ xs) h = absurd (omega arith)
-drop_all (suc n) (x ∷ xs) h = drop_all n xs (omega arith)
 
 none-added : {X : Type 0} (xs : List X) → xs ≡ xs ++ []
 none-added [] = refl

@@ -185,7 +185,7 @@ none-before entries zero e d at = refl
 none-before [] (suc n) e d at = refl
 none-before (x ∷ xs) (suc n) e d at = rw (before-other x xs n e d at) (none-before xs n e d.1 at)
 
-past-end : {X : Type 0} (xs : List X) (i : ℕ) → slice_get xs i ≡ None → length xs ≤ i
+pub past-end : {X : Type 0} (xs : List X) (i : ℕ) → slice_get xs i ≡ None → length xs ≤ i
 past-end [] i e = omega arith
 past-end (x ∷ xs) zero e = cc
 past-end (x ∷ xs) (suc i) e = (let rest = past-end xs i e in omega arith)

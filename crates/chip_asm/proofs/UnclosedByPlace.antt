@@ -11,18 +11,14 @@ use Rattle.chip_asm.specs.Places.{Encloses, ArePlaced, IsUnclosed}
 use Rattle.chip_asm.specs.Program.{is_unclosed}
 use Rattle.chip_asm.proofs.LastLine.{same-there, Enclosing, one_encloses, any-enclosing, enclosing-any}
 use Rattle.chip_asm.proofs.PlacesAgree.{agree, ended-turned}
-
-missing : {A : Type 0} (xs : List A) (k : ℕ) → slice_get xs k ≡ None → k < length xs → ⊥
-missing [] k e h = omega arith
-missing (x ∷ xs) zero e h = cc
-missing (x ∷ xs) (suc k) e h = missing xs k e (omega arith)
+use Rattle.chip_asm.proofs.TableSteps.{past-end}
 
 -- the line at a place has the next number
 number-at : (lines : List Reading) (i : ℕ) (p : Placed) → slice_get (reverse (placed lines)) i ≡ Some p → p.number ≡ i + 1
 number-at lines i p there = by (slice_get lines i) refl (agree lines)
   where
     by : (o : Option Reading) → slice_get lines i ≡ o → ArePlaced lines (reverse (placed lines)) → p.number ≡ i + 1
-    by None e a = absurd (missing lines i e (let inside = slice_get_within (reverse (placed lines)) i p there in omega (arith, a.count)))
+    by None e a = absurd (let inside = slice_get_within (reverse (placed lines)) i p there in omega (arith, inside, past-end lines i e, a.count))
     by (Some line) e a =
         let inside : i < length (reverse (placed lines)) = slice_get_within (reverse (placed lines)) i p there in
         let this = a.each i line p e there in

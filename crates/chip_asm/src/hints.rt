@@ -1,5 +1,5 @@
 //! Where the one name that a line uses stands in the table of names, so that steps over all lines needn't look for it.
-ghost use Rattle.std.specs.Prelude.{◌≡◌, ◌≤◌, true, List, IfOk, length, map};
+ghost use Rattle.std.specs.Prelude.{◌≡◌, ◌≤◌, true, if◌then◌else◌, List, IfOk, length, map};
 ghost use Rattle.chip_asm.specs.Names.{values_of};
 ghost use Rattle.chip_asm.specs.inner.Hints.{names_in, as_hint, hint_in};
 ghost use Rattle.chip_asm.specs.inner.Records.{IsPlaceWithin, lines_after, readings_in};
@@ -15,15 +15,19 @@ use crate::traits::Traits;
 use chip_lang::{Line, Names, uses};
 use std::alloc::{AllocError, Global};
 
-/// A number of 16 bits; 0 in the place of a greater one.
+/// One more than such a number of a name, in 16 bits; 1 for a greater one, or for 0.
 fn as_hint(number: usize) -> u16
     ensures { result ≡ as_hint number }
 {
-    if number < 1 << 16 { number as u16 } else { 0 }
+    if number < (1 << 16) - 1 {
+        number as u16 + 1
+    } else {
+        1
+    }
 }
 
-/// The number, counted from 1, of the one name that a line uses, among those of a table; 0 where it uses more or none, or the name isn't
-/// there.
+/// The number, counted from 2, of the one name that a line uses, among those of a table; 0 where it uses none, 1 where it uses more, or the
+/// name isn't there.
 pub(crate) fn hint_of(names: &Table, line: &Line) -> u16
     ensures { result ≡ hint_in (names_in names.now) (seen_line line.now) }
 {
@@ -31,7 +35,7 @@ pub(crate) fn hint_of(names: &Table, line: &Line) -> u16
         return 0;
     };
     if uses(line, 1).is_some() {
-        return 0;
+        return 1;
     }
     as_hint(names.number_of(name))
 }
@@ -49,12 +53,12 @@ fn hint_by(names: &Table, traits: Traits, line: &Line) -> u16
 }
 
 /// The hints of lines where no names are known yet.
-pub(crate) fn no_hints(alloc: Global, lines: &[BoxedLine]) -> Result<Vec<u16>, AllocError>
-    ensures { IfOk result (λ hints. hints.items ≡ map (λ kept. 0) lines.now) }
+pub(crate) fn no_hints(alloc: Global, traits: &[Traits]) -> Result<Vec<u16>, AllocError>
+    ensures { IfOk result (λ hints. hints.items ≡ map (λ t. if t.has_names then 1 else 0) traits.now) }
 {
-    let mut hints = Vec::with_capacity(alloc, lines.len())?;
-    for _place in 0..lines.len() {
-        hints.push(0)?;
+    let mut hints = Vec::with_capacity(alloc, traits.len())?;
+    for place in 0..traits.len() {
+        hints.push(u16::from(traits[place].has_names))?;
     }
     Ok(hints)
 }

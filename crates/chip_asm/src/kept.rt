@@ -45,7 +45,8 @@ pub(crate) struct Kept {
     pub(crate) layout: Layout,
     /// The layout before the last edit, for its room.
     pub(crate) spare: Layout,
-    /// At the place of each line that uses one name: the number of the name in the layout's table, counted from 1; else 0.
+    /// At the place of each line: the number of the one name that it uses in the layout's table, counted from 2; 0 where it uses none,
+    /// and else 1.
     pub(crate) hints: Vec<u16>,
     /// The byte at each address from `IMAGE_START` on, also where a line has a fault. Empty until there is a line.
     pub(crate) image: Vec<u8>,
@@ -116,7 +117,7 @@ impl Kept {
     {
         let mut kept = Kept::new(alloc);
         kept.traits = traits_of_all(alloc, &lines)?;
-        kept.hints = no_hints(alloc, &lines)?;
+        kept.hints = no_hints(alloc, &kept.traits)?;
         kept.lines = lines;
         let prepared = kept.prepare(alloc, meter, &Edit::Keep)?;
         same_code();

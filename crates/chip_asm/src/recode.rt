@@ -102,10 +102,11 @@ pub(crate) fn moves_by_hint(
     new: &Table,
 ) -> Result<Vec<Moved>, AllocError>
     requires same { same_names ≡ true → names_in old.now ≡ names_in new.now }
-    ensures long { IfOk result (λ moves. length moves.items ≡ length new.now + 1) }
+    ensures long { IfOk result (λ moves. length moves.items ≡ length new.now + 2) }
     ensures moves { IfOk result (λ moves. AreMoves moves.items old.now new.now) }
 {
-    let mut moves = Vec::with_capacity(alloc, new.len().saturating_add(1))?;
+    let mut moves = Vec::with_capacity(alloc, new.len().saturating_add(2))?;
+    moves.push(Moved::No)?;
     moves.push(Moved::Unknown)?;
     for index in 0..new.len() {
         moves.push(move_at(same_names, old, new, index))?;
@@ -133,7 +134,7 @@ impl<'a> Remaking<'a> {
         requires place { place < length (lines_then self.now) }
         ensures { (line : Reading) → result ≡ true → slice_get (lines_then self.now) place ≡ Some line → agree_on (values_of self.now.old.now.names) (values_of self.now.new.now.names) line ≡ true }
     {
-        !self.traits[place].has_names || matches!(self.moves[self.hints[place] as usize], Moved::No)
+        matches!(self.moves[self.hints[place] as usize], Moved::No)
     }
 
     /// Whether each name of the line at a place has one value, or none, under both layouts. The names need a search only where the line
@@ -150,13 +151,14 @@ impl<'a> Remaking<'a> {
         match self.moves[hint] {
             Moved::Yes => false,
             _ => {
+                let index = hint.saturating_sub(2);
                 let before = Hinted {
                     table: &self.old.names,
-                    index: hint,
+                    index,
                 };
                 let after = Hinted {
                     table: &self.new.names,
-                    index: hint,
+                    index,
                 };
                 agree_on(line_after(self.lines, self.edit, place), &before, &after)
             }
@@ -197,7 +199,7 @@ impl<'a> Remaking<'a> {
         if wanted {
             let names = Hinted {
                 table: &self.new.names,
-                index: self.hints[place].saturating_sub(1) as usize,
+                index: self.hints[place].saturating_sub(2) as usize,
             };
             let line = line_after(self.lines, self.edit, place);
             let code = encode(alloc, meter, line, &names)?;

@@ -18,6 +18,6 @@ pub record IsRemaking (r : Remaking) : Type 0 where
   pub few : length r.lines.now ≤ MOST_LINES
   pub traits : r.traits.now ≡ map traits_of (lines_then r)
   pub hints : r.hints.now ≡ map (hint_in (names_in r.new.now.names)) (lines_then r)
-  pub long : length r.moves.now ≡ length r.new.now.names + 1
+  pub long : length r.moves.now ≡ length r.new.now.names + 2
   pub moves : AreMoves r.moves.now r.old.now.names r.new.now.names
   pub laid_out : IsLayoutOf r.new.now (lines_then r)

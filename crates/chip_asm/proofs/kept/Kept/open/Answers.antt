@@ -1,6 +1,7 @@
-use Rattle.std.proofs.Common.{◌≡◌, ◌∙◌, ◌+◌, ap, arith, length, subst, sym, [], Some}
+use Rattle.std.proofs.Common.{◌≡◌, ◌∙◌, ◌+◌, ap, arith, cond, length, map, subst, sym, [], Some}
 use Rattle.chip_lang.specs.declared.limits.TheConstants.{IMAGE_START}
 use Rattle.chip_asm.specs.declared.layout.Layout.{Layout}
+use Rattle.chip_asm.specs.declared.traits.Traits.{Traits}
 use Rattle.chip_asm.specs.computed.Walk.{placed}
 use Rattle.chip_asm.specs.Program.{byte_at, faults_of_lines}
 use Rattle.chip_asm.specs.inner.Layouts.{IsLayoutOf}
@@ -61,4 +62,7 @@ prepare-requires-clause-continues c =
 pub prepare-requires-clause-hints : goal.prepare-requires-clause-hints
 prepare-requires-clause-hints c =
     let none = subst (λ lines. IsLayoutOf c.new-kept.result.layout (readings_in lines)) c.new-kept.ensures.none c.new-kept.ensures.kept.laid_out in
-    c.in_ok-kept-2.ensures ∙ (rw c.deref-2.ensures.value (none-hinted c.new-kept.result.layout.names c.args.lines.items (none.names ∙ no-names)))
+    c.in_ok-kept-2.ensures
+    ∙ (rw c.deref-2.ensures.value
+    (ap (map (λ (t : Traits). cond t.has_names 1 0)) (c.in_ok-kept.ensures ∙ (rw c.deref.ensures.value (traits-all c.args.lines.items)))
+    ∙ none-hinted c.new-kept.result.layout.names (readings_in c.args.lines.items) (none.names ∙ no-names)))

@@ -10,15 +10,8 @@ use Rattle.chip_asm.specs.declared.traits.Traits.{Traits}
 use Rattle.chip_asm.specs.inner.Traits.{traits_of}
 use Rattle.chip_asm.proofs.Edited.{mapped-at}
 use Rattle.chip_asm.proofs.HintSteps.{hint-few, length-names}
-use Rattle.chip_asm.proofs.RecodeSteps.{agree-nameless, said, no-unknown}
+use Rattle.chip_asm.proofs.RecodeSteps.{said-unmoved}
 use Rattle.chip_asm.proofs.recode.Remaking.is_unmoved.Goals as goal
-
-abbrev no-traits : Traits
-no-traits = record { is_bare = false; is_plain = false; gives_name = false; is_coded = false; has_names = false; is_steady = false }
-
-not-so : (b : Bool) → not b ≡ true → b ≡ false
-not-so true e = cc
-not-so false e = refl
 
 pub bounds : goal.bounds
 bounds c =
@@ -28,14 +21,8 @@ bounds c =
     let hint = mapped-at (hint_in (names_in r.new.now.names)) (lines_then r) r.hints.now c.args.place line 0 c.requires.known.hints at in
     omega (arith, hint, hint-few (names_in r.new.now.names) line, length-names r.new.now.names, c.requires.known.long)
 
-pub returns-then-not-self-place : goal.returns-then-not-self-place
-returns-then-not-self-place c = λ line yes at.
-    let r = c.args.self.now in
-    let traits = mapped-at traits_of (lines_then r) r.traits.now c.args.place line no-traits c.requires.known.traits at in
-    agree-nameless (values_of r.old.now.names) (values_of r.new.now.names) line (sym (ap (λ t. t.has_names) traits) ∙ not-so _ yes)
-
 pub returns-in-No : goal.returns-in-No
 returns-in-No c = λ line yes at.
     let r = c.args.self.now in
     let hint = mapped-at (hint_in (names_in r.new.now.names)) (lines_then r) r.hints.now c.args.place line 0 c.requires.known.hints at in
-    sym (said r.moves.now r.old.now.names r.new.now.names line (get_or r.hints.now c.args.place 0) No c.requires.known.moves c.requires.known.long hint (no-unknown _ c.in-No.is) true (λ b. c.in-No.is) (λ b. cc))
+    said-unmoved r.moves.now r.old.now.names r.new.now.names line (get_or r.hints.now c.args.place 0) No c.requires.known.moves c.requires.known.long hint c.in-No.is

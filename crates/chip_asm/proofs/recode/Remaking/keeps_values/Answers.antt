@@ -7,7 +7,7 @@ use Rattle.chip_asm.specs.inner.Hints.{names_in, hint_in}
 use Rattle.chip_asm.specs.inner.Remaking.{lines_then}
 use Rattle.chip_asm.proofs.Edited.{length-readings_after, mapped-at}
 use Rattle.chip_asm.proofs.HintSteps.{hint-few, length-names}
-use Rattle.chip_asm.proofs.RecodeSteps.{said, yes-unknown}
+use Rattle.chip_asm.proofs.RecodeSteps.{said, yes-named, yes-unknown}
 use Rattle.chip_asm.proofs.recode.Remaking.keeps_values.Goals as goal
 
 pub bounds : goal.bounds
@@ -28,4 +28,5 @@ pub returns-in-Yes : goal.returns-in-Yes
 returns-in-Yes c = λ line at.
     let r = c.args.self.now in
     let hint = mapped-at (hint_in (names_in r.new.now.names)) (lines_then r) r.hints.now c.args.place line 0 c.requires.known.hints at in
-    said r.moves.now r.old.now.names r.new.now.names line (get_or r.hints.now c.args.place 0) No c.requires.known.moves c.requires.known.long hint (yes-unknown _ c.in-Yes.is) false (λ b. cc) (λ b. c.in-Yes.is)
+    said r.moves.now r.old.now.names r.new.now.names line (get_or r.hints.now c.args.place 0) No c.requires.known.moves c.requires.known.long hint
+    (yes-named r.moves.now r.old.now.names r.new.now.names (get_or r.hints.now c.args.place 0) No c.requires.known.moves c.in-Yes.is) (yes-unknown _ c.in-Yes.is) false (λ b. cc) (λ b. c.in-Yes.is)
