@@ -52,6 +52,7 @@ layout-swapped layout lines at new s l = record {
   placements = l.placements ∙ sym (placements-swapped lines at new s);
   names = l.names ∙ sym (names-swapped lines at new s);
   end_address = l.end_address ∙ sym (end-swapped lines at new s);
+  accepted = l.accepted;
 }
 
 -- all codes are current again

@@ -30,6 +30,8 @@ use Rattle.chip_asm.specs.Layout.{body_of}
 use Rattle.chip_asm.specs.Program.{names_of_lines}
 use Rattle.chip_asm.specs.inner.Recode.{has_code, is_placed_at, is_encoded_again, code_among, new_code, codes_placed, codes_up_to, count_up_to}
 use Rattle.chip_asm.specs.inner.Layouts.{placements_of}
+use Rattle.chip_asm.specs.inner.Placements.{is_placed}
+use Rattle.chip_asm.specs.declared.placement.Placement.{Placement}
 use Rattle.chip_lang.specs.declared.fault.Fault.TheVariants.{UnclosedIf}
 
 pub count_by-take : {X : Type 0} (p : X → Bool) (xs : List X) (i : ℕ) → count_by p (take i xs) ≤ count_by p xs
@@ -199,3 +201,9 @@ pub yes-unknown : (moved : Moved) → moved ≡ Yes → moved ≢ Unknown
 yes-unknown No e = cc
 yes-unknown Yes e = λ u. cc
 yes-unknown Unknown e = cc
+
+-- where all lines are accepted, the one at a place is
+pub all-placed-at : (qs : List Placement) (i : ℕ) → list_all is_placed qs ≡ true → i < length qs → is_placed_at qs i ≡ true
+all-placed-at [] i all h = absurd (omega arith)
+all-placed-at (q ∷ qs) zero all h = (and_parts (is_placed q) (list_all is_placed qs) all).0
+all-placed-at (q ∷ qs) (suc i) all h = all-placed-at qs i (and_parts (is_placed q) (list_all is_placed qs) all).1 (omega arith)

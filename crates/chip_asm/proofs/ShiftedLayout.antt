@@ -185,7 +185,7 @@ placed-from : (lines : List Reading) (n : ℕ) → placed lines ≡ fold onto (p
 unfolding placed
 placed-from lines n = ap (fold onto []) (sym (take-append-drop n lines)) ∙ fold-append [] (take n lines) (drop n lines)
 
-reverse-from : (lines : List Reading) (n : ℕ) → reverse (placed lines) ≡ reverse (placed (take n lines)) ++ run (placed (take n lines)) (drop n lines)
+pub reverse-from : (lines : List Reading) (n : ℕ) → reverse (placed lines) ≡ reverse (placed (take n lines)) ++ run (placed (take n lines)) (drop n lines)
 reverse-from lines n = ap reverse (placed-from lines n) ∙ run-reverse (placed (take n lines)) (drop n lines)
 
 pub symbols-from : (lines : List Reading) (n : ℕ) → symbols (placed lines) ≡ symbols (placed (take n lines)) ++ filter_map symbol_of (run (placed (take n lines)) (drop n lines))
@@ -361,6 +361,7 @@ pub record IsMade (s : Shift) (old layout : Layout) (from : ℕ) (placements : L
   pub placements_are : layout.placements.items ≡ placements ++ map (moved_placement s) (drop from old.placements.items)
   pub names_are : layout.names ≡ names ++ map (moved_name s) (drop (length names) old.names)
   pub end_is : layout.end ≡ moved_address s old.end
+  pub accepted_is : layout.all_accepted ≡ true → list_all is_placed layout.placements.items ≡ true
 
 pub later-names : (s : Shift) (old : Layout) (lines : List KeptLine) (edit : Edit) (next here : ℕ) (placements : List Placement) (names : List (Name × Symbol)) (b : StandsBefore old lines edit next here placements names)
     → old_place edit next ≤ length (readings_in lines)
@@ -402,6 +403,7 @@ shifted-layout s old layout lines edit next here placements names b k made =
           ∙ ap (λ l. symbols (placed (take next news)) ++ filter_map symbol_of (run (placed (take next news)) l)) (sym t.sides.rest)
           ∙ sym (symbols-from news next);
       end_address = made.end_is ∙ (omega (arith, new_at, b.laid.end_address, end-high olds, k.fits, k.old_address, end-high (take from olds)));
+      accepted = made.accepted_is;
     }
 
 -- what the pass and the old layout leave room for

@@ -18,7 +18,7 @@ use Rattle.chip_asm.specs.declared.shift.Shift.{Shift}
 use Rattle.chip_asm.specs.declared.span.Span.{Span}
 use Rattle.chip_asm.specs.declared.table.Symbol.{Symbol}
 use Rattle.chip_asm.specs.declared.traits.Traits.{Traits}
-use Rattle.chip_asm.specs.Layout.{body_of, symbol_of}
+use Rattle.chip_asm.specs.Layout.{Placed, body_of, symbol_of}
 use Rattle.chip_asm.specs.computed.Walk.{placed, symbols}
 use Rattle.chip_asm.specs.Names.{Name}
 use Rattle.chip_asm.specs.inner.Effect.{is_plain_line}
@@ -34,7 +34,9 @@ use Rattle.chip_asm.specs.inner.Traits.{is_steady, traits_of}
 use Rattle.chip_asm.proofs.NeedsSteps.{length-numbered}
 use Rattle.chip_asm.proofs.Placing.{numbered, length-placed}
 use Rattle.chip_asm.proofs.Resumed.{UpTo, given-up-to, first-same, first-before, length-laid, placements-before, steady-placed, steady-by, AreSteady}
-use Rattle.chip_asm.proofs.ShiftedLayout.{AllSteady, Shifted, Both, both, IsMade, StandsBefore, names-first, no-keep, shifted-layout, symbols-from, placements-from, plain-traits}
+use Rattle.std.proofs.lemmas.List.{map-append}
+use Rattle.std.proofs.lemmas.List.Folds.{list_all-append, list_all-map}
+use Rattle.chip_asm.proofs.ShiftedLayout.{AllSteady, reverse-from, Shifted, Both, both, IsMade, StandsBefore, names-first, no-keep, shifted-layout, symbols-from, placements-from, plain-traits}
 use Rattle.chip_asm.proofs.ShiftedLines.{keys, keys-append, run, Moved}
 use Rattle.chip_asm.proofs.ShiftedNames.{keys-moved}
 use Rattle.chip_asm.proofs.TableSteps.{take-shorter, taken-at}
@@ -90,7 +92,7 @@ plain-after traits news next e h =
 
 -- the places of the lines
 
-all-placed : (qs : List Placement) (i : ℕ) (q : Placement) → list_all is_placed qs ≡ true → slice_get qs i ≡ Some q → q.fault ≡ None
+pub all-placed : (qs : List Placement) (i : ℕ) (q : Placement) → list_all is_placed qs ≡ true → slice_get qs i ≡ Some q → q.fault ≡ None
 all-placed [] i q h e = cc
 all-placed (p ∷ qs) zero q h e =
     let same : p ≡ q = cc in
@@ -148,7 +150,7 @@ fewer-steady lines m n less inside steady = λ i line h.
     let there : i < length (take n lines) = omega (arith, below, inside, under, length-take n lines) in
     ap (λ r. is_steady (body_of r)) (get_or-take m lines i line below ∙ sym (get_or-take n lines i line under)) ∙ steady i line there
 
-length-firsts : (lines : List Reading) (n : ℕ) → n ≤ length lines → length (first_placements (take n lines)) ≡ n
+pub length-firsts : (lines : List Reading) (n : ℕ) → n ≤ length lines → length (first_placements (take n lines)) ≡ n
 unfolding first_placements
 length-firsts lines n h = length-map (reverse (placed (take n lines))) placement_of ∙ length-numbered (take n lines) ∙ length-take-le n lines h
 
@@ -219,6 +221,49 @@ back-of s old layout lines edit next here placements names b k made laid =
           moved-alike s p q q (mapped-get s (drop from old.placements.items) (map (moved_placement s) (drop from old.placements.items)) j p q refl p_at q_at) refl
           (moved.heres j p q p_run q_run) (all-placed (drop from old.placements.items) j p k.accepted p_at));
     }
+
+-- the lines that are accepted
+
+firsts-shorter : (lines : List Reading) (m n : ℕ) → m ≤ n → m ≤ length lines → take m (first_placements (take n lines)) ≡ first_placements (take m lines)
+unfolding first_placements
+firsts-shorter lines m n less inside =
+    let front : List Placed = reverse (placed (take m lines)) in
+    let rest : List Placed = run (placed (take m (take n lines))) (drop m (take n lines)) in
+    let whole : reverse (placed (take n lines)) ≡ reverse (placed (take m lines)) ++ run (placed (take m (take n lines))) (drop m (take n lines))
+    = reverse-from (take n lines) m ∙ ap (λ ls. reverse (placed ls) ++ run (placed (take m (take n lines))) (drop m (take n lines))) (take-shorter m n lines less) in
+    let long : m ≡ length (map placement_of front) = sym (length-map front placement_of ∙ length-numbered (take m lines) ∙ length-take-le m lines inside) in
+    ap (λ ps. take m (map placement_of ps)) whole ∙ ap (take m) (map-append placement_of front rest)
+    ∙ ap (λ k. take k (map placement_of front ++ map placement_of rest)) long ∙ take-append_seam (map placement_of front) (map placement_of rest)
+
+pub all-parts : (n : ℕ) (qs : List Placement) → list_all is_placed qs ≡ true → (list_all is_placed (take n qs) ≡ true) × (list_all is_placed (drop n qs) ≡ true)
+all-parts n qs h = and_parts (list_all is_placed (take n qs)) (list_all is_placed (drop n qs)) (sym (list_all-append is_placed (take n qs) (drop n qs)) ∙ ap (list_all is_placed) (take-append-drop n qs) ∙ h)
+
+all-both : (ps qs : List Placement) → list_all is_placed ps ≡ true → list_all is_placed qs ≡ true → list_all is_placed (ps ++ qs) ≡ true
+all-both ps qs a b = list_all-append is_placed ps qs ∙ (rw (a, b) refl)
+
+-- where all lines were accepted before, and those that were walked anew are, all are
+pub made-accepted : (s : Shift) (old : Layout) (lines : List KeptLine) (edit : Edit) (next here : ℕ) (placements : List Placement) (names : List (Name × Symbol)) (b : StandsBefore old lines edit next here placements names)
+    → list_all is_placed old.placements.items ≡ true → list_all is_placed (drop (first_changed edit) placements) ≡ true
+    → list_all is_placed (placements ++ map (moved_placement s) (drop (old_place edit next) old.placements.items)) ≡ true
+made-accepted s old lines edit next here placements names b all anew =
+    let olds : List Reading = readings_in lines in
+    let news : List Reading = readings_in (lines_after lines edit) in
+    let first : ℕ = first_changed edit in
+    let from : ℕ = old_place edit next in
+    let low = b.low in
+    let high = b.high in
+    let same : take (first_changed edit) (readings_in lines) ≡ take (first_changed edit) (readings_in (lines_after lines edit)) = first-same lines edit b.within in
+    let new_inside : first_changed edit ≤ length (readings_in (lines_after lines edit)) = omega arith in
+    let old_inside : first_changed edit ≤ length (readings_in lines) = omega (arith, first-before (length lines) edit b.within, length-map lines reading_in) in
+    let new_steady : AreSteady (placed (take (first_changed edit) (readings_in (lines_after lines edit)))) = steady-placed (take first news) (fewer-steady news first next (omega arith) new_inside b.steady) in
+    let old_steady : AreSteady (placed (take (first_changed edit) (readings_in lines))) = subst (λ (ls : List Reading). AreSteady (placed ls)) (sym same) new_steady in
+    let front : take (first_changed edit) placements ≡ take (first_changed edit) old.placements.items
+    = ap (take first) b.front_placements ∙ firsts-shorter news first next (omega arith) new_inside ∙ ap first_placements (sym same) ∙ sym (placements-before olds first old_inside old_steady) ∙ ap (take first) (sym b.laid.placements) in
+    let walked : list_all is_placed placements ≡ true
+    = ap (list_all is_placed) (sym (take-append-drop first placements))
+    ∙ all-both (take first placements) (drop first placements) (ap (list_all is_placed) front ∙ (all-parts first old.placements.items all).0) anew in
+    all-both placements (map (moved_placement s) (drop from old.placements.items)) walked
+    (list_all-map is_placed (moved_placement s) (drop from old.placements.items) ∙ (all-parts from old.placements.items all).1)
 
 -- where the later lines only move, it is known which lines stand where they stood, and by how much the others moved
 pub shifted-span : (s : Shift) (old layout : Layout) (lines : List KeptLine) (edit : Edit) (next here : ℕ) (placements : List Placement) (names : List (Name × Symbol)) (b : StandsBefore old lines edit next here placements names)

@@ -1,5 +1,5 @@
 //! The first pass over all lines.
-ghost use Rattle.std.specs.Prelude.{◌≡◌, ℕ, ◌+◌, ◌<◌, ◌≤◌, true, false, List, All, [], ◌∷◌, ◌++◌, IfOk, IfSome, OnOk, Some, length, map, nat_eq, slice_get, slice_index_or, drop, take, vec_len};
+ghost use Rattle.std.specs.Prelude.{◌≡◌, ℕ, ◌+◌, ◌<◌, ◌≤◌, ◌&&◌, true, false, None, List, All, [], ◌∷◌, ◌++◌, IfOk, IfSome, OnOk, Some, length, map, nat_eq, slice_get, slice_index_or, drop, take, vec_len};
 ghost use Rattle.chip_lang.specs.declared.limits.TheConstants.{MEMORY_BYTES};
 ghost use Rattle.chip_lang.specs.Line.{Reading};
 ghost use Rattle.chip_asm.specs.Layout.{body_of};
@@ -37,6 +37,8 @@ pub(crate) struct Layout {
     pub(crate) placements: Vec<Placement>,
     pub(crate) names: Table,
     pub(crate) end: usize,
+    /// Where it is true, each line is accepted.
+    pub(crate) all_accepted: bool,
 }
 
 /// The fault of an IF whose block is open at the end.
@@ -145,6 +147,7 @@ fn first_lines(
         mut placements,
         mut names,
         end: _,
+        all_accepted: _,
     } = spare;
     placements.clear();
     placements.reserve(count)?;
@@ -182,6 +185,8 @@ fn walk(
 
 impl Layout {
     ghost use Rattle.chip_asm.specs.inner.Layouts.{IsLayoutOf};
+    ghost use Rattle.chip_asm.specs.inner.Placements.{is_placed};
+    ghost use Rattle.std.specs.List.{list_all};
 
     /// The address at which the line at a place stands, or that after the last line.
     fn address_at(&self, place: usize) -> usize
@@ -202,7 +207,17 @@ impl Layout {
             placements: Vec::new(alloc),
             names: Table::new(alloc),
             end: IMAGE_START,
+            all_accepted: true,
         }
+    }
+
+    /// Whether the lines from a place on are accepted.
+    fn is_accepted_from(&self, place: usize) -> bool
+        requires long { place ≤ vec_len self.now.placements }
+        requires accepted { self.now.all_accepted ≡ true → list_all is_placed self.now.placements.items ≡ true }
+        ensures { result ≡ list_all is_placed (drop place self.now.placements.items) }
+    {
+        self.all_accepted || are_accepted(&self.placements[place..])
     }
 
     /// How far the lines from a place on move, which are plain, where they only move: the pass stands before them at an address, and
@@ -226,7 +241,7 @@ impl Layout {
         if (old_address + here) % 2 != 0 || self.end + here > MEMORY_BYTES + old_address {
             return None;
         }
-        if are_accepted(&self.placements[from..]) {
+        if self.is_accepted_from(from) {
             Some(Shift {
                 added: added as u16,
                 removed: removed as u16,
@@ -238,22 +253,41 @@ impl Layout {
         }
     }
 
-    /// The layout of which the first lines are walked, and the others are those from a place on, moved.
+    /// How many of the first lines, up to a limit, have no fault.
+    fn clean_lines(&self, limit: usize) -> usize
+        requires long { limit ≤ vec_len self.now.placements }
+        requires accepted { self.now.all_accepted ≡ true → list_all is_placed self.now.placements.items ≡ true }
+        ensures within { result ≤ limit }
+        ensures clean { (place : ℕ) (q : Placement) → place < result → slice_get self.now.placements.items place ≡ Some q → q.fault ≡ None }
+    {
+        if self.all_accepted {
+            limit
+        } else {
+            clean_lines(&self.placements, limit)
+        }
+    }
+
+    /// The layout of which the first lines are walked, of them those from the place of the edit on anew, and the others are those from
+    /// another place on, moved.
     fn shifted(
         &self,
         alloc: Global,
         walked: (Vec<Placement>, Pass),
         shift: Shift,
+        place: usize,
         from: usize,
     ) -> Result<Self, AllocError>
+        requires place { place ≤ vec_len walked.0 }
         requires from { from ≤ vec_len self.now.placements }
         requires names { names_in walked.1.names ≡ take (length walked.1.names) (names_in self.now.names) }
         requires end { self.now.end ≤ MEMORY_BYTES }
         ensures placements { IfOk result (λ made. made.placements.items ≡ walked.0.items ++ map (moved_placement shift) (drop from self.now.placements.items)) }
         ensures names { IfOk result (λ made. made.names ≡ walked.1.names ++ map (moved_name shift) (drop (length walked.1.names) self.now.names)) }
         ensures end { IfOk result (λ made. made.end ≡ moved_address shift self.now.end) }
+        ensures accepted { IfOk result (λ made. made.all_accepted ≡ (self.now.all_accepted && list_all is_placed (drop place walked.0.items))) }
     {
         let (mut placements, pass) = walked;
+        let all_accepted = self.all_accepted && are_accepted(&placements[place..]);
         add_moved(&mut placements, &self.placements[from..], shift)?;
         let mut names = pass.into_names();
         names.append_moved(alloc, &self.names, shift)?;
@@ -261,6 +295,7 @@ impl Layout {
             placements,
             names,
             end: shift.address(self.end as u16) as usize,
+            all_accepted,
         })
     }
 
@@ -284,10 +319,12 @@ impl Layout {
         let (placements, pass) = walk(walked, alloc, traits, lines, edit, next, count)?;
         let placements = mark_unclosed(alloc, placements, pass.ended, &pass.blocks)?;
         let end = pass.here;
+        let all_accepted = are_accepted(&placements);
         Ok(Layout {
             placements,
             names: pass.into_names(),
             end,
+            all_accepted,
         })
     }
 
@@ -323,10 +360,10 @@ impl Layout {
                 let from = next + removed_by(edit) - added_by(edit);
                 if walked.1.names.are_those_up_to(&old.names, from, known) {
                     let span = Span {
-                        front: clean_lines(&old.placements, place),
+                        front: old.clean_lines(place),
                         back: lines.len() - from,
                     };
-                    let layout = old.shifted(alloc, walked, shift, from)?;
+                    let layout = old.shifted(alloc, walked, shift, place, from)?;
                     return Ok((layout, Some(span)));
                 }
             }

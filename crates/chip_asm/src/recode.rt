@@ -306,6 +306,15 @@ impl<'a> Remaking<'a> {
         Ok(())
     }
 
+    /// Whether the four lines from a place on were accepted before the edit.
+    fn were_four_accepted(&self, was: usize) -> bool
+        requires known { IsRemaking self.now }
+        requires placements { was + 4 ≤ vec_len self.now.old.now.placements }
+        ensures { (index : ℕ) → result ≡ true → index < 4 → is_placed_at self.now.old.now.placements.items (was + index) ≡ true }
+    {
+        self.old.all_accepted || are_four_accepted(&self.old.placements, was)
+    }
+
     /// Appends the new codes of four lines that stood one after the other before the edit.
     fn push_codes_of_four(
         &self,
@@ -326,7 +335,7 @@ impl<'a> Remaking<'a> {
         ensures not_lowered { meter.old.encoded ≤ meter.new.encoded }
         ensures parsed { meter.new.parsed ≡ meter.old.parsed }
     {
-        if are_four_accepted(&self.old.placements, was) {
+        if self.were_four_accepted(was) {
             self.push_codes_of_stood(alloc, meter, codes, place)
         } else {
             self.push_codes(alloc, meter, codes, place, place + 4)

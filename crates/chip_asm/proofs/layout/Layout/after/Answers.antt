@@ -1,6 +1,9 @@
-use Rattle.std.proofs.Common.{◌≡◌, ◌∙◌, ◌+◌, ◌-◌, ◌≤◌, arith, ap, refl, map, length, drop, ◌++◌, List}
+use Rattle.std.proofs.Common.{◌≡◌, ◌∙◌, ◌+◌, ◌-◌, ◌≤◌, arith, ap, sym, refl, map, length, drop, ◌++◌, List}
 use Rattle.std.proofs.lemmas.List.{length-map}
+use Rattle.std.proofs.lemmas.Bool.{and_parts}
+use Rattle.std.specs.List.{list_all}
 use Rattle.chip_lang.specs.Line.{Reading}
+use Rattle.chip_asm.specs.inner.Placements.{is_placed}
 use Rattle.chip_asm.specs.inner.Hints.{names_in}
 use Rattle.chip_asm.specs.inner.Records.{count_after, lines_after, reading_in, readings_in}
 use Rattle.chip_asm.specs.inner.Shift.{IsShift, IsWalked, added_by, moved_placement, old_place}
@@ -11,7 +14,7 @@ use Rattle.chip_asm.proofs.Bounds.{end-high}
 use Rattle.chip_asm.proofs.Edited.{length-readings_after}
 use Rattle.chip_asm.proofs.Resumed.{first-before, first-within, length-laid, continues-less, steady-by}
 use Rattle.chip_asm.proofs.ShiftedLayout.{added-some, no-keep, names-first, old-inside, shifted-layout, IsMade, StandsBefore}
-use Rattle.chip_asm.proofs.ShiftedSpan.{AreKnown, names-known, shifted-span, stands-before}
+use Rattle.chip_asm.proofs.ShiftedSpan.{AreKnown, length-firsts, made-accepted, names-known, shifted-span, stands-before}
 use Rattle.chip_asm.proofs.layout.Layout.after.Goals as goal
 
 pub first_lines-requires : goal.first_lines-requires
@@ -136,8 +139,8 @@ are_those_up_to-requires-clause-early c =
     place (omega (arith, c.min-first.ensures, c.steady_lines-steady.ensures.within)) (omega (arith, place, low, added-some c.args.edit.now c.first_plain-next.result low)) w.follows.names (c.len-known.ensures ∙ ap length made.1.names) in
     λ index e h. omega (arith, known.early index e h, from)
 
-pub clean_lines-requires : goal.clean_lines-requires
-clean_lines-requires c =
+pub shifted-requires-clause-place : goal.shifted-requires-clause-place
+shifted-requires-clause-place c =
     let all : List Reading = readings_in (lines_after c.args.lines.now c.args.edit.now) in
     let count = length-readings_after c.args.lines.now c.args.edit.now c.requires.within in
     let traits_count = length-map (readings_in (lines_after c.args.lines.now c.args.edit.now)) traits_of in
@@ -147,7 +150,41 @@ clean_lines-requires c =
     let laid : IsLayoutOf c.args.old.now (readings_in c.args.lines.now) = c.requires.before (no-keep (readings_in c.args.lines.now) c.args.edit.now k.steady) in
     let from : c.first_plain-next.result + c.removed_by.result - c.added_by-in-Some.result ≡ old_place c.args.edit.now c.first_plain-next.result = rw (c.removed_by.ensures, c.added_by-in-Some.ensures) refl in
     let old_count : length c.args.old.now.placements.items ≡ length c.args.lines.now = length-laid c.args.old.now (readings_in c.args.lines.now) laid ∙ length-map c.args.lines.now reading_in in
-    omega (arith, c.first_changed-place.ensures, first-before (length c.args.lines.now) c.args.edit.now c.requires.within, old_count, ap length c.deref.ensures.value)
+    let w : IsWalked c.in_ok-walked-2.walked (readings_in (lines_after c.args.lines.now c.args.edit.now)) c.first_plain-next.result = c.in_ok-walked-2.ensures in
+    omega (
+      arith,
+      low,
+      c.first_changed-place.ensures,
+      c.in_ok-walked-2.walked.0.ok.0,
+      ap length w.placements,
+      length-firsts all c.first_plain-next.result (omega (arith, next_high, count)),
+    )
+
+pub clean_lines-requires-clause-long : goal.clean_lines-requires-clause-long
+clean_lines-requires-clause-long c =
+    let all : List Reading = readings_in (lines_after c.args.lines.now c.args.edit.now) in
+    let count = length-readings_after c.args.lines.now c.args.edit.now c.requires.within in
+    let traits_count = length-map (readings_in (lines_after c.args.lines.now c.args.edit.now)) traits_of in
+    let next_high : c.first_plain-next.result ≤ count_after (length c.args.lines.now) c.args.edit.now = omega (arith, c.first_plain-next.ensures.within, ap length c.requires.traits, traits_count, count) in
+    let low : first_changed c.args.edit.now + added_by c.args.edit.now ≤ c.first_plain-next.result = omega (arith, c.first_plain-next.ensures.low, c.first_changed-place.ensures, c.added_by.ensures) in
+    let k : IsShift c.in-Some.shift c.args.old.now (readings_in c.args.lines.now) c.args.edit.now c.first_plain-next.result c.in_ok-walked-2.walked.1.here = c.in-Some.ensures in
+    let laid : IsLayoutOf c.args.old.now (readings_in c.args.lines.now) = c.requires.before (no-keep (readings_in c.args.lines.now) c.args.edit.now k.steady) in
+    let from : c.first_plain-next.result + c.removed_by.result - c.added_by-in-Some.result ≡ old_place c.args.edit.now c.first_plain-next.result = rw (c.removed_by.ensures, c.added_by-in-Some.ensures) refl in
+    let old_count : length c.args.old.now.placements.items ≡ length c.args.lines.now = length-laid c.args.old.now (readings_in c.args.lines.now) laid ∙ length-map c.args.lines.now reading_in in
+    omega (arith, c.first_changed-place.ensures, first-before (length c.args.lines.now) c.args.edit.now c.requires.within, old_count)
+
+pub clean_lines-requires-clause-accepted : goal.clean_lines-requires-clause-accepted
+clean_lines-requires-clause-accepted c =
+    let all : List Reading = readings_in (lines_after c.args.lines.now c.args.edit.now) in
+    let count = length-readings_after c.args.lines.now c.args.edit.now c.requires.within in
+    let traits_count = length-map (readings_in (lines_after c.args.lines.now c.args.edit.now)) traits_of in
+    let next_high : c.first_plain-next.result ≤ count_after (length c.args.lines.now) c.args.edit.now = omega (arith, c.first_plain-next.ensures.within, ap length c.requires.traits, traits_count, count) in
+    let low : first_changed c.args.edit.now + added_by c.args.edit.now ≤ c.first_plain-next.result = omega (arith, c.first_plain-next.ensures.low, c.first_changed-place.ensures, c.added_by.ensures) in
+    let k : IsShift c.in-Some.shift c.args.old.now (readings_in c.args.lines.now) c.args.edit.now c.first_plain-next.result c.in_ok-walked-2.walked.1.here = c.in-Some.ensures in
+    let laid : IsLayoutOf c.args.old.now (readings_in c.args.lines.now) = c.requires.before (no-keep (readings_in c.args.lines.now) c.args.edit.now k.steady) in
+    let from : c.first_plain-next.result + c.removed_by.result - c.added_by-in-Some.result ≡ old_place c.args.edit.now c.first_plain-next.result = rw (c.removed_by.ensures, c.added_by-in-Some.ensures) refl in
+    let old_count : length c.args.old.now.placements.items ≡ length c.args.lines.now = length-laid c.args.old.now (readings_in c.args.lines.now) laid ∙ length-map c.args.lines.now reading_in in
+    laid.accepted
 
 pub overflow_sub-span : goal.overflow_sub-span
 overflow_sub-span c =
@@ -222,6 +259,10 @@ returns-then-are_those_up_to-clause-layout c =
       placements_are = c.in_ok-layout.ensures.placements ∙ ap (λ n. c.in_ok-walked-2.walked.0.items ++ map (moved_placement c.in-Some.shift) (drop n c.args.old.now.placements.items)) from;
       names_are = c.in_ok-layout.ensures.names;
       end_is = c.in_ok-layout.ensures.end;
+      accepted_is = λ yes. ap (list_all is_placed) (c.in_ok-layout.ensures.placements ∙ ap (λ n. c.in_ok-walked-2.walked.0.items ++ map (moved_placement c.in-Some.shift) (drop n c.args.old.now.placements.items)) from)
+          ∙ made-accepted c.in-Some.shift c.args.old.now c.args.lines.now c.args.edit.now c.first_plain-next.result c.in_ok-walked-2.walked.1.here c.in_ok-walked-2.walked.0.items c.in_ok-walked-2.walked.1.names b
+          (laid.accepted (and_parts _ _ (sym c.in_ok-layout.ensures.accepted ∙ yes)).0)
+          (ap (λ n. list_all is_placed (drop n c.in_ok-walked-2.walked.0.items)) (sym c.first_changed-place.ensures) ∙ (and_parts _ _ (sym c.in_ok-layout.ensures.accepted ∙ yes)).1);
     } in
     shifted-layout c.in-Some.shift c.args.old.now c.in_ok-layout.layout c.args.lines.now c.args.edit.now c.first_plain-next.result c.in_ok-walked-2.walked.1.here c.in_ok-walked-2.walked.0.items c.in_ok-walked-2.walked.1.names b k m
 
@@ -243,6 +284,10 @@ returns-then-are_those_up_to-clause-span c =
       placements_are = c.in_ok-layout.ensures.placements ∙ ap (λ n. c.in_ok-walked-2.walked.0.items ++ map (moved_placement c.in-Some.shift) (drop n c.args.old.now.placements.items)) from;
       names_are = c.in_ok-layout.ensures.names;
       end_is = c.in_ok-layout.ensures.end;
+      accepted_is = λ yes. ap (list_all is_placed) (c.in_ok-layout.ensures.placements ∙ ap (λ n. c.in_ok-walked-2.walked.0.items ++ map (moved_placement c.in-Some.shift) (drop n c.args.old.now.placements.items)) from)
+          ∙ made-accepted c.in-Some.shift c.args.old.now c.args.lines.now c.args.edit.now c.first_plain-next.result c.in_ok-walked-2.walked.1.here c.in_ok-walked-2.walked.0.items c.in_ok-walked-2.walked.1.names b
+          (laid.accepted (and_parts _ _ (sym c.in_ok-layout.ensures.accepted ∙ yes)).0)
+          (ap (λ n. list_all is_placed (drop n c.in_ok-walked-2.walked.0.items)) (sym c.first_changed-place.ensures) ∙ (and_parts _ _ (sym c.in_ok-layout.ensures.accepted ∙ yes)).1);
     } in
     shifted-span c.in-Some.shift c.args.old.now c.in_ok-layout.layout c.args.lines.now c.args.edit.now c.first_plain-next.result c.in_ok-walked-2.walked.1.here c.in_ok-walked-2.walked.0.items c.in_ok-walked-2.walked.1.names b k m _
-    (omega (arith, c.clean_lines.ensures.within, c.first_changed-place.ensures)) (λ place q h at. c.clean_lines.ensures.clean place q h (rw c.deref.ensures.value at)) (ap (λ n. length c.args.lines.now - n) from)
+    (omega (arith, c.clean_lines.ensures.within, c.first_changed-place.ensures)) c.clean_lines.ensures.clean (ap (λ n. length c.args.lines.now - n) from)

@@ -29,24 +29,20 @@ overflow_add-old_address-else-old_address-here-ne0 c =
     (λ ls l inside. c.address_at-old_address.ensures ls l (omega (arith, from, inside)) ∙ ap (λ n. address (placed (take n ls))) from) in
     omega (arith, b.high)
 
-pub slice_bounds-are_accepted-count : goal.slice_bounds-are_accepted-count
-slice_bounds-are_accepted-count c =
+pub is_accepted_from-requires-clause-long : goal.is_accepted_from-requires-clause-long
+is_accepted_from-requires-clause-long c =
     let laid = c.requires.before (no-keep (readings_in c.args.lines.now) c.args.edit.now (sym c.takes_steady.ensures ∙ c.if-not-takes_steady.false)) in
     let from : c.args.next + c.removed_by-removed.result - c.added_by-added.result ≡ old_place c.args.edit.now c.args.next = rw (c.removed_by-removed.ensures, c.added_by-added.ensures) refl in
     let b = bounded c.args.self.now c.args.lines.now c.args.edit.now c.args.next c.address_at-old_address.result c.requires.within c.requires.end c.requires.next laid
     (λ ls l inside. c.address_at-old_address.ensures ls l (omega (arith, from, inside)) ∙ ap (λ n. address (placed (take n ls))) from) in
-    omega (arith, b.inside, from, ap length c.deref.ensures.value)
+    omega (arith, b.inside, from)
 
-pub slice_bounds-are_accepted-start : goal.slice_bounds-are_accepted-start
-slice_bounds-are_accepted-start c =
-    let laid = c.requires.before (no-keep (readings_in c.args.lines.now) c.args.edit.now (sym c.takes_steady.ensures ∙ c.if-not-takes_steady.false)) in
-    let from : c.args.next + c.removed_by-removed.result - c.added_by-added.result ≡ old_place c.args.edit.now c.args.next = rw (c.removed_by-removed.ensures, c.added_by-added.ensures) refl in
-    let b = bounded c.args.self.now c.args.lines.now c.args.edit.now c.args.next c.address_at-old_address.result c.requires.within c.requires.end c.requires.next laid
-    (λ ls l inside. c.address_at-old_address.ensures ls l (omega (arith, from, inside)) ∙ ap (λ n. address (placed (take n ls))) from) in
-    omega (arith, b.inside, from, ap length c.deref.ensures.value)
+pub is_accepted_from-requires-clause-accepted : goal.is_accepted_from-requires-clause-accepted
+is_accepted_from-requires-clause-accepted c =
+    (c.requires.before (no-keep (readings_in c.args.lines.now) c.args.edit.now (sym c.takes_steady.ensures ∙ c.if-not-takes_steady.false))).accepted
 
-pub overflow_cast-result-then-are_accepted-3 : goal.overflow_cast-result-then-are_accepted-3
-overflow_cast-result-then-are_accepted-3 c =
+pub overflow_cast-result-then-is_accepted_from-3 : goal.overflow_cast-result-then-is_accepted_from-3
+overflow_cast-result-then-is_accepted_from-3 c =
     let laid = c.requires.before (no-keep (readings_in c.args.lines.now) c.args.edit.now (sym c.takes_steady.ensures ∙ c.if-not-takes_steady.false)) in
     let from : c.args.next + c.removed_by-removed.result - c.added_by-added.result ≡ old_place c.args.edit.now c.args.next = rw (c.removed_by-removed.ensures, c.added_by-added.ensures) refl in
     let b = bounded c.args.self.now c.args.lines.now c.args.edit.now c.args.next c.address_at-old_address.result c.requires.within c.requires.end c.requires.next laid

@@ -1,4 +1,6 @@
-use Rattle.std.proofs.Common.{◌≡◌, ◌∙◌, subst, arith, take, List}
+use Rattle.std.proofs.Common.{◌≡◌, ◌∙◌, ap, sym, subst, arith, take, List}
+use Rattle.std.specs.List.{list_all}
+use Rattle.chip_asm.specs.inner.Placements.{is_placed}
 use Rattle.std.proofs.lemmas.List.{take_all}
 use Rattle.chip_lang.specs.Line.{Reading}
 use Rattle.chip_asm.specs.inner.Records.{lines_after, readings_in}
@@ -20,4 +22,5 @@ returns c =
           ∙ (rw (c.deref.ensures.value, w.placements, whole) (marked-placements all c.in_ok-placements.pass.ended c.in_ok-placements.pass.blocks.items follows.ended follows.open_blocks));
       names = c.into_names.ensures ∙ follows.names;
       end_address = follows.at_address;
+      accepted = λ yes. ap (list_all is_placed) (sym c.deref-2.ensures.value) ∙ sym c.are_accepted-all_accepted.ensures ∙ yes;
     }
