@@ -34,9 +34,7 @@ impl Shift {
     fn number(self, number: u16) -> u16
         ensures { result ≡ moved_number self number }
     {
-        number
-            .saturating_add(self.added)
-            .saturating_sub(self.removed)
+        number.wrapping_add(self.added).wrapping_sub(self.removed)
     }
 
     /// The address of a line that moves.
@@ -44,8 +42,8 @@ impl Shift {
         ensures { result ≡ moved_address self address }
     {
         address
-            .saturating_add(self.new_address)
-            .saturating_sub(self.old_address)
+            .wrapping_add(self.new_address)
+            .wrapping_sub(self.old_address)
     }
 
     /// What holds of a line that moves.

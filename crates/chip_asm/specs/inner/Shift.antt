@@ -1,4 +1,4 @@
--- What moves where the lines after an edit only move (own). The sums stay far below where they would end.
+-- What moves where the lines after an edit only move (own). The sums are those of 16 bits, and stay far below where these would end.
 use Rattle.std.specs.Prelude.{◌≡◌, ℕ, ◌+◌, ◌-◌, ◌^◌, ◌%◌, ◌≤◌, min, pos, unsigned_abs, Bool, true, false, List, take, drop, slice_get}
 use Rattle.std.specs.List.{list_all}
 use Rattle.std.specs.Global.{Vec}
@@ -22,10 +22,10 @@ use Rattle.chip_asm.specs.computed.Walk.{placed, address}
 use Rattle.chip_asm.specs.Names.{Name}
 
 abbrev pub moved_number : Shift → ℕ → ℕ
-moved_number shift number = min (number + shift.added) (2 ^ 16 - 1) - shift.removed
+moved_number shift number = ((number + shift.added) % 2 ^ 16 + (2 ^ 16 - shift.removed)) % 2 ^ 16
 
 abbrev pub moved_address : Shift → ℕ → ℕ
-moved_address shift address = min (address + shift.new_address) (2 ^ 16 - 1) - shift.old_address
+moved_address shift address = ((address + shift.new_address) % 2 ^ 16 + (2 ^ 16 - shift.old_address)) % 2 ^ 16
 
 abbrev pub moved_placement : Shift → Placement → Placement
 moved_placement shift q = record q { number = moved_number shift q.number; here = moved_address shift q.here }
