@@ -159,8 +159,8 @@ pub kept-swapped : (old new : Kept) (at : ℕ) (q : Placement) (was added : Kept
     → (x : Exchange old.lines.items at q was added)
     → ((index : ℕ) → get_or new.image.items index 0 ≡ cond (leb q.here (IMAGE_START + index) && ltb (IMAGE_START + index) (q.here + q.size)) (get_or (kept_bytes added) (IMAGE_START + index - q.here) 0) (get_or old.image.items index 0))
     → vec_len new.image ≡ vec_len old.image → new.faults + count_of (kept_fault q was) ≡ old.faults + count_of (kept_fault q added)
-    → new.traits.items ≡ set old.traits.items at (traits_of (reading_in added)) → new.hints.items ≡ set old.hints.items at (hint_in (names_in old.layout.names) (reading_in added)) → IsKept new
-kept-swapped old new at q was added k inside lines layout code is_read x image long faults traits hints = record {
+    → new.traits.items ≡ set old.traits.items at (traits_of (reading_in added)) → new.hints.items ≡ set old.hints.items at (hint_in (names_in old.layout.names) (reading_in added)) → new.spare ≡ old.spare → IsKept new
+kept-swapped old new at q was added k inside lines layout code is_read x image long faults traits hints spare = record {
   few = rw lines (omega (arith, k.few, length-set old.lines.items at added));
   are_read = rw lines (read-set old.lines.items at added k.are_read is_read);
   laid_out = rw (lines, layout, readings-set old.lines.items at added) (layout-swapped old.layout (readings_in old.lines.items) at (reading_in added) x.swap k.laid_out);
@@ -177,6 +177,7 @@ kept-swapped old new at q was added k inside lines layout code is_read x image l
   hints = rw layout
       (hints ∙ ap (λ hs. set hs at (hint_in (names_in old.layout.names) (reading_in added))) k.hints ∙ sym (mapped-set (hint_in (names_in old.layout.names)) old.lines.items at added)
       ∙ ap (λ ls. map (hint_in (names_in old.layout.names)) (readings_in ls)) (sym lines));
+  spare = rw (layout, spare) k.spare;
 }
 
 -- what the kept parts of a line say of its effect

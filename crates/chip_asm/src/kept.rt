@@ -11,7 +11,7 @@ ghost use Rattle.chip_asm.specs.Program.{image_of_lines};
 ghost use Rattle.chip_asm.specs.inner.Records.{IsPlaceWithin, count_after, lines_after, reading_in, readings_in, texts_in, place_before};
 ghost use Rattle.chip_asm.specs.Work.{needs_count};
 ghost use Rattle.chip_asm.specs.inner.Recode.{new_codes};
-ghost use Rattle.chip_asm.specs.inner.Layouts.{IsLayoutOf};
+ghost use Rattle.chip_asm.specs.inner.Layouts.{IsLayoutOf, IsSpareFor};
 ghost use Rattle.chip_asm.specs.inner.Resume.{Continues, first_changed};
 ghost use Rattle.chip_asm.specs.inner.Shift.{is_keep};
 ghost use Rattle.chip_asm.specs.inner.Hints.{names_in, hint_in};
@@ -43,7 +43,7 @@ use std::mem;
 pub(crate) struct Kept {
     pub(crate) lines: Vec<BoxedLine>,
     pub(crate) layout: Layout,
-    /// The layout before the last edit, for its room.
+    /// The layout before the last edit, for its room, and for its names, where they are the same. Else it has none.
     pub(crate) spare: Layout,
     /// At the place of each line: the number of the one name that it uses in the layout's table, counted from 2; 0 where it uses none,
     /// and else 1.
@@ -62,9 +62,23 @@ struct Prepared {
     traits: Vec<Traits>,
     hints: Vec<u16>,
     layout: Layout,
+    /// Where it is true, the layout has the names of the one before.
+    same_names: bool,
     /// The span of lines that stay or move by one distance, where the layout told it.
     span: Option<Span>,
     codes: Vec<(usize, Coded)>,
+}
+
+/// A layout as the room for the one after another, of which it has the names, if that is said.
+fn spare_from(before: Layout, same_names: bool, layout: &Layout) -> Layout
+    requires { same_names ≡ true → names_in before.names ≡ names_in layout.now.names }
+    ensures { IsSpareFor layout.now result }
+{
+    let mut spare = before;
+    if !same_names {
+        spare.names.restart();
+    }
+    spare
 }
 
 impl Prepared {
@@ -286,6 +300,9 @@ impl Kept {
         requires continues { Continues self.old.layout (readings_in (lines_after self.old.lines.items edit.now)) (first_changed edit.now) }
         requires before { is_keep edit.now ≡ false → IsLayoutOf self.old.layout (readings_in self.old.lines.items) }
         requires hints { self.old.hints.items ≡ map (hint_in (names_in self.old.layout.names)) (readings_in self.old.lines.items) }
+        requires spare { IsSpareFor self.old.layout self.old.spare }
+        ensures spare { IsSpareFor self.new.layout self.new.spare }
+        ensures same_names { IfOk result (λ prepared. prepared.same_names ≡ true → names_in self.old.layout.names ≡ names_in prepared.layout.names) }
         ensures traits { self.new.traits ≡ self.old.traits }
         ensures hints { self.new.hints ≡ self.old.hints }
         ensures hints_after { IfOk result (λ prepared. prepared.hints.items ≡ map (hint_in (names_in prepared.layout.names)) (readings_in (lines_after self.old.lines.items edit.now))) }
@@ -334,6 +351,7 @@ impl Kept {
             traits,
             hints,
             layout,
+            same_names,
             span,
             codes,
         })
@@ -350,6 +368,7 @@ impl Kept {
         requires current { MakesCurrent prepared.codes.items self.old.lines.items }
         requires image { vec_len self.old.image ≡ IMAGE_BYTES }
         requires stood { StoodBefore self.old.layout prepared.layout span self.old.faults self.old.image.items self.old.lines.items }
+        requires same { prepared.same_names ≡ true → names_in self.old.layout.names ≡ names_in prepared.layout.names }
         ensures texts { texts_in self.new.lines.items ≡ texts_in self.old.lines.items }
         ensures kept { IsKept self.new }
     {
@@ -357,6 +376,7 @@ impl Kept {
             traits,
             hints,
             layout,
+            same_names,
             span: _,
             codes,
         } = prepared;
@@ -370,6 +390,7 @@ impl Kept {
         self.faults = settle_image(&mut self.image, &mut self.lines, codes, &settling);
         self.traits = traits;
         self.hints = hints;
-        self.spare = mem::replace(&mut self.layout, layout);
+        let before = mem::replace(&mut self.layout, layout);
+        self.spare = spare_from(before, same_names, &self.layout);
     }
 }

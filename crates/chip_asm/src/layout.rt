@@ -184,7 +184,7 @@ fn walk(
 }
 
 impl Layout {
-    ghost use Rattle.chip_asm.specs.inner.Layouts.{IsLayoutOf};
+    ghost use Rattle.chip_asm.specs.inner.Layouts.{IsLayoutOf, IsSpareFor};
     ghost use Rattle.chip_asm.specs.inner.Placements.{is_placed};
     ghost use Rattle.std.specs.List.{list_all};
 
@@ -340,6 +340,7 @@ impl Layout {
         edit: &Edit,
     ) -> Result<(Self, Option<Span>), AllocError>
         requires within { IsPlaceWithin (length lines.now) edit.now }
+        requires spare { IsSpareFor old.now spare }
         requires continues { Continues old.now (readings_in (lines_after lines.now edit.now)) (first_changed_by edit.now) }
         requires before { is_keep edit.now ≡ false → IsLayoutOf old.now (readings_in lines.now) }
         requires few { length lines.now ≤ MOST_LINES }

@@ -8,7 +8,7 @@ use Rattle.chip_asm.specs.declared.kept_line.KeptLine.{KeptLine}
 use Rattle.chip_asm.specs.declared.kept.Kept.{Kept}
 use Rattle.chip_asm.specs.Layout.{body_of}
 use Rattle.chip_asm.specs.computed.Walk.{placed}
-use Rattle.chip_asm.specs.inner.Layouts.{IsLayoutOf, placements_of}
+use Rattle.chip_asm.specs.inner.Layouts.{IsSpareFor, IsLayoutOf, placements_of}
 use Rattle.chip_asm.specs.Program.{faults_of_lines, byte_at}
 use Rattle.chip_asm.specs.inner.Records.{reading_in, readings_in, texts_in}
 use Rattle.chip_asm.specs.inner.Hints.{names_in, hint_in}
@@ -39,6 +39,7 @@ pub record IsKept (kept : Kept) : Type 0 where
   pub counted : kept.faults ≡ length (faults_of_lines (readings_in kept.lines.items))
   pub traits : kept.traits.items ≡ map traits_of (readings_in kept.lines.items)
   pub hints : kept.hints.items ≡ map (hint_in (names_in kept.layout.names)) (readings_in kept.lines.items)
+  pub spare : IsSpareFor kept.layout kept.spare
 
 -- the new codes stand in the place of the kept ones, and nothing else changed
 pub record IsMerged (kept : List KeptLine) (fresh : List (ℕ × Coded)) (lines : List KeptLine) : Type 0 where

@@ -1,7 +1,9 @@
-use Rattle.std.proofs.Common.{◌≡◌, ℕ, ◌+◌, ap, arith, refl, length, get_or, []}
+use Rattle.std.proofs.Common.{◌≡◌, ◌∙◌, ℕ, ◌+◌, ap, arith, refl, length, get_or, []}
 use Rattle.chip_lang.specs.declared.limits.TheConstants.{IMAGE_START}
 use Rattle.chip_asm.specs.computed.Walk.{placed}
 use Rattle.chip_asm.specs.Program.{faults_of_lines, byte_at}
+use Rattle.chip_asm.proofs.HintSteps.{no-names}
+use Rattle.chip_asm.proofs.KeptSteps.{spare-none}
 use Rattle.chip_asm.proofs.kept.Kept.new.Goals as goal
 
 no_bytes : (k : ℕ) → get_or [] k 0 ≡ byte_at (placed []) (IMAGE_START + k)
@@ -26,4 +28,5 @@ returns-clause-kept c =
       counted = rw c.new.ensures.items no_faults;
       traits = rw (c.new.ensures.items, c.new-6.ensures.items) refl;
       hints = rw (c.new.ensures.items, c.new-4.ensures.items) refl;
+      spare = spare-none c.new-2.result c.new-3.result (c.new-3.ensures.names ∙ no-names);
     }

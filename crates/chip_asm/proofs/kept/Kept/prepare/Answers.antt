@@ -1,4 +1,7 @@
-use Rattle.std.proofs.Common.{◌≡◌, ◌∙◌, ◌+◌, ◌≤◌, arith}
+use Rattle.std.proofs.Common.{◌≡◌, ◌∙◌, ◌+◌, ◌≤◌, ap, arith}
+use Rattle.chip_asm.specs.declared.layout.Layout.{Layout}
+use Rattle.chip_asm.proofs.HintSteps.{no-names}
+use Rattle.chip_asm.proofs.KeptSteps.{spare-none}
 use Rattle.chip_asm.specs.inner.Records.{readings_in, lines_after, place_before}
 use Rattle.chip_asm.specs.inner.Recode.{count_again}
 use Rattle.chip_asm.proofs.NeedsSteps.{count-needed}
@@ -22,3 +25,21 @@ pub returns-clause-codes : goal.returns-clause-codes
 returns-clause-codes c = λ before laid.
     let seen : c.deref-7.result.now ≡ c.args.self.now.lines.items = c.deref-7.ensures.value ∙ c.reserve.ensures.items in
     rw (← seen) (c.in_ok-codes.ensures.codes before laid)
+
+pub returns-in_err-traits-clause-spare : goal.returns-in_err-traits-clause-spare
+returns-in_err-traits-clause-spare c = spare-none c.args.self.now.layout c.replace-spare.new.dest (ap (λ (l : Layout). l.names) c.replace-spare.ensures.after ∙ c.new.ensures.names ∙ no-names)
+
+pub returns-in_err-layout-clause-spare : goal.returns-in_err-layout-clause-spare
+returns-in_err-layout-clause-spare c = spare-none c.args.self.now.layout c.replace-spare.new.dest (ap (λ (l : Layout). l.names) c.replace-spare.ensures.after ∙ c.new.ensures.names ∙ no-names)
+
+pub returns-in_err-hints-clause-spare : goal.returns-in_err-hints-clause-spare
+returns-in_err-hints-clause-spare c = spare-none c.args.self.now.layout c.replace-spare.new.dest (ap (λ (l : Layout). l.names) c.replace-spare.ensures.after ∙ c.new.ensures.names ∙ no-names)
+
+pub returns-in_err-moves-clause-spare : goal.returns-in_err-moves-clause-spare
+returns-in_err-moves-clause-spare c = spare-none c.args.self.now.layout c.replace-spare.new.dest (ap (λ (l : Layout). l.names) c.replace-spare.ensures.after ∙ c.new.ensures.names ∙ no-names)
+
+pub returns-in_err-codes-clause-spare : goal.returns-in_err-codes-clause-spare
+returns-in_err-codes-clause-spare c = spare-none c.args.self.now.layout c.replace-spare.new.dest (ap (λ (l : Layout). l.names) c.replace-spare.ensures.after ∙ c.new.ensures.names ∙ no-names)
+
+pub returns-clause-spare : goal.returns-clause-spare
+returns-clause-spare c = spare-none c.args.self.now.layout c.replace-spare.new.dest (ap (λ (l : Layout). l.names) c.replace-spare.ensures.after ∙ c.new.ensures.names ∙ no-names)

@@ -63,7 +63,7 @@ returns-clause-kept c =
     ap (λ xs. get_or xs k 0) (refilled c.args.self.now.image.len c.write_line.new.image c.args.self.now.image.items long)
     ∙ (rw (← c.kept_bytes.ensures, ← c.deref_mut.ensures.value) (c.write_line.ensures k)))
     refl faults (ap (λ t. set c.args.self.now.traits.items c.args.at t) (c.traits_of.ensures ∙ ap (λ (k : KeptLine). traits_of (reading_in k)) c.get.ensures))
-    (ap (λ h. set c.args.self.now.hints.items c.args.at h) (c.hint_of.ensures ∙ ap (λ (k : KeptLine). hint_in (names_in c.args.self.now.layout.names) (reading_in k)) c.get-2.ensures))
+    (ap (λ h. set c.args.self.now.hints.items c.args.at h) (c.hint_of.ensures ∙ ap (λ (k : KeptLine). hint_in (names_in c.args.self.now.layout.names) (reading_in k)) c.get-2.ensures)) refl
 
 pub returns-clause-changed : goal.returns-clause-changed
 returns-clause-changed c =

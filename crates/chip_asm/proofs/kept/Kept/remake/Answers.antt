@@ -93,6 +93,7 @@ settle-requires-clause-stood c =
 pub returns-in_err-prepared-clause-kept : goal.returns-in_err-prepared-clause-kept
 returns-in_err-prepared-clause-kept c =
     kept-same c.args.self.now c.prepare.new.self c.requires.kept c.prepare.ensures.lines c.prepare.ensures.layout c.prepare.ensures.faults c.prepare.ensures.image c.prepare.ensures.short c.prepare.ensures.long c.prepare.ensures.traits c.prepare.ensures.hints
+    c.prepare.ensures.spare
 
 pub returns-clause-changed : goal.returns-clause-changed
 returns-clause-changed c = all-places (readings_in c.args.self.now.lines.items) (readings_in c.settle.new.self.lines.items)

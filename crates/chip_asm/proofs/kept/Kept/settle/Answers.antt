@@ -19,9 +19,10 @@ returns-clause-kept c =
     let written = refilled c.args.self.now.image.len c.settle_image-self.new.image _ (omega (arith, c.settle_image-self.auto.image, c.deref_mut.ensures.len, c.args.self.now.image.ok.0)) in
     let full : readings_in c.deref_mut-2.result.now ≡ readings_in c.settle_image-self.new.lines = ap readings_in seen ∙ sym merged.readings in
     kept-by _ c.settle_image-self.new.lines rest (omega (arith, merged.long, c.requires.few)) (merged.readings ∙ c.requires.are_read ∙ ap (map reading_of) (sym merged.texts))
-    (rw (merged.readings, c.replace.ensures.after) c.requires.laid_out)
+    (rw (merged.readings, c.replace-before.ensures.after) c.requires.laid_out)
     (c.requires.current.current c.settle_image-self.new.lines merged)
     (λ k h. ap (λ xs. get_or xs k 0) written ∙ c.settle_image-self.ensures.bytes k h ∙ ap (λ (rs : List Reading). byte_at (placed rs) (IMAGE_START + k)) full)
     c.requires.image (c.settle_image-self.ensures.counted ∙ ap (λ (rs : List Reading). length (faults_of_lines rs)) full)
     (c.requires.traits ∙ ap (map traits_of) (sym merged.readings))
-    (rw c.replace.ensures.after (c.requires.hints ∙ ap (map (hint_in (names_in c.args.prepared.layout.names))) (sym merged.readings)))
+    (rw c.replace-before.ensures.after (c.requires.hints ∙ ap (map (hint_in (names_in c.args.prepared.layout.names))) (sym merged.readings)))
+    c.spare_from.ensures
