@@ -19,6 +19,7 @@ use Rattle.std.proofs.lemmas.Option.{get_or_from_slice_get, slice_get-map, slice
 use Rattle.chip_lang.specs.Value.{value_of_name}
 use Rattle.chip_asm.specs.declared.table.Symbol.{Symbol}
 use Rattle.chip_asm.specs.Names.{Name, lookup_name, valued, values_of}
+use Rattle.chip_asm.specs.inner.Hints.{names_in}
 use Rattle.chip_asm.specs.inner.Resume.{names_up_to}
 
 -- a look-up by the bytes of the keys
@@ -243,3 +244,19 @@ pub taken-up-to : (number : ℕ) (names : List (Name × Symbol)) (i : ℕ) (d : 
     → (i < length names → nat_le (get_or names i d).1.line number ≡ false) → names_up_to number names ≡ take i names
 taken-up-to number names i d h passes stops =
     ap (λ k. take k names) (prefix_len_is (λ (e : Name × Symbol). nat_le e.1.line number) names i d h (λ k below. passes k below d) stops)
+
+-- a value that is written leaves the names
+pub names-kept : (n i : ℕ) (entries : List (Vec ℕ × Symbol)) (symbol : Symbol) → names_in (map seen (take n (set_value_at entries i symbol))) ≡ names_in (map seen (take n entries))
+names-kept zero i entries symbol = refl
+names-kept (suc n) zero [] symbol = refl
+names-kept (suc n) (suc i) [] symbol = refl
+names-kept (suc n) zero (e ∷ entries) symbol = refl
+names-kept (suc n) (suc i) (e ∷ entries) symbol = ap (λ l. e.0.items ∷ l) (names-kept n i entries symbol)
+
+-- the key of an entry is the name there
+pub key-named : (n i : ℕ) (entries : List (Vec ℕ × Symbol)) (name : Name) → i < n → slice_get (names_in (map seen (take n entries))) i ≡ Some name → IfSome (slice_get entries i) (λ e. e.0.items ≡ name)
+key-named zero i entries name h at = absurd (omega (arith, h))
+key-named (suc n) zero [] name h at = tt
+key-named (suc n) (suc i) [] name h at = tt
+key-named (suc n) zero (e ∷ entries) name h at = cc
+key-named (suc n) (suc i) (e ∷ entries) name h at = key-named n i entries name (omega (arith, h)) at

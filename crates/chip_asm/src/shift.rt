@@ -28,7 +28,7 @@ pub(crate) struct Shift {
 }
 
 impl Shift {
-    ghost use Rattle.chip_asm.specs.inner.Shift.{moved_number, moved_address, moved_symbol};
+    ghost use Rattle.chip_asm.specs.inner.Shift.{moved_number, moved_address, moved_symbol, symbol_past};
 
     /// The number of a line that moves.
     fn number(self, number: u16) -> u16
@@ -65,6 +65,17 @@ impl Shift {
         Symbol {
             value: self.address(address as u16) as i32,
             line: self.number(number as u16) as usize,
+        }
+    }
+
+    /// What a name means after the edit: the same for one of a line up to a number, and else that of an address at a line that moves.
+    pub(crate) fn symbol_past(self, number: usize, symbol: &Symbol) -> Symbol
+        ensures { result ≡ symbol_past self number symbol.now }
+    {
+        if symbol.line <= number {
+            *symbol
+        } else {
+            self.symbol(symbol)
         }
     }
 }

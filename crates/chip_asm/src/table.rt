@@ -66,7 +66,7 @@ impl Model for Table {
 
 impl Table {
     ghost use Rattle.chip_asm.specs.inner.Resume.{names_up_to};
-    ghost use Rattle.chip_asm.specs.inner.Shift.{moved_name};
+    ghost use Rattle.chip_asm.specs.inner.Shift.{moved_name, name_past};
     ghost use Rattle.chip_asm.specs.inner.Hints.{names_in, number_of};
     ghost use Rattle.chip_asm.specs.Names.{Name};
     ghost use Rattle.chip_asm.specs.declared.table.Symbol.{Symbol};
@@ -133,6 +133,20 @@ impl Table {
             self.define(alloc, name, shift.symbol(symbol))?;
         }
         Ok(())
+    }
+
+    /// Gives its names, which are those of another table, what they mean after an edit by which the lines past that of a number move. No
+    /// name is compared.
+    pub(crate) fn move_from(&mut self, other: &Table, number: usize, shift: Shift)
+        requires { names_in self.old ≡ names_in other.now }
+        ensures { self.new ≡ map (name_past shift number) other.now }
+    {
+        for index in 0..self.count {
+            let Some((_, symbol)) = other.symbols.get_index(index) else {
+                unreachable!();
+            };
+            self.symbols[index] = shift.symbol_past(number, symbol);
+        }
     }
 
     /// Whether the names are those that lines up to a number give, of another table, with which it shares so many first ones.

@@ -1,5 +1,5 @@
 -- What moves where the lines after an edit only move (own). The sums are those of 16 bits, and stay far below where these would end.
-use Rattle.std.specs.Prelude.{◌≡◌, ℕ, ◌+◌, ◌-◌, ◌^◌, ◌%◌, ◌≤◌, min, pos, unsigned_abs, Bool, true, false, List, take, drop, slice_get}
+use Rattle.std.specs.Prelude.{◌≡◌, ℕ, ◌+◌, ◌-◌, ◌^◌, ◌%◌, ◌≤◌, nat_le, if◌then◌else◌, min, pos, unsigned_abs, Bool, true, false, List, take, drop, slice_get}
 use Rattle.std.specs.List.{list_all}
 use Rattle.std.specs.Global.{Vec}
 use Rattle.std.specs.Option.{option_map_or}
@@ -36,6 +36,13 @@ moved_symbol shift symbol = record {
   value = pos (moved_address shift (min (unsigned_abs symbol.value) MEMORY_BYTES));
   line = moved_number shift (min symbol.line MOST_LINES);
 }
+
+-- what a name means after the edit, where the lines past that of a number move
+abbrev pub symbol_past : Shift → ℕ → Symbol → Symbol
+symbol_past shift number symbol = if nat_le symbol.line number then symbol else moved_symbol shift symbol
+
+abbrev pub name_past : Shift → ℕ → Name × Symbol → Name × Symbol
+name_past shift number e = (e.0, symbol_past shift number e.1)
 
 abbrev pub moved_name : Shift → Name × Symbol → Name × Symbol
 moved_name shift e = (e.0, moved_symbol shift e.1)
