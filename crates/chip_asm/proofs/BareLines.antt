@@ -40,7 +40,7 @@ unnamed line size b n = subst (λ name. IsBare line name size) (none (name_defin
     none (Some name) h = cc
 
 -- such a line isn't padded
-bare-size : (aligning : Bool) (here : ℕ) (body : Body) → is_bare body ≡ true → full_size aligning here body (pos 0) ≡ own_size body (pos 0)
+pub bare-size : (aligning : Bool) (here : ℕ) (body : Body) → is_bare body ≡ true → full_size aligning here body (pos 0) ≡ own_size body (pos 0)
 bare-size true here empty b = refl
 bare-size false here empty b = refl
 bare-size true here (code form operands) b = refl
@@ -51,7 +51,7 @@ past : (aligning : Bool) (here : ℕ) (body : Body) (b : is_bare body ≡ true) 
 past aligning here body b = ap (λ n. nat_lt MEMORY_BYTES (here + n)) (bare-size aligning here body b)
 
 -- the fault of such a line
-bare-fault : (before : List Placed) (name : Option Name) (body : Body) → is_bare body ≡ true
+pub bare-fault : (before : List Placed) (name : Option Name) (body : Body) → is_bare body ≡ true
     → first_fault before (read name body)
     ≡ cond (is_redefinition (symbols before) name) (Some DefinedTwice) (cond (nat_lt MEMORY_BYTES (address before + own_size body (pos 0))) (Some PastMemory) None)
 unfolding first_fault fault_of_value value_at
@@ -60,13 +60,13 @@ bare-fault before name (code form operands) b =
     ap (λ t. cond (is_redefinition (symbols before) name) (Some DefinedTwice) (cond t (Some PastMemory) None)) (past (is_aligning before) (address before) (code form operands) b)
 bare-fault before name _ b = cc
 
-no-value : (before : List Placed) (body : Body) → is_bare body ≡ true → pos 0 ≡ value_or_zero (value_at (symbols before) body)
+pub no-value : (before : List Placed) (body : Body) → is_bare body ≡ true → pos 0 ≡ value_or_zero (value_at (symbols before) body)
 unfolding value_at
 no-value before empty b = refl
 no-value before (code form operands) b = refl
 no-value before _ b = cc
 
-no-if : (body : Body) → is_bare body ≡ true → false ≡ is_if_body body
+pub no-if : (body : Body) → is_bare body ≡ true → false ≡ is_if_body body
 no-if empty b = refl
 no-if (code form operands) b = refl
 no-if _ b = cc
@@ -76,7 +76,7 @@ no-side empty b = refl
 no-side (code form operands) b = refl
 no-side _ b = cc
 
-live-elsewhere : (before : List Placed) (body : Body) → is_bare body ≡ true → is_live before empty ≡ is_live before body
+pub live-elsewhere : (before : List Placed) (body : Body) → is_bare body ≡ true → is_live before empty ≡ is_live before body
 unfolding is_live
 live-elsewhere before empty b = refl
 live-elsewhere before (code form operands) b = refl

@@ -20,6 +20,7 @@ pub mod ImageWhole
 pub mod KeptWrites
 pub mod KeptSteps
 pub mod QuietLines
+pub mod QuietEdits
 pub mod SwappedLine
 pub mod SwappedFacts
 pub mod KeptSwapped

@@ -193,7 +193,7 @@ abbrev pub UpTo : ℕ → List (Name × Symbol) → Type 0
 UpTo n [] = Unit {0}
 UpTo n (e ∷ es) = (e.1.line ≤ n) × UpTo n es
 
-abbrev Over : ℕ → List (Name × Symbol) → Type 0
+abbrev pub Over : ℕ → List (Name × Symbol) → Type 0
 Over n [] = Unit {0}
 Over n (e ∷ es) = (n < e.1.line) × Over n es
 
@@ -255,6 +255,24 @@ names-before lines n h =
     let long : length (placed (take n lines)) ≡ n = length-placed (take n lines) ∙ length-take-le n lines h in
     ap (names_up_to n) (symbols-begin (placed (take n lines)) (placed lines) b)
     ∙ goes-on n (symbols (placed (take n lines))) (filter_map symbol_of b.rest) (given-up-to n (placed (take n lines)) (numbered (take n lines)) (omega arith)) (given-over n b.rest (subst (λ (k : ℕ). Above k b.rest) long b.later))
+
+-- the names that the first lines give, and those that the others do
+pub record NamesSplit (lines : List Reading) (n : ℕ) : Type 0 where
+  pub later : List (Name × Symbol)
+  pub is : names_of_lines lines ≡ symbols (placed (take n lines)) ++ later
+  pub early : UpTo n (symbols (placed (take n lines)))
+  pub late : Over n later
+
+pub names-split : (lines : List Reading) (n : ℕ) → n ≤ length lines → NamesSplit lines n
+names-split lines n h =
+    let b : Begins (placed (take n lines)) (placed lines) = begins lines n in
+    let long : length (placed (take n lines)) ≡ n = length-placed (take n lines) ∙ length-take-le n lines h in
+    record {
+      later = filter_map symbol_of b.rest;
+      is = symbols-begin (placed (take n lines)) (placed lines) b;
+      early = given-up-to n (placed (take n lines)) (numbered (take n lines)) (omega arith);
+      late = given-over n b.rest (subst (λ (k : ℕ). Above k b.rest) long b.later);
+    }
 
 -- what is known of the first lines
 

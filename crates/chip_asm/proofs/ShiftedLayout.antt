@@ -234,7 +234,7 @@ pub plain-traits : (lines : List Reading) → list_all (λ (t : Traits). t.is_pl
 plain-traits [] = refl
 plain-traits (line ∷ lines) = rw (plain-traits lines) refl
 
-one-added : (edit : Edit) → added_by edit ≤ 1
+pub one-added : (edit : Edit) → added_by edit ≤ 1
 one-added (Insert at line) = omega arith
 one-added (Replace at line) = omega arith
 one-added (Delete at) = omega arith

@@ -189,7 +189,7 @@ impl Layout {
     ghost use Rattle.std.specs.List.{list_all};
 
     /// The address at which the line at a place stands, or that after the last line.
-    fn address_at(&self, place: usize) -> usize
+    pub(crate) fn address_at(&self, place: usize) -> usize
         ensures { (lines : List Reading) → IsLayoutOf self.now lines → place ≤ length lines → result ≡ address (placed (take place lines)) }
     {
         match self.placements.get(place) {

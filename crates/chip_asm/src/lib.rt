@@ -16,6 +16,7 @@ pub mod limits;
 mod listing;
 mod pass;
 mod placement;
+mod quiet;
 mod recode;
 mod refusal;
 mod settle;

@@ -1,5 +1,5 @@
 -- What moves where the lines after an edit only move (own). The sums are those of 16 bits, and stay far below where these would end.
-use Rattle.std.specs.Prelude.{◌≡◌, ℕ, ◌+◌, ◌-◌, ◌^◌, ◌%◌, ◌≤◌, nat_le, if◌then◌else◌, min, pos, unsigned_abs, Bool, true, false, List, take, drop, slice_get}
+use Rattle.std.specs.Prelude.{◌≡◌, ℕ, ◌+◌, ◌-◌, ◌^◌, ◌%◌, ◌≤◌, ◌++◌, nat_le, is_none, Option, option_to_list, if◌then◌else◌, min, pos, unsigned_abs, Bool, true, false, List, take, drop, slice_get}
 use Rattle.std.specs.List.{list_all}
 use Rattle.std.specs.Global.{Vec}
 use Rattle.std.specs.Option.{option_map_or}
@@ -13,12 +13,15 @@ use Rattle.chip_asm.specs.declared.pass.Pass.{Pass}
 use Rattle.chip_asm.specs.declared.placement.Placement.{Placement}
 use Rattle.chip_asm.specs.declared.shift.Shift.{Shift}
 use Rattle.chip_asm.specs.declared.table.Symbol.{Symbol}
+use Rattle.chip_lang.specs.Uses.{name_defined}
 use Rattle.chip_asm.specs.inner.Follows.{Follows}
+use Rattle.chip_asm.specs.inner.Hints.{names_in}
+use Rattle.chip_asm.specs.inner.Resume.{first_changed, names_up_to}
 use Rattle.chip_asm.specs.inner.Layouts.{first_placements}
 use Rattle.chip_asm.specs.inner.Placements.{is_placed}
 use Rattle.chip_asm.specs.inner.Traits.{is_steady}
 use Rattle.chip_asm.specs.Layout.{body_of}
-use Rattle.chip_asm.specs.computed.Walk.{placed, address}
+use Rattle.chip_asm.specs.computed.Walk.{placed, address, symbols}
 use Rattle.chip_asm.specs.Names.{Name}
 
 abbrev pub moved_number : Shift → ℕ → ℕ
@@ -75,6 +78,16 @@ takes_steady lines (Replace at line) = is_steady_at lines at
 takes_steady lines (Delete at) = is_steady_at lines at
 takes_steady lines Keep = false
 
+-- the line that goes gives no name, if one does
+abbrev pub is_nameless_at : List Reading → ℕ → Bool
+is_nameless_at lines at = option_map_or (λ line. is_none (name_defined line)) (slice_get lines at) false
+
+abbrev pub takes_nameless : List Reading → Edit → Bool
+takes_nameless lines (Insert at line) = true
+takes_nameless lines (Replace at line) = is_nameless_at lines at
+takes_nameless lines (Delete at) = is_nameless_at lines at
+takes_nameless lines Keep = false
+
 -- the place that a line past the edit had before it
 abbrev pub old_place : Edit → ℕ → ℕ
 old_place edit place = place + removed_by edit - added_by edit
@@ -94,3 +107,12 @@ pub record IsShift (shift : Shift) (old : Layout) (lines : List Reading) (edit :
 pub record IsWalked (walked : Vec Placement × Pass) (lines : List Reading) (place : ℕ) : Type 0 where
   pub placements : walked.0.items ≡ first_placements (take place lines)
   pub follows : Follows walked.1 (placed (take place lines))
+
+-- What the first pass finds of the line that an edit brings, if it brings one, and the address after it, where no name comes or goes. The
+-- edit changes the lines up to a place.
+pub record IsQuiet (found : Option Placement) (here : ℕ) (old : Layout) (lines news : List Reading) (edit : Edit) (next : ℕ) : Type 0 where
+  pub placements : take (first_changed edit) old.placements.items ++ option_to_list found ≡ first_placements (take next news)
+  pub accepted : list_all is_placed (option_to_list found) ≡ true
+  pub at : here ≡ address (placed (take next news))
+  pub names : names_up_to (first_changed edit) old.names ≡ symbols (placed (take next news))
+  pub same_names : names_in (names_up_to (first_changed edit) old.names) ≡ names_in (names_up_to (old_place edit next) old.names)
