@@ -21,6 +21,7 @@ pub mod KeptWrites
 pub mod KeptSteps
 pub mod QuietLines
 pub mod QuietEdits
+pub mod QuietLayout
 pub mod SwappedLine
 pub mod SwappedFacts
 pub mod KeptSwapped

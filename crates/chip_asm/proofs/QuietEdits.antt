@@ -1,6 +1,5 @@
 -- Edits by which no name comes or goes, and of which the first pass asks only the size.
-use Rattle.std.proofs.Common.{◌≡◌, ◌∙◌, ◌++◌, ◌+◌, ◌<◌, ◌≤◌, ◌&&◌, ℕ, zero, suc, pos, Bool, true, false, not, cond, is_none, nat_le, nat_lt, List, [], ◌∷◌, length, map, drop, take, get_or, option_to_list, slice_get, refl, ap, sym, subst, arith, Option, Some, None, option_map}
-use Rattle.std.specs.List.{list_all}
+use Rattle.std.proofs.Common.{◌≡◌, ◌∙◌, ◌++◌, ◌+◌, ◌<◌, ◌≤◌, ◌&&◌, ℕ, pos, Bool, true, false, cond, is_none, nat_le, nat_lt, List, [], ◌∷◌, length, map, drop, take, get_or, option_to_list, slice_get, refl, ap, sym, subst, arith, Option, Some, None, option_map}
 use Rattle.std.specs.Option.{option_map_or}
 use Rattle.std.proofs.Math.Seq.{drop-append_seam}
 use Rattle.std.proofs.lemmas.Bool.Decides.{nat_tests}
@@ -8,10 +7,9 @@ use Rattle.std.proofs.lemmas.List.{append-nil, length-map, length-take-le}
 use Rattle.std.proofs.lemmas.Option.{slice_get_within}
 use Rattle.chip_lang.specs.Line.{Body, Reading, empty, code}
 use Rattle.chip_lang.specs.Uses.{name_defined}
-use Rattle.chip_lang.specs.declared.fault.Fault.{Fault}
 use Rattle.chip_lang.specs.declared.fault.Fault.TheVariants.{PastMemory}
 use Rattle.chip_lang.specs.declared.limits.TheConstants.{MEMORY_BYTES}
-use Rattle.chip_asm.specs.Layout.{Placed, body_of, full_size, is_org_body, own_size, symbol_of, takes_effect, value_given}
+use Rattle.chip_asm.specs.Layout.{Placed, body_of, is_org_body, own_size, symbol_of, takes_effect, value_given}
 use Rattle.chip_asm.specs.Names.{Name}
 use Rattle.chip_asm.specs.Program.{names_of_lines}
 use Rattle.chip_asm.specs.computed.Walk.{address, first_fault, is_aligning, is_live, place, placed, symbols}
@@ -26,7 +24,6 @@ use Rattle.chip_asm.specs.inner.Bare.{IsBare, is_bare}
 use Rattle.chip_asm.specs.inner.Follows.{placement_of}
 use Rattle.chip_asm.specs.inner.Hints.{names_in}
 use Rattle.chip_asm.specs.inner.Layouts.{IsLayoutOf, first_placements}
-use Rattle.chip_asm.specs.inner.Placements.{is_placed}
 use Rattle.chip_asm.specs.declared.traits.Traits.{Traits}
 use Rattle.chip_asm.specs.inner.Records.{IsPlaceWithin, count_after, lines_after, reading_in, readings_in}
 use Rattle.chip_asm.specs.inner.Traits.{traits_of}

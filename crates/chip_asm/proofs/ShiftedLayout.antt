@@ -192,7 +192,7 @@ pub symbols-from : (lines : List Reading) (n : ℕ) → symbols (placed lines) �
 unfolding symbols
 symbols-from lines n = ap (filter_map symbol_of) (reverse-from lines n) ∙ filter_map-append symbol_of (reverse (placed (take n lines))) (run (placed (take n lines)) (drop n lines))
 
-drop-seam : {X : Type 0} (xs ys : List X) (n : ℕ) → n ≡ length xs → drop n (xs ++ ys) ≡ ys
+pub drop-seam : {X : Type 0} (xs ys : List X) (n : ℕ) → n ≡ length xs → drop n (xs ++ ys) ≡ ys
 drop-seam xs ys n e = ap (λ k. drop k (xs ++ ys)) e ∙ drop-append_seam xs ys
 
 length-keys : (names others : List (Name × Symbol)) → keys names ≡ keys others → length names ≡ length others

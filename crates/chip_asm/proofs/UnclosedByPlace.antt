@@ -1,5 +1,5 @@
 -- An IF without ENDIF, by place.
-use Rattle.std.proofs.Common.{◌≡◌, ℕ, zero, suc, ◌+◌, ◌<◌, Bool, true, false, not, ◌&&◌, eqb, List, [], ◌∷◌, reverse, length, slice_get, refl, ap, sym, subst, ◌∙◌, arith, Option, Some, None, Decides, eq-eqb, eqb-true}
+use Rattle.std.proofs.Common.{◌≡◌, ℕ, ◌+◌, ◌<◌, Bool, true, false, not, ◌&&◌, eqb, List, reverse, length, slice_get, refl, ap, sym, subst, ◌∙◌, arith, Option, Some, None, Decides, eq-eqb, eqb-true}
 use Rattle.std.specs.List.{list_any}
 use Rattle.std.proofs.lemmas.Bool.{and_parts}
 use Rattle.std.proofs.lemmas.List.{length-take-le}

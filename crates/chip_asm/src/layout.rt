@@ -222,7 +222,13 @@ impl Layout {
 
     /// How far the lines from a place on move, which are plain, where they only move: the pass stands before them at an address, and
     /// each line before them is steady.
-    fn shift(&self, lines: &[BoxedLine], edit: &Edit, next: usize, here: usize) -> Option<Shift>
+    pub(crate) fn shift(
+        &self,
+        lines: &[BoxedLine],
+        edit: &Edit,
+        next: usize,
+        here: usize,
+    ) -> Option<Shift>
         requires within { IsPlaceWithin (length lines.now) edit.now }
         requires next { first_changed_by edit.now + added_by edit.now ≤ next }
         requires end { next ≤ count_of_after (length lines.now) edit.now }
@@ -254,7 +260,7 @@ impl Layout {
     }
 
     /// How many of the first lines, up to a limit, have no fault.
-    fn clean_lines(&self, limit: usize) -> usize
+    pub(crate) fn clean_lines(&self, limit: usize) -> usize
         requires long { limit ≤ vec_len self.now.placements }
         requires accepted { self.now.all_accepted ≡ true → list_all is_placed self.now.placements.items ≡ true }
         ensures within { result ≤ limit }
@@ -352,6 +358,14 @@ impl Layout {
         let place = first_changed(edit);
         let next = first_plain(traits, place + added_by(edit));
         let steady = steady_lines(traits, next);
+        if steady == next
+            && next == place + added_by(edit)
+            && spare.names.len() == old.names.len()
+        {
+            if let Some(quiet) = old.quiet_shift(lines, traits, edit, next) {
+                return old.moved(alloc, spare, lines, traits, edit, quiet);
+            }
+        }
         let first = steady.min(place);
         let walked = first_lines(alloc, spare, old, first, count)?;
         let known = walked.1.names.len();

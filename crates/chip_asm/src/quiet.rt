@@ -1,8 +1,11 @@
 //! Edits by which no name comes or goes, and of which the first pass asks only the size.
-ghost use Rattle.std.specs.Prelude.{◌≡◌, ℕ, ◌+◌, ◌<◌, ◌≤◌, false, true, IfOk, IfSome, length, map, slice_index_or};
+ghost use Rattle.std.specs.Prelude.{◌≡◌, ℕ, ◌+◌, ◌<◌, ◌≤◌, ◌++◌, false, true, IfOk, IfSome, OnOk, drop, length, map, option_to_list, slice_index_or, take, vec_len};
+ghost use Rattle.std.specs.List.{list_all};
+ghost use Rattle.chip_asm.specs.inner.Hints.{names_in};
+ghost use Rattle.chip_asm.specs.inner.Span.{IsSpanOf};
 ghost use Rattle.chip_asm.specs.inner.Records.{IsPlaceWithin, lines_after, readings_in};
 ghost use Rattle.chip_asm.specs.inner.Resume.{first_changed};
-ghost use Rattle.chip_asm.specs.inner.Shift.{IsQuiet, IsShift, added_by, is_keep, takes_nameless};
+ghost use Rattle.chip_asm.specs.inner.Shift.{IsQuiet, IsShift, added_by, is_keep, moved_placement, takes_nameless};
 ghost use Rattle.chip_asm.specs.inner.Traits.{traits_of};
 
 use crate::edit::{Edit, first_changed};
@@ -10,10 +13,12 @@ use crate::kept_line::BoxedLine;
 use crate::layout::Layout;
 use crate::limits::MOST_LINES;
 use crate::placement::Placement;
-use crate::shift::{Shift, added_by};
+use crate::shift::{Shift, add_moved, added_by, removed_by};
+use crate::span::Span;
 use crate::traits::Traits;
 use chip_lang::defines;
 use chip_lang::limits::MEMORY_BYTES;
+use std::alloc::{AllocError, Global};
 
 /// Whether the line that an edit takes away, if it takes one, gives no name.
 fn takes_nameless(lines: &[BoxedLine], edit: &Edit) -> bool
@@ -70,4 +75,104 @@ impl Layout {
         };
         Some((Some(found), here + size))
     }
+
+    /// The same with how far the later lines move, which are plain. None also where they do more than move.
+    pub(crate) fn quiet_shift(
+        &self,
+        lines: &[BoxedLine],
+        traits: &[Traits],
+        edit: &Edit,
+        next: usize,
+    ) -> Option<(Option<Placement>, Shift)>
+        requires within { IsPlaceWithin (length lines.now) edit.now }
+        requires few { length lines.now ≤ MOST_LINES }
+        requires traits { traits.now ≡ map traits_of (readings_in (lines_after lines.now edit.now)) }
+        requires before { is_keep edit.now ≡ false → IsLayoutOf self.now (readings_in lines.now) }
+        requires next { next ≡ first_changed edit.now + added_by edit.now }
+        requires steady { (index : ℕ) (other : Traits) → index < next → (slice_index_or traits.now index other).is_steady ≡ true }
+        ensures quiet { IfSome result (λ q. IsQuiet q.0 q.1.new_address self.now (readings_in lines.now) (readings_in (lines_after lines.now edit.now)) edit.now next) }
+        ensures shift { IfSome result (λ q. IsShift q.1 self.now (readings_in lines.now) edit.now next q.1.new_address) }
+    {
+        let (found, here) = self.found_quietly(lines, traits, edit, next)?;
+        let shift = self.shift(lines, edit, next, here)?;
+        Some((found, shift))
+    }
+
+    /// What is found of the lines before a place, of a line that comes there, and of those from another place on, which move.
+    fn moved_placements(
+        &self,
+        room: Vec<Placement>,
+        found: Option<Placement>,
+        shift: Shift,
+        place: usize,
+        from: usize,
+    ) -> Result<Vec<Placement>, AllocError>
+        requires place { place ≤ vec_len self.now.placements }
+        requires from { from ≤ vec_len self.now.placements }
+        ensures { IfOk result (λ made. made.items ≡ (take place self.now.placements.items ++ option_to_list found) ++ map (moved_placement shift) (drop from self.now.placements.items)) }
+    {
+        let mut placements = room;
+        placements.clear();
+        placements.reserve(self.placements.len().saturating_add(1))?;
+        placements.extend_from_slice(&self.placements[..place])?;
+        push_found(&mut placements, found)?;
+        add_moved(&mut placements, &self.placements[from..], shift)?;
+        Ok(placements)
+    }
+
+    /// The layout after such an edit, in the room of one with the same names, and which lines stand where they stood or moved as one.
+    pub(crate) fn moved(
+        &self,
+        alloc: Global,
+        spare: Layout,
+        lines: &[BoxedLine],
+        traits: &[Traits],
+        edit: &Edit,
+        quiet: (Option<Placement>, Shift),
+    ) -> Result<(Layout, Option<Span>), AllocError>
+        requires within { IsPlaceWithin (length lines.now) edit.now }
+        requires few { length lines.now ≤ MOST_LINES }
+        requires traits { traits.now ≡ map traits_of (readings_in (lines_after lines.now edit.now)) }
+        requires before { is_keep edit.now ≡ false → IsLayoutOf self.now (readings_in lines.now) }
+        requires steady { (index : ℕ) (other : Traits) → index < first_changed edit.now + added_by edit.now → (slice_index_or traits.now index other).is_steady ≡ true }
+        requires plain { list_all (λ t. t.is_plain) (drop (first_changed edit.now + added_by edit.now) traits.now) ≡ true }
+        requires names { names_in spare.names ≡ names_in self.now.names }
+        requires quiet { IsQuiet quiet.0 quiet.1.new_address self.now (readings_in lines.now) (readings_in (lines_after lines.now edit.now)) edit.now (first_changed edit.now + added_by edit.now) }
+        requires shift { IsShift quiet.1 self.now (readings_in lines.now) edit.now (first_changed edit.now + added_by edit.now) quiet.1.new_address }
+        ensures layout { IfOk result (λ made. IsLayoutOf made.0 (readings_in (lines_after lines.now edit.now))) }
+        ensures span { IfOk result (λ made. IfSome made.1 (λ span. IsSpanOf self.now made.0 (length lines.now) edit.now span)) }
+    {
+        let (found, shift) = quiet;
+        let place = first_changed(edit);
+        let from = place + removed_by(edit);
+        let Layout {
+            placements,
+            mut names,
+            end: _,
+            all_accepted: _,
+        } = spare;
+        let placements = self.moved_placements(placements, found, shift, place, from)?;
+        names.move_from(&self.names, place, shift);
+        let span = Span {
+            front: self.clean_lines(place),
+            back: lines.len() - from,
+        };
+        let layout = Layout {
+            placements,
+            names,
+            end: shift.address(self.end as u16) as usize,
+            all_accepted: self.all_accepted,
+        };
+        Ok((layout, Some(span)))
+    }
+}
+
+/// Adds what is found of a line, if there is one.
+fn push_found(placements: &mut Vec<Placement>, found: Option<Placement>) -> Result<(), AllocError>
+    ensures { OnOk result (placements.new.items ≡ placements.old.items ++ option_to_list found) }
+{
+    if let Some(placement) = found {
+        placements.push(placement)?;
+    }
+    Ok(())
 }

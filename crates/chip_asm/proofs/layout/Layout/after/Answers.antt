@@ -62,9 +62,9 @@ are_those_up_to-requires-clause-mine c =
     let traits_count = length-map (readings_in (lines_after c.args.lines.now c.args.edit.now)) traits_of in
     let next_high : c.first_plain-next.result ≤ count_after (length c.args.lines.now) c.args.edit.now = omega (arith, c.first_plain-next.ensures.within, ap length c.requires.traits, traits_count, count) in
     let low : first_changed c.args.edit.now + added_by c.args.edit.now ≤ c.first_plain-next.result = omega (arith, c.first_plain-next.ensures.low, c.first_changed-place.ensures, c.added_by.ensures) in
-    let k : IsShift c.in-Some.shift c.args.old.now (readings_in c.args.lines.now) c.args.edit.now c.first_plain-next.result c.in_ok-walked-2.walked.1.here = c.in-Some.ensures in
+    let k : IsShift c.in-Some-shift.shift c.args.old.now (readings_in c.args.lines.now) c.args.edit.now c.first_plain-next.result c.in_ok-walked-2.walked.1.here = c.in-Some-shift.ensures in
     let laid : IsLayoutOf c.args.old.now (readings_in c.args.lines.now) = c.requires.before (no-keep (readings_in c.args.lines.now) c.args.edit.now k.steady) in
-    let from : c.first_plain-next.result + c.removed_by.result - c.added_by-in-Some.result ≡ old_place c.args.edit.now c.first_plain-next.result = rw (c.removed_by.ensures, c.added_by-in-Some.ensures) refl in
+    let from : c.first_plain-next.result + c.removed_by.result - c.added_by-in-Some-shift.result ≡ old_place c.args.edit.now c.first_plain-next.result = rw (c.removed_by.ensures, c.added_by-in-Some-shift.ensures) refl in
     let old_count : length c.args.old.now.placements.items ≡ length c.args.lines.now = length-laid c.args.old.now (readings_in c.args.lines.now) laid ∙ length-map c.args.lines.now reading_in in
     let w : IsWalked c.in_ok-walked-2.walked (readings_in (lines_after c.args.lines.now c.args.edit.now)) c.first_plain-next.result = c.in_ok-walked-2.ensures in
     let place : c.min-first.result ≤ first_changed c.args.edit.now = omega (arith, c.min-first.ensures, c.first_changed-place.ensures) in
@@ -83,9 +83,9 @@ are_those_up_to-requires-clause-others c =
     let traits_count = length-map (readings_in (lines_after c.args.lines.now c.args.edit.now)) traits_of in
     let next_high : c.first_plain-next.result ≤ count_after (length c.args.lines.now) c.args.edit.now = omega (arith, c.first_plain-next.ensures.within, ap length c.requires.traits, traits_count, count) in
     let low : first_changed c.args.edit.now + added_by c.args.edit.now ≤ c.first_plain-next.result = omega (arith, c.first_plain-next.ensures.low, c.first_changed-place.ensures, c.added_by.ensures) in
-    let k : IsShift c.in-Some.shift c.args.old.now (readings_in c.args.lines.now) c.args.edit.now c.first_plain-next.result c.in_ok-walked-2.walked.1.here = c.in-Some.ensures in
+    let k : IsShift c.in-Some-shift.shift c.args.old.now (readings_in c.args.lines.now) c.args.edit.now c.first_plain-next.result c.in_ok-walked-2.walked.1.here = c.in-Some-shift.ensures in
     let laid : IsLayoutOf c.args.old.now (readings_in c.args.lines.now) = c.requires.before (no-keep (readings_in c.args.lines.now) c.args.edit.now k.steady) in
-    let from : c.first_plain-next.result + c.removed_by.result - c.added_by-in-Some.result ≡ old_place c.args.edit.now c.first_plain-next.result = rw (c.removed_by.ensures, c.added_by-in-Some.ensures) refl in
+    let from : c.first_plain-next.result + c.removed_by.result - c.added_by-in-Some-shift.result ≡ old_place c.args.edit.now c.first_plain-next.result = rw (c.removed_by.ensures, c.added_by-in-Some-shift.ensures) refl in
     let old_count : length c.args.old.now.placements.items ≡ length c.args.lines.now = length-laid c.args.old.now (readings_in c.args.lines.now) laid ∙ length-map c.args.lines.now reading_in in
     let w : IsWalked c.in_ok-walked-2.walked (readings_in (lines_after c.args.lines.now c.args.edit.now)) c.first_plain-next.result = c.in_ok-walked-2.ensures in
     let place : c.min-first.result ≤ first_changed c.args.edit.now = omega (arith, c.min-first.ensures, c.first_changed-place.ensures) in
@@ -104,9 +104,9 @@ are_those_up_to-requires-clause-same c =
     let traits_count = length-map (readings_in (lines_after c.args.lines.now c.args.edit.now)) traits_of in
     let next_high : c.first_plain-next.result ≤ count_after (length c.args.lines.now) c.args.edit.now = omega (arith, c.first_plain-next.ensures.within, ap length c.requires.traits, traits_count, count) in
     let low : first_changed c.args.edit.now + added_by c.args.edit.now ≤ c.first_plain-next.result = omega (arith, c.first_plain-next.ensures.low, c.first_changed-place.ensures, c.added_by.ensures) in
-    let k : IsShift c.in-Some.shift c.args.old.now (readings_in c.args.lines.now) c.args.edit.now c.first_plain-next.result c.in_ok-walked-2.walked.1.here = c.in-Some.ensures in
+    let k : IsShift c.in-Some-shift.shift c.args.old.now (readings_in c.args.lines.now) c.args.edit.now c.first_plain-next.result c.in_ok-walked-2.walked.1.here = c.in-Some-shift.ensures in
     let laid : IsLayoutOf c.args.old.now (readings_in c.args.lines.now) = c.requires.before (no-keep (readings_in c.args.lines.now) c.args.edit.now k.steady) in
-    let from : c.first_plain-next.result + c.removed_by.result - c.added_by-in-Some.result ≡ old_place c.args.edit.now c.first_plain-next.result = rw (c.removed_by.ensures, c.added_by-in-Some.ensures) refl in
+    let from : c.first_plain-next.result + c.removed_by.result - c.added_by-in-Some-shift.result ≡ old_place c.args.edit.now c.first_plain-next.result = rw (c.removed_by.ensures, c.added_by-in-Some-shift.ensures) refl in
     let old_count : length c.args.old.now.placements.items ≡ length c.args.lines.now = length-laid c.args.old.now (readings_in c.args.lines.now) laid ∙ length-map c.args.lines.now reading_in in
     let w : IsWalked c.in_ok-walked-2.walked (readings_in (lines_after c.args.lines.now c.args.edit.now)) c.first_plain-next.result = c.in_ok-walked-2.ensures in
     let place : c.min-first.result ≤ first_changed c.args.edit.now = omega (arith, c.min-first.ensures, c.first_changed-place.ensures) in
@@ -125,9 +125,9 @@ are_those_up_to-requires-clause-early c =
     let traits_count = length-map (readings_in (lines_after c.args.lines.now c.args.edit.now)) traits_of in
     let next_high : c.first_plain-next.result ≤ count_after (length c.args.lines.now) c.args.edit.now = omega (arith, c.first_plain-next.ensures.within, ap length c.requires.traits, traits_count, count) in
     let low : first_changed c.args.edit.now + added_by c.args.edit.now ≤ c.first_plain-next.result = omega (arith, c.first_plain-next.ensures.low, c.first_changed-place.ensures, c.added_by.ensures) in
-    let k : IsShift c.in-Some.shift c.args.old.now (readings_in c.args.lines.now) c.args.edit.now c.first_plain-next.result c.in_ok-walked-2.walked.1.here = c.in-Some.ensures in
+    let k : IsShift c.in-Some-shift.shift c.args.old.now (readings_in c.args.lines.now) c.args.edit.now c.first_plain-next.result c.in_ok-walked-2.walked.1.here = c.in-Some-shift.ensures in
     let laid : IsLayoutOf c.args.old.now (readings_in c.args.lines.now) = c.requires.before (no-keep (readings_in c.args.lines.now) c.args.edit.now k.steady) in
-    let from : c.first_plain-next.result + c.removed_by.result - c.added_by-in-Some.result ≡ old_place c.args.edit.now c.first_plain-next.result = rw (c.removed_by.ensures, c.added_by-in-Some.ensures) refl in
+    let from : c.first_plain-next.result + c.removed_by.result - c.added_by-in-Some-shift.result ≡ old_place c.args.edit.now c.first_plain-next.result = rw (c.removed_by.ensures, c.added_by-in-Some-shift.ensures) refl in
     let old_count : length c.args.old.now.placements.items ≡ length c.args.lines.now = length-laid c.args.old.now (readings_in c.args.lines.now) laid ∙ length-map c.args.lines.now reading_in in
     let w : IsWalked c.in_ok-walked-2.walked (readings_in (lines_after c.args.lines.now c.args.edit.now)) c.first_plain-next.result = c.in_ok-walked-2.ensures in
     let place : c.min-first.result ≤ first_changed c.args.edit.now = omega (arith, c.min-first.ensures, c.first_changed-place.ensures) in
@@ -146,9 +146,9 @@ shifted-requires-clause-place c =
     let traits_count = length-map (readings_in (lines_after c.args.lines.now c.args.edit.now)) traits_of in
     let next_high : c.first_plain-next.result ≤ count_after (length c.args.lines.now) c.args.edit.now = omega (arith, c.first_plain-next.ensures.within, ap length c.requires.traits, traits_count, count) in
     let low : first_changed c.args.edit.now + added_by c.args.edit.now ≤ c.first_plain-next.result = omega (arith, c.first_plain-next.ensures.low, c.first_changed-place.ensures, c.added_by.ensures) in
-    let k : IsShift c.in-Some.shift c.args.old.now (readings_in c.args.lines.now) c.args.edit.now c.first_plain-next.result c.in_ok-walked-2.walked.1.here = c.in-Some.ensures in
+    let k : IsShift c.in-Some-shift.shift c.args.old.now (readings_in c.args.lines.now) c.args.edit.now c.first_plain-next.result c.in_ok-walked-2.walked.1.here = c.in-Some-shift.ensures in
     let laid : IsLayoutOf c.args.old.now (readings_in c.args.lines.now) = c.requires.before (no-keep (readings_in c.args.lines.now) c.args.edit.now k.steady) in
-    let from : c.first_plain-next.result + c.removed_by.result - c.added_by-in-Some.result ≡ old_place c.args.edit.now c.first_plain-next.result = rw (c.removed_by.ensures, c.added_by-in-Some.ensures) refl in
+    let from : c.first_plain-next.result + c.removed_by.result - c.added_by-in-Some-shift.result ≡ old_place c.args.edit.now c.first_plain-next.result = rw (c.removed_by.ensures, c.added_by-in-Some-shift.ensures) refl in
     let old_count : length c.args.old.now.placements.items ≡ length c.args.lines.now = length-laid c.args.old.now (readings_in c.args.lines.now) laid ∙ length-map c.args.lines.now reading_in in
     let w : IsWalked c.in_ok-walked-2.walked (readings_in (lines_after c.args.lines.now c.args.edit.now)) c.first_plain-next.result = c.in_ok-walked-2.ensures in
     omega (
@@ -167,9 +167,9 @@ clean_lines-requires-clause-long c =
     let traits_count = length-map (readings_in (lines_after c.args.lines.now c.args.edit.now)) traits_of in
     let next_high : c.first_plain-next.result ≤ count_after (length c.args.lines.now) c.args.edit.now = omega (arith, c.first_plain-next.ensures.within, ap length c.requires.traits, traits_count, count) in
     let low : first_changed c.args.edit.now + added_by c.args.edit.now ≤ c.first_plain-next.result = omega (arith, c.first_plain-next.ensures.low, c.first_changed-place.ensures, c.added_by.ensures) in
-    let k : IsShift c.in-Some.shift c.args.old.now (readings_in c.args.lines.now) c.args.edit.now c.first_plain-next.result c.in_ok-walked-2.walked.1.here = c.in-Some.ensures in
+    let k : IsShift c.in-Some-shift.shift c.args.old.now (readings_in c.args.lines.now) c.args.edit.now c.first_plain-next.result c.in_ok-walked-2.walked.1.here = c.in-Some-shift.ensures in
     let laid : IsLayoutOf c.args.old.now (readings_in c.args.lines.now) = c.requires.before (no-keep (readings_in c.args.lines.now) c.args.edit.now k.steady) in
-    let from : c.first_plain-next.result + c.removed_by.result - c.added_by-in-Some.result ≡ old_place c.args.edit.now c.first_plain-next.result = rw (c.removed_by.ensures, c.added_by-in-Some.ensures) refl in
+    let from : c.first_plain-next.result + c.removed_by.result - c.added_by-in-Some-shift.result ≡ old_place c.args.edit.now c.first_plain-next.result = rw (c.removed_by.ensures, c.added_by-in-Some-shift.ensures) refl in
     let old_count : length c.args.old.now.placements.items ≡ length c.args.lines.now = length-laid c.args.old.now (readings_in c.args.lines.now) laid ∙ length-map c.args.lines.now reading_in in
     omega (arith, c.first_changed-place.ensures, first-before (length c.args.lines.now) c.args.edit.now c.requires.within, old_count)
 
@@ -180,9 +180,9 @@ clean_lines-requires-clause-accepted c =
     let traits_count = length-map (readings_in (lines_after c.args.lines.now c.args.edit.now)) traits_of in
     let next_high : c.first_plain-next.result ≤ count_after (length c.args.lines.now) c.args.edit.now = omega (arith, c.first_plain-next.ensures.within, ap length c.requires.traits, traits_count, count) in
     let low : first_changed c.args.edit.now + added_by c.args.edit.now ≤ c.first_plain-next.result = omega (arith, c.first_plain-next.ensures.low, c.first_changed-place.ensures, c.added_by.ensures) in
-    let k : IsShift c.in-Some.shift c.args.old.now (readings_in c.args.lines.now) c.args.edit.now c.first_plain-next.result c.in_ok-walked-2.walked.1.here = c.in-Some.ensures in
+    let k : IsShift c.in-Some-shift.shift c.args.old.now (readings_in c.args.lines.now) c.args.edit.now c.first_plain-next.result c.in_ok-walked-2.walked.1.here = c.in-Some-shift.ensures in
     let laid : IsLayoutOf c.args.old.now (readings_in c.args.lines.now) = c.requires.before (no-keep (readings_in c.args.lines.now) c.args.edit.now k.steady) in
-    let from : c.first_plain-next.result + c.removed_by.result - c.added_by-in-Some.result ≡ old_place c.args.edit.now c.first_plain-next.result = rw (c.removed_by.ensures, c.added_by-in-Some.ensures) refl in
+    let from : c.first_plain-next.result + c.removed_by.result - c.added_by-in-Some-shift.result ≡ old_place c.args.edit.now c.first_plain-next.result = rw (c.removed_by.ensures, c.added_by-in-Some-shift.ensures) refl in
     let old_count : length c.args.old.now.placements.items ≡ length c.args.lines.now = length-laid c.args.old.now (readings_in c.args.lines.now) laid ∙ length-map c.args.lines.now reading_in in
     laid.accepted
 
@@ -193,9 +193,9 @@ overflow_sub-span c =
     let traits_count = length-map (readings_in (lines_after c.args.lines.now c.args.edit.now)) traits_of in
     let next_high : c.first_plain-next.result ≤ count_after (length c.args.lines.now) c.args.edit.now = omega (arith, c.first_plain-next.ensures.within, ap length c.requires.traits, traits_count, count) in
     let low : first_changed c.args.edit.now + added_by c.args.edit.now ≤ c.first_plain-next.result = omega (arith, c.first_plain-next.ensures.low, c.first_changed-place.ensures, c.added_by.ensures) in
-    let k : IsShift c.in-Some.shift c.args.old.now (readings_in c.args.lines.now) c.args.edit.now c.first_plain-next.result c.in_ok-walked-2.walked.1.here = c.in-Some.ensures in
+    let k : IsShift c.in-Some-shift.shift c.args.old.now (readings_in c.args.lines.now) c.args.edit.now c.first_plain-next.result c.in_ok-walked-2.walked.1.here = c.in-Some-shift.ensures in
     let laid : IsLayoutOf c.args.old.now (readings_in c.args.lines.now) = c.requires.before (no-keep (readings_in c.args.lines.now) c.args.edit.now k.steady) in
-    let from : c.first_plain-next.result + c.removed_by.result - c.added_by-in-Some.result ≡ old_place c.args.edit.now c.first_plain-next.result = rw (c.removed_by.ensures, c.added_by-in-Some.ensures) refl in
+    let from : c.first_plain-next.result + c.removed_by.result - c.added_by-in-Some-shift.result ≡ old_place c.args.edit.now c.first_plain-next.result = rw (c.removed_by.ensures, c.added_by-in-Some-shift.ensures) refl in
     let old_count : length c.args.old.now.placements.items ≡ length c.args.lines.now = length-laid c.args.old.now (readings_in c.args.lines.now) laid ∙ length-map c.args.lines.now reading_in in
     omega (arith, from, old-inside (length c.args.lines.now) c.args.edit.now c.first_plain-next.result c.requires.within next_high low)
 
@@ -206,9 +206,9 @@ shifted-requires-clause-from c =
     let traits_count = length-map (readings_in (lines_after c.args.lines.now c.args.edit.now)) traits_of in
     let next_high : c.first_plain-next.result ≤ count_after (length c.args.lines.now) c.args.edit.now = omega (arith, c.first_plain-next.ensures.within, ap length c.requires.traits, traits_count, count) in
     let low : first_changed c.args.edit.now + added_by c.args.edit.now ≤ c.first_plain-next.result = omega (arith, c.first_plain-next.ensures.low, c.first_changed-place.ensures, c.added_by.ensures) in
-    let k : IsShift c.in-Some.shift c.args.old.now (readings_in c.args.lines.now) c.args.edit.now c.first_plain-next.result c.in_ok-walked-2.walked.1.here = c.in-Some.ensures in
+    let k : IsShift c.in-Some-shift.shift c.args.old.now (readings_in c.args.lines.now) c.args.edit.now c.first_plain-next.result c.in_ok-walked-2.walked.1.here = c.in-Some-shift.ensures in
     let laid : IsLayoutOf c.args.old.now (readings_in c.args.lines.now) = c.requires.before (no-keep (readings_in c.args.lines.now) c.args.edit.now k.steady) in
-    let from : c.first_plain-next.result + c.removed_by.result - c.added_by-in-Some.result ≡ old_place c.args.edit.now c.first_plain-next.result = rw (c.removed_by.ensures, c.added_by-in-Some.ensures) refl in
+    let from : c.first_plain-next.result + c.removed_by.result - c.added_by-in-Some-shift.result ≡ old_place c.args.edit.now c.first_plain-next.result = rw (c.removed_by.ensures, c.added_by-in-Some-shift.ensures) refl in
     let old_count : length c.args.old.now.placements.items ≡ length c.args.lines.now = length-laid c.args.old.now (readings_in c.args.lines.now) laid ∙ length-map c.args.lines.now reading_in in
     omega (arith, from, old-inside (length c.args.lines.now) c.args.edit.now c.first_plain-next.result c.requires.within next_high low, old_count, c.args.old.now.placements.ok.0)
 
@@ -219,14 +219,14 @@ shifted-requires-clause-names c =
     let traits_count = length-map (readings_in (lines_after c.args.lines.now c.args.edit.now)) traits_of in
     let next_high : c.first_plain-next.result ≤ count_after (length c.args.lines.now) c.args.edit.now = omega (arith, c.first_plain-next.ensures.within, ap length c.requires.traits, traits_count, count) in
     let low : first_changed c.args.edit.now + added_by c.args.edit.now ≤ c.first_plain-next.result = omega (arith, c.first_plain-next.ensures.low, c.first_changed-place.ensures, c.added_by.ensures) in
-    let k : IsShift c.in-Some.shift c.args.old.now (readings_in c.args.lines.now) c.args.edit.now c.first_plain-next.result c.in_ok-walked-2.walked.1.here = c.in-Some.ensures in
+    let k : IsShift c.in-Some-shift.shift c.args.old.now (readings_in c.args.lines.now) c.args.edit.now c.first_plain-next.result c.in_ok-walked-2.walked.1.here = c.in-Some-shift.ensures in
     let laid : IsLayoutOf c.args.old.now (readings_in c.args.lines.now) = c.requires.before (no-keep (readings_in c.args.lines.now) c.args.edit.now k.steady) in
-    let from : c.first_plain-next.result + c.removed_by.result - c.added_by-in-Some.result ≡ old_place c.args.edit.now c.first_plain-next.result = rw (c.removed_by.ensures, c.added_by-in-Some.ensures) refl in
+    let from : c.first_plain-next.result + c.removed_by.result - c.added_by-in-Some-shift.result ≡ old_place c.args.edit.now c.first_plain-next.result = rw (c.removed_by.ensures, c.added_by-in-Some-shift.ensures) refl in
     let old_count : length c.args.old.now.placements.items ≡ length c.args.lines.now = length-laid c.args.old.now (readings_in c.args.lines.now) laid ∙ length-map c.args.lines.now reading_in in
     let b : StandsBefore c.args.old.now c.args.lines.now c.args.edit.now c.first_plain-next.result c.in_ok-walked-2.walked.1.here c.in_ok-walked-2.walked.0.items c.in_ok-walked-2.walked.1.names
     = stands-before c.args.old.now c.args.lines.now c.args.traits.now c.args.edit.now c.steady_lines-steady.result c.first_plain-next.result c.in_ok-walked-2.walked c.requires.within c.requires.few laid c.requires.traits low c.first_plain-next.ensures.within
-    c.first_plain-next.ensures.plain c.if-steady-next.true c.steady_lines-steady.ensures.steady c.in_ok-walked-2.ensures (c.are_those_up_to.ensures c.if-are_those_up_to.true ∙ ap (λ n. names_in (names_up_to n c.args.old.now.names)) from) in
-    names-first c.in-Some.shift c.args.old.now c.args.lines.now c.args.edit.now c.first_plain-next.result c.in_ok-walked-2.walked.1.here c.in_ok-walked-2.walked.0.items c.in_ok-walked-2.walked.1.names b k
+    c.first_plain-next.ensures.plain c.if-steady-next-2.true c.steady_lines-steady.ensures.steady c.in_ok-walked-2.ensures (c.are_those_up_to.ensures c.if-are_those_up_to.true ∙ ap (λ n. names_in (names_up_to n c.args.old.now.names)) from) in
+    names-first c.in-Some-shift.shift c.args.old.now c.args.lines.now c.args.edit.now c.first_plain-next.result c.in_ok-walked-2.walked.1.here c.in_ok-walked-2.walked.0.items c.in_ok-walked-2.walked.1.names b k
 
 pub shifted-requires-clause-end : goal.shifted-requires-clause-end
 shifted-requires-clause-end c =
@@ -235,9 +235,9 @@ shifted-requires-clause-end c =
     let traits_count = length-map (readings_in (lines_after c.args.lines.now c.args.edit.now)) traits_of in
     let next_high : c.first_plain-next.result ≤ count_after (length c.args.lines.now) c.args.edit.now = omega (arith, c.first_plain-next.ensures.within, ap length c.requires.traits, traits_count, count) in
     let low : first_changed c.args.edit.now + added_by c.args.edit.now ≤ c.first_plain-next.result = omega (arith, c.first_plain-next.ensures.low, c.first_changed-place.ensures, c.added_by.ensures) in
-    let k : IsShift c.in-Some.shift c.args.old.now (readings_in c.args.lines.now) c.args.edit.now c.first_plain-next.result c.in_ok-walked-2.walked.1.here = c.in-Some.ensures in
+    let k : IsShift c.in-Some-shift.shift c.args.old.now (readings_in c.args.lines.now) c.args.edit.now c.first_plain-next.result c.in_ok-walked-2.walked.1.here = c.in-Some-shift.ensures in
     let laid : IsLayoutOf c.args.old.now (readings_in c.args.lines.now) = c.requires.before (no-keep (readings_in c.args.lines.now) c.args.edit.now k.steady) in
-    let from : c.first_plain-next.result + c.removed_by.result - c.added_by-in-Some.result ≡ old_place c.args.edit.now c.first_plain-next.result = rw (c.removed_by.ensures, c.added_by-in-Some.ensures) refl in
+    let from : c.first_plain-next.result + c.removed_by.result - c.added_by-in-Some-shift.result ≡ old_place c.args.edit.now c.first_plain-next.result = rw (c.removed_by.ensures, c.added_by-in-Some-shift.ensures) refl in
     let old_count : length c.args.old.now.placements.items ≡ length c.args.lines.now = length-laid c.args.old.now (readings_in c.args.lines.now) laid ∙ length-map c.args.lines.now reading_in in
     omega (arith, laid.end_address, end-high (readings_in c.args.lines.now))
 
@@ -248,23 +248,23 @@ returns-then-are_those_up_to-clause-layout c =
     let traits_count = length-map (readings_in (lines_after c.args.lines.now c.args.edit.now)) traits_of in
     let next_high : c.first_plain-next.result ≤ count_after (length c.args.lines.now) c.args.edit.now = omega (arith, c.first_plain-next.ensures.within, ap length c.requires.traits, traits_count, count) in
     let low : first_changed c.args.edit.now + added_by c.args.edit.now ≤ c.first_plain-next.result = omega (arith, c.first_plain-next.ensures.low, c.first_changed-place.ensures, c.added_by.ensures) in
-    let k : IsShift c.in-Some.shift c.args.old.now (readings_in c.args.lines.now) c.args.edit.now c.first_plain-next.result c.in_ok-walked-2.walked.1.here = c.in-Some.ensures in
+    let k : IsShift c.in-Some-shift.shift c.args.old.now (readings_in c.args.lines.now) c.args.edit.now c.first_plain-next.result c.in_ok-walked-2.walked.1.here = c.in-Some-shift.ensures in
     let laid : IsLayoutOf c.args.old.now (readings_in c.args.lines.now) = c.requires.before (no-keep (readings_in c.args.lines.now) c.args.edit.now k.steady) in
-    let from : c.first_plain-next.result + c.removed_by.result - c.added_by-in-Some.result ≡ old_place c.args.edit.now c.first_plain-next.result = rw (c.removed_by.ensures, c.added_by-in-Some.ensures) refl in
+    let from : c.first_plain-next.result + c.removed_by.result - c.added_by-in-Some-shift.result ≡ old_place c.args.edit.now c.first_plain-next.result = rw (c.removed_by.ensures, c.added_by-in-Some-shift.ensures) refl in
     let old_count : length c.args.old.now.placements.items ≡ length c.args.lines.now = length-laid c.args.old.now (readings_in c.args.lines.now) laid ∙ length-map c.args.lines.now reading_in in
     let b : StandsBefore c.args.old.now c.args.lines.now c.args.edit.now c.first_plain-next.result c.in_ok-walked-2.walked.1.here c.in_ok-walked-2.walked.0.items c.in_ok-walked-2.walked.1.names
     = stands-before c.args.old.now c.args.lines.now c.args.traits.now c.args.edit.now c.steady_lines-steady.result c.first_plain-next.result c.in_ok-walked-2.walked c.requires.within c.requires.few laid c.requires.traits low c.first_plain-next.ensures.within
-    c.first_plain-next.ensures.plain c.if-steady-next.true c.steady_lines-steady.ensures.steady c.in_ok-walked-2.ensures (c.are_those_up_to.ensures c.if-are_those_up_to.true ∙ ap (λ n. names_in (names_up_to n c.args.old.now.names)) from) in
-    let m : IsMade c.in-Some.shift c.args.old.now c.in_ok-layout.layout (old_place c.args.edit.now c.first_plain-next.result) c.in_ok-walked-2.walked.0.items c.in_ok-walked-2.walked.1.names = record {
-      placements_are = c.in_ok-layout.ensures.placements ∙ ap (λ n. c.in_ok-walked-2.walked.0.items ++ map (moved_placement c.in-Some.shift) (drop n c.args.old.now.placements.items)) from;
+    c.first_plain-next.ensures.plain c.if-steady-next-2.true c.steady_lines-steady.ensures.steady c.in_ok-walked-2.ensures (c.are_those_up_to.ensures c.if-are_those_up_to.true ∙ ap (λ n. names_in (names_up_to n c.args.old.now.names)) from) in
+    let m : IsMade c.in-Some-shift.shift c.args.old.now c.in_ok-layout.layout (old_place c.args.edit.now c.first_plain-next.result) c.in_ok-walked-2.walked.0.items c.in_ok-walked-2.walked.1.names = record {
+      placements_are = c.in_ok-layout.ensures.placements ∙ ap (λ n. c.in_ok-walked-2.walked.0.items ++ map (moved_placement c.in-Some-shift.shift) (drop n c.args.old.now.placements.items)) from;
       names_are = c.in_ok-layout.ensures.names;
       end_is = c.in_ok-layout.ensures.end;
-      accepted_is = λ yes. ap (list_all is_placed) (c.in_ok-layout.ensures.placements ∙ ap (λ n. c.in_ok-walked-2.walked.0.items ++ map (moved_placement c.in-Some.shift) (drop n c.args.old.now.placements.items)) from)
-          ∙ made-accepted c.in-Some.shift c.args.old.now c.args.lines.now c.args.edit.now c.first_plain-next.result c.in_ok-walked-2.walked.1.here c.in_ok-walked-2.walked.0.items c.in_ok-walked-2.walked.1.names b
+      accepted_is = λ yes. ap (list_all is_placed) (c.in_ok-layout.ensures.placements ∙ ap (λ n. c.in_ok-walked-2.walked.0.items ++ map (moved_placement c.in-Some-shift.shift) (drop n c.args.old.now.placements.items)) from)
+          ∙ made-accepted c.in-Some-shift.shift c.args.old.now c.args.lines.now c.args.edit.now c.first_plain-next.result c.in_ok-walked-2.walked.1.here c.in_ok-walked-2.walked.0.items c.in_ok-walked-2.walked.1.names b
           (laid.accepted (and_parts _ _ (sym c.in_ok-layout.ensures.accepted ∙ yes)).0)
           (ap (λ n. list_all is_placed (drop n c.in_ok-walked-2.walked.0.items)) (sym c.first_changed-place.ensures) ∙ (and_parts _ _ (sym c.in_ok-layout.ensures.accepted ∙ yes)).1);
     } in
-    shifted-layout c.in-Some.shift c.args.old.now c.in_ok-layout.layout c.args.lines.now c.args.edit.now c.first_plain-next.result c.in_ok-walked-2.walked.1.here c.in_ok-walked-2.walked.0.items c.in_ok-walked-2.walked.1.names b k m
+    shifted-layout c.in-Some-shift.shift c.args.old.now c.in_ok-layout.layout c.args.lines.now c.args.edit.now c.first_plain-next.result c.in_ok-walked-2.walked.1.here c.in_ok-walked-2.walked.0.items c.in_ok-walked-2.walked.1.names b k m
 
 pub returns-then-are_those_up_to-clause-span : goal.returns-then-are_those_up_to-clause-span
 returns-then-are_those_up_to-clause-span c =
@@ -273,21 +273,21 @@ returns-then-are_those_up_to-clause-span c =
     let traits_count = length-map (readings_in (lines_after c.args.lines.now c.args.edit.now)) traits_of in
     let next_high : c.first_plain-next.result ≤ count_after (length c.args.lines.now) c.args.edit.now = omega (arith, c.first_plain-next.ensures.within, ap length c.requires.traits, traits_count, count) in
     let low : first_changed c.args.edit.now + added_by c.args.edit.now ≤ c.first_plain-next.result = omega (arith, c.first_plain-next.ensures.low, c.first_changed-place.ensures, c.added_by.ensures) in
-    let k : IsShift c.in-Some.shift c.args.old.now (readings_in c.args.lines.now) c.args.edit.now c.first_plain-next.result c.in_ok-walked-2.walked.1.here = c.in-Some.ensures in
+    let k : IsShift c.in-Some-shift.shift c.args.old.now (readings_in c.args.lines.now) c.args.edit.now c.first_plain-next.result c.in_ok-walked-2.walked.1.here = c.in-Some-shift.ensures in
     let laid : IsLayoutOf c.args.old.now (readings_in c.args.lines.now) = c.requires.before (no-keep (readings_in c.args.lines.now) c.args.edit.now k.steady) in
-    let from : c.first_plain-next.result + c.removed_by.result - c.added_by-in-Some.result ≡ old_place c.args.edit.now c.first_plain-next.result = rw (c.removed_by.ensures, c.added_by-in-Some.ensures) refl in
+    let from : c.first_plain-next.result + c.removed_by.result - c.added_by-in-Some-shift.result ≡ old_place c.args.edit.now c.first_plain-next.result = rw (c.removed_by.ensures, c.added_by-in-Some-shift.ensures) refl in
     let old_count : length c.args.old.now.placements.items ≡ length c.args.lines.now = length-laid c.args.old.now (readings_in c.args.lines.now) laid ∙ length-map c.args.lines.now reading_in in
     let b : StandsBefore c.args.old.now c.args.lines.now c.args.edit.now c.first_plain-next.result c.in_ok-walked-2.walked.1.here c.in_ok-walked-2.walked.0.items c.in_ok-walked-2.walked.1.names
     = stands-before c.args.old.now c.args.lines.now c.args.traits.now c.args.edit.now c.steady_lines-steady.result c.first_plain-next.result c.in_ok-walked-2.walked c.requires.within c.requires.few laid c.requires.traits low c.first_plain-next.ensures.within
-    c.first_plain-next.ensures.plain c.if-steady-next.true c.steady_lines-steady.ensures.steady c.in_ok-walked-2.ensures (c.are_those_up_to.ensures c.if-are_those_up_to.true ∙ ap (λ n. names_in (names_up_to n c.args.old.now.names)) from) in
-    let m : IsMade c.in-Some.shift c.args.old.now c.in_ok-layout.layout (old_place c.args.edit.now c.first_plain-next.result) c.in_ok-walked-2.walked.0.items c.in_ok-walked-2.walked.1.names = record {
-      placements_are = c.in_ok-layout.ensures.placements ∙ ap (λ n. c.in_ok-walked-2.walked.0.items ++ map (moved_placement c.in-Some.shift) (drop n c.args.old.now.placements.items)) from;
+    c.first_plain-next.ensures.plain c.if-steady-next-2.true c.steady_lines-steady.ensures.steady c.in_ok-walked-2.ensures (c.are_those_up_to.ensures c.if-are_those_up_to.true ∙ ap (λ n. names_in (names_up_to n c.args.old.now.names)) from) in
+    let m : IsMade c.in-Some-shift.shift c.args.old.now c.in_ok-layout.layout (old_place c.args.edit.now c.first_plain-next.result) c.in_ok-walked-2.walked.0.items c.in_ok-walked-2.walked.1.names = record {
+      placements_are = c.in_ok-layout.ensures.placements ∙ ap (λ n. c.in_ok-walked-2.walked.0.items ++ map (moved_placement c.in-Some-shift.shift) (drop n c.args.old.now.placements.items)) from;
       names_are = c.in_ok-layout.ensures.names;
       end_is = c.in_ok-layout.ensures.end;
-      accepted_is = λ yes. ap (list_all is_placed) (c.in_ok-layout.ensures.placements ∙ ap (λ n. c.in_ok-walked-2.walked.0.items ++ map (moved_placement c.in-Some.shift) (drop n c.args.old.now.placements.items)) from)
-          ∙ made-accepted c.in-Some.shift c.args.old.now c.args.lines.now c.args.edit.now c.first_plain-next.result c.in_ok-walked-2.walked.1.here c.in_ok-walked-2.walked.0.items c.in_ok-walked-2.walked.1.names b
+      accepted_is = λ yes. ap (list_all is_placed) (c.in_ok-layout.ensures.placements ∙ ap (λ n. c.in_ok-walked-2.walked.0.items ++ map (moved_placement c.in-Some-shift.shift) (drop n c.args.old.now.placements.items)) from)
+          ∙ made-accepted c.in-Some-shift.shift c.args.old.now c.args.lines.now c.args.edit.now c.first_plain-next.result c.in_ok-walked-2.walked.1.here c.in_ok-walked-2.walked.0.items c.in_ok-walked-2.walked.1.names b
           (laid.accepted (and_parts _ _ (sym c.in_ok-layout.ensures.accepted ∙ yes)).0)
           (ap (λ n. list_all is_placed (drop n c.in_ok-walked-2.walked.0.items)) (sym c.first_changed-place.ensures) ∙ (and_parts _ _ (sym c.in_ok-layout.ensures.accepted ∙ yes)).1);
     } in
-    shifted-span c.in-Some.shift c.args.old.now c.in_ok-layout.layout c.args.lines.now c.args.edit.now c.first_plain-next.result c.in_ok-walked-2.walked.1.here c.in_ok-walked-2.walked.0.items c.in_ok-walked-2.walked.1.names b k m _
+    shifted-span c.in-Some-shift.shift c.args.old.now c.in_ok-layout.layout c.args.lines.now c.args.edit.now c.first_plain-next.result c.in_ok-walked-2.walked.1.here c.in_ok-walked-2.walked.0.items c.in_ok-walked-2.walked.1.names b k m _
     (omega (arith, c.clean_lines.ensures.within, c.first_changed-place.ensures)) c.clean_lines.ensures.clean (ap (λ n. length c.args.lines.now - n) from)

@@ -1,13 +1,10 @@
-use Rattle.std.proofs.Common.{◌≡◌, ◌∙◌, Bool, true, false, not, refl, ap, sym, arith, get_or, slice_get, Some}
+use Rattle.std.proofs.Common.{◌≡◌, arith, get_or, slice_get, Some}
 use Rattle.std.proofs.lemmas.Option.{slice_get-get_or}
 use Rattle.chip_lang.specs.Line.{Reading, bad}
 use Rattle.chip_lang.specs.declared.fault.Fault.TheVariants.{UnclosedIf}
-use Rattle.chip_asm.specs.Names.{values_of}
 use Rattle.chip_asm.specs.declared.recode.Moved.TheVariants.{No}
 use Rattle.chip_asm.specs.inner.Hints.{names_in, hint_in}
 use Rattle.chip_asm.specs.inner.Remaking.{lines_then}
-use Rattle.chip_asm.specs.declared.traits.Traits.{Traits}
-use Rattle.chip_asm.specs.inner.Traits.{traits_of}
 use Rattle.chip_asm.proofs.Edited.{mapped-at}
 use Rattle.chip_asm.proofs.HintSteps.{hint-few, length-names}
 use Rattle.chip_asm.proofs.RecodeSteps.{said-unmoved}
