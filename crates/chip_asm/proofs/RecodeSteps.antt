@@ -1,5 +1,5 @@
 -- Counting and collecting the lines that are encoded again.
-use Rattle.std.proofs.Common.{◌≡◌, ◌≢◌, pos, ℕ, ℤ, suc, zero, ◌+◌, ◌<◌, ◌≤◌, Bool, true, false, ◌&&◌, cond, List, [], ◌∷◌, ◌++◌, length, take, get_or, count_by, slice_get, refl, ap, sym, ◌∙◌, arith, Option, Some, None, option_map, option_to_list, is_some}
+use Rattle.std.proofs.Common.{◌≡◌, ◌≢◌, pos, ℕ, ℤ, suc, zero, ◌+◌, ◌<◌, ◌≤◌, Bool, true, false, not, ◌&&◌, cond, List, [], ◌∷◌, ◌++◌, length, take, get_or, count_by, slice_get, refl, ap, sym, ◌∙◌, arith, Option, Some, None, option_map, option_to_list, is_some}
 use Rattle.std.specs.List.{enumerate_from, list_all, cons_option}
 use Rattle.chip_lang.specs.declared.code.Coded.{Coded}
 use Rattle.std.proofs.lemmas.List.Elements.{filter_map-append}
@@ -131,6 +131,27 @@ not-again old new origin i r stood agree = by (origin i) refl stood
     by : (o : Option ℕ) → origin i ≡ o → option_map_or (is_placed_at (placements_of old)) o false ≡ true → is_encoded_again old new origin (i, r) ≡ false
     by None e s = cc
     by (Some j) e s = there j e s
+
+-- a line with a name that moved is encoded again wherever it has code and is accepted
+pub again-moved : (old new : List Reading) (origin : ℕ → Option ℕ) (i : ℕ) (r : Reading) → agree_on (values_of (names_of_lines old)) (values_of (names_of_lines new)) r ≡ false
+    → is_encoded_again old new origin (i, r) ≡ (has_code (body_of r) && is_placed_at (placements_of new) i)
+unfolding is_encoded_again
+again-moved old new origin i r moved = by (origin i) refl
+  where
+    new_only : (coded live was : Bool) → (coded && (live && not (was && false))) ≡ (coded && live)
+    new_only false live was = refl
+    new_only true false was = refl
+    new_only true true false = refl
+    new_only true true true = refl
+
+    no_place : (coded live : Bool) → (coded && (live && true)) ≡ (coded && live)
+    no_place false live = refl
+    no_place true false = refl
+    no_place true true = refl
+
+    by : (o : Option ℕ) → origin i ≡ o → is_encoded_again old new origin (i, r) ≡ (has_code (body_of r) && is_placed_at (placements_of new) i)
+    by None e = rw e (no_place (has_code (body_of r)) (is_placed_at (placements_of new) i))
+    by (Some j) e = rw (e, moved) (new_only (has_code (body_of r)) (is_placed_at (placements_of new) i) (is_placed_at (placements_of old) j))
 
 uncounted : (b : Bool) → b ≡ false → (n : ℕ) → n + cond b 1 0 ≡ n
 uncounted true e n = cc

@@ -165,6 +165,15 @@ impl<'a> Remaking<'a> {
         }
     }
 
+    /// Whether the line at a place has code, and is accepted after the edit.
+    fn is_coded_at(&self, place: usize) -> bool
+        requires known { IsRemaking self.now }
+        requires place { place < length (lines_then self.now) }
+        ensures { (line : Reading) → slice_get (lines_then self.now) place ≡ Some line → result ≡ (has_code (body_of line) && is_placed_at self.now.new.now.placements.items place) }
+    {
+        self.traits[place].is_coded && is_placed_at(&self.new.placements, place)
+    }
+
     /// Whether the line at a place has to be encoded again.
     #[tactic(auto, unfolding(crate::specs::inner::Recode::is_encoded_again))]
     fn is_encoded_again(&self, place: usize) -> bool
@@ -176,7 +185,7 @@ impl<'a> Remaking<'a> {
         if stood(&self.old.placements, self.edit, place) && self.keeps_values(place) {
             return false;
         }
-        self.traits[place].is_coded && is_placed_at(&self.new.placements, place)
+        self.is_coded_at(place)
     }
 
     /// Appends the code of the line at a place with the place, where it is wanted. The line's names are looked for first at its hint.
@@ -258,6 +267,30 @@ impl<'a> Remaking<'a> {
         Ok(())
     }
 
+    /// Appends the new code, if there is one, of a line with a name that moved: it is encoded again wherever it has code and is accepted.
+    #[cold]
+    #[inline(never)]
+    fn push_code_of_moved(
+        &self,
+        alloc: Global,
+        meter: &mut Meter,
+        codes: &mut Vec<(usize, Coded)>,
+        place: usize,
+    ) -> Result<(), AllocError>
+        requires known { IsRemaking self.now }
+        requires place { place < length (lines_then self.now) }
+        requires moved { (line : Reading) → slice_get (lines_then self.now) place ≡ Some line → agree_on (values_of self.now.old.now.names) (values_of self.now.new.now.names) line ≡ false }
+        ensures codes { (before : List Reading) → IsLayoutOf self.now.old.now before → codes.old.items ≡ codes_up_to before (lines_then self.now) (place_before self.now.edit.now) place
+            → OnOk result (codes.new.items ≡ codes_up_to before (lines_then self.now) (place_before self.now.edit.now) (place + 1)) }
+        ensures encoded { (before : List Reading) → IsLayoutOf self.now.old.now before
+            → meter.new.encoded + count_up_to before (lines_then self.now) (place_before self.now.edit.now) place ≤ meter.old.encoded + count_up_to before (lines_then self.now) (place_before self.now.edit.now) (place + 1) }
+        ensures not_lowered { meter.old.encoded ≤ meter.new.encoded }
+        ensures parsed { meter.new.parsed ≡ meter.old.parsed }
+    {
+        let again = self.is_coded_at(place);
+        self.push_code_if(again, alloc, meter, codes, place)
+    }
+
     /// Appends the new code, if there is one, of a line that stood before the edit and was accepted there.
     fn push_code_of_stood(
         &self,
@@ -276,10 +309,11 @@ impl<'a> Remaking<'a> {
         ensures not_lowered { meter.old.encoded ≤ meter.new.encoded }
         ensures parsed { meter.new.parsed ≡ meter.old.parsed }
     {
-        if self.is_unmoved(place) {
-            return Ok(());
+        match self.moves[self.hints[place] as usize] {
+            Moved::No => Ok(()),
+            Moved::Yes => self.push_code_of_moved(alloc, meter, codes, place),
+            Moved::Unknown => self.push_codes(alloc, meter, codes, place, place + 1),
         }
-        self.push_codes(alloc, meter, codes, place, place + 1)
     }
 
     /// The same of four such lines.
