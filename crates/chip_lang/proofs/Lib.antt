@@ -25,3 +25,5 @@ pub mod Lookup
 pub mod Misfit
 pub mod FaultSpan
 pub mod LongWords
+pub mod LastDigits
+pub mod FewTokens

@@ -1,17 +1,19 @@
 -- One step of the parser.
-use Rattle.std.proofs.Common.{◌≡◌, ℕ, zero, suc, ◌+◌, ◌*◌, ◌-◌, ◌<◌, ◌≤◌, if◌then◌else◌, List, [], ◌∷◌, ◌++◌, length, Option, Some, None, refl, sym, ap, arith, ◌∙◌}
+use Rattle.std.proofs.Common.{◌≡◌, ℕ, zero, suc, ◌+◌, ◌*◌, ◌-◌, ◌<◌, ◌≤◌, ◌==◌, Bool, true, false, if◌then◌else◌, List, [], ◌∷◌, ◌++◌, length, Option, Some, None, refl, sym, ap, arith, ◌∙◌}
+use Rattle.std.proofs.lemmas.Bool.Decides.{nat_tests}
 use Rattle.chip_lang.specs.declared.lexeme.Lexeme.{Lexeme}
-use Rattle.chip_lang.specs.declared.lexeme.Lexeme.TheVariants.{Word, Sign}
+use Rattle.chip_lang.specs.declared.lexeme.Lexeme.TheVariants.{Word, Number, Text, Sign, Bad}
 use Rattle.chip_lang.specs.declared.expr.Operator.{Operator}
 use Rattle.chip_lang.specs.declared.expr.Prefix.{Prefix}
 use Rattle.chip_lang.specs.Tree.{Tree, name, unary, binary}
+use Rattle.chip_lang.specs.Grammar.{operator_of, level_of}
 use Rattle.chip_lang.specs.Reserved.{is_reserved}
 use Rattle.std.proofs.Common.{take, drop, Result, Ok, Err}
 use Rattle.std.specs.declared.alloc.AllocError.{AllocError}
 use Rattle.std.specs.Result.{IfOk}
 use Rattle.chip_lang.specs.inner.Seen.{Answer, seen}
 use Rattle.chip_lang.proofs.Scan.{to_end}
-use Rattle.chip_lang.specs.computed.Parse.{Parsed, front_prefix, front_operator, after, below, on_found, closed, prefixed, with_right, parse, further, sign_then, unless_sign, prefixes, after_prefixes, signed}
+use Rattle.chip_lang.specs.computed.Parse.{Parsed, level_or_8, front_level, if_level, front_prefix, front_operator, after, below, on_found, closed, prefixed, with_right, parse, further, sign_then, unless_sign, prefixes, after_prefixes, signed}
 
 -- a level: what the stronger level finds, and the operators after it
 pub level_step : (n k : ℕ) (ts rest : List Lexeme) (left : Tree) (y : Parsed) → 1 ≤ k → 9 * length ts + suc k < n → length rest < length ts →
@@ -22,6 +24,12 @@ level_step zero k ts rest left y p q r found more = absurd (omega arith)
 level_step (suc n) zero ts rest left y p q r found more = absurd (omega arith)
 level_step (suc n) (suc k) ts rest left y p q r found more =
     more n (omega arith) ∙ ap (λ f. on_found f (further n (suc (suc k)))) (found n (omega arith))
+
+nothing_step : (n k : ℕ) (ts : List Lexeme) → 1 ≤ k → 9 * length ts + suc k < n →
+    ((m : ℕ) → 9 * length ts + k < m → None ≡ parse m k ts) → None ≡ parse n (suc k) ts
+nothing_step zero k ts p q none = absurd (omega arith)
+nothing_step (suc n) zero ts p q none = absurd (omega arith)
+nothing_step (suc n) (suc k) ts p q none = ap (λ f. on_found f (further n (suc (suc k)))) (none n (omega arith))
 
 -- no sign before an operand
 pub prefixed_step : (n : ℕ) (ts : List Lexeme) (y : Parsed) → 9 * length ts + 1 < n → None ≡ front_prefix ts →
@@ -53,6 +61,81 @@ further_step (suc n) k sign left (t ∷ ts) p y l q s front found more =
     more n (omega arith)
     ∙ ap (λ f. on_found f (λ b rest. further n (suc k) (binary sign left b) rest)) (found n (omega arith))
     ∙ ap (λ o. with_right (parse n k) (further n (suc k)) o left (t ∷ ts)) front
+
+-- no operator
+further_end : (n level : ℕ) (left : Tree) (rest : List Lexeme) → 0 < n → None ≡ front_operator rest level → Some (left, rest) ≡ further n level left rest
+further_end zero level left rest h front = absurd (omega arith)
+further_end (suc n) level left rest h front = ap (λ o. with_right (parse n (below level)) (further n level) o left rest) front
+
+-- ---- levels one after another
+
+same_level : (a b : ℕ) → (a == b) ≡ true → a ≡ b
+same_level a b h = grind (arith, nat_tests)
+
+-- the operator at the front is of no level but its own
+other_sign : (o : Option Operator) (level : ℕ) → (level_or_8 o ≡ level → ⊥) → None ≡ if_level o level
+other_sign None level other = refl
+other_sign (Some sign) level other = by (level_of sign == level) refl
+  where
+    by : (b : Bool) → (level_of sign == level) ≡ b → None ≡ (if level_of sign == level then Some sign else None)
+    by true e = absurd (other (same_level (level_of sign) level e))
+    by false e = rw e refl
+
+pub other_level : (ts : List Lexeme) (level : ℕ) → (front_level ts ≡ level → ⊥) → None ≡ front_operator ts level
+other_level [] level other = refl
+other_level (Word w ∷ ts) level other = refl
+other_level (Number z ∷ ts) level other = refl
+other_level (Text bs ∷ ts) level other = refl
+other_level (Bad f ∷ ts) level other = refl
+other_level (Sign c ∷ ts) level other = other_sign (operator_of c) level other
+
+-- what a level finds is what a weaker one finds, where no operator of a level between stands in front
+pub raised : (d k level : ℕ) (ts rest : List Lexeme) (left : Tree) → d + k ≡ level → 1 ≤ k → length rest < length ts →
+    ((l : ℕ) → k < l → l ≤ level → None ≡ front_operator rest l) →
+    ((m : ℕ) → 9 * length ts + k < m → Some (left, rest) ≡ parse m k ts) →
+    (n : ℕ) → 9 * length ts + level < n → Some (left, rest) ≡ parse n level ts
+raised zero k level ts rest left is low short plain found n b =
+    let same : k ≡ level = omega arith in
+    found n (omega arith) ∙ ap (λ l. parse n l ts) same
+raised (suc d) k level ts rest left is low short plain found n b =
+    let under : ℕ = d + k in
+    let next : suc under ≡ level = omega arith in
+    level_step n under ts rest left (Some (left, rest)) (omega arith) (omega arith) short
+    (raised d k under ts rest left refl low short (λ l p q. plain l p (omega arith)) found)
+    (λ m q. further_end m (suc under) left rest (omega arith) (plain (suc under) (omega arith) (omega arith)))
+    ∙ ap (λ l. parse n l ts) next
+
+-- the level of the operator in front, after what a stronger level finds
+pub onward : (done next : ℕ) (ts rest : List Lexeme) (left : Tree) (y : Parsed) → 1 ≤ done → done < next → next ≡ front_level rest → length rest < length ts →
+    ((m : ℕ) → 9 * length ts + done < m → Some (left, rest) ≡ parse m done ts) →
+    ((m : ℕ) → 9 * length rest + 8 < m → y ≡ further m next left rest) →
+    (n : ℕ) → 9 * length ts + next < n → y ≡ parse n next ts
+onward done next ts rest left y low less front short found more n b =
+    let under : ℕ = next - 1 in
+    let is : suc under ≡ next = omega arith in
+    level_step n under ts rest left y (omega arith) (omega arith) short
+    (raised (under - done) done under ts rest left (omega arith) low short (λ l p q. other_level rest l (λ e. omega (arith, e, front, p, q))) found)
+    (λ m q. more m q ∙ ap (λ l. further m l left rest) (sym is))
+    ∙ ap (λ l. parse n l ts) is
+
+-- no operator of a level that is left stands in front
+pub settled : (done level next : ℕ) (ts rest : List Lexeme) (left : Tree) → 1 ≤ done → done ≤ level → next ≡ front_level rest → length rest < length ts →
+    ((l : ℕ) → done < l → l ≤ level → next ≡ l → ⊥) →
+    ((m : ℕ) → 9 * length ts + done < m → Some (left, rest) ≡ parse m done ts) →
+    (n : ℕ) → 9 * length ts + level < n → Some (left, rest) ≡ parse n level ts
+settled done level next ts rest left low high front short stop found =
+    raised (level - done) done level ts rest left (omega arith) low short (λ l p q. other_level rest l (λ e. stop l p q (front ∙ e))) found
+
+-- where a level finds nothing a weaker one finds nothing
+pub sunk : (d k level : ℕ) (ts : List Lexeme) → d + k ≡ level → 1 ≤ k →
+    ((m : ℕ) → 9 * length ts + k < m → None ≡ parse m k ts) → (n : ℕ) → 9 * length ts + level < n → None ≡ parse n level ts
+sunk zero k level ts is low none n b =
+    let same : k ≡ level = omega arith in
+    none n (omega arith) ∙ ap (λ l. parse n l ts) same
+sunk (suc d) k level ts is low none n b =
+    let under : ℕ = d + k in
+    let next : suc under ≡ level = omega arith in
+    nothing_step n under ts (omega arith) (omega arith) (sunk d k under ts refl low none) ∙ ap (λ l. parse n l ts) next
 
 -- ---- the same, of what a function answers
 
@@ -96,11 +179,6 @@ further_at n level k sign left ts rest p y is high same l q front found more =
     (λ m b. more m (rw same b) ∙ ap (λ level. on_found p (λ b more. further m level (binary sign left b) more)) (sym is))
     ∙ ap (λ level. further n level left ts) is in
     at level rest is same high front found more
-
--- no operator
-further_end : (n level : ℕ) (left : Tree) (rest : List Lexeme) → 0 < n → None ≡ front_operator rest level → Some (left, rest) ≡ further n level left rest
-further_end zero level left rest h front = absurd (omega arith)
-further_end (suc n) level left rest h front = ap (λ o. with_right (parse n (below level)) (further n level) o left rest) front
 
 -- ---- operators one after another
 

@@ -1,11 +1,12 @@
 //! What stands in front of tokens.
 
-ghost use Rattle.std.specs.Prelude.{[], ◌≡◌, ◌<◌, ◌≤◌, ◌+◌, length, IfSome, IfOk, if◌then◌else◌};
+ghost use Rattle.std.specs.Prelude.{[], ◌≡◌, ◌<◌, ◌≤◌, ◌+◌, length, IfSome, IfOk, true, is_some, if◌then◌else◌};
 ghost use Rattle.chip_lang.specs.Grammar.{prefix_of, operator_of, level_of};
-ghost use Rattle.chip_lang.specs.computed.Parse.{Parsed, front_prefix, front_operator, closed, one_byte, whole};
+ghost use Rattle.chip_lang.specs.computed.Parse.{Parsed, front_prefix, front_operator, front_level, closed, one_byte, whole};
 ghost use Rattle.chip_lang.specs.inner.Seen.{seen, seen_whole};
 ghost use Rattle.chip_lang.specs.Tree.{tree_of, name};
 ghost use Rattle.chip_lang.specs.Reserved.{is_reserved};
+ghost use Rattle.chip_lang.specs.Keyword.{register_of};
 
 use crate::bytes::Bytes;
 use crate::expr::{Expr, Operator, Prefix};
@@ -43,6 +44,9 @@ fn operator_of(sign: u8) -> Option<Operator>
     }
 }
 
+// Above the level of each operator.
+const NO_LEVEL: u32 = 8;
+
 fn level_of(operator: Operator) -> u32
     ensures { result ≡ level_of operator }
 {
@@ -78,6 +82,19 @@ pub fn operator_in_front(tokens: &[Lexeme], level: u32) -> Option<Operator>
             _ => None,
         },
         _ => None,
+    }
+}
+
+/// The level of the operator in front, and 8 where there is none.
+pub fn level_in_front(tokens: &[Lexeme]) -> u32
+    ensures { result ≡ front_level tokens.now }
+{
+    match tokens.first() {
+        Some(Lexeme::Sign(sign)) => match operator_of(*sign) {
+            Some(operator) => level_of(operator),
+            None => NO_LEVEL,
+        },
+        _ => NO_LEVEL,
     }
 }
 
@@ -141,6 +158,18 @@ pub fn free_name(alloc: Global, word: &[u8]) -> Result<Option<Bytes>, AllocError
 // No reserved word has more bytes, so that most names need no search.
 const LONGEST_RESERVED: usize = 7;
 
+/// Whether a word in upper case is reserved only if it is a register, as its last byte shows: no other reserved word
+/// ends in a digit.
+#[tactic(auto, using(crate::proofs::LastDigits::only_registers))]
+fn is_at_most_a_register(word: &[u8]) -> bool
+    ensures { result ≡ true → is_reserved word.now ≡ is_some (register_of word.now) }
+{
+    match word.last() {
+        Some(last) => b'0' <= *last && *last <= b'9',
+        None => false,
+    }
+}
+
 /// Whether a word in upper case is reserved.
 #[tactic(auto, unfolding(crate::specs::Reserved::is_reserved), using(crate::proofs::LongWords::no_long_word))]
 pub fn is_reserved(word: &[u8]) -> bool
@@ -148,6 +177,9 @@ pub fn is_reserved(word: &[u8]) -> bool
 {
     if word.len() > LONGEST_RESERVED {
         return false;
+    }
+    if is_at_most_a_register(word) {
+        return register_of(word).is_some();
     }
     is_mnemonic(word)
         || directive_of(word).is_some()

@@ -1,6 +1,6 @@
 //! Tokens with what they hold.
 
-ghost use Rattle.std.specs.Prelude.{◌≡◌, IfOk, OnOk, length, ◌-◌, ◌≤◌, slice_range, ◌++◌, ◌∷◌, []};
+ghost use Rattle.std.specs.Prelude.{◌≡◌, IfOk, length, ◌-◌, ◌≤◌, slice_range};
 ghost use Rattle.chip_lang.specs.Line.{lexeme_of, lexemes_of, is_the, is_sign_of};
 
 use crate::fault::Fault;
@@ -23,25 +23,15 @@ pub enum Lexeme {
     Bad(Fault),
 }
 
-fn push_lexeme(lexemes: &mut Vec<Lexeme>, lexeme: Lexeme) -> Result<(), AllocError>
-    ensures { OnOk result (lexemes.new.items ≡ lexemes.old.items ++ lexeme ∷ []) }
-{
-    if lexemes.is_empty() {
-        lexemes.reserve(USUAL_TOKENS)?;
-    }
-    lexemes.push(lexeme)?;
-    Ok(())
-}
-
 /// The tokens of a line with what they hold.
 pub fn lexemes(alloc: Global, line: &[u8]) -> Result<Vec<Lexeme>, AllocError>
     ensures { IfOk result (λ lexemes. lexemes.items ≡ lexemes_of line.now) }
 {
-    let mut lexemes = Vec::new(alloc);
+    let mut lexemes = Vec::with_capacity(alloc, USUAL_TOKENS)?;
     let mut place = 0;
     while let Some(token) = token_from(line, place) {
         let lexeme = lexeme_of(alloc, line, token)?;
-        push_lexeme(&mut lexemes, lexeme)?;
+        lexemes.push(lexeme)?;
         place = token.end;
     }
     Ok(lexemes)

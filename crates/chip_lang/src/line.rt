@@ -219,9 +219,13 @@ fn bad_token(tokens: &[Lexeme]) -> Option<Fault>
 }
 
 /// Whether at some token the parentheses opened so far are over `OPEN_PARENTHESES` more than those closed.
+#[tactic(auto, using(crate::proofs::FewTokens::not_deep))]
 fn is_too_deep(tokens: &[Lexeme]) -> bool
     ensures { result ≡ too_deep 0 0 tokens.now }
 {
+    if tokens.len() <= OPEN_PARENTHESES {
+        return false;
+    }
     let mut opened = 0usize;
     let mut closed = 0usize;
     for token in tokens {

@@ -9,7 +9,8 @@ ghost use Rattle.chip_lang.specs.Reserved.{is_reserved};
 
 use crate::expr::{Expr, Operator, Prefix};
 use crate::front::{
-    closed, free_name, name_atom, operator_in_front, prefix_in_front, text_atom, text_number,
+    closed, free_name, level_in_front, name_atom, operator_in_front, prefix_in_front, text_atom,
+    text_number,
 };
 use crate::lexeme::Lexeme;
 use std::alloc::{AllocError, Global};
@@ -49,6 +50,7 @@ fn expression_of_token(alloc: Global, token: &Lexeme) -> Result<Option<Expr>, Al
     }
 }
 
+/// An expression of a level. The levels of which no operator stands in front are passed over.
 #[cycle(parser)]
 fn parse_level<'a>(alloc: Global, tokens: &'a [Lexeme], level: u32) -> Result<Found<'a>, AllocError>
     requires { level ≤ 7 }
@@ -58,13 +60,23 @@ fn parse_level<'a>(alloc: Global, tokens: &'a [Lexeme], level: u32) -> Result<Fo
     if level == 0 {
         return parse_atom(alloc, tokens);
     }
-    if level == 1 {
-        return parse_prefixed(alloc, tokens);
-    }
-    let Some((left, rest)) = parse_level(alloc, tokens, level - 1)? else {
+    let Some((first, more)) = parse_prefixed(alloc, tokens)? else {
         return Ok(None);
     };
-    parse_further(alloc, left, rest, level)
+    let mut left = first;
+    let mut rest = more;
+    let mut done = 1;
+    let mut next = level_in_front(rest);
+    while done < next && next <= level {
+        let Some((wider, more)) = parse_further(alloc, left, rest, next)? else {
+            return Ok(None);
+        };
+        left = wider;
+        rest = more;
+        done = next;
+        next = level_in_front(rest);
+    }
+    Ok(Some((left, rest)))
 }
 
 #[cycle(parser)]

@@ -1,14 +1,44 @@
 use Rattle.std.proofs.Common.{◌∙◌, ◌-◌, ap, sym, rules, arith, Some, None}
 use Rattle.chip_lang.specs.Tree.{tree_of}
 use Rattle.chip_lang.specs.inner.Seen.{seen}
-use Rattle.chip_lang.proofs.Steps.{level_ok, name_ok, parentheses_at, slice_after, signed_at, after_shorter, leads_on, leads_nowhere, leads_end}
+use Rattle.chip_lang.proofs.Steps.{sunk, onward, settled, name_ok, parentheses_at, slice_after, signed_at, after_shorter, leads_on, leads_nowhere, leads_end}
+use Rattle.chip_lang.proofs.parse.+parser.Goals.{parse_level-then-loop-done-test+else-next-level, parse_level-else-loop-done-test}
 use Rattle.chip_lang.proofs.parse.+parser.Goals as goal
+
+pub parse_level-returns-in_default-clause-value : goal.parse_level-returns-in_default-clause-value
+parse_level-returns-in_default-clause-value t c =
+    sunk (c.args.level - 1) 1 c.args.level c.args.tokens.now (omega arith) (omega arith)
+    (λ m q. ap seen (sym c.in_default.is) ∙ c.in_ok-first.ensures.value m q)
+
+pub parse_level-returns-in_default-2-clause-value : goal.parse_level-returns-in_default-2-clause-value
+parse_level-returns-in_default-2-clause-value t c =
+    let loop = c.loop-done.invariant in
+    sunk (c.args.level - c.loop-done.next) c.loop-done.next c.args.level c.args.tokens.now (omega arith) (omega arith)
+    (onward c.loop-done.done c.loop-done.next c.args.tokens.now c.loop-done.rest.now (tree_of c.loop-done.left) None loop.low (omega arith) loop.next loop.shorter loop.found
+    (λ m q. ap seen (sym c.in_default-2.is) ∙ c.in_ok-wider.ensures.value m q))
+
+pub parse_level-loop-done-preserved : goal.parse_level-loop-done-preserved
+parse_level-loop-done-preserved t c =
+    let loop = c.loop-done.invariant in
+    let short = rw c.in-Some-2.is at c.in_ok-wider.ensures.shorter in
+    record {
+      low = omega arith;
+      high = omega arith;
+      next = c.level_in_front-next-in-loop-done.ensures;
+      shorter = omega (arith, short, loop.shorter);
+      found = onward c.loop-done.done c.loop-done.next c.args.tokens.now c.loop-done.rest.now (tree_of c.loop-done.left) _ loop.low (omega arith) loop.next loop.shorter loop.found
+          (λ m q. ap seen (sym c.in-Some-2.is) ∙ c.in_ok-wider.ensures.value m q);
+    }
 
 pub parse_level-returns-clause-value : goal.parse_level-returns-clause-value
 parse_level-returns-clause-value t c =
-    level_ok c.parse_further.result c.args.level (c.args.level - 1) c.args.tokens.now c.in-Some.rest.now (tree_of c.in-Some.left)
-    (omega arith) (omega arith) (rw c.in-Some.is at c.in_ok-left.ensures.shorter)
-    (λ m b. ap seen (sym c.in-Some.is) ∙ c.in_ok-left.ensures.value m b) c.parse_further.ensures.value
+    let loop = c.loop-done.invariant in
+    settled c.loop-done.done c.args.level c.loop-done.next c.args.tokens.now c.loop-done.rest.now (tree_of c.loop-done.left) loop.low loop.high loop.next loop.shorter
+    (λ l p q e. elim c.loop-done-test.branch [
+      | parse_level-then-loop-done-test+else-next-level w ↦ omega (arith, e, p, q, w.if-next-level)
+      | parse_level-else-loop-done-test w ↦ omega (arith, e, p, q, w.loop-done-test)
+    ])
+    loop.found
 
 pub parse_atom-returns-in-Word-clause-value : goal.parse_atom-returns-in-Word-clause-value
 parse_atom-returns-in-Word-clause-value t c =

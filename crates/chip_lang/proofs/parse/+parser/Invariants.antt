@@ -1,4 +1,5 @@
-use Rattle.std.proofs.Common.{◌+◌, ◌*◌, ◌≤◌, length}
+use Rattle.std.proofs.Common.{◌≡◌, ℕ, ◌+◌, ◌-◌, ◌*◌, ◌<◌, ◌≤◌, length, Some}
+use Rattle.chip_lang.specs.computed.Parse.{front_level, parse}
 use Rattle.chip_lang.specs.Tree.{tree_of}
 use Rattle.chip_lang.proofs.Steps.{Leads}
 use Rattle.chip_lang.proofs.parse.+parser.Given as goal
@@ -23,3 +24,15 @@ invariant-parse_further-loop-sign l = record {
 
 abbrev pub decreases-parse_further-loop-sign : goal.decreases-parse_further-loop-sign
 decreases-parse_further-loop-sign l = length l.rest
+
+abbrev pub invariant-parse_level-loop-done : goal.invariant-parse_level-loop-done
+invariant-parse_level-loop-done l = record {
+  low : 1 ≤ l.done;
+  high : l.done ≤ l.level;
+  next : l.next ≡ front_level l.rest;
+  shorter : length l.rest < length l.tokens;
+  found : (m : ℕ) → 9 * length l.tokens + l.done < m → Some (tree_of l.left, l.rest) ≡ parse m l.done l.tokens;
+}
+
+abbrev pub decreases-parse_level-loop-done : goal.decreases-parse_level-loop-done
+decreases-parse_level-loop-done l = l.level - l.done
