@@ -1,8 +1,9 @@
 -- A name's form is found among the forms from the first of that name on.
-use Rattle.std.proofs.Common.{◌≡◌, ℕ, suc, ◌==◌, ◌&&◌, ◌≤◌, not, arith, Bool, true, false, List, [], ◌∷◌, map, length, is_none, None, refl, sym, ap, ◌∙◌}
+use Rattle.std.proofs.Common.{◌≡◌, ℕ, ◌==◌, ◌&&◌, ◌≤◌, not, arith, Bool, true, false, List, [], ◌∷◌, map, length, is_none, None, refl, sym, ap, ◌∙◌}
 use Rattle.std.proofs.Math.Dec.{eqb-suc-zero}
 use Rattle.std.specs.List.{list_any}
 use Rattle.std.specs.Str.{bytes_eq}
+use Rattle.std.proofs.lemmas.List.{length-map}
 use Rattle.chip_lang.specs.Table.{Row, forms}
 use Rattle.chip_lang.specs.Operand.{Operand}
 use Rattle.chip_lang.specs.declared.form.Form.{Form}
@@ -33,10 +34,6 @@ is_there : (name : List ℕ) (rows : List Row) → list_any (λ r. bytes_eq r.na
 is_there name [] = refl
 is_there name (r ∷ rows) = there_by name r rows (bytes_eq r.name name) refl (is_there name rows)
 
-as_many : (fs : List Form) → length (map row_of_form fs) ≡ length fs
-as_many [] = refl
-as_many (f ∷ fs) = ap suc (as_many fs)
-
 -- the form of a name and operands
 pub form_among : (fs : List Form) (name : List ℕ) (operands : List Operand) → map row_of_form fs ≡ from_name name forms →
     find_form (map row_of_form fs) name operands ≡ form_of name operands
@@ -45,7 +42,7 @@ form_among fs name operands same = ap (λ rows. find_form rows name operands) sa
 -- whether there is a form of a name
 pub some_among : (fs : List Form) (name : List ℕ) → map row_of_form fs ≡ from_name name forms → not (length fs == 0) ≡ is_mnemonic name
 some_among fs name same =
-    ap (λ n. not (n == 0)) (sym (as_many fs) ∙ ap length same) ∙ sym (is_there name forms)
+    ap (λ n. not (n == 0)) (sym (length-map fs row_of_form) ∙ ap length same) ∙ sym (is_there name forms)
 
 true-false : true ≡ false → ⊥
 true-false h = cc
