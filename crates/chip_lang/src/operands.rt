@@ -28,13 +28,12 @@ fn piece_length(tokens: &[Lexeme]) -> usize
     tokens.len()
 }
 
-/// How many pieces stand between commas.
-fn most_pieces(tokens: &[Lexeme]) -> usize {
-    let commas = tokens
-        .iter()
-        .filter(|token| is_sign_of(b',', *token))
-        .count();
-    commas.saturating_add(1)
+// No instruction takes more operands, so that most lines need no more room.
+const USUAL_OPERANDS: usize = 3;
+
+/// Room for the operands that so many tokens are: each but the last has a comma after it.
+fn usual_room(tokens: usize) -> usize {
+    (tokens / 2).saturating_add(1).min(USUAL_OPERANDS)
 }
 
 /// The tokens before the first comma, and those after it if there is one.
@@ -79,7 +78,7 @@ pub(crate) fn operands_of(
     if tokens.is_empty() {
         return Ok(Some(Vec::new(alloc)));
     }
-    let mut operands = Vec::with_capacity(alloc, most_pieces(tokens))?;
+    let mut operands = Vec::with_capacity(alloc, usual_room(tokens.len()))?;
     let mut rest = Some(tokens);
     while let Some(tokens) = rest {
         let (piece, more) = first_piece(tokens);

@@ -1,6 +1,6 @@
 //! Tokens of a line.
 
-ghost use Rattle.std.specs.Prelude.{◌≡◌, ◌<◌, ◌≤◌, ◌+◌, ◌↔◌, ◌^◌, IfOk, IsTrue, length, take_while, fold, not, List, ◌∷◌, [], ◌++◌, drop, slice_index, vec_len, ℕ, ◌==◌, OnOk, IfSome};
+ghost use Rattle.std.specs.Prelude.{◌≡◌, ◌<◌, ◌≤◌, ◌+◌, ◌↔◌, ◌^◌, IfOk, IsTrue, length, take_while, fold, not, List, ◌∷◌, [], ◌++◌, drop, take, slice_index, vec_len, ℕ, ◌==◌, OnOk, IfSome};
 ghost use Rattle.std.specs.List.{list_all, prefix_len};
 ghost use Rattle.chip_lang.specs.Token.{is_blank, is_digit, is_octal, is_hexadecimal, is_binary, is_name_byte, is_run_byte, is_name_start, is_sign, is_digit_of, digit_value, with_digit, number_of, kind_of_number, kind_of_digits, text_at, token_at};
 ghost use Rattle.chip_lang.specs.computed.Tokens.{tokens_from, tokens_of};
@@ -186,7 +186,8 @@ fn digits_of_run(base: u32, run: &[u8]) -> Kind
 
 /// How many name bytes stand at the front.
 fn name_length(bytes: &[u8]) -> usize
-    ensures { result ≡ prefix_len is_name_byte bytes.now }
+    ensures within { result ≤ length bytes.now }
+    ensures value { result ≡ prefix_len is_name_byte bytes.now }
 {
     for (index, byte) in bytes.iter().enumerate() {
         if !is_name_byte(*byte) {
@@ -194,6 +195,14 @@ fn name_length(bytes: &[u8]) -> usize
         }
     }
     bytes.len()
+}
+
+/// The name bytes at the front.
+#[inline(never)]
+fn name_run(bytes: &[u8]) -> &[u8]
+    ensures { result.now ≡ take (prefix_len is_name_byte bytes.now) bytes.now }
+{
+    &bytes[..name_length(bytes)]
 }
 
 /// How many name bytes and full stops stand at the front.
@@ -244,14 +253,16 @@ fn token_at(first: u8, bytes: &[u8]) -> (Kind, usize)
     ensures low { 0 < result.1 }
     ensures high { result.1 ≤ length bytes.now + 1 }
 {
-    let run = &bytes[..name_length(bytes)];
     if is_name_start(first) {
-        (Kind::Word, run.len() + 1)
+        (Kind::Word, name_length(bytes) + 1)
     } else if is_digit(first) {
+        let run = name_run(bytes);
         (digits(10, first, run), run.len() + 1)
     } else if first == b'#' {
+        let run = name_run(bytes);
         (digits_of_run(16, run), run.len() + 1)
     } else if first == b'@' {
+        let run = name_run(bytes);
         (digits_of_run(8, run), run.len() + 1)
     } else if first == b'$' {
         let run = &bytes[..run_length(bytes)];
