@@ -123,11 +123,9 @@ fn reading_of_tokens(alloc: Global, tokens: &[Lexeme]) -> Result<Line, AllocErro
     if let Some(fault) = first_fault(tokens, &shape, front, forms) {
         return Ok(Line::Bad(fault));
     }
+    let label = owned(alloc, first_name(&shape, front))?;
     match body_of_shape(alloc, &shape, front, forms)? {
-        Some(body) => {
-            let label = owned(alloc, first_name(&shape, front))?;
-            Ok(Line::Read { label, body })
-        }
+        Some(body) => Ok(Line::Read { label, body }),
         None => Ok(Line::Bad(Fault::WrongOperands)),
     }
 }
