@@ -1,4 +1,4 @@
--- No reserved word has over seven bytes.
+-- No reserved word has over seven bytes, and no mnemonic over four.
 use Rattle.std.proofs.Common.{◌≡◌, ℕ, ◌<◌, Bool, true, false, List, [], ◌∷◌, length, leb, refl, sym, arith, None}
 use Rattle.std.specs.List.{list_any, list_all}
 use Rattle.std.specs.Str.{bytes_eq}
@@ -9,26 +9,26 @@ use Rattle.chip_lang.specs.Named.{find_word}
 use Rattle.chip_lang.specs.Keyword.{directives, specials, directive_of, special_of, register_of}
 use Rattle.chip_lang.specs.Reserved.{is_mnemonic, is_reserved}
 
-other-by : (name w : List ℕ) (b : Bool) → bytes_eq name w ≡ b → leb (length name) 7 ≡ true → 7 < length w → bytes_eq name w ≡ false
-other-by name w true e short long =
+other-by : (most : ℕ) (name w : List ℕ) (b : Bool) → bytes_eq name w ≡ b → leb (length name) most ≡ true → most < length w → bytes_eq name w ≡ false
+other-by most name w true e short long =
     let same : name ≡ w = (bytes_eq-Decides name w).0 e in
-    absurd (let l : leb (length w) 7 ≡ true = rw (sym same) short in omega (arith, leb-true (length w) 7 l))
-other-by name w false e short long = e
+    absurd (let l : leb (length w) most ≡ true = rw (sym same) short in omega (arith, leb-true (length w) most l))
+other-by most name w false e short long = e
 
-other : (name w : List ℕ) → leb (length name) 7 ≡ true → 7 < length w → bytes_eq name w ≡ false
-other name w short long = other-by name w (bytes_eq name w) refl short long
+other : (most : ℕ) (name w : List ℕ) → leb (length name) most ≡ true → most < length w → bytes_eq name w ≡ false
+other most name w short long = other-by most name w (bytes_eq name w) refl short long
 
-no-name : (rows : List Row) (w : List ℕ) → list_all (λ r. leb (length r.name) 7) rows ≡ true → 7 < length w → list_any (λ r. bytes_eq r.name w) rows ≡ false
+no-name : (rows : List Row) (w : List ℕ) → list_all (λ r. leb (length r.name) 4) rows ≡ true → 4 < length w → list_any (λ r. bytes_eq r.name w) rows ≡ false
 no-name [] w h long = refl
 no-name (r ∷ rows) w h long =
-    let parts = and_parts (leb (length r.name) 7) (list_all (λ r. leb (length r.name) 7) rows) h in
-    rw (other r.name w parts.0 long) (no-name rows w parts.1 long)
+    let parts = and_parts (leb (length r.name) 4) (list_all (λ r. leb (length r.name) 4) rows) h in
+    rw (other 4 r.name w parts.0 long) (no-name rows w parts.1 long)
 
 no-word : {A : Type 0} (rows : List (List ℕ × A)) (w : List ℕ) → list_all (λ r. leb (length r.0) 7) rows ≡ true → 7 < length w → find_word rows w ≡ None
 no-word [] w h long = refl
 no-word (r ∷ rows) w h long =
     let parts = and_parts (leb (length r.0) 7) (list_all (λ r. leb (length r.0) 7) rows) h in
-    rw (other r.0 w parts.0 long) (no-word rows w parts.1 long)
+    rw (other 7 r.0 w parts.0 long) (no-word rows w parts.1 long)
 
 no-register : (w : List ℕ) → 7 < length w → register_of w ≡ None
 unfolding register_of
@@ -45,9 +45,9 @@ no-special : (w : List ℕ) → 7 < length w → special_of w ≡ None
 unfolding special_of
 no-special w long = no-word specials w refl long
 
-no-mnemonic : (w : List ℕ) → 7 < length w → is_mnemonic w ≡ false
-no-mnemonic w long = no-name forms w refl long
+pub no_long_mnemonic : (w : List ℕ) → 4 < length w → is_mnemonic w ≡ false
+no_long_mnemonic w long = no-name forms w refl long
 
 pub no_long_word : (w : List ℕ) → 7 < length w → is_reserved w ≡ false
 unfolding is_reserved
-no_long_word w long = rw (no-mnemonic w long, no-directive w long, no-special w long, no-register w long) refl
+no_long_word w long = rw (no_long_mnemonic w (omega arith), no-directive w long, no-special w long, no-register w long) refl

@@ -139,14 +139,6 @@ sunk (suc d) k level ts is low none n b =
 
 -- ---- the same, of what a function answers
 
-pub level_ok : (r : Result Answer AllocError) (level k : ℕ) (ts rest : List Lexeme) (left : Tree) → suc k ≡ level → 1 ≤ k → length rest < length ts →
-    ((m : ℕ) → 9 * length ts + k < m → Some (left, rest) ≡ parse m k ts) →
-    IfOk r (λ found. (m : ℕ) → 9 * length rest + 8 < m → seen found ≡ further m level left rest) →
-    IfOk r (λ found. (n : ℕ) → 9 * length ts + level < n → seen found ≡ parse n level ts)
-level_ok (Err e) level k ts rest left is p r found more = tt
-level_ok (Ok y) level k ts rest left is p r found more =
-    λ n b. level_step n k ts rest left (seen y) p (omega arith) r found (λ m c. more m c ∙ ap (λ l. further m l left rest) (sym is)) ∙ ap (λ l. parse n l ts) is
-
 pub name_ok : (r : Result Answer AllocError) (w : List ℕ) (ts rest : List Lexeme) → ts ≡ Word w ∷ rest →
     IfOk r (λ found. seen found ≡ (if is_reserved w then None else Some (name w, rest))) →
     IfOk r (λ found. (n : ℕ) → 9 * length ts < n → seen found ≡ parse n 0 ts)

@@ -334,11 +334,17 @@ pub(crate) fn find_form(forms: &[Form], name: &[u8], operands: &[Operand]) -> Op
     find_in(forms, name, operands)
 }
 
+// No mnemonic has more bytes, so that most names need no search.
+const LONGEST_MNEMONIC: usize = 4;
+
 /// Whether some form has this name, given in upper case.
-#[tactic(auto, using(crate::proofs::NamedForms::some_among))]
+#[tactic(auto, using(crate::proofs::NamedForms::some_among, crate::proofs::LongWords::no_long_mnemonic))]
 pub(crate) fn is_mnemonic(word: &[u8]) -> bool
     ensures { result ≡ is_mnemonic word.now }
 {
+    if word.len() > LONGEST_MNEMONIC {
+        return false;
+    }
     !forms_of(word).is_empty()
 }
 
