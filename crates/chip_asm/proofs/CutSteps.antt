@@ -1,14 +1,16 @@
 -- Bytes cut into lines, one line after another.
-use Rattle.std.proofs.Common.{◌≡◌, ℕ, suc, zero, ◌+◌, ◌<◌, ◌≤◌, ◌==◌, Bool, true, false, cond, ltb, List, [], ◌∷◌, ◌++◌, length, drop, refl, ap, sym, ◌∙◌, arith, Some, None, length-append, ne_eqb}
+use Rattle.std.proofs.Common.{◌≡◌, ℕ, suc, zero, ◌+◌, ◌<◌, ◌≤◌, ◌==◌, Bool, true, false, cond, ltb, List, [], ◌∷◌, ◌++◌, length, drop, take, ◌-◌, refl, ap, sym, ◌∙◌, arith, Some, None, length-append, ne_eqb}
 use Rattle.std.specs.List.{slice_split, onto_first, position_or_len, before_first, after_first, prefix_len, All}
 use Rattle.std.specs.Str.Lines.{lines_of_parts, strip_carriage_return}
 use Rattle.std.proofs.lemmas.Bool.{eqb-true}
 use Rattle.std.proofs.lemmas.Bool.Decides.{nat_tests}
 use Rattle.std.proofs.lemmas.List.Elements.{All-from_get_or, All-push}
+use Rattle.std.proofs.lemmas.List.{drop-drop}
 use Rattle.std.proofs.lemmas.List.Splits.{slice_split_first, slice_split_none}
 use Rattle.std.proofs.lemmas.List.Sums.{fails_before_first}
 use Rattle.chip_asm.specs.declared.limits.TheConstants.{LINE_BYTES, MOST_LINES}
 use Rattle.chip_asm.specs.declared.refusal.OpenError.TheVariants.{LineTooLong, TooManyLines}
+use Rattle.chip_asm.specs.inner.HeldText.{IsBack, IsFront, part_from}
 use Rattle.chip_asm.specs.Lines.{lines_of, is_long, fault_of_lines, open_fault, is_newline, first_text}
 
 record Filled (parts : List (List ℕ)) : Type 0 where
@@ -137,3 +139,20 @@ short-is t h = grind (arith, nat_tests)
 
 pub short-push : (texts : List (List ℕ)) (t : List ℕ) → AllShort texts → is_long t ≡ false → AllShort (texts ++ t ∷ [])
 short-push texts t h s = All-push (λ x. is_long x ≡ false) texts t h s
+
+-- a text at the front of what is left of some bytes is a part of them
+pub part-of : (text rest bytes : List ℕ) → IsFront text rest → IsBack rest bytes → text ≡ part_from bytes (length bytes - length rest) (length text)
+part-of text rest bytes f b =
+    let count : length bytes - length rest + length text - (length bytes - length rest) ≡ length text = omega arith in
+    f.is ∙ ap (take (length text)) b.is ∙ (rw count refl)
+
+-- what is left of what is left
+pub back-back : (less rest bytes : List ℕ) → IsBack less rest → IsBack rest bytes → IsBack less bytes
+back-back less rest bytes l b =
+    let count : length bytes - length rest + (length rest - length less) ≡ length bytes - length less = omega (arith, l.within, b.within) in record {
+      within = omega (arith, l.within, b.within);
+      is = l.is ∙ ap (drop (length rest - length less)) b.is ∙ drop-drop (length rest - length less) (length bytes - length rest) bytes ∙ ap (λ n. drop n bytes) count;
+    }
+
+pub all-back : (bytes : List ℕ) → IsBack bytes bytes
+all-back bytes = let none : length bytes - length bytes ≡ 0 = omega arith in record { within = omega arith; is = rw none refl }

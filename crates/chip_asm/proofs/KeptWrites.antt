@@ -1,9 +1,9 @@
 -- New codes written over the kept ones, from the last line back.
-use Rattle.std.proofs.Common.{◌≡◌, ℕ, ◌+◌, ◌-◌, ◌<◌, Bool, true, false, cond, List, ◌∷◌, length, take, drop, ◌++◌, set, get_or, refl, ap, sym, ◌∙◌, arith, Some, eqb, length-set, All}
+use Rattle.std.proofs.Common.{◌≡◌, ℕ, ◌+◌, ◌-◌, ◌<◌, Bool, true, false, cond, List, ◌∷◌, length, take, drop, ◌++◌, set, get_or, refl, ap, sym, ◌∙◌, arith, Some, eqb, length-set, slice_get}
 use Rattle.std.specs.Prelude.{unwrap_or}
 use Rattle.std.proofs.lemmas.Bool.{eqb-true, eqb-false}
-use Rattle.std.proofs.lemmas.List.Elements.{All-get_or}
-use Rattle.std.proofs.lemmas.List.{get_or-set_same, get_or-set_other, get_or-take, take-take, take_all, take-append-le, length-take, at_drop_more}
+use Rattle.std.proofs.lemmas.Option.{slice_get-get_or}
+use Rattle.std.proofs.lemmas.List.{get_or-map, get_or-set_same, get_or-set_other, get_or-take, take-take, take_all, take-append-le, length-take, at_drop_more}
 use Rattle.std.proofs.Math.Seq.{map-set_same}
 use Rattle.chip_lang.specs.declared.code.Coded.{Coded}
 use Rattle.chip_asm.specs.declared.kept_line.KeptLine.{KeptLine}
@@ -30,9 +30,16 @@ merged-new was lines fresh e x d m inside is = record {
   each = λ k f b. new-by was lines fresh e k f x (eqb k e.0) refl m inside b;
 }
 
+-- a line in which codes were written says what it said
+pub said-merged : (was lines : List KeptLine) (fresh : List (ℕ × Coded)) (k : ℕ) (x d : KeptLine) → IsMerged was fresh lines → k < length lines → x ≡ get_or lines k d
+    → reading_in x ≡ reading_in (get_or was k d)
+said-merged was lines fresh k x d m inside is =
+    ap reading_in is ∙ sym (get_or-map reading_in lines k d (reading_in d) inside)
+    ∙ ap (λ rs. get_or rs k (reading_in d)) m.readings ∙ get_or-map reading_in was k d (reading_in d) (omega (arith, m.long))
+
 -- the last new code is taken off
 pub popped : (all fresh less : List (ℕ × Coded)) (count : ℕ) (e : ℕ × Coded) → count ≡ length fresh → fresh ≡ take count all → 0 < count → less ≡ take (count - 1) fresh
-    → Some e ≡ Some (get_or fresh (count - 1) e) → (less ≡ take (count - 1) all) × (drop (count - 1) all ≡ e ∷ drop count all) × ((n : ℕ) → All (λ (e : ℕ × Coded). e.0 < n) all → e.0 < n)
+    → Some e ≡ Some (get_or fresh (count - 1) e) → (less ≡ take (count - 1) all) × (drop (count - 1) all ≡ e ∷ drop count all) × (slice_get all (count - 1) ≡ Some e)
 popped all fresh less count e n f some l c =
     let shorter : take (count - 1) (take count all) ≡ take (count - 1) all = take-take (count - 1) count all (omega arith) in
     let inside : count - 1 < length all = omega (arith, n, ap length f, length-take count all) in
@@ -41,7 +48,7 @@ popped all fresh less count e n f some l c =
     let there : get_or all (count - 1) e ≡ e = sym (get_or-take count all (count - 1) e (omega arith)) ∙ ap (λ xs. get_or xs (count - 1) e) (sym f) ∙ sym it in (
       l ∙ ap (take (count - 1)) f ∙ shorter,
       at_drop_more (λ xs. xs) all (count - 1) e inside ∙ (rw (there, next) refl),
-      (λ m each. rw there at (All-get_or (λ (e : ℕ × Coded). e.0 < m) all (count - 1) e inside each)),
+      slice_get-get_or all (count - 1) e inside ∙ ap Some there,
     )
 
 -- a vector whose elements were all written

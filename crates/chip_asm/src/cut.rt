@@ -5,15 +5,18 @@ ghost use Rattle.std.specs.Str.Lines.{strip_carriage_return};
 ghost use Rattle.chip_lang.specs.Line.{reading_of};
 ghost use Rattle.chip_lang.specs.Meter.{one_more};
 ghost use Rattle.chip_asm.specs.Lines.{lines_of, open_fault, is_newline, first_text};
+ghost use Rattle.chip_asm.specs.inner.HeldText.{IsBack, IsFront, SaysNothing, part_from};
 ghost use Rattle.chip_asm.specs.inner.Records.{readings_in, texts_in};
 ghost use Rattle.chip_asm.specs.declared.refusal.OpenError.{OpenError};
 
-use crate::kept_line::{BoxedLine, read_kept};
+use crate::kept_line::{BoxedLine, read_part};
 use crate::limits::{LINE_BYTES, MOST_LINES};
+use crate::line_text::SharedSource;
 use crate::refusal::OpenError;
 use chip_lang::Meter;
 use memchr::memchr;
 use std::alloc::{AllocError, Global};
+use std::rc::Rc;
 
 /// How many bytes stand before the first newline, or how many there are.
 fn line_length(bytes: &[u8]) -> usize
@@ -28,7 +31,8 @@ fn line_length(bytes: &[u8]) -> usize
 
 /// A text without the carriage return at its end, if it has one.
 fn without_return(text: &[u8]) -> &[u8]
-    ensures { result.now ≡ strip_carriage_return text.now }
+    ensures value { result.now ≡ strip_carriage_return text.now }
+    ensures front { IsFront result.now text.now }
 {
     match text {
         [front @ .., b'\r'] => front,
@@ -39,7 +43,8 @@ fn without_return(text: &[u8]) -> &[u8]
 /// The first line's text, where the first line has this many bytes.
 fn first_text(bytes: &[u8], end: usize) -> &[u8]
     requires end { end ≡ position_or_len is_newline bytes.now }
-    ensures { result.now ≡ first_text bytes.now }
+    ensures value { result.now ≡ first_text bytes.now }
+    ensures front { IsFront result.now bytes.now }
 {
     if end < bytes.len() {
         without_return(&bytes[..end])
@@ -51,7 +56,8 @@ fn first_text(bytes: &[u8], end: usize) -> &[u8]
 /// What follows the first line, where that has this many bytes.
 fn after_line(bytes: &[u8], end: usize) -> &[u8]
     requires end { end ≡ position_or_len is_newline bytes.now }
-    ensures { result.now ≡ after_first is_newline bytes.now }
+    ensures value { result.now ≡ after_first is_newline bytes.now }
+    ensures back { IsBack result.now bytes.now }
 {
     if end < bytes.len() {
         &bytes[end + 1..]
@@ -60,19 +66,24 @@ fn after_line(bytes: &[u8], end: usize) -> &[u8]
     }
 }
 
-/// Reads a text, as one more line.
+/// Reads a text that stands at a place of a shared source, as one more line.
 fn push_line(
     alloc: Global,
     meter: &mut Meter,
     lines: &mut Vec<BoxedLine>,
+    source: &Rc<SharedSource>,
+    start: usize,
     text: &[u8],
 ) -> Result<(), AllocError>
+    requires nothing { SaysNothing source.now.value.nothing }
+    requires within { start + length text.now ≤ length source.now.value.bytes }
+    requires part { text.now ≡ part_from source.now.value.bytes start (length text.now) }
     ensures texts { OnOk result (texts_in lines.new.items ≡ texts_in lines.old.items ++ text.now ∷ []) }
     ensures readings { OnOk result (readings_in lines.new.items ≡ readings_in lines.old.items ++ reading_of text.now ∷ []) }
     ensures count { OnOk result (length lines.new.items ≡ length lines.old.items + 1) }
     ensures counted { meter.new ≡ record meter.old { parsed = one_more meter.old.parsed } }
 {
-    let kept = read_kept(alloc, meter, text)?;
+    let kept = read_part(alloc, meter, source, start, text)?;
     lines.push(kept)?;
     Ok(())
 }
@@ -91,6 +102,7 @@ pub(crate) fn read_lines(
     ensures encoded { meter.new.encoded ≡ 0 }
     ensures err { IfErr result (λ e. (e ≡ OpenError.OutOfMemory) ⊎ (open_fault source.now ≡ Some e)) }
 {
+    let shared = SharedSource::new(alloc, source)?;
     let most = source.len().min(MOST_LINES);
     let mut lines: Vec<BoxedLine> = Vec::with_capacity(alloc, most + 1)?;
     let mut rest = source;
@@ -103,7 +115,8 @@ pub(crate) fn read_lines(
         if text.len() > LINE_BYTES {
             return Err(OpenError::LineTooLong(lines.len() + 1));
         }
-        push_line(alloc, meter, &mut lines, text)?;
+        let start = source.len() - rest.len();
+        push_line(alloc, meter, &mut lines, &shared, start, text)?;
         rest = after_line(rest, end);
     }
     Ok(lines)

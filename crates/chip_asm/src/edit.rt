@@ -31,28 +31,28 @@ pub(crate) fn line_after<'a>(lines: &'a [BoxedLine], edit: &'a Edit, place: usiz
     match edit {
         Edit::Insert(at, added) => {
             if place < *at {
-                &lines[place].get().line
+                lines[place].line()
             } else if place == *at {
-                &added.get().line
+                added.line()
             } else {
-                &lines[place - 1].get().line
+                lines[place - 1].line()
             }
         }
         Edit::Replace(at, added) => {
             if place == *at {
-                &added.get().line
+                added.line()
             } else {
-                &lines[place].get().line
+                lines[place].line()
             }
         }
         Edit::Delete(at) => {
             if place < *at {
-                &lines[place].get().line
+                lines[place].line()
             } else {
-                &lines[place + 1].get().line
+                lines[place + 1].line()
             }
         }
-        Edit::Keep => &lines[place].get().line,
+        Edit::Keep => lines[place].line(),
     }
 }
 

@@ -97,10 +97,10 @@ fn edited_hints(
         → IfOk result (λ after. after.items ≡ map (hint_in (names_in names.now)) (readings_in (lines_after lines edit.now))) }
 {
     match edit {
-        Edit::Insert(at, added) => with_item(alloc, hints, *at, hint_of(names, &added.get().line)),
+        Edit::Insert(at, added) => with_item(alloc, hints, *at, hint_of(names, added.line())),
         Edit::Replace(at, added) => {
             let mut after = Vec::from_slice(alloc, hints)?;
-            after[*at] = hint_of(names, &added.get().line);
+            after[*at] = hint_of(names, added.line());
             Ok(after)
         }
         Edit::Delete(at) => without_item(alloc, hints, *at),

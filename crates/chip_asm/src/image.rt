@@ -22,7 +22,7 @@ use std::alloc::{AllocError, Global};
 pub(crate) fn kept_fault(placement: &Placement, kept: &BoxedLine) -> Option<Fault>
     ensures { result ≡ kept_fault placement.now kept.now }
 {
-    fault_by(placement, has_code(&kept.get().line), kept)
+    fault_by(placement, has_code(kept.line()), kept)
 }
 
 /// The same, where it is known whether the line has bytes of its own.
@@ -39,7 +39,7 @@ pub(crate) fn fault_by(placement: &Placement, is_coded: bool, kept: &BoxedLine) 
     if !is_coded {
         return None;
     }
-    match &kept.get().code {
+    match kept.code() {
         Coded::Bytes(_) => None,
         Coded::Faulty(fault) => Some(*fault),
     }
@@ -59,7 +59,7 @@ pub(crate) fn count_of(fault: Option<Fault>) -> usize
 pub(crate) fn kept_bytes(kept: &BoxedLine) -> &[u8]
     ensures { result.now ≡ kept_bytes kept.now }
 {
-    bytes_by(has_code(&kept.get().line), kept)
+    bytes_by(has_code(kept.line()), kept)
 }
 
 /// The same, where it is known whether the line has bytes of its own.
@@ -68,7 +68,7 @@ pub(crate) fn bytes_by(is_coded: bool, kept: &BoxedLine) -> &[u8]
     ensures { result.now ≡ kept_bytes kept.now }
 {
     if is_coded {
-        bytes_of(&kept.get().code)
+        bytes_of(kept.code())
     } else {
         &[]
     }

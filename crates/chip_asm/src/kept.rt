@@ -173,7 +173,7 @@ impl Kept {
     {
         match edit {
             Edit::Replace(at, added) => {
-                if self.has_same_effect(at, &added.get().line) {
+                if self.has_same_effect(at, added.line()) {
                     self.rewrite(alloc, meter, at, added)
                 } else {
                     self.remake(alloc, meter, Edit::Replace(at, added))
@@ -190,7 +190,7 @@ impl Kept {
         ensures { result ≡ true → HasSameEffectAt (readings_in self.now.lines.items) at (seen_line line.now) }
     {
         let placement = self.layout.placements[at];
-        has_same_effect(placement.live, &self.lines[at].get().line, line)
+        has_same_effect(placement.live, self.lines[at].line(), line)
     }
 
     /// Puts a line in the place of one with the same effect. Its code is made first.
@@ -218,7 +218,7 @@ impl Kept {
             accepted,
             alloc,
             meter,
-            &added.get().line,
+            added.line(),
             &self.layout.names,
         )?;
         Ok(self.put(at, with_code(added, code)))
@@ -245,8 +245,8 @@ impl Kept {
             placement.size as usize,
             kept_bytes(&added),
         );
-        self.traits[at] = traits_of(&added.get().line);
-        self.hints[at] = hint_of(&self.layout.names, &added.get().line);
+        self.traits[at] = traits_of(added.line());
+        self.hints[at] = hint_of(&self.layout.names, added.line());
         replace_line(&mut self.lines, at, added);
         let first = placement.here as usize - IMAGE_START;
         Changed {

@@ -1,30 +1,47 @@
 //! What is kept of a line.
-ghost use Rattle.std.specs.Prelude.{◌≡◌, IfOk, unwrap_or};
+ghost use Rattle.std.specs.Prelude.{◌≡◌, ◌+◌, ◌≤◌, Bool, true, IfOk, IsSome, length, unwrap_or};
 ghost use Rattle.chip_lang.specs.Line.{reading_of};
 ghost use Rattle.chip_lang.specs.SeenLine.{seen_line};
 ghost use Rattle.chip_lang.specs.Meter.{one_more};
+ghost use Rattle.chip_asm.specs.Layout.{body_of};
+ghost use Rattle.chip_asm.specs.inner.HeldText.{SaysNothing, part_from};
+ghost use Rattle.chip_asm.specs.inner.Recode.{has_code};
+ghost use Rattle.chip_asm.specs.inner.Records.{reading_in};
 
+use crate::line_text::{LineText, SharedSource};
 use chip_lang::short_bytes::ShortBytes;
-use chip_lang::{Bytes, Coded, Line, Meter, read_line};
+use chip_lang::{Body, Coded, Line, Meter, read_line};
 use std::alloc::{AllocError, Global};
 use std::marker::Model;
+use std::rc::Rc;
 
 /// A line of the source: its text, its reading, and its code as it was last encoded.
 #[derive(Drop)]
 pub(crate) struct KeptLine {
-    pub(crate) text: Bytes,
+    pub(crate) text: LineText,
     pub(crate) line: Line,
     pub(crate) code: Coded,
 }
 
-/// The same behind a pointer, so that an edit, which moves lines, moves little.
+/// How a line is held.
+#[derive(Drop)]
+pub(crate) enum HeldLine {
+    /// A line that says nothing, as so many bytes of those that were read together, from a place on.
+    Nothing(Rc<SharedSource>, u32, u16),
+    /// Any line.
+    Boxed(Box<KeptLine>),
+}
+
+/// The same behind a pointer, so that an edit, which moves lines, moves little. Many lines are blank or of a comment alone: where these
+/// were read with others, they take no room of their own.
 #[derive(Drop)]
 pub(crate) struct BoxedLine {
-    kept: Box<KeptLine>,
+    held: HeldLine,
 }
 
 impl Model for BoxedLine {
     ghost use Rattle.chip_asm.specs.declared.kept_line.KeptLine.{KeptLine};
+    ghost use Rattle.chip_asm.specs.inner.HeldLine.{kept_held, IsLineHeld};
     ghost use Rattle.chip_lang.specs.contracts.expr.Expr as e;
     ghost use Rattle.std.specs.Coded.{codes};
 
@@ -32,42 +49,67 @@ impl Model for BoxedLine {
 
     ghost coded = { Prim.hlevel (codes, e.the_row.coded) };
 
-    ghost view = { λ b. b.kept.value };
+    ghost view = { λ b. kept_held b.held };
+
+    ghost invariant = { λ b. IsLineHeld b.held };
 }
 
 impl BoxedLine {
-    /// A line that is kept.
-    fn new(alloc: Global, kept: KeptLine) -> Result<Self, AllocError>
-        ensures { IfOk result (λ boxed. boxed ≡ kept) }
+    /// A line that isn't encoded yet.
+    fn new(alloc: Global, text: LineText, line: Line) -> Result<Self, AllocError>
+        ensures text { IfOk result (λ kept. kept.text ≡ text) }
+        ensures line { IfOk result (λ kept. kept.line ≡ line) }
     {
-        let kept = Box::new(alloc, kept)?;
-        Ok(BoxedLine { kept })
-    }
-
-    /// The line.
-    pub(crate) fn get(&self) -> &KeptLine
-        ensures { result.now ≡ self.now }
-    {
-        &self.kept
+        let code = Coded::Bytes(ShortBytes::empty(alloc));
+        let kept = Box::new(alloc, KeptLine { text, line, code })?;
+        Ok(BoxedLine {
+            held: HeldLine::Boxed(kept),
+        })
     }
 
     /// The text of the line.
     pub(crate) fn text(&self) -> &[u8]
         ensures { result.now ≡ self.now.text }
     {
-        self.kept.text.get()
+        match &self.held {
+            HeldLine::Nothing(source, start, count) => source.part(*start, *count),
+            HeldLine::Boxed(kept) => kept.text.get(),
+        }
+    }
+
+    /// The reading of the line.
+    pub(crate) fn line(&self) -> &Line
+        ensures { result.now ≡ self.now.line }
+    {
+        match &self.held {
+            HeldLine::Nothing(source, _, _) => &source.nothing,
+            HeldLine::Boxed(kept) => &kept.line,
+        }
+    }
+
+    /// The code of the line as it was last encoded.
+    pub(crate) fn code(&self) -> &Coded
+        ensures { result.now ≡ self.now.code }
+    {
+        match &self.held {
+            HeldLine::Nothing(source, _, _) => &source.no_code,
+            HeldLine::Boxed(kept) => &kept.code,
+        }
     }
 
     /// Puts a new code in the place of the old one.
     pub(crate) fn set_code(&mut self, code: Coded)
+        requires { has_code (body_of (reading_in self.old)) ≡ true }
         ensures { self.new ≡ record self.old { code = code } }
     {
-        self.kept.code = code;
+        match &mut self.held {
+            HeldLine::Nothing(_, _, _) => {}
+            HeldLine::Boxed(kept) => kept.code = code,
+        }
     }
 }
 
 /// Reads a text. It is not encoded yet.
-#[inline]
 pub(crate) fn read_kept(
     alloc: Global,
     meter: &mut Meter,
@@ -78,13 +120,56 @@ pub(crate) fn read_kept(
     ensures counted { meter.new ≡ record meter.old { parsed = one_more meter.old.parsed } }
 {
     let line = read_line(alloc, meter, text)?;
-    let text = Bytes::from_slice(alloc, text)?;
-    let code = Coded::Bytes(ShortBytes::empty(alloc));
-    BoxedLine::new(alloc, KeptLine { text, line, code })
+    let text = LineText::own(alloc, text)?;
+    BoxedLine::new(alloc, text, line)
+}
+
+/// Reads a text that stands at a place of a shared source. It is not encoded yet.
+#[inline]
+pub(crate) fn read_part(
+    alloc: Global,
+    meter: &mut Meter,
+    source: &Rc<SharedSource>,
+    start: usize,
+    text: &[u8],
+) -> Result<BoxedLine, AllocError>
+    requires nothing { SaysNothing source.now.value.nothing }
+    requires within { start + length text.now ≤ length source.now.value.bytes }
+    requires part { text.now ≡ part_from source.now.value.bytes start (length text.now) }
+    ensures text { IfOk result (λ kept. kept.text ≡ text.now) }
+    ensures reading { IfOk result (λ kept. seen_line kept.line ≡ reading_of text.now) }
+    ensures counted { meter.new ≡ record meter.old { parsed = one_more meter.old.parsed } }
+{
+    let line = read_line(alloc, meter, text)?;
+    let (Ok(start), Ok(count)) = (u32::try_from(start), u16::try_from(text.len())) else {
+        let text = LineText::own(alloc, text)?;
+        return BoxedLine::new(alloc, text, line);
+    };
+    let source = Rc::clone(source)?;
+    if says_nothing(&line) {
+        return Ok(BoxedLine {
+            held: HeldLine::Nothing(source, start, count),
+        });
+    }
+    BoxedLine::new(alloc, LineText::part(source, start, count), line)
+}
+
+/// Whether a line says nothing.
+fn says_nothing(line: &Line) -> bool
+    ensures { result ≡ true → SaysNothing line.now }
+{
+    matches!(
+        line,
+        Line::Read {
+            label: None,
+            body: Body::Empty
+        }
+    )
 }
 
 /// The line with a new code, if there is one.
 pub(crate) fn with_code(kept: BoxedLine, code: Option<Coded>) -> BoxedLine
+    requires { IsSome code → has_code (body_of (reading_in kept)) ≡ true }
     ensures { result ≡ record kept { code = unwrap_or code kept.code } }
 {
     let mut kept = kept;

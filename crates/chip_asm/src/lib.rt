@@ -13,6 +13,7 @@ mod kept_line;
 pub mod laws;
 mod layout;
 pub mod limits;
+mod line_text;
 mod listing;
 mod pass;
 mod placement;

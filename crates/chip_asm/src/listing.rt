@@ -157,7 +157,7 @@ fn push_field(
     if !placement.live {
         return Ok(());
     }
-    let line = &kept.get().line;
+    let line = kept.line();
     if is_definition(line) {
         let value = value_given(line, placement.value);
         push_value(out, value)?;

@@ -27,7 +27,7 @@ fn takes_nameless(lines: &[BoxedLine], edit: &Edit) -> bool
 {
     match edit {
         Edit::Insert(_, _) => true,
-        Edit::Replace(at, _) | Edit::Delete(at) => defines(&lines[*at].get().line).is_none(),
+        Edit::Replace(at, _) | Edit::Delete(at) => defines(lines[*at].line()).is_none(),
         Edit::Keep => false,
     }
 }

@@ -1,5 +1,5 @@
 //! The lines that an edit makes encode again.
-ghost use Rattle.std.specs.Prelude.{◌≡◌, ◌<◌, ◌≤◌, ◌+◌, ◌++◌, ℕ, List, All, IfOk, OnOk, OnErr, Option, Result, Ok, Err, length, vec_len, Some, None, true, false, if◌then◌else◌, ◌&&◌, map, option_to_list, slice_get};
+ghost use Rattle.std.specs.Prelude.{◌≡◌, ◌<◌, ◌≤◌, ◌+◌, ◌++◌, ℕ, List, IfOk, OnOk, OnErr, Option, Result, Ok, Err, length, vec_len, Some, None, true, false, if◌then◌else◌, ◌&&◌, map, option_to_list, slice_get};
 ghost use Rattle.chip_lang.specs.Line.{Reading};
 ghost use Rattle.chip_lang.specs.SeenLine.{seen_line};
 ghost use Rattle.chip_lang.specs.Uses.{agree_on};
@@ -9,7 +9,8 @@ ghost use Rattle.chip_asm.specs.inner.Recode.{has_code, is_placed_at, is_encoded
 ghost use Rattle.chip_asm.specs.inner.Moves.{SaysMove, AreMoves};
 ghost use Rattle.chip_asm.specs.declared.recode.Moved.{Moved};
 ghost use Rattle.std.specs.Option.{option_map_or};
-ghost use Rattle.chip_asm.specs.inner.Records.{place_before};
+ghost use Rattle.chip_asm.specs.inner.Records.{place_before, reading_in};
+ghost use Rattle.chip_asm.specs.inner.Stood.{AreOwn};
 ghost use Rattle.chip_asm.specs.Layout.{body_of};
 ghost use Rattle.chip_asm.specs.inner.Layouts.{IsLayoutOf};
 ghost use Rattle.chip_asm.specs.Names.{values_of};
@@ -483,6 +484,7 @@ pub(crate) fn code_if_accepted(
 }
 
 fn write_code(kept: &mut BoxedLine, code: Coded)
+    requires { has_code (body_of (reading_in kept.old)) ≡ true }
     ensures { kept.new ≡ record kept.old { code = code } }
 {
     kept.set_code(code);
@@ -490,7 +492,7 @@ fn write_code(kept: &mut BoxedLine, code: Coded)
 
 /// Writes the new codes over the kept ones.
 pub(crate) fn write_codes(lines: &mut [BoxedLine], fresh: Vec<(usize, Coded)>)
-    requires { All (λ e. e.0 < length lines.old) fresh.items }
+    requires { AreOwn fresh.items lines.old }
     ensures { IsMerged lines.old fresh.items lines.new }
 {
     let mut fresh = fresh;

@@ -107,7 +107,7 @@ pub(crate) fn takes_steady(lines: &[BoxedLine], edit: &Edit) -> bool
 {
     match edit {
         Edit::Insert(_, _) => true,
-        Edit::Replace(at, _) | Edit::Delete(at) => is_steady(&lines[*at].get().line),
+        Edit::Replace(at, _) | Edit::Delete(at) => is_steady(lines[*at].line()),
         Edit::Keep => false,
     }
 }

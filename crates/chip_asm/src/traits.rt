@@ -123,7 +123,7 @@ pub(crate) fn traits_of_all(alloc: Global, lines: &[BoxedLine]) -> Result<Vec<Tr
 {
     let mut traits = Vec::with_capacity(alloc, lines.len())?;
     for place in 0..lines.len() {
-        traits.push(traits_of(&lines[place].get().line))?;
+        traits.push(traits_of(lines[place].line()))?;
     }
     Ok(traits)
 }
@@ -139,10 +139,10 @@ pub(crate) fn traits_after(
         → IfOk result (λ after. after.items ≡ map traits_of (readings_in (lines_after lines edit.now))) }
 {
     match edit {
-        Edit::Insert(at, added) => with_item(alloc, traits, *at, traits_of(&added.get().line)),
+        Edit::Insert(at, added) => with_item(alloc, traits, *at, traits_of(added.line())),
         Edit::Replace(at, added) => {
             let mut after = Vec::from_slice(alloc, traits)?;
-            after[*at] = traits_of(&added.get().line);
+            after[*at] = traits_of(added.line());
             Ok(after)
         }
         Edit::Delete(at) => without_item(alloc, traits, *at),

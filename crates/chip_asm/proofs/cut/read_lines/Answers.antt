@@ -8,7 +8,7 @@ use Rattle.chip_asm.specs.declared.kept_line.KeptLine.{KeptLine}
 use Rattle.chip_asm.specs.declared.refusal.OpenError.TheVariants.{LineTooLong}
 use Rattle.chip_asm.specs.Lines.{lines_of, first_text, is_newline, is_long}
 use Rattle.chip_asm.specs.inner.Records.{texts_in}
-use Rattle.chip_asm.proofs.CutSteps.{AllShort, lines-next, too-long, too-many, opens, some-bytes, no-lines, long-is, short-is, short-push}
+use Rattle.chip_asm.proofs.CutSteps.{AllShort, lines-next, too-long, too-many, opens, some-bytes, back-back, part-of, all-back, no-lines, long-is, short-is, short-push}
 use Rattle.chip_asm.proofs.cut.read_lines.Goals as goal
 
 pub returns-then-len-eq-MOST_LINES-clause-err : goal.returns-then-len-eq-MOST_LINES-clause-err
@@ -28,7 +28,7 @@ returns-then-text-gt-LINE_BYTES-clause-err c =
     = ap (λ l. texts ++ l) (sym (lines-next c.loop-rest.rest.now some)) ∙ c.loop-rest.invariant.0 in
     let count : length texts ≡ c.len-then-text-gt-LINE_BYTES.result = length-map c.loop-rest.lines.items (λ (k : KeptLine). k.text) ∙ sym c.loop-rest.lines.ok.0 ∙ sym c.len-then-text-gt-LINE_BYTES.ensures in
     let few : length texts < MOST_LINES = omega (arith, count, c.len-then-text-gt-LINE_BYTES.ensures, c.len.ensures, c.if-len-eq-MOST_LINES.false, c.loop-rest.invariant.3, c.loop-rest.lines.ok.0) in
-    let long : is_long (first_text c.loop-rest.rest.now) ≡ true = ap is_long (sym c.first_text-text.ensures) ∙ long-is c.first_text-text.result.now c.if-text-gt-LINE_BYTES.true in
+    let long : is_long (first_text c.loop-rest.rest.now) ≡ true = ap is_long (sym c.first_text-text.ensures.value) ∙ long-is c.first_text-text.result.now c.if-text-gt-LINE_BYTES.true in
     inr (too-long c.args.source.now texts (lines_of (after_first is_newline c.loop-rest.rest.now)) (first_text c.loop-rest.rest.now) cut c.loop-rest.invariant.2 long few ∙ ap (λ n. Some (LineTooLong (n + 1))) count)
 
 pub loop-rest-preserved : goal.loop-rest-preserved
@@ -44,8 +44,8 @@ loop-rest-preserved c =
     let read : c.push_line.new.meter.parsed ≡ one_more c.loop-rest.meter.parsed = ap (λ m. m.parsed) c.push_line.ensures.counted in (
       ap (λ xs. xs ++ lines_of c.after_line-rest.result.now) c.in_ok-push_line.ensures.texts
           ∙ append_assoc texts (t ∷ []) (lines_of c.after_line-rest.result.now)
-          ∙ ap (λ b. texts ++ t ∷ lines_of b) c.after_line-rest.ensures
-          ∙ ap (λ x. texts ++ x ∷ lines_of (after_first is_newline c.loop-rest.rest.now)) c.first_text-text.ensures
+          ∙ ap (λ b. texts ++ t ∷ lines_of b) c.after_line-rest.ensures.value
+          ∙ ap (λ x. texts ++ x ∷ lines_of (after_first is_newline c.loop-rest.rest.now)) c.first_text-text.ensures.value
           ∙ cut,
       c.in_ok-push_line.ensures.readings
           ∙ ap (λ rs. rs ++ reading_of t ∷ []) c.loop-rest.invariant.1
@@ -55,6 +55,7 @@ loop-rest-preserved c =
       omega arith,
       omega (arith, read, c.loop-rest.invariant.4),
       ap (λ m. m.encoded) c.push_line.ensures.counted ∙ c.loop-rest.invariant.5,
+      back-back c.after_line-rest.result.now c.loop-rest.rest.now c.args.source.now c.after_line-rest.ensures.back c.loop-rest.invariant.6,
     )
 
 pub returns-clause-ok : goal.returns-clause-ok
@@ -65,3 +66,7 @@ returns-clause-ok c =
       opens c.args.source.now texts all c.loop-rest.invariant.2 (omega (arith, length-map c.loop-rest.lines.items (λ (k : KeptLine). k.text), c.loop-rest.invariant.3)),
       all,
     )
+
+pub push_line-requires-clause-part : goal.push_line-requires-clause-part
+push_line-requires-clause-part c =
+    rw c.in_ok-shared.ensures.bytes (part-of c.first_text-text.result.now c.loop-rest.rest.now c.args.source.now c.first_text-text.ensures.front c.loop-rest.invariant.6)

@@ -2,6 +2,7 @@ use Rattle.std.proofs.Common.{◌≡◌, ◌≤◌, ◌++◌, length, map}
 use Rattle.chip_asm.specs.declared.limits.TheConstants.{MOST_LINES}
 use Rattle.chip_lang.specs.Line.{reading_of}
 use Rattle.chip_asm.specs.Lines.{lines_of}
+use Rattle.chip_asm.specs.inner.HeldText.{IsBack}
 use Rattle.chip_asm.specs.inner.Records.{readings_in, texts_in}
 use Rattle.chip_asm.proofs.CutSteps.{AllShort}
 use Rattle.chip_asm.proofs.cut.read_lines.Given as goal
@@ -14,6 +15,7 @@ invariant-loop-rest l =
     × (length l.lines.items ≤ MOST_LINES)
     × (l.meter.parsed ≡ length l.lines.items)
     × (l.meter.encoded ≡ 0)
+    × IsBack l.rest l.fn.source
 
 abbrev pub decreases-loop-rest : goal.decreases-loop-rest
 decreases-loop-rest l = length l.rest

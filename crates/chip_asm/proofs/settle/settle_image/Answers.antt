@@ -26,7 +26,7 @@ pub write_codes_anew-has_good_codes-requires-clause-memory : goal.write_codes_an
 write_codes_anew-has_good_codes-requires-clause-memory c = rw c.deref.ensures.value (in-memory c.args.lines.now c.args.settling.now.new.now c.requires.laid_out)
 
 pub write_codes-requires : goal.write_codes-requires
-write_codes-requires c = λ k d h. c.requires.own.inside k (get_or c.args.codes.items k d) (slice_get-get_or c.args.codes.items k d h)
+write_codes-requires c = c.requires.own
 
 pub write_codes_anew-has_good_codes-requires-clause-there : goal.write_codes_anew-has_good_codes-requires-clause-there
 write_codes_anew-has_good_codes-requires-clause-there c =

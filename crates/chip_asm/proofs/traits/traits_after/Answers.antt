@@ -4,11 +4,11 @@ use Rattle.chip_asm.proofs.traits.traits_after.Goals as goal
 
 pub returns-in-Insert : goal.returns-in-Insert
 returns-in-Insert c = λ lines e.
-    rw (c.in-Insert.is, traits-insert lines c.in-Insert.at c.in-Insert.added, ← e, ← c.get.ensures, ← c.traits_of.ensures) c.with_item.ensures
+    rw (c.in-Insert.is, traits-insert lines c.in-Insert.at c.in-Insert.added, ← e, ← c.line.ensures, ← c.traits_of.ensures) c.with_item.ensures
 
 pub returns-in_ok-after-in-Replace : goal.returns-in_ok-after-in-Replace
 returns-in_ok-after-in-Replace c = λ lines e.
-    rw (c.in-Replace.is, c.in_ok-after-in-Replace.ensures.items, e, c.traits_of-in-Replace.ensures, c.get-in-Replace.ensures) (sym (traits-set lines c.in-Replace.at c.in-Replace.added))
+    rw (c.in-Replace.is, c.in_ok-after-in-Replace.ensures.items, e, c.traits_of-in-Replace.ensures, c.line-in-Replace.ensures) (sym (traits-set lines c.in-Replace.at c.in-Replace.added))
 
 pub returns-in-Delete : goal.returns-in-Delete
 returns-in-Delete c = λ lines e.

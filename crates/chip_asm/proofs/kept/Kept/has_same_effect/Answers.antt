@@ -12,4 +12,4 @@ pub returns : goal.returns
 returns c = λ e.
     effect-at c.args.self.now.lines.items c.args.at c.index-placement.result.now c.index.result.now (seen_line c.args.line.now)
     (about c.args.self.now.lines.items c.args.self.now.layout c.requires.kept.laid_out c.requires.kept.current c.args.at c.index-placement.result.now c.index.result.now (omega (arith, c.args.self.now.lines.ok.0)) c.index-placement.ensures c.index.ensures)
-    (rw (← c.get.ensures) (c.has_same_effect.ensures e))
+    (rw (← c.line.ensures) (c.has_same_effect.ensures e))

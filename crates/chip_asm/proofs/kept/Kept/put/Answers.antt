@@ -1,5 +1,6 @@
 use Rattle.std.proofs.Common.{◌≡◌, ◌∙◌, ◌+◌, ◌-◌, ap, arith, length, get_or, set, refl}
-use Rattle.chip_asm.specs.declared.kept_line.KeptLine.{KeptLine}
+use Rattle.chip_lang.specs.declared.line.Line.{Line}
+use Rattle.chip_lang.specs.SeenLine.{seen_line}
 use Rattle.chip_asm.specs.inner.Hints.{names_in, hint_in}
 use Rattle.chip_asm.specs.inner.KeptCodes.{kept_fault, count_of}
 use Rattle.chip_asm.specs.inner.Records.{reading_in, readings_in, texts_in}
@@ -62,8 +63,8 @@ returns-clause-kept c =
     (λ k.
     ap (λ xs. get_or xs k 0) (refilled c.args.self.now.image.len c.write_line.new.image c.args.self.now.image.items long)
     ∙ (rw (← c.kept_bytes.ensures, ← c.deref_mut.ensures.value) (c.write_line.ensures k)))
-    refl faults (ap (λ t. set c.args.self.now.traits.items c.args.at t) (c.traits_of.ensures ∙ ap (λ (k : KeptLine). traits_of (reading_in k)) c.get.ensures))
-    (ap (λ h. set c.args.self.now.hints.items c.args.at h) (c.hint_of.ensures ∙ ap (λ (k : KeptLine). hint_in (names_in c.args.self.now.layout.names) (reading_in k)) c.get-2.ensures)) refl
+    refl faults (ap (λ t. set c.args.self.now.traits.items c.args.at t) (c.traits_of.ensures ∙ ap (λ (l : Line). traits_of (seen_line l)) c.line.ensures))
+    (ap (λ h. set c.args.self.now.hints.items c.args.at h) (c.hint_of.ensures ∙ ap (λ (l : Line). hint_in (names_in c.args.self.now.layout.names) (seen_line l)) c.line-2.ensures)) refl
 
 pub returns-clause-changed : goal.returns-clause-changed
 returns-clause-changed c =

@@ -1,6 +1,7 @@
 use Rattle.std.proofs.Common.{◌≡◌, ◌∙◌, ◌+◌, ◌<◌, ◌≤◌, ap, arith, length, get_or, cond, ◌&&◌, Some, None}
 use Rattle.chip_lang.specs.Code.{code_of}
-use Rattle.chip_asm.specs.declared.kept_line.KeptLine.{KeptLine}
+use Rattle.chip_lang.specs.declared.line.Line.{Line}
+use Rattle.chip_lang.specs.SeenLine.{seen_line}
 use Rattle.chip_asm.specs.Names.{values_of}
 use Rattle.chip_asm.specs.Layout.{body_of}
 use Rattle.chip_asm.specs.inner.Recode.{has_code, is_placed_at}
@@ -21,7 +22,7 @@ returns-in_err-code-clause-encoded c =
     = c.is_accepted-accepted.ensures ∙ placed-now c.args.self.now.layout (readings_in c.args.self.now.lines.items) c.args.at c.index.result.now c.requires.kept.laid_out there c.index.ensures in
     let needed = needed-at c.args.self.now.lines.items c.args.at (get_or c.args.self.now.lines.items c.args.at c.args.added) (reading_in c.args.added) c.is_accepted-accepted.result inside
     (default-at c.args.self.now.lines.items c.args.at c.args.added inside) c.requires.same accepted in
-    let encoded : c.code_if_accepted.new.meter.encoded ≤ c.args.meter.now.encoded + cond (c.is_accepted-accepted.result && has_code (body_of (reading_in c.args.added))) 1 0 = rw (← c.get.ensures) c.code_if_accepted.ensures.encoded in
+    let encoded : c.code_if_accepted.new.meter.encoded ≤ c.args.meter.now.encoded + cond (c.is_accepted-accepted.result && has_code (body_of (reading_in c.args.added))) 1 0 = rw (← c.line.ensures) c.code_if_accepted.ensures.encoded in
     omega (arith, encoded, needed)
 
 pub put-requires-clause-coded : goal.put-requires-clause-coded
@@ -31,7 +32,7 @@ put-requires-clause-coded c =
     = c.is_accepted-accepted.ensures ∙ placed-now c.args.self.now.layout (readings_in c.args.self.now.lines.items) c.args.at c.index.result.now c.requires.kept.laid_out there c.index.ensures in
     rw c.with_code.ensures
     (coded-at (readings_in c.args.self.now.lines.items) c.args.at c.args.added c.is_accepted-accepted.result c.in_ok-code.code accepted
-    (c.in_ok-code.ensures.code ∙ ap (λ (k : KeptLine). cond (c.is_accepted-accepted.result && has_code (body_of (reading_in k))) (Some (code_of (reading_in k) (values_of c.args.self.now.layout.names))) None) c.get.ensures
+    (c.in_ok-code.ensures.code ∙ ap (λ (l : Line). cond (c.is_accepted-accepted.result && has_code (body_of (seen_line l))) (Some (code_of (seen_line l) (values_of c.args.self.now.layout.names))) None) c.line.ensures
     ∙ ap (λ names. cond (c.is_accepted-accepted.result && has_code (body_of (reading_in c.args.added))) (Some (code_of (reading_in c.args.added) (values_of names))) None) c.requires.kept.laid_out.names))
 
 pub returns-clause-encoded : goal.returns-clause-encoded
@@ -42,5 +43,5 @@ returns-clause-encoded c =
     = c.is_accepted-accepted.ensures ∙ placed-now c.args.self.now.layout (readings_in c.args.self.now.lines.items) c.args.at c.index.result.now c.requires.kept.laid_out there c.index.ensures in
     let needed = needed-at c.args.self.now.lines.items c.args.at (get_or c.args.self.now.lines.items c.args.at c.args.added) (reading_in c.args.added) c.is_accepted-accepted.result inside
     (default-at c.args.self.now.lines.items c.args.at c.args.added inside) c.requires.same accepted in
-    let encoded : c.code_if_accepted.new.meter.encoded ≤ c.args.meter.now.encoded + cond (c.is_accepted-accepted.result && has_code (body_of (reading_in c.args.added))) 1 0 = rw (← c.get.ensures) c.code_if_accepted.ensures.encoded in
+    let encoded : c.code_if_accepted.new.meter.encoded ≤ c.args.meter.now.encoded + cond (c.is_accepted-accepted.result && has_code (body_of (reading_in c.args.added))) 1 0 = rw (← c.line.ensures) c.code_if_accepted.ensures.encoded in
     omega (arith, encoded, needed)

@@ -1,0 +1,102 @@
+//! The text of a line: bytes of its own, or a part of those that were read together.
+ghost use Rattle.std.specs.Prelude.{◌≡◌, ◌+◌, ◌≤◌, IfOk, length};
+ghost use Rattle.chip_asm.specs.inner.HeldText.{SaysNothing, part_from};
+
+use chip_lang::short_bytes::ShortBytes;
+use chip_lang::{Body, Bytes, Coded, Line};
+use std::alloc::{AllocError, Global};
+use std::marker::Model;
+use std::rc::Rc;
+
+/// What lines that are read together share: the bytes with their texts, and a line that says nothing, with its code.
+#[derive(Drop)]
+pub(crate) struct SharedSource {
+    pub(crate) bytes: Bytes,
+    pub(crate) nothing: Line,
+    pub(crate) no_code: Coded,
+}
+
+impl SharedSource {
+    /// A copy of these bytes, to be shared.
+    pub(crate) fn new(alloc: Global, bytes: &[u8]) -> Result<Rc<SharedSource>, AllocError>
+        ensures bytes { IfOk result (λ source. source.value.bytes ≡ bytes.now) }
+        ensures nothing { IfOk result (λ source. SaysNothing source.value.nothing) }
+    {
+        let source = SharedSource {
+            bytes: Bytes::from_slice(alloc, bytes)?,
+            nothing: Line::Read {
+                label: None,
+                body: Body::Empty,
+            },
+            no_code: Coded::Bytes(ShortBytes::empty(alloc)),
+        };
+        Ok(Rc::new(alloc, source)?)
+    }
+
+    /// So many of the bytes, from a place on.
+    pub(crate) fn part(&self, start: u32, count: u16) -> &[u8]
+        requires { start + count ≤ length self.now.bytes }
+        ensures { result.now ≡ part_from self.now.bytes start count }
+    {
+        let start = start as usize;
+        &self.bytes.get()[start..start + count as usize]
+    }
+}
+
+/// How a text is held.
+#[derive(Drop)]
+pub(crate) enum HeldText {
+    /// By itself.
+    Own(Bytes),
+    /// As so many bytes of those that were read together, from a place on.
+    Part(Rc<SharedSource>, u32, u16),
+}
+
+/// The text of a line, which contracts see as a list.
+#[derive(Drop)]
+pub(crate) struct LineText {
+    held: HeldText,
+}
+
+impl Model for LineText {
+    ghost use Rattle.std.specs.Prelude.{List, ℕ};
+    ghost use Rattle.chip_asm.specs.inner.HeldText.{text_held, IsTextHeld};
+
+    ghost Value = { List ℕ };
+
+    ghost view = { λ t. text_held t.held };
+
+    ghost invariant = { λ t. IsTextHeld t.held };
+}
+
+impl LineText {
+    /// A copy of these bytes.
+    pub(crate) fn own(alloc: Global, text: &[u8]) -> Result<LineText, AllocError>
+        ensures { IfOk result (λ copy. copy ≡ text.now) }
+    {
+        let bytes = Bytes::from_slice(alloc, text)?;
+        Ok(LineText {
+            held: HeldText::Own(bytes),
+        })
+    }
+
+    /// So many of the bytes that were read together, from a place on.
+    pub(crate) fn part(source: Rc<SharedSource>, start: u32, count: u16) -> LineText
+        requires { start + count ≤ length source.value.bytes }
+        ensures { result ≡ part_from source.value.bytes start count }
+    {
+        LineText {
+            held: HeldText::Part(source, start, count),
+        }
+    }
+
+    /// The bytes.
+    pub(crate) fn get(&self) -> &[u8]
+        ensures { result.now ≡ self.now }
+    {
+        match &self.held {
+            HeldText::Own(bytes) => bytes.get(),
+            HeldText::Part(source, start, count) => source.part(*start, *count),
+        }
+    }
+}
