@@ -144,5 +144,17 @@ pub(crate) fn add_moved(
 ) -> Result<(), AllocError>
     ensures { OnOk result (placements.new.items ≡ placements.old.items ++ map (moved_placement shift) others.now) }
 {
-    placements.extend(others.iter().map(|placement| shift.placement(placement)))
+    let first = placements.len();
+    placements.extend_from_slice(others)?;
+    move_all(&mut placements[first..], shift);
+    Ok(())
+}
+
+/// Moves what holds of lines.
+fn move_all(placements: &mut [Placement], shift: Shift)
+    ensures { placements.new ≡ map (moved_placement shift) placements.old }
+{
+    for index in 0..placements.len() {
+        placements[index] = shift.placement(&placements[index]);
+    }
 }
