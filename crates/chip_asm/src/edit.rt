@@ -1,6 +1,6 @@
 //! A change of one line, seen before it is made.
 ghost use Rattle.std.specs.Prelude.{◌≡◌, ◌<◌, ◌≤◌, length, slice_get, slice_set, insert, remove, IfOk, Some, vec_len, vec_capacity};
-ghost use Rattle.chip_asm.specs.inner.Records.{IsPlaceWithin, lines_after, readings_in, count_after, place_before};
+ghost use Rattle.chip_asm.specs.inner.Records.{IsPlaceWithin, lines_after, reading_in, readings_in, count_after, place_before};
 ghost use Rattle.chip_asm.specs.inner.Resume.{first_changed};
 ghost use Rattle.chip_lang.specs.SeenLine.{seen_line};
 
@@ -22,38 +22,51 @@ pub(crate) enum Edit {
     Keep,
 }
 
+/// The line at a place after the edit.
+pub(crate) fn kept_after<'a>(
+    lines: &'a [BoxedLine],
+    edit: &'a Edit,
+    place: usize,
+) -> &'a BoxedLine
+    requires within { IsPlaceWithin (length lines.now) edit.now }
+    requires place { place < count_after (length lines.now) edit.now }
+    ensures { slice_get (readings_in (lines_after lines.now edit.now)) place ≡ Some (reading_in result.now) }
+{
+    match edit {
+        Edit::Insert(at, added) => {
+            if place < *at {
+                &lines[place]
+            } else if place == *at {
+                added
+            } else {
+                &lines[place - 1]
+            }
+        }
+        Edit::Replace(at, added) => {
+            if place == *at {
+                added
+            } else {
+                &lines[place]
+            }
+        }
+        Edit::Delete(at) => {
+            if place < *at {
+                &lines[place]
+            } else {
+                &lines[place + 1]
+            }
+        }
+        Edit::Keep => &lines[place],
+    }
+}
+
 /// The reading of the line at a place after the edit.
 pub(crate) fn line_after<'a>(lines: &'a [BoxedLine], edit: &'a Edit, place: usize) -> &'a Line
     requires within { IsPlaceWithin (length lines.now) edit.now }
     requires place { place < count_after (length lines.now) edit.now }
     ensures { slice_get (readings_in (lines_after lines.now edit.now)) place ≡ Some (seen_line result.now) }
 {
-    match edit {
-        Edit::Insert(at, added) => {
-            if place < *at {
-                lines[place].line()
-            } else if place == *at {
-                added.line()
-            } else {
-                lines[place - 1].line()
-            }
-        }
-        Edit::Replace(at, added) => {
-            if place == *at {
-                added.line()
-            } else {
-                lines[place].line()
-            }
-        }
-        Edit::Delete(at) => {
-            if place < *at {
-                lines[place].line()
-            } else {
-                lines[place + 1].line()
-            }
-        }
-        Edit::Keep => lines[place].line(),
-    }
+    kept_after(lines, edit, place).line()
 }
 
 /// How many lines there are after the edit.

@@ -1,16 +1,19 @@
 //! What is kept of a line.
-ghost use Rattle.std.specs.Prelude.{◌≡◌, ◌+◌, ◌≤◌, Bool, true, IfOk, IsSome, length, unwrap_or};
+ghost use Rattle.std.specs.Prelude.{◌≡◌, ◌+◌, ◌≤◌, List, Ok, true, IfOk, IfSome, IsSome, length, unwrap_or};
 ghost use Rattle.chip_lang.specs.Line.{reading_of};
-ghost use Rattle.chip_lang.specs.SeenLine.{seen_line};
+ghost use Rattle.chip_lang.specs.SeenLine.{seen_body, seen_line};
 ghost use Rattle.chip_lang.specs.Meter.{one_more};
-ghost use Rattle.chip_asm.specs.Layout.{body_of};
+ghost use Rattle.chip_asm.specs.Layout.{body_of, value_at};
+ghost use Rattle.chip_asm.specs.Names.{Name};
+ghost use Rattle.chip_asm.specs.declared.table.Symbol.{Symbol};
+ghost use Rattle.chip_asm.specs.inner.HeldLine.{IsKnown};
 ghost use Rattle.chip_asm.specs.inner.HeldText.{SaysNothing, part_from};
 ghost use Rattle.chip_asm.specs.inner.Recode.{has_code};
 ghost use Rattle.chip_asm.specs.inner.Records.{reading_in};
 
 use crate::line_text::{LineText, SharedSource};
 use chip_lang::short_bytes::ShortBytes;
-use chip_lang::{Body, Coded, Line, Meter, read_line};
+use chip_lang::{Body, Coded, Line, Meter, constant, read_line};
 use std::alloc::{AllocError, Global};
 use std::marker::Model;
 use std::rc::Rc;
@@ -21,6 +24,8 @@ pub(crate) struct KeptLine {
     pub(crate) text: LineText,
     pub(crate) line: Line,
     pub(crate) code: Coded,
+    /// The value of its expression, where no name has a say in it.
+    pub(crate) constant: Option<i32>,
 }
 
 /// How a line is held.
@@ -61,7 +66,14 @@ impl BoxedLine {
         ensures line { IfOk result (λ kept. kept.line ≡ line) }
     {
         let code = Coded::Bytes(ShortBytes::empty(alloc));
-        let kept = Box::new(alloc, KeptLine { text, line, code })?;
+        let constant = constant_of(&line);
+        let kept = KeptLine {
+            text,
+            line,
+            code,
+            constant,
+        };
+        let kept = Box::new(alloc, kept)?;
         Ok(BoxedLine {
             held: HeldLine::Boxed(kept),
         })
@@ -94,6 +106,16 @@ impl BoxedLine {
         match &self.held {
             HeldLine::Nothing(source, _, _) => &source.no_code,
             HeldLine::Boxed(kept) => &kept.code,
+        }
+    }
+
+    /// The value of the expression of an EQU, ORG or DS line, where it is known whatever the names mean.
+    pub(crate) fn constant(&self) -> Option<i32>
+        ensures { IsKnown result (reading_in self.now) }
+    {
+        match &self.held {
+            HeldLine::Nothing(_, _, _) => None,
+            HeldLine::Boxed(kept) => kept.constant,
         }
     }
 
@@ -152,6 +174,27 @@ pub(crate) fn read_part(
         });
     }
     BoxedLine::new(alloc, LineText::part(source, start, count), line)
+}
+
+/// The value of a line's own expression, where no name has a say in it.
+fn constant_of(line: &Line) -> Option<i32>
+    ensures { IsKnown result (seen_line line.now) }
+{
+    match line {
+        Line::Bad(_) => None,
+        Line::Read { body, .. } => constant_in(body),
+    }
+}
+
+/// The same of an EQU, ORG or DS statement.
+#[tactic(auto, unfolding(crate::specs::Layout::value_at))]
+fn constant_in(body: &Body) -> Option<i32>
+    ensures { (names : List (Name × Symbol)) → IfSome result (λ value. value_at names (seen_body body.now) ≡ Ok value) }
+{
+    match body {
+        Body::Equ(expr) | Body::Org(expr) | Body::Ds(expr) => constant(expr),
+        _ => None,
+    }
 }
 
 /// Whether a line says nothing.

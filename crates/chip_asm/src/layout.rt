@@ -16,7 +16,7 @@ ghost use Rattle.chip_asm.specs.inner.Span.{IsSpanOf};
 ghost use Rattle.chip_asm.specs.inner.Traits.{is_steady, traits_of};
 
 use crate::block::Block;
-use crate::edit::{Edit, count_after, first_changed, line_after};
+use crate::edit::{Edit, count_after, first_changed, kept_after, line_after};
 use crate::kept_line::BoxedLine;
 use crate::limits::MOST_LINES;
 use crate::pass::Pass;
@@ -104,7 +104,8 @@ fn step_at(
         → Follows pass.old (placed before) → place ≡ length before → OnOk result (Follows pass.new (placed (before ++ line ∷ []))) }
 {
     let Some(size) = traits.bare_size() else {
-        return pass.step(alloc, place + 1, line_after(lines, edit, place));
+        let kept = kept_after(lines, edit, place);
+        return pass.step(alloc, place + 1, kept.constant(), kept.line());
     };
     if traits.gives_name {
         match defines(line_after(lines, edit, place)) {

@@ -1,7 +1,8 @@
 //! The first pass: one line after another.
-ghost use Rattle.std.specs.Prelude.{◌≡◌, ℕ, ◌+◌, ◌-◌, ◌≤◌, ◌<◌, ◌^◌, List, [], ◌∷◌, ◌++◌, OnOk, IfOk, length, reverse, is_some, is_none, unsigned_abs, int_lt, pos, nat_lt, Option, None, Some, Ok, true, false, not, ◌&&◌, ◌||◌, if◌then◌else◌, option_to_list};
+ghost use Rattle.std.specs.Prelude.{◌≡◌, ℕ, ◌+◌, ◌-◌, ◌≤◌, ◌<◌, ◌^◌, List, [], ◌∷◌, ◌++◌, OnOk, IfOk, IfSome, length, reverse, is_some, is_none, unsigned_abs, int_lt, pos, nat_lt, Option, None, Some, Ok, true, false, not, ◌&&◌, ◌||◌, if◌then◌else◌, option_to_list};
 ghost use Rattle.std.specs.List.{list_all};
 ghost use Rattle.chip_asm.specs.inner.Bare.{IsBare, fault_of_bare};
+ghost use Rattle.chip_asm.specs.inner.HeldLine.{IsKnown};
 ghost use Rattle.chip_asm.specs.Names.{Name};
 ghost use Rattle.chip_asm.specs.Layout.{value_at, own_size, is_padded, full_size, is_negative_space, is_backwards, is_past_end, is_redefinition, is_if_body, body_of, value_or_zero, condition_of, is_org_body, is_end_body, symbol_given};
 ghost use Rattle.chip_asm.specs.computed.Walk.{fault_of_value};
@@ -136,11 +137,15 @@ impl Pass {
         }
     }
 
-    /// The value of the expression of an EQU, ORG or DS line, under the names so far.
+    /// The value of the expression of an EQU, ORG or DS line, under the names so far. It may be known.
     #[tactic(auto, unfolding(crate::specs::Layout::value_at))]
-    fn value_at(&self, body: &Body) -> Result<i32, Fault>
+    fn value_at(&self, known: Option<i32>, body: &Body) -> Result<i32, Fault>
+        requires { IfSome known (λ value. value_at self.now.names (seen_body body.now) ≡ Ok value) }
         ensures { result ≡ value_at self.now.names (seen_body body.now) }
     {
+        if let Some(value) = known {
+            return Ok(value);
+        }
         match body {
             Body::Equ(expr) | Body::Org(expr) | Body::Ds(expr) => eval(expr, &self.names),
             _ => Ok(0),
@@ -257,9 +262,10 @@ impl Pass {
         }
     }
 
-    /// What holds of the next line.
-    fn place(&self, number: usize, line: &Line) -> Placement
-        requires { number ≤ MOST_LINES + 1 }
+    /// What holds of the next line. The value of its expression may be known.
+    fn place(&self, number: usize, known: Option<i32>, line: &Line) -> Placement
+        requires number { number ≤ MOST_LINES + 1 }
+        requires known { IsKnown known (seen_line line.now) }
         ensures placed { (before : List Placed) → Follows self.now before → number ≡ length before + 1 → result ≡ placement_of (place before (seen_line line.now)) }
         ensures new_name { is_placed result ≡ true → is_redefinition self.now.names (name_defined (seen_line line.now)) ≡ false }
         ensures fits { is_placed result ≡ true → fault_of_value self.now.aligning self.now.here (body_of (seen_line line.now)) (Ok result.value) ≡ None }
@@ -268,7 +274,7 @@ impl Pass {
         let empty = Body::Empty;
         let body = body_or(line, &empty);
         let live = self.is_live(body);
-        let read = self.value_at(body);
+        let read = self.value_at(known, body);
         let value = or_zero(read);
         let fault = self.fault_of(live, line, read);
         let size = self.size_of(is_passed(live, fault), body, value);
@@ -283,14 +289,16 @@ impl Pass {
         }
     }
 
-    /// Goes on by one line, and says what holds of it.
+    /// Goes on by one line, and says what holds of it. The value of its expression may be known.
     pub(crate) fn step(
         &mut self,
         alloc: Global,
         number: usize,
+        known: Option<i32>,
         line: &Line,
     ) -> Result<Placement, AllocError>
-        requires { number ≤ MOST_LINES + 1 }
+        requires number { number ≤ MOST_LINES + 1 }
+        requires known { IsKnown known (seen_line line.now) }
         ensures found { (lines : List Reading) → Follows self.old (placed lines) → number ≡ length lines + 1
             → IfOk result (λ placement. placement ≡ placement_of (place (placed lines) (seen_line line.now))) }
         ensures follows { (lines : List Reading) → Follows self.old (placed lines) → number ≡ length lines + 1
@@ -298,7 +306,7 @@ impl Pass {
     {
         let empty = Body::Empty;
         let body = body_or(line, &empty);
-        let placement = self.place(number, line);
+        let placement = self.place(number, known, line);
         let accepted = placement.is_accepted();
         let opened = Block {
             number,

@@ -1,8 +1,8 @@
 //! The value of an expression.
 
-ghost use Rattle.std.specs.Prelude.{◌≡◌, ◌*ℤ◌, pos, ◌^◌, ◌<◌, ℕ, neg_ℤ, ◌≤◌};
+ghost use Rattle.std.specs.Prelude.{◌≡◌, ◌*ℤ◌, pos, ◌^◌, ◌<◌, ℕ, neg_ℤ, ◌≤◌, IfSome, Ok};
 ghost use Rattle.chip_lang.specs.Tree.{tree_of};
-ghost use Rattle.chip_lang.specs.Value.{value, apply, apply_prefix, shift_left, shift_right, divide};
+ghost use Rattle.chip_lang.specs.Value.{Symbols, value, apply, apply_prefix, shift_left, shift_right, divide};
 
 use crate::expr::{Expr, Operator, Prefix};
 use crate::fault::Fault;
@@ -23,6 +23,25 @@ pub fn eval<N: Names>(expr: &Expr, names: &N) -> Result<i32, Fault>
             let a = eval(left, names)?;
             let b = eval(right, names)?;
             apply(*sign, a, b)
+        }
+    }
+}
+
+/// The value of an expression that has the same one under all tables of names; none for one with a name, or with a fault.
+pub fn constant(expr: &Expr) -> Option<i32>
+    ensures { (symbols : Symbols) → IfSome result (λ number. value (tree_of expr.now) symbols ≡ Ok number) }
+{
+    match expr {
+        Expr::Number(number) => Some(*number),
+        Expr::Name(_) => None,
+        Expr::Unary(sign, operand) => {
+            let value = constant(operand)?;
+            apply_prefix(*sign, value).ok()
+        }
+        Expr::Binary(sign, left, right) => {
+            let a = constant(left)?;
+            let b = constant(right)?;
+            apply(*sign, a, b).ok()
         }
     }
 }

@@ -1,14 +1,23 @@
 -- What is kept of a line, from how it is held: a line that says nothing has no box (own).
-use Rattle.std.specs.Prelude.{ℕ, ◌+◌, ◌≤◌, length}
+use Rattle.std.specs.Prelude.{◌≡◌, ℕ, ◌+◌, ◌≤◌, List, ℤ, IfSome, None, Ok, Option, length}
+use Rattle.chip_lang.specs.Line.{Reading}
+use Rattle.chip_lang.specs.SeenLine.{seen_line}
+use Rattle.chip_asm.specs.declared.table.Symbol.{Symbol}
+use Rattle.chip_asm.specs.Layout.{body_of, value_at}
+use Rattle.chip_asm.specs.Names.{Name}
 use Rattle.chip_asm.specs.declared.kept_line.KeptLine.{KeptLine}
 use Rattle.chip_asm.specs.declared.kept_line.HeldLine.{HeldLine}
 use Rattle.chip_asm.specs.declared.kept_line.HeldLine.TheVariants.{Nothing, Boxed}
 use Rattle.chip_asm.specs.inner.HeldText.{SaysNothing, part_from}
 
+-- a value that the line's own expression has under all names, if it is known
+abbrev pub IsKnown : Option ℤ → Reading → Type 0
+IsKnown known line = (names : List (Name × Symbol)) → IfSome known (λ value. value_at names (body_of line) ≡ Ok value)
+
 abbrev pub kept_held : HeldLine → KeptLine
-kept_held (Nothing source start count) = record { text = part_from source.value.bytes start count; line = source.value.nothing; code = source.value.no_code }
+kept_held (Nothing source start count) = record { text = part_from source.value.bytes start count; line = source.value.nothing; code = source.value.no_code; constant = None }
 kept_held (Boxed kept) = kept.value
 
 abbrev pub IsLineHeld : HeldLine → Type 0
 IsLineHeld (Nothing source start count) = (start + count ≤ length source.value.bytes) × SaysNothing source.value.nothing
-IsLineHeld (Boxed kept) = 0 ≤ 0
+IsLineHeld (Boxed kept) = IsKnown kept.value.constant (seen_line kept.value.line)
