@@ -13,7 +13,7 @@ ghost use Rattle.chip_asm.specs.inner.Records.{reading_in};
 
 use crate::line_text::{LineText, SharedSource};
 use chip_lang::short_bytes::ShortBytes;
-use chip_lang::{Body, Coded, Line, Meter, constant, read_line};
+use chip_lang::{Body, Coded, Line, Meter, constant, read_line, read_nothing};
 use std::alloc::{AllocError, Global};
 use std::marker::Model;
 use std::rc::Rc;
@@ -89,6 +89,13 @@ impl BoxedLine {
         }
     }
 
+    /// Whether the line says nothing, as it shows without a look at its reading.
+    pub(crate) fn is_plainly_empty(&self) -> bool
+        ensures { result ≡ true → SaysNothing self.now.line }
+    {
+        matches!(self.held, HeldLine::Nothing(_, _, _))
+    }
+
     /// The reading of the line.
     pub(crate) fn line(&self) -> &Line
         ensures { result.now ≡ self.now.line }
@@ -131,7 +138,7 @@ impl BoxedLine {
     }
 }
 
-/// Reads a text. It is not encoded yet.
+/// Reads a text, of which a copy is kept. It is not encoded yet.
 pub(crate) fn read_kept(
     alloc: Global,
     meter: &mut Meter,
@@ -162,18 +169,35 @@ pub(crate) fn read_part(
     ensures reading { IfOk result (λ kept. seen_line kept.line ≡ reading_of text.now) }
     ensures counted { meter.new ≡ record meter.old { parsed = one_more meter.old.parsed } }
 {
-    let line = read_line(alloc, meter, text)?;
     let (Ok(start), Ok(count)) = (u32::try_from(start), u16::try_from(text.len())) else {
-        let text = LineText::own(alloc, text)?;
-        return BoxedLine::new(alloc, text, line);
+        return read_kept(alloc, meter, text);
     };
-    let source = Rc::clone(source)?;
-    if says_nothing(&line) {
+    if read_nothing(meter, text) {
+        let source = Rc::clone(source)?;
         return Ok(BoxedLine {
             held: HeldLine::Nothing(source, start, count),
         });
     }
-    BoxedLine::new(alloc, LineText::part(source, start, count), line)
+    read_said(alloc, meter, source, start, count)
+}
+
+/// Reads so many bytes of a shared source, from a place on. They are not encoded yet.
+#[inline(never)]
+fn read_said(
+    alloc: Global,
+    meter: &mut Meter,
+    source: &Rc<SharedSource>,
+    start: u32,
+    count: u16,
+) -> Result<BoxedLine, AllocError>
+    requires { start + count ≤ length source.now.value.bytes }
+    ensures text { IfOk result (λ kept. kept.text ≡ part_from source.now.value.bytes start count) }
+    ensures reading { IfOk result (λ kept. seen_line kept.line ≡ reading_of (part_from source.now.value.bytes start count)) }
+    ensures counted { meter.new ≡ record meter.old { parsed = one_more meter.old.parsed } }
+{
+    let line = read_line(alloc, meter, source.part(start, count))?;
+    let text = LineText::part(Rc::clone(source)?, start, count);
+    BoxedLine::new(alloc, text, line)
 }
 
 /// The value of a line's own expression, where no name has a say in it.
@@ -195,19 +219,6 @@ fn constant_in(body: &Body) -> Option<i32>
         Body::Equ(expr) | Body::Org(expr) | Body::Ds(expr) => constant(expr),
         _ => None,
     }
-}
-
-/// Whether a line says nothing.
-fn says_nothing(line: &Line) -> bool
-    ensures { result ≡ true → SaysNothing line.now }
-{
-    matches!(
-        line,
-        Line::Read {
-            label: None,
-            body: Body::Empty
-        }
-    )
 }
 
 /// The line with a new code, if there is one.

@@ -7,7 +7,7 @@ ghost use Rattle.chip_asm.specs.inner.Bare.{IsBare};
 ghost use Rattle.chip_asm.specs.inner.Effect.{is_plain_line};
 ghost use Rattle.chip_asm.specs.Layout.{body_of};
 ghost use Rattle.chip_asm.specs.inner.Recode.{has_code};
-ghost use Rattle.chip_asm.specs.inner.Records.{IsPlaceWithin, lines_after, readings_in};
+ghost use Rattle.chip_asm.specs.inner.Records.{IsPlaceWithin, lines_after, reading_in, readings_in};
 ghost use Rattle.chip_asm.specs.inner.Traits.{is_bare_line, uses_name, is_steady, traits_of};
 ghost use Rattle.chip_asm.specs.declared.kept_line.KeptLine.{KeptLine};
 
@@ -105,6 +105,27 @@ pub(crate) fn traits_of(line: &Line) -> Traits
     }
 }
 
+/// The traits of a line that says nothing.
+const OF_NOTHING: Traits = Traits {
+    is_bare: true,
+    is_plain: true,
+    gives_name: false,
+    is_coded: false,
+    has_names: false,
+    is_steady: true,
+};
+
+/// The traits of a kept line.
+fn traits_of_kept(kept: &BoxedLine) -> Traits
+    ensures { result ≡ traits_of (reading_in kept.now) }
+{
+    if kept.is_plainly_empty() {
+        OF_NOTHING
+    } else {
+        traits_of(kept.line())
+    }
+}
+
 impl Traits {
     /// The size of a line of which the first pass asks nothing else but its name.
     pub(crate) fn bare_size(self) -> Option<usize>
@@ -123,7 +144,7 @@ pub(crate) fn traits_of_all(alloc: Global, lines: &[BoxedLine]) -> Result<Vec<Tr
 {
     let mut traits = Vec::with_capacity(alloc, lines.len())?;
     for place in 0..lines.len() {
-        traits.push(traits_of(lines[place].line()))?;
+        traits.push(traits_of_kept(&lines[place]))?;
     }
     Ok(traits)
 }

@@ -38,7 +38,7 @@ pub use crate::fault::Fault;
 pub use crate::fault_place::{Span, fault_span, mnemonic_of, name_of_token};
 pub use crate::form::{Form, Operand, Pattern, Special};
 pub use crate::instr::{Instr, decode, word};
-pub use crate::line::{Body, Line, read_line};
+pub use crate::line::{Body, Line, read_line, read_nothing};
 pub use crate::meter::Meter;
 pub use crate::names::Names;
 pub use crate::number::{Addr, Nibble, Reg};

@@ -1,8 +1,8 @@
 //! The reading of a line.
 
-ghost use Rattle.std.specs.Prelude.{◌≡◌, ◌≤◌, ◌*◌, IfOk, length, map, [], true, false};
+ghost use Rattle.std.specs.Prelude.{◌≡◌, ◌≤◌, ◌*◌, IfOk, length, map, [], None, true, false};
 ghost use Rattle.std.specs.Option.{option_copied};
-ghost use Rattle.chip_lang.specs.Line.{bad_token, too_deep, front_directive, statement_of, begins_with_no_word, begins_with_unknown_word, faults_in_order, first_fault, lexemes_of, reading_of_tokens, reading_of};
+ghost use Rattle.chip_lang.specs.Line.{bad_token, too_deep, front_directive, statement_of, begins_with_no_word, begins_with_unknown_word, faults_in_order, first_fault, lexemes_of, reading_of_tokens, reading_of, empty, read};
 ghost use Rattle.chip_lang.specs.Form.{row_of_form};
 ghost use Rattle.chip_lang.specs.SeenLine.{seen_line};
 ghost use Rattle.chip_lang.specs.inner.NamedForms.{front_forms};
@@ -87,17 +87,33 @@ pub fn read_line(alloc: Global, meter: &mut Meter, text: &[u8]) -> Result<Line, 
     ensures names { IfOk result (λ line. 2 * length (names_used (seen_line line)) ≤ length text.now) }
     ensures counted { meter.new ≡ record meter.old { parsed = one_more meter.old.parsed } }
 {
-    meter.parsed = meter.parsed.saturating_add(1);
-    if is_plainly_empty(text) {
+    if read_nothing(meter, text) {
         return Ok(Line::Read {
             label: None,
             body: Body::Empty,
         });
     }
+    meter.parsed = meter.parsed.saturating_add(1);
     reading_of_text(alloc, text)
 }
 
-/// Whether a line has no tokens, as its first byte shows: many lines are of a comment alone, or of no bytes.
+/// Reads a line that says nothing, as its first byte shows, and adds 1 to `parsed`: many lines have no bytes or a comment alone. Any other
+/// line isn't read, and nothing changes.
+#[tactic(auto, unfolding(crate::specs::Line::reading_of))]
+#[inline]
+pub fn read_nothing(meter: &mut Meter, text: &[u8]) -> bool
+    ensures reading { result ≡ true → reading_of text.now ≡ read None empty }
+    ensures counted { result ≡ true → meter.new ≡ record meter.old { parsed = one_more meter.old.parsed } }
+    ensures same { result ≡ false → meter.new ≡ meter.old }
+{
+    if !is_plainly_empty(text) {
+        return false;
+    }
+    meter.parsed = meter.parsed.saturating_add(1);
+    true
+}
+
+/// Whether a line has no tokens, as its first byte shows.
 fn is_plainly_empty(text: &[u8]) -> bool
     ensures { result ≡ true → lexemes_of text.now ≡ [] }
 {
