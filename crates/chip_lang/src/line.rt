@@ -93,7 +93,7 @@ pub fn read_line(alloc: Global, meter: &mut Meter, text: &[u8]) -> Result<Line, 
             body: Body::Empty,
         });
     }
-    meter.parsed = meter.parsed.saturating_add(1);
+    count_reading(meter);
     reading_of_text(alloc, text)
 }
 
@@ -109,8 +109,15 @@ pub fn read_nothing(meter: &mut Meter, text: &[u8]) -> bool
     if !is_plainly_empty(text) {
         return false;
     }
-    meter.parsed = meter.parsed.saturating_add(1);
+    count_reading(meter);
     true
+}
+
+/// Notes that a line was read.
+fn count_reading(meter: &mut Meter)
+    ensures { meter.new ≡ record meter.old { parsed = one_more meter.old.parsed } }
+{
+    meter.parsed = meter.parsed.saturating_add(1);
 }
 
 /// Whether a line has no tokens, as its first byte shows.
