@@ -32,6 +32,7 @@ use crate::recode::{Remaking, code_if_accepted, moves_by_hint};
 use crate::settle::{Settling, settle_image};
 use crate::span::{NO_SPAN, Span, span_of};
 use crate::traits::{Traits, traits_after, traits_of, traits_of_all};
+use crate::way::Way;
 use chip_lang::laws::same_code;
 use chip_lang::limits::{IMAGE_BYTES, IMAGE_START};
 use chip_lang::{Coded, Line, Meter};
@@ -252,6 +253,7 @@ impl Kept {
         Changed {
             first,
             end: first + placement.size as usize,
+            way: Way::Rewritten,
         }
     }
 
@@ -282,6 +284,7 @@ impl Kept {
         Ok(Changed {
             first: 0,
             end: IMAGE_BYTES,
+            way: self.layout.way,
         })
     }
 

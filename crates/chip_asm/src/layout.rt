@@ -27,6 +27,7 @@ use crate::shift::{
 use crate::span::{Span, clean_lines};
 use crate::table::Table;
 use crate::traits::Traits;
+use crate::way::Way;
 use chip_lang::limits::{IMAGE_START, MEMORY_BYTES};
 use chip_lang::{Fault, defines};
 use std::alloc::{AllocError, Global};
@@ -39,6 +40,8 @@ pub(crate) struct Layout {
     pub(crate) end: usize,
     /// Where it is true, each line is accepted.
     pub(crate) all_accepted: bool,
+    /// How it was made of the one before.
+    pub(crate) way: Way,
 }
 
 /// The fault of an IF whose block is open at the end.
@@ -149,6 +152,7 @@ fn first_lines(
         mut names,
         end: _,
         all_accepted: _,
+        way: _,
     } = spare;
     placements.clear();
     placements.reserve(count)?;
@@ -209,6 +213,7 @@ impl Layout {
             names: Table::new(alloc),
             end: IMAGE_START,
             all_accepted: true,
+            way: Way::Walked,
         }
     }
 
@@ -303,6 +308,7 @@ impl Layout {
             names,
             end: shift.address(self.end as u16) as usize,
             all_accepted,
+            way: Way::Shifted,
         })
     }
 
@@ -332,6 +338,7 @@ impl Layout {
             names: pass.into_names(),
             end,
             all_accepted,
+            way: Way::Walked,
         })
     }
 

@@ -26,7 +26,9 @@ mod source;
 mod span;
 mod table;
 mod traits;
+mod way;
 
 pub use refusal::{OpenError, Refusal};
 pub use source::Source;
 pub use table::Symbol;
+pub use way::Way;

@@ -16,6 +16,7 @@ use crate::placement::Placement;
 use crate::shift::{Shift, add_moved, added_by, removed_by};
 use crate::span::Span;
 use crate::traits::Traits;
+use crate::way::Way;
 use chip_lang::defines;
 use chip_lang::limits::MEMORY_BYTES;
 use std::alloc::{AllocError, Global};
@@ -150,6 +151,7 @@ impl Layout {
             mut names,
             end: _,
             all_accepted: _,
+            way: _,
         } = spare;
         let placements = self.moved_placements(placements, found, shift, place, from)?;
         names.move_from(&self.names, place, shift);
@@ -162,6 +164,7 @@ impl Layout {
             names,
             end: shift.address(self.end as u16) as usize,
             all_accepted: self.all_accepted,
+            way: Way::Moved,
         };
         Ok((layout, Some(span)))
     }

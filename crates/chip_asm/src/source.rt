@@ -19,6 +19,7 @@ use crate::kept_line::read_kept;
 use crate::listing::listing_in;
 use crate::refusal::{OpenError, Refusal, delete_refusal, insert_refusal, replace_refusal};
 use crate::table::Symbol;
+use crate::way::Way;
 use chip_lang::limits::IMAGE_BYTES;
 use chip_lang::{Bytes, Fault, Meter};
 use std::alloc::{AllocError, Global};
@@ -41,7 +42,7 @@ impl Model for Source {
     ghost use Rattle.chip_asm.specs.inner.Records.{texts_in};
     ghost use Rattle.chip_asm.specs.inner.Kept.{IsKept};
 
-    ghost view = { λ s. record { lines = texts_in s.kept.lines.items; work = s.meter; first_changed = s.changed.first; end_changed = s.changed.end } };
+    ghost view = { λ s. record { lines = texts_in s.kept.lines.items; work = s.meter; first_changed = s.changed.first; end_changed = s.changed.end; way = s.changed.way } };
 
     ghost invariant = { λ s. IsKept s.kept };
 }
@@ -111,6 +112,13 @@ impl Source {
         ensures end { result.end ≡ self.now.end_changed }
     {
         self.changed.first..self.changed.end
+    }
+
+    /// How the last accepted edit was made; [`Way::Walked`] before the first one.
+    pub fn way(&self) -> Way
+        ensures { result ≡ self.now.way }
+    {
+        self.changed.way
     }
 
     /// The value of a name, in either case, and the number of the line that gives it.

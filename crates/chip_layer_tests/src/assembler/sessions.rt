@@ -1,7 +1,6 @@
 //! Sessions of edits: after each edit all answers are those of the lines opened anew.
 use crate::assembler::{delete, faults, image, insert, listed, opened, replace, symbols};
-use chip_asm::Source;
-use chip_machine::limits::IMAGE_BYTES;
+use chip_asm::{Source, Way};
 use std::alloc::{AllocError, Global};
 use std::process::Abort;
 use std::test::Fail;
@@ -115,18 +114,32 @@ fn answers_alike(alloc: Global, source: &Source, texts: &[&[u8]]) -> Result<bool
     Ok(kept.as_slice() == fresh_answers(alloc, texts)?.as_slice())
 }
 
-/// How many edits went each way.
+/// How many edits there were of each kind, and how many were made each way.
 #[derive(Clone, Copy)]
-struct Ways {
-    rewritten: u32,
-    remade: u32,
+struct Counts {
+    replaced: u32,
     inserted: u32,
     deleted: u32,
+    rewritten: u32,
+    moved: u32,
+    shifted: u32,
+    walked: u32,
 }
 
-/// Whether the last edit changed one line alone: one that lays all lines out anew tells all places.
-fn is_rewritten(source: &Source) -> bool {
-    source.changed().len() < IMAGE_BYTES
+/// Counts the way of the last edit.
+fn count_way(counts: &mut Counts, way: Way) {
+    let count = match way {
+        Way::Rewritten => &mut counts.rewritten,
+        Way::Moved => &mut counts.moved,
+        Way::Shifted => &mut counts.shifted,
+        Way::Walked => &mut counts.walked,
+    };
+    *count = count.saturating_add(1);
+}
+
+/// How the last edit was made.
+fn way(source: &Source) -> Way {
+    source.way()
 }
 
 /// Makes one edit, in the source and in its texts.
@@ -135,7 +148,7 @@ fn edit_once(
     source: &mut Source,
     texts: &mut Vec<&'static [u8]>,
     state: &mut u32,
-    ways: &mut Ways,
+    counts: &mut Counts,
 ) -> Result<(), Fail> {
     let text = some_text(state);
     let place = next(state) as usize % (texts.len() + 1);
@@ -143,19 +156,15 @@ fn edit_once(
     if place == texts.len() || (way == 0 && texts.len() < MOST_LINES) {
         insert(alloc, source, place + 1, text)?;
         texts.insert(place, text)?;
-        ways.inserted = ways.inserted.saturating_add(1);
+        counts.inserted = counts.inserted.saturating_add(1);
     } else if way == 1 || texts.len() > MOST_LINES {
         delete(alloc, source, place + 1)?;
         texts.remove(place);
-        ways.deleted = ways.deleted.saturating_add(1);
+        counts.deleted = counts.deleted.saturating_add(1);
     } else {
         replace(alloc, source, place + 1, text)?;
-        if is_rewritten(source) {
-            ways.rewritten = ways.rewritten.saturating_add(1);
-        } else {
-            ways.remade = ways.remade.saturating_add(1);
-        }
         texts[place] = text;
+        counts.replaced = counts.replaced.saturating_add(1);
     }
     Ok(())
 }
@@ -172,9 +181,16 @@ fn goes_on(
     alloc: Global,
     session: &mut Session,
     state: &mut u32,
-    ways: &mut Ways,
+    counts: &mut Counts,
 ) -> Result<bool, Fail> {
-    edit_once(alloc, &mut session.source, &mut session.texts, state, ways)?;
+    edit_once(
+        alloc,
+        &mut session.source,
+        &mut session.texts,
+        state,
+        counts,
+    )?;
+    count_way(counts, way(&session.source));
     answers_alike(alloc, &session.source, &session.texts)
 }
 
@@ -183,37 +199,47 @@ fn carry_out(
     rt: &(impl Abort + AllocGlobal),
     session: &mut Session,
     seed: u32,
-    ways: &mut Ways,
+    counts: &mut Counts,
 ) -> Result<(), Fail> {
     let mut state = seed;
     for edit in 0..EDITS {
-        let is_so = goes_on(rt.alloc(), session, &mut state, ways)?;
+        let is_so = goes_on(rt.alloc(), session, &mut state, counts)?;
         assert!(rt; is_so, "edit {edit} of session {seed}");
     }
     Ok(())
 }
 
 /// Makes a session of edits that this number begins, and compares all answers after each.
-fn make_session(rt: &(impl Abort + AllocGlobal), seed: u32, ways: &mut Ways) -> Result<(), Fail> {
+fn make_session(
+    rt: &(impl Abort + AllocGlobal),
+    seed: u32,
+    counts: &mut Counts,
+) -> Result<(), Fail> {
     let mut session = Session {
         source: Source::new(rt.alloc()),
         texts: Vec::new(rt.alloc()),
     };
-    carry_out(rt, &mut session, seed, ways)
+    carry_out(rt, &mut session, seed, counts)
 }
 
 #[test]
 fn answers_are_those_of_the_lines_opened_anew(rt: HostRuntime) -> Result<(), Fail> {
-    let mut ways = Ways {
-        rewritten: 0,
-        remade: 0,
+    let mut counts = Counts {
+        replaced: 0,
         inserted: 0,
         deleted: 0,
+        rewritten: 0,
+        moved: 0,
+        shifted: 0,
+        walked: 0,
     };
     for seed in 0..8 {
-        make_session(&rt, seed, &mut ways)?;
+        make_session(&rt, seed, &mut counts)?;
     }
-    assert!(rt; ways.rewritten > EDITS / 2 && ways.remade > EDITS);
-    assert!(rt; ways.inserted > EDITS / 4 && ways.deleted > EDITS / 4);
+    assert!(rt;
+        counts.replaced > EDITS && counts.inserted > EDITS / 4 && counts.deleted > EDITS / 4
+    );
+    assert!(rt; counts.rewritten > EDITS / 2 && counts.moved > EDITS / 20);
+    assert!(rt; counts.shifted > EDITS / 20 && counts.walked > EDITS);
     Ok(())
 }

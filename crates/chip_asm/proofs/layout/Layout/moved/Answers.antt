@@ -1,4 +1,5 @@
 use Rattle.std.proofs.Common.{◌≡◌, ◌∙◌, ◌+◌, ◌-◌, arith, ap, length, refl}
+use Rattle.chip_asm.specs.declared.way.Way.TheVariants.{Moved}
 use Rattle.chip_asm.specs.declared.layout.Layout.{Layout}
 use Rattle.chip_asm.specs.inner.Layouts.{IsLayoutOf}
 use Rattle.chip_asm.specs.inner.Records.{lines_after, readings_in}
@@ -43,7 +44,7 @@ returns-clause-layout c =
     let q : IsQuiet c.args.quiet.0 c.args.quiet.1.new_address c.args.self.now (readings_in c.args.lines.now) (readings_in (lines_after c.args.lines.now c.args.edit.now)) c.args.edit.now (past_edit c.args.edit.now) = c.requires.quiet in
     let b : StandsBefore c.args.self.now c.args.lines.now c.args.edit.now (past_edit c.args.edit.now) c.args.quiet.1.new_address (walked_quietly c.args.self.now c.args.edit.now c.args.quiet.0) (named_quietly c.args.self.now c.args.edit.now)
     = quiet-stands c.args.self.now c.args.lines.now c.args.traits.now c.args.edit.now c.args.quiet.0 c.args.quiet.1.new_address c.requires.within c.requires.few laid c.requires.traits c.requires.steady c.requires.plain q in
-    let made : Layout = record { placements = c.in_ok-placements.placements; names = c.move_from.new.self; end = c.address.result; all_accepted = c.args.self.now.all_accepted } in
+    let made : Layout = record { placements = c.in_ok-placements.placements; names = c.move_from.new.self; end = c.address.result; all_accepted = c.args.self.now.all_accepted; way = Moved } in
     let m : IsMadeQuietly c.args.quiet.1 c.args.self.now made c.args.edit.now c.args.quiet.0 = record {
       placements_are = c.in_ok-placements.ensures ∙ (rw (c.first_changed-place.ensures, c.removed_by.ensures) refl);
       names_are = c.move_from.ensures ∙ (rw c.first_changed-place.ensures refl);
@@ -60,7 +61,7 @@ returns-clause-span c =
     let q : IsQuiet c.args.quiet.0 c.args.quiet.1.new_address c.args.self.now (readings_in c.args.lines.now) (readings_in (lines_after c.args.lines.now c.args.edit.now)) c.args.edit.now (past_edit c.args.edit.now) = c.requires.quiet in
     let b : StandsBefore c.args.self.now c.args.lines.now c.args.edit.now (past_edit c.args.edit.now) c.args.quiet.1.new_address (walked_quietly c.args.self.now c.args.edit.now c.args.quiet.0) (named_quietly c.args.self.now c.args.edit.now)
     = quiet-stands c.args.self.now c.args.lines.now c.args.traits.now c.args.edit.now c.args.quiet.0 c.args.quiet.1.new_address c.requires.within c.requires.few laid c.requires.traits c.requires.steady c.requires.plain q in
-    let made : Layout = record { placements = c.in_ok-placements.placements; names = c.move_from.new.self; end = c.address.result; all_accepted = c.args.self.now.all_accepted } in
+    let made : Layout = record { placements = c.in_ok-placements.placements; names = c.move_from.new.self; end = c.address.result; all_accepted = c.args.self.now.all_accepted; way = Moved } in
     let m : IsMadeQuietly c.args.quiet.1 c.args.self.now made c.args.edit.now c.args.quiet.0 = record {
       placements_are = c.in_ok-placements.ensures ∙ (rw (c.first_changed-place.ensures, c.removed_by.ensures) refl);
       names_are = c.move_from.ensures ∙ (rw c.first_changed-place.ensures refl);
