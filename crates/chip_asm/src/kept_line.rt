@@ -67,13 +67,15 @@ impl BoxedLine {
     {
         let code = Coded::Bytes(ShortBytes::empty(alloc));
         let constant = constant_of(&line);
-        let kept = KeptLine {
-            text,
-            line,
-            code,
-            constant,
-        };
-        let kept = Box::new(alloc, kept)?;
+        let kept = Box::new(
+            alloc,
+            KeptLine {
+                text,
+                line,
+                code,
+                constant,
+            },
+        )?;
         Ok(BoxedLine {
             held: HeldLine::Boxed(kept),
         })

@@ -13,7 +13,7 @@ ghost use Rattle.chip_asm.specs.declared.kept_line.KeptLine.{KeptLine};
 
 use crate::edit::{Edit, with_item, without_item};
 use crate::kept_line::BoxedLine;
-use chip_lang::{Body, Line, defines, uses};
+use chip_lang::{Body, Line, defines, uses_names};
 use std::alloc::{AllocError, Global};
 
 /// What steps over all lines ask of a line.
@@ -100,7 +100,7 @@ pub(crate) fn traits_of(line: &Line) -> Traits
         is_plain: is_plain(line),
         gives_name: defines(line).is_some(),
         is_coded: has_code(line),
-        has_names: uses(line, 0).is_some(),
+        has_names: uses_names(line),
         is_steady: is_steady(line),
     }
 }

@@ -11,7 +11,6 @@ ghost use Rattle.chip_lang.specs.Form.{row_of_form, option_row, is_special, matc
 
 use crate::expr::Expr;
 use crate::number::Reg;
-use crate::short_bytes::is_same_word;
 
 /// What stands in an operand's place in a form: a register by its part of the word, a word, or a value by its field.
 #[derive(Clone, Copy, Debug, PartialEq, Eq)]
@@ -362,7 +361,7 @@ fn from_first<'a>(forms: &'a [Form], name: &[u8]) -> &'a [Form]
     ensures { map row_of_form result.now ≡ from_name name.now (map row_of_form forms.now) }
 {
     for (index, form) in forms.iter().enumerate() {
-        if is_same_word(form.name.as_bytes(), name) {
+        if form.name.as_bytes() == name {
             return &forms[index..];
         }
     }
@@ -373,7 +372,7 @@ fn find_in(forms: &[Form], name: &[u8], operands: &[Operand]) -> Option<Form>
     ensures { option_row result ≡ find_form (map row_of_form forms.now) name.now (map operand_of operands.now) }
 {
     for form in forms {
-        if is_same_word(form.name.as_bytes(), name) && all_match(form.patterns, operands) {
+        if form.name.as_bytes() == name && all_match(form.patterns, operands) {
             return Some(*form);
         }
     }

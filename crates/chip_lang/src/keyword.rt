@@ -8,7 +8,6 @@ ghost use Rattle.chip_lang.specs.Keyword.{directives, specials, directive_of, sp
 use crate::directive::Directive;
 use crate::form::Special;
 use crate::number::Reg;
-use crate::short_bytes::is_same_word;
 
 /// A word in upper case and what it means.
 #[derive(Clone, Copy, Debug)]
@@ -132,7 +131,7 @@ fn find_in<T: Copy>(rows: &[Named<T>], word: &[u8]) -> Option<T>
     ensures { result ≡ find_word (map row_of rows.now) word.now }
 {
     for row in rows {
-        if is_same_word(row.text, word) {
+        if row.text == word {
             return Some(row.meaning);
         }
     }

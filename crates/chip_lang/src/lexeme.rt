@@ -4,7 +4,7 @@ ghost use Rattle.std.specs.Prelude.{◌≡◌, IfOk, length, ◌-◌, ◌≤◌,
 ghost use Rattle.chip_lang.specs.Line.{lexeme_of, lexemes_of, is_the, is_sign_of};
 
 use crate::fault::Fault;
-use crate::short_bytes::{ShortBytes, is_same_word};
+use crate::short_bytes::ShortBytes;
 use crate::token::{Kind, Token, USUAL_TOKENS, token_from};
 use std::alloc::{AllocError, Global};
 
@@ -72,7 +72,7 @@ pub fn is_the(word: &[u8], token: &Lexeme) -> bool
     ensures { result ≡ is_the word.now token.now }
 {
     match token {
-        Lexeme::Word(other) => is_same_word(word, other.get()),
+        Lexeme::Word(other) => word == other.get(),
         _ => false,
     }
 }

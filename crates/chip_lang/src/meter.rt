@@ -5,9 +5,9 @@ ghost use Rattle.std.specs.Prelude.{◌≡◌};
 /// How many texts of lines were read and how many lines were encoded. A count stays at its greatest value.
 #[derive(Clone, Copy, Debug, PartialEq, Eq)]
 pub struct Meter {
-    /// The calls of [`crate::read_line`].
+    /// The lines that were read.
     pub parsed: u64,
-    /// The calls of [`crate::encode`].
+    /// The lines that were encoded.
     pub encoded: u64,
 }
 

@@ -1,7 +1,6 @@
 //! Few bytes, as those of a word while its line is read, and those of a line's code.
 
 ghost use Rattle.std.specs.Prelude.{◌≡◌, ◌++◌, ◌∷◌, [], IfOk, OnOk, map};
-ghost use Rattle.std.specs.Str.{bytes_eq};
 ghost use Rattle.chip_lang.specs.Line.{upper};
 
 use smallvec::SmallVec;
@@ -15,17 +14,6 @@ pub fn upper(byte: u8) -> u8
     match byte {
         b'a'..=b'z' => byte - 32,
         _ => byte,
-    }
-}
-
-/// Whether two words are the same. Most that aren't differ in the first byte, which is looked at before the others.
-#[inline(always)]
-pub(crate) fn is_same_word(one: &[u8], other: &[u8]) -> bool
-    ensures { result ≡ bytes_eq one.now other.now }
-{
-    match (one, other) {
-        ([first, ..], [second, ..]) if first != second => false,
-        _ => one == other,
     }
 }
 

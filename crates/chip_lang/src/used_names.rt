@@ -1,6 +1,6 @@
 //! Which names a line uses and defines.
 
-ghost use Rattle.std.specs.Prelude.{◌≡◌, ◌+◌, Some, map, length, slice_get, MatchResult};
+ghost use Rattle.std.specs.Prelude.{◌≡◌, ◌+◌, Some, is_some, map, length, slice_get, MatchResult};
 ghost use Rattle.std.specs.List.{list_all, flat_map};
 ghost use Rattle.std.specs.Option.{option_copied};
 ghost use Rattle.chip_lang.specs.SeenLine.{seen_line, seen_body};
@@ -85,6 +85,68 @@ fn agree_in<N: Names>(expr: &Expr, old: &N, new: &N) -> bool
         Expr::Name(name) => old.value(name.get()) == new.value(name.get()),
         Expr::Unary(_, operand) => agree_in(operand, old, new),
         Expr::Binary(_, left, right) => agree_in(left, old, new) && agree_in(right, old, new),
+    }
+}
+
+/// Whether an expression of a line has a name.
+pub fn uses_names(line: &Line) -> bool
+    ensures { result ≡ is_some (slice_get (names_used (seen_line line.now)) 0) }
+{
+    match line {
+        Line::Bad(_) => false,
+        Line::Read { body, .. } => has_name_in_body(body),
+    }
+}
+
+fn has_name_in_body(body: &Body) -> bool
+    ensures { result ≡ is_some (slice_get (names_in_body (seen_body body.now)) 0) }
+{
+    match body {
+        Body::Equ(expr) | Body::Org(expr) | Body::Ds(expr) => has_name_in(expr),
+        Body::Db(exprs) | Body::Dw(exprs) => has_name_in_each(exprs),
+        Body::Code(_, operands) => has_name_in_operands(operands),
+        _ => false,
+    }
+}
+
+#[tactic(auto, using(crate::proofs::NamesUsed::first_together))]
+fn has_name_in_each(exprs: &[Expr]) -> bool
+    ensures { result ≡ is_some (slice_get (flat_map names_in (map tree_of exprs.now)) 0) }
+{
+    let Some((expr, exprs)) = exprs.split_first() else {
+        return false;
+    };
+    has_name_in(expr) || has_name_in_each(exprs)
+}
+
+#[tactic(auto, using(crate::proofs::NamesUsed::first_together))]
+fn has_name_in_operands(operands: &[Operand]) -> bool
+    ensures { result ≡ is_some (slice_get (flat_map names_in_operand (map operand_of operands.now)) 0) }
+{
+    let Some((operand, operands)) = operands.split_first() else {
+        return false;
+    };
+    has_name_in_operand(operand) || has_name_in_operands(operands)
+}
+
+fn has_name_in_operand(operand: &Operand) -> bool
+    ensures { result ≡ is_some (slice_get (names_in_operand (operand_of operand.now)) 0) }
+{
+    match operand {
+        Operand::Value(expr) => has_name_in(expr),
+        _ => false,
+    }
+}
+
+#[tactic(auto, using(crate::proofs::NamesUsed::first_together))]
+fn has_name_in(expr: &Expr) -> bool
+    ensures { result ≡ is_some (slice_get (names_in (tree_of expr.now)) 0) }
+{
+    match expr {
+        Expr::Number(_) => false,
+        Expr::Name(_) => true,
+        Expr::Unary(_, operand) => has_name_in(operand),
+        Expr::Binary(_, left, right) => has_name_in(left) || has_name_in(right),
     }
 }
 
