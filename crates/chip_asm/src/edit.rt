@@ -23,11 +23,7 @@ pub(crate) enum Edit {
 }
 
 /// The line at a place after the edit.
-pub(crate) fn kept_after<'a>(
-    lines: &'a [BoxedLine],
-    edit: &'a Edit,
-    place: usize,
-) -> &'a BoxedLine
+pub(crate) fn kept_after<'a>(lines: &'a [BoxedLine], edit: &'a Edit, place: usize) -> &'a BoxedLine
     requires within { IsPlaceWithin (length lines.now) edit.now }
     requires place { place < count_after (length lines.now) edit.now }
     ensures { slice_get (readings_in (lines_after lines.now edit.now)) place ≡ Some (reading_in result.now) }
@@ -42,13 +38,7 @@ pub(crate) fn kept_after<'a>(
                 &lines[place - 1]
             }
         }
-        Edit::Replace(at, added) => {
-            if place == *at {
-                added
-            } else {
-                &lines[place]
-            }
-        }
+        Edit::Replace(at, added) => { if place == *at { added } else { &lines[place] } }
         Edit::Delete(at) => {
             if place < *at {
                 &lines[place]

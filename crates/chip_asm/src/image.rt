@@ -67,11 +67,7 @@ pub(crate) fn bytes_by(is_coded: bool, kept: &BoxedLine) -> &[u8]
     requires { is_coded ≡ has_code (body_of (reading_in kept.now)) }
     ensures { result.now ≡ kept_bytes kept.now }
 {
-    if is_coded {
-        bytes_of(kept.code())
-    } else {
-        &[]
-    }
+    if is_coded { bytes_of(kept.code()) } else { &[] }
 }
 
 /// The bytes of a code; none of a fault.

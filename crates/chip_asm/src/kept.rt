@@ -215,13 +215,7 @@ impl Kept {
         ensures parsed { meter.new.parsed ≡ meter.old.parsed }
     {
         let accepted = self.layout.placements[at].is_accepted();
-        let code = code_if_accepted(
-            accepted,
-            alloc,
-            meter,
-            added.line(),
-            &self.layout.names,
-        )?;
+        let code = code_if_accepted(accepted, alloc, meter, added.line(), &self.layout.names)?;
         Ok(self.put(at, with_code(added, code)))
     }
 

@@ -61,6 +61,7 @@ impl Model for BoxedLine {
 
 impl BoxedLine {
     /// A line that isn't encoded yet.
+    #[inline(always)]
     fn new(alloc: Global, text: LineText, line: Line) -> Result<Self, AllocError>
         ensures text { IfOk result (λ kept. kept.text ≡ text) }
         ensures line { IfOk result (λ kept. kept.line ≡ line) }
@@ -214,6 +215,7 @@ fn constant_of(line: &Line) -> Option<i32>
 
 /// The same of an EQU, ORG or DS statement.
 #[tactic(auto, unfolding(crate::specs::Layout::value_at))]
+#[inline(never)]
 fn constant_in(body: &Body) -> Option<i32>
     ensures { (names : List (Name × Symbol)) → IfSome result (λ value. value_at names (seen_body body.now) ≡ Ok value) }
 {

@@ -1,5 +1,5 @@
 -- What is kept of a line, from how it is held: a line that says nothing has no box (own).
-use Rattle.std.specs.Prelude.{◌≡◌, ℕ, ◌+◌, ◌≤◌, List, ℤ, IfSome, None, Ok, Option, length}
+use Rattle.std.specs.Prelude.{◌≡◌, ◌+◌, ◌≤◌, List, ℤ, IfSome, None, Ok, Option, length}
 use Rattle.chip_lang.specs.Line.{Reading}
 use Rattle.chip_lang.specs.SeenLine.{seen_line}
 use Rattle.chip_asm.specs.declared.table.Symbol.{Symbol}

@@ -8,7 +8,7 @@ use Rattle.chip_asm.specs.declared.kept_line.KeptLine.{KeptLine}
 use Rattle.chip_asm.specs.declared.refusal.OpenError.TheVariants.{LineTooLong}
 use Rattle.chip_asm.specs.Lines.{lines_of, first_text, is_newline, is_long}
 use Rattle.chip_asm.specs.inner.Records.{texts_in}
-use Rattle.chip_asm.proofs.CutSteps.{AllShort, lines-next, too-long, too-many, opens, some-bytes, back-back, part-of, all-back, no-lines, long-is, short-is, short-push}
+use Rattle.chip_asm.proofs.CutSteps.{AllShort, lines-next, too-long, too-many, opens, some-bytes, back-back, part-of, no-lines, long-is, short-is, short-push}
 use Rattle.chip_asm.proofs.cut.read_lines.Goals as goal
 
 pub returns-then-len-eq-MOST_LINES-clause-err : goal.returns-then-len-eq-MOST_LINES-clause-err
