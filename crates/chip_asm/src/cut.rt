@@ -92,17 +92,18 @@ fn push_line(
 pub(crate) fn read_lines(
     alloc: Global,
     meter: &mut Meter,
-    source: &[u8],
+    source: Vec<u8>,
 ) -> Result<Vec<BoxedLine>, OpenError>
     requires { meter.old ≡ record { parsed = 0; encoded = 0 } }
-    ensures ok { IfOk result (λ lines. (open_fault source.now ≡ None) × (texts_in lines.items ≡ lines_of source.now)) }
+    ensures ok { IfOk result (λ lines. (open_fault source.items ≡ None) × (texts_in lines.items ≡ lines_of source.items)) }
     ensures read { IfOk result (λ lines. readings_in lines.items ≡ map reading_of (texts_in lines.items)) }
     ensures few { IfOk result (λ lines. length lines.items ≤ MOST_LINES) }
     ensures parsed { IfOk result (λ lines. meter.new.parsed ≡ length lines.items) }
     ensures encoded { meter.new.encoded ≡ 0 }
-    ensures err { IfErr result (λ e. (e ≡ OpenError.OutOfMemory) ⊎ (open_fault source.now ≡ Some e)) }
+    ensures err { IfErr result (λ e. (e ≡ OpenError.OutOfMemory) ⊎ (open_fault source.items ≡ Some e)) }
 {
     let shared = SharedSource::new(alloc, source)?;
+    let source = shared.bytes.get();
     let most = source.len().min(MOST_LINES);
     let mut lines: Vec<BoxedLine> = Vec::with_capacity(alloc, most + 1)?;
     let mut rest = source;

@@ -17,13 +17,13 @@ pub(crate) struct SharedSource {
 }
 
 impl SharedSource {
-    /// A copy of these bytes, to be shared.
-    pub(crate) fn new(alloc: Global, bytes: &[u8]) -> Result<Rc<SharedSource>, AllocError>
-        ensures bytes { IfOk result (λ source. source.value.bytes ≡ bytes.now) }
+    /// These bytes, to be shared.
+    pub(crate) fn new(alloc: Global, bytes: Vec<u8>) -> Result<Rc<SharedSource>, AllocError>
+        ensures bytes { IfOk result (λ source. source.value.bytes ≡ bytes.items) }
         ensures nothing { IfOk result (λ source. SaysNothing source.value.nothing) }
     {
         let source = SharedSource {
-            bytes: Bytes::from_slice(alloc, bytes)?,
+            bytes: Bytes::new(bytes),
             nothing: Line::Read {
                 label: None,
                 body: Body::Empty,

@@ -65,11 +65,21 @@ impl Source {
         }
     }
 
-    /// Opens a source, by its bytes. A line ends at a newline, a carriage return directly before which is dropped; the first line that is over
-    /// `LINE_BYTES` bytes or one more than `MOST_LINES` is answered as a fault.
+    /// Opens a source, by a copy of its bytes, as `open_bytes` does.
     pub fn open(alloc: Global, source: &[u8]) -> Result<Source, OpenError>
         ensures ok { IfOk result (λ s. (open_fault source.now ≡ None) × (s.lines ≡ lines_of source.now)) }
         ensures err { IfErr result (λ e. (e ≡ OpenError.OutOfMemory) ⊎ (open_fault source.now ≡ Some e)) }
+        ensures parsed { IfOk result (λ s. s.work.parsed ≡ length s.lines) }
+        ensures encoded { IfOk result (λ s. s.work.encoded ≤ accepted_of s.lines) }
+    {
+        Source::open_bytes(alloc, Vec::from_slice(alloc, source)?)
+    }
+
+    /// Opens a source, by its bytes. A line ends at a newline, a carriage return directly before which is dropped; the first line that is over
+    /// `LINE_BYTES` bytes or one more than `MOST_LINES` is answered as a fault.
+    pub fn open_bytes(alloc: Global, source: Vec<u8>) -> Result<Source, OpenError>
+        ensures ok { IfOk result (λ s. (open_fault source.items ≡ None) × (s.lines ≡ lines_of source.items)) }
+        ensures err { IfErr result (λ e. (e ≡ OpenError.OutOfMemory) ⊎ (open_fault source.items ≡ Some e)) }
         ensures parsed { IfOk result (λ s. s.work.parsed ≡ length s.lines) }
         ensures encoded { IfOk result (λ s. s.work.encoded ≤ accepted_of s.lines) }
     {

@@ -31,6 +31,7 @@ use clap::error::ErrorKind;
 use hex::FromHexError;
 use std::alloc::Global;
 use std::convert::AsStr;
+use std::fs::OpenFile;
 use std::io::{Read, Write};
 use std::rt::Files;
 use std::{fs, io};
@@ -248,7 +249,7 @@ fn asm<'a, F: Files, I: Read, O: Write>(
         source.entry image.entry result }
 {
     let bytes = read_source(alloc, files, source, input)?;
-    let Some(assembled) = image_or_faults(alloc, &bytes, output)? else {
+    let Some(assembled) = image_or_faults(alloc, bytes, output)? else {
         return Ok(Ending::Faulty);
     };
     write_image(alloc, files, source, image, &assembled)
@@ -265,7 +266,7 @@ fn list<'a, F: Files, I: Read, O: Write>(
         source.entry result }
 {
     let bytes = read_source(alloc, files, source, input)?;
-    list_source(alloc, &bytes, output)
+    list_source(alloc, bytes, output)
 }
 
 fn check<'a, F: Files, I: Read, O: Write>(
@@ -527,12 +528,23 @@ fn read_input<'a, I: Read>(alloc: Global, input: &mut Counted<I>) -> Result<Vec<
 fn read_file<'a, F: Files>(alloc: Global, files: &F, name: &'a str) -> Result<Vec<u8>, Failure<'a>>
     ensures { IfErr result (IsUnread name.entry) }
 {
-    let mut bytes = Vec::new(alloc);
-    match fs::open(files, name).and_then(|file| read_most(file, &mut bytes)) {
-        Ok(()) => Ok(bytes),
+    match fs::open(files, name).and_then(|file| read_whole(alloc, file)) {
+        Ok(bytes) => Ok(bytes),
         Err(error) if error.kind() == io::ErrorKind::OutOfMemory => Err(Failure::OutOfMemory),
         Err(error) => Err(Failure::CannotRead(name, error)),
     }
+}
+
+// What a file has, up to the length from which on no source opens. Room for it is taken at once, where the file tells its length.
+fn read_whole<F: OpenFile + Read + Drop>(alloc: Global, file: F) -> io::Result<Vec<u8>> {
+    let length = match file.metadata() {
+        Ok(metadata) => metadata.len().min(MOST_SOURCE),
+        Err(_) => 0,
+    };
+    // One byte more, so that its end is found without a growth.
+    let mut bytes = Vec::with_capacity(alloc, length as usize + 1)?;
+    read_most(file, &mut bytes)?;
+    Ok(bytes)
 }
 
 // Appends what a reader has, up to the length from which on no source opens.

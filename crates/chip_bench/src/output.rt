@@ -52,14 +52,14 @@ pub(crate) fn answer_script<'a, I: Read, O: Write>(
 /// `asm`: the image of a source. Where there is none, its faults or why it doesn't open are printed.
 pub(crate) fn image_or_faults<'a, O: Write>(
     alloc: Global,
-    source: &[u8],
+    source: Vec<u8>,
     output: &mut Counted<O>,
 ) -> Result<Option<Vec<u8>>, Failure<'a>>
     ensures { MatchResult result
-        (λ found. IsImageOrFaults O.contents output.old output.new source.now (option_map (λ v. v.items) found))
-        (λ failure. IsImageHindered O.contents output.old output.new source.now failure) }
+        (λ found. IsImageOrFaults O.contents output.old output.new source.items (option_map (λ v. v.items) found))
+        (λ failure. IsImageHindered O.contents output.old output.new source.items failure) }
 {
-    let opened = match Source::open(alloc, source) {
+    let opened = match Source::open_bytes(alloc, source) {
         Ok(opened) => opened,
         Err(error) => {
             refuse_source(error, output)?;
@@ -83,13 +83,13 @@ pub(crate) fn image_or_faults<'a, O: Write>(
 /// `list`: the listing of a source.
 pub(crate) fn list_source<'a, O: Write>(
     alloc: Global,
-    source: &[u8],
+    source: Vec<u8>,
     output: &mut Counted<O>,
 ) -> Result<Ending, Failure<'a>>
     ensures { Prints O.contents output.old output.new
-        (printed_of (open_fault source.now) (listing_of_lines (lines source.now))) result }
+        (printed_of (open_fault source.items) (listing_of_lines (lines source.items))) result }
 {
-    match Source::open(alloc, source) {
+    match Source::open_bytes(alloc, source) {
         Ok(opened) => {
             let ending = print_listing(alloc, &opened, output)?;
             // The program ends here, and its memory goes back at once.

@@ -7,15 +7,15 @@ use Rattle.chip_asm.specs.inner.Records.{readings_in, texts_in}
 use Rattle.chip_asm.proofs.CutSteps.{AllShort}
 use Rattle.chip_asm.proofs.cut.read_lines.Given as goal
 
-abbrev pub invariant-loop-rest : goal.invariant-loop-rest
-invariant-loop-rest l =
-    (texts_in l.lines.items ++ lines_of l.rest ≡ lines_of l.fn.source)
+abbrev pub invariant-loop-source : goal.invariant-loop-source
+invariant-loop-source l =
+    (texts_in l.lines.items ++ lines_of l.rest ≡ lines_of l.fn.source.items)
     × (readings_in l.lines.items ≡ map reading_of (texts_in l.lines.items))
     × AllShort (texts_in l.lines.items)
     × (length l.lines.items ≤ MOST_LINES)
     × (l.meter.parsed ≡ length l.lines.items)
     × (l.meter.encoded ≡ 0)
-    × IsBack l.rest l.fn.source
+    × IsBack l.rest l.fn.source.items
 
-abbrev pub decreases-loop-rest : goal.decreases-loop-rest
-decreases-loop-rest l = length l.rest
+abbrev pub decreases-loop-source : goal.decreases-loop-source
+decreases-loop-source l = length l.rest

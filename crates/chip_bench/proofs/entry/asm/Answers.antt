@@ -1,5 +1,5 @@
 use Rattle.std.proofs.lemmas.Result.{err_from_is_err_and}
-use Rattle.std.proofs.Common.{◌∙◌, ap, Err, ℕ, Option, option_map, subst}
+use Rattle.std.proofs.Common.{◌∙◌, ap, refl, Err, ℕ, Option, option_map, subst}
 use Rattle.std.specs.Global.{Vec}
 use Rattle.chip_bench.specs.Doing.{IsImageOrFaults}
 use Rattle.chip_bench.proofs.DoingLemmas.{assembles_faults, assembles_image, assembles_not, assembles_unread}
@@ -15,20 +15,20 @@ pub returns-in_err-assembled : goal.returns-in_err-assembled
 returns-in_err-assembled g c =
     let p = err_from_is_err_and c.from_residual-in_err-assembled.result c.from_residual-in_err-assembled.ensures.1 in
     assembles_not g.I.Read.remaining g.O.Write.contents c.args.input.now c.read_source.new.input c.args.output.now c.image_or_faults.new.output
-    c.args.source c.args.image c.in_ok-bytes.bytes.items c.deref.result.now c.from_residual-in_err-assembled.result _ (p.1 ∙ ap (λ e. Err e) p.2)
-    c.deref.ensures.value c.in_ok-bytes.ensures.ok c.in_err-assembled.ensures
+    c.args.source c.args.image c.in_ok-bytes.bytes.items c.in_ok-bytes.bytes.items c.from_residual-in_err-assembled.result _ (p.1 ∙ ap (λ e. Err e) p.2)
+    refl c.in_ok-bytes.ensures.ok c.in_err-assembled.ensures
 
 pub returns-in_default : goal.returns-in_default
 returns-in_default g c =
-    let faults = subst (λ (found : Option (Vec ℕ)). IsImageOrFaults g.O.Write.contents c.args.output.now c.image_or_faults.new.output c.deref.result.now
+    let faults = subst (λ (found : Option (Vec ℕ)). IsImageOrFaults g.O.Write.contents c.args.output.now c.image_or_faults.new.output c.in_ok-bytes.bytes.items
     (option_map (λ (v : Vec ℕ). v.items) found)) c.in_default.is c.in_ok-assembled.ensures in
     assembles_faults g.I.Read.remaining g.O.Write.contents c.args.input.now c.read_source.new.input c.args.output.now c.image_or_faults.new.output
-    c.args.source c.args.image c.in_ok-bytes.bytes.items c.deref.result.now _ c.deref.ensures.value c.in_ok-bytes.ensures.ok faults.0 faults.1
+    c.args.source c.args.image c.in_ok-bytes.bytes.items c.in_ok-bytes.bytes.items _ refl c.in_ok-bytes.ensures.ok faults.0 faults.1
 
 pub returns : goal.returns
 returns g c =
-    let image = subst (λ (found : Option (Vec ℕ)). IsImageOrFaults g.O.Write.contents c.args.output.now c.image_or_faults.new.output c.deref.result.now
+    let image = subst (λ (found : Option (Vec ℕ)). IsImageOrFaults g.O.Write.contents c.args.output.now c.image_or_faults.new.output c.in_ok-bytes.bytes.items
     (option_map (λ (v : Vec ℕ). v.items) found)) c.in-Some.is c.in_ok-assembled.ensures in
     assembles_image g.I.Read.remaining g.O.Write.contents c.args.input.now c.read_source.new.input c.args.output.now c.image_or_faults.new.output
-    c.args.source c.args.image c.in_ok-bytes.bytes.items c.deref.result.now c.in-Some.assembled.items c.write_image.result c.deref.ensures.value
+    c.args.source c.args.image c.in_ok-bytes.bytes.items c.in_ok-bytes.bytes.items c.in-Some.assembled.items c.write_image.result refl
     c.in_ok-bytes.ensures.ok image c.write_image.ensures

@@ -1,5 +1,5 @@
 use Rattle.std.proofs.lemmas.Result.{err_from_is_err_and}
-use Rattle.std.proofs.Common.{◌∙◌, ap, Err}
+use Rattle.std.proofs.Common.{◌∙◌, ap, refl, Err}
 use Rattle.chip_bench.proofs.DoingLemmas.{lists, lists_not}
 use Rattle.chip_bench.proofs.entry.list.Goals as goal
 
@@ -12,4 +12,4 @@ returns-in_err-bytes g c =
 pub returns : goal.returns
 returns g c =
     lists g.I.Read.remaining g.O.Write.contents c.args.input.now c.read_source.new.input c.args.output.now c.list_source.new.output c.args.source
-    c.in_ok-bytes.bytes.items c.deref.result.now c.list_source.result c.deref.ensures.value c.in_ok-bytes.ensures.ok c.list_source.ensures
+    c.in_ok-bytes.bytes.items c.in_ok-bytes.bytes.items c.list_source.result refl c.in_ok-bytes.ensures.ok c.list_source.ensures

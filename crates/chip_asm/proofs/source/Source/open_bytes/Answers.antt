@@ -2,7 +2,7 @@ use Rattle.std.proofs.Common.{arith, [], Some}
 use Rattle.chip_asm.specs.inner.Records.{readings_in, texts_in}
 use Rattle.chip_asm.proofs.NeedsSteps.{count-accepted}
 use Rattle.chip_asm.proofs.Views.{accepted-view}
-use Rattle.chip_asm.proofs.source.Source.open.Goals as goal
+use Rattle.chip_asm.proofs.source.Source.open_bytes.Goals as goal
 
 pub returns-clause-encoded : goal.returns-clause-encoded
 returns-clause-encoded c =
