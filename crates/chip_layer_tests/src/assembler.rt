@@ -36,6 +36,10 @@ pub(crate) fn opened(alloc: Global, text: &[u8]) -> Result<Source, OpenError> {
     Source::open(alloc, text)
 }
 
+fn opened_whole(alloc: Global, text: &[u8]) -> Result<Source, OpenError> {
+    Source::open_bytes(alloc, Vec::from_slice(alloc, text)?)
+}
+
 pub(crate) fn lines(source: &Source) -> usize {
     source.lines()
 }
@@ -403,6 +407,17 @@ ok
 > image
 0500
 ";
+
+/// How many lines there are in a source that takes its bytes over.
+fn lines_of_whole(alloc: Global, text: &[u8]) -> Result<usize, OpenError> {
+    Ok(lines(&opened_whole(alloc, text)?))
+}
+
+#[test]
+fn a_source_takes_its_bytes_over(rt: HostRuntime) -> Result<(), Fail> {
+    assert!(rt; matches!(lines_of_whole(rt.alloc(), b"CLS\n\nRET"), Ok(3)));
+    Ok(())
+}
 
 #[test]
 fn sources_are_answered(rt: HostRuntime) -> Result<(), Fail> {

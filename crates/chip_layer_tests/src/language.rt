@@ -8,12 +8,12 @@ use chip_lang::code::{Coded, encode};
 use chip_lang::expr::Expr;
 use chip_lang::fault::Fault;
 use chip_lang::instr::{decode, word};
-use chip_lang::line::{Body, Line, read_line};
+use chip_lang::line::{Body, Line, read_line, read_nothing};
 use chip_lang::meter::Meter;
 use chip_lang::names::Names;
 use chip_lang::token::{Kind, Token, tokens};
-use chip_lang::used_names::{agree_on, defines, uses};
-use chip_lang::value::eval;
+use chip_lang::used_names::{agree_on, defines, uses, uses_names};
+use chip_lang::value::{constant, eval};
 use chip_lang::{push_shown, show};
 use std::alloc::{AllocError, Global};
 use std::test::Fail;
@@ -362,7 +362,8 @@ fn ends_before(line: &Line, place: usize) -> bool {
 
 /// Whether a line defines A, and uses X, Y and X.
 fn has_names(line: &Line) -> bool {
-    is_name(defines(line), b"A")
+    uses_names(line)
+        && is_name(defines(line), b"A")
         && has_use(line, 0, b"X")
         && has_use(line, 1, b"Y")
         && has_use(line, 2, b"X")
@@ -377,6 +378,43 @@ fn names_are_found(alloc: Global, line: &[u8]) -> Result<bool, AllocError> {
 #[test]
 fn names_of_a_line(rt: HostRuntime) -> Result<(), Fail> {
     assert!(rt; names_are_found(rt.alloc(), b"a: DB 1 + x, -(y * x)")?);
+    Ok(())
+}
+
+/// The value of the expression of a line, where no name has a say in it.
+fn constant_of(line: &Line) -> Option<i32> {
+    match line {
+        Line::Read {
+            body: Body::Equ(expr),
+            ..
+        } => constant(expr),
+        _ => None,
+    }
+}
+
+/// The same of a line as it is read.
+fn constant_in(alloc: Global, line: &[u8]) -> Result<Option<i32>, AllocError> {
+    Ok(constant_of(&read(alloc, line)?))
+}
+
+#[test]
+fn values_without_names(rt: HostRuntime) -> Result<(), Fail> {
+    assert!(rt; constant_in(rt.alloc(), b"A EQU -(2 * 3) + 1")? == Some(-5));
+    assert!(rt; constant_in(rt.alloc(), b"A EQU B + 1")?.is_none());
+    Ok(())
+}
+
+/// How many lines were read where a line that says nothing is read, which it may not be.
+fn count_of_nothing(line: &[u8]) -> u64 {
+    let mut meter = Meter::new();
+    let is_read = read_nothing(&mut meter, line);
+    if is_read { meter.parsed } else { 0 }
+}
+
+#[test]
+fn lines_that_say_nothing(rt: HostRuntime) -> Result<(), Fail> {
+    assert!(rt; count_of_nothing(b"") == 1 && count_of_nothing(b"; a comment") == 1);
+    assert!(rt; count_of_nothing(b"CLS") == 0);
     Ok(())
 }
 
