@@ -1,4 +1,5 @@
 pub mod Complete
+pub mod Constants
 pub mod Data
 pub mod Decoding
 pub mod Digits

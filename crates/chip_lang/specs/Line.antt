@@ -42,6 +42,11 @@ lexeme_of line t = lexeme_of_kind (slice_range line t.start t.end) t.kind
 abbrev pub lexemes_of : List ℕ → List Lexeme
 lexemes_of line = map (lexeme_of line) (tokens_of line)
 
+-- a line shows by its first byte that it says nothing: it has no bytes, or a comment alone
+abbrev pub shows_nothing : List ℕ → Bool
+shows_nothing [] = true
+shows_nothing (b ∷ bytes) = b == 59
+
 -- ---- the parts of a line
 
 -- a word

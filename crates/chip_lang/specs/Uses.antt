@@ -1,11 +1,12 @@
 -- Which names a line uses, and which it defines (own).
-use Rattle.std.specs.Prelude.{ℕ, Bool, List, [], ◌∷◌, ◌++◌, Option, None}
+use Rattle.std.specs.Prelude.{ℕ, ℤ, Bool, List, [], ◌∷◌, ◌++◌, Option, None}
 use Rattle.std.specs.List.{list_all, flat_map}
 use Rattle.std.specs.Option.{option_eq}
+use Rattle.std.specs.Result.{result_ok}
 use Rattle.std.specs.Ordering.{int_eq}
 use Rattle.chip_lang.specs.Tree.{Tree, number, name, unary, binary}
 use Rattle.chip_lang.specs.Operand.{Operand, register, special, expression}
-use Rattle.chip_lang.specs.Value.{Symbols, value_of_name}
+use Rattle.chip_lang.specs.Value.{Symbols, no_names, value, value_of_name}
 use Rattle.chip_lang.specs.Line.{Body, equ, org, ds, db, dw, code, Reading, bad, read}
 
 -- the names in an expression, left to right, repeated ones repeated
@@ -33,6 +34,15 @@ names_in_body body = []
 abbrev pub names_used : Reading → List (List ℕ)
 names_used (bad fault) = []
 names_used (read label body) = names_in_body body
+
+-- a value, where there are no names
+abbrev pub if_nameless : List (List ℕ) → Option ℤ → Option ℤ
+if_nameless [] value = value
+if_nameless (n ∷ names) value = None
+
+-- the value that an expression has whatever the names mean: it has no name, and no fault
+unfoldable pub constant : Tree → Option ℤ
+constant e = if_nameless (names_in e) (result_ok (value e no_names))
 
 -- the name that a label, EQU, = or DEFINE gives
 abbrev pub name_defined : Reading → Option (List ℕ)

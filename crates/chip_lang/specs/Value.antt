@@ -16,6 +16,10 @@ use Rattle.chip_lang.specs.Tree.{Tree, number, name, unary, binary}
 abbrev pub Symbols : Type 0
 Symbols = map.FinMap (slice_cmp nat_cmp) ℤ
 
+-- none of them
+abbrev pub no_names : Symbols
+no_names = map.empty
+
 -- the value of a name, if it has one
 abbrev pub value_of_name : Symbols → List ℕ → Option ℤ
 value_of_name symbols n = map.get symbols n

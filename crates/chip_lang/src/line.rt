@@ -2,7 +2,7 @@
 
 ghost use Rattle.std.specs.Prelude.{◌≡◌, ◌≤◌, ◌*◌, IfOk, length, map, [], None, true, false};
 ghost use Rattle.std.specs.Option.{option_copied};
-ghost use Rattle.chip_lang.specs.Line.{bad_token, too_deep, front_directive, statement_of, begins_with_no_word, begins_with_unknown_word, faults_in_order, first_fault, lexemes_of, reading_of_tokens, reading_of, empty, read};
+ghost use Rattle.chip_lang.specs.Line.{bad_token, too_deep, front_directive, statement_of, begins_with_no_word, begins_with_unknown_word, faults_in_order, first_fault, lexemes_of, reading_of_tokens, reading_of, empty, read, shows_nothing};
 ghost use Rattle.chip_lang.specs.Form.{row_of_form};
 ghost use Rattle.chip_lang.specs.SeenLine.{seen_line};
 ghost use Rattle.chip_lang.specs.inner.NamedForms.{front_forms};
@@ -102,6 +102,7 @@ pub fn read_line(alloc: Global, meter: &mut Meter, text: &[u8]) -> Result<Line, 
 #[tactic(auto, unfolding(crate::specs::Line::reading_of))]
 #[inline]
 pub fn read_nothing(meter: &mut Meter, text: &[u8]) -> bool
+    ensures shown { result ≡ shows_nothing text.now }
     ensures reading { result ≡ true → reading_of text.now ≡ read None empty }
     ensures counted { result ≡ true → meter.new ≡ record meter.old { parsed = one_more meter.old.parsed } }
     ensures same { result ≡ false → meter.new ≡ meter.old }
@@ -122,7 +123,8 @@ fn count_reading(meter: &mut Meter)
 
 /// Whether a line has no tokens, as its first byte shows.
 fn is_plainly_empty(text: &[u8]) -> bool
-    ensures { result ≡ true → lexemes_of text.now ≡ [] }
+    ensures shown { result ≡ shows_nothing text.now }
+    ensures empty { result ≡ true → lexemes_of text.now ≡ [] }
 {
     matches!(text, [] | [b';', ..])
 }

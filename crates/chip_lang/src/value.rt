@@ -2,6 +2,7 @@
 
 ghost use Rattle.std.specs.Prelude.{◌≡◌, ◌*ℤ◌, pos, ◌^◌, ◌<◌, ℕ, neg_ℤ, ◌≤◌, IfSome, Ok};
 ghost use Rattle.chip_lang.specs.Tree.{tree_of};
+ghost use Rattle.chip_lang.specs.Uses.{constant};
 ghost use Rattle.chip_lang.specs.Value.{Symbols, value, apply, apply_prefix, shift_left, shift_right, divide};
 
 use crate::expr::{Expr, Operator, Prefix};
@@ -28,8 +29,10 @@ pub fn eval<N: Names>(expr: &Expr, names: &N) -> Result<i32, Fault>
 }
 
 /// The value of an expression that has the same one under all tables of names; none for one with a name, or with a fault.
+#[tactic(auto, using(crate::proofs::Constants::constants))]
 pub fn constant(expr: &Expr) -> Option<i32>
-    ensures { (symbols : Symbols) → IfSome result (λ number. value (tree_of expr.now) symbols ≡ Ok number) }
+    ensures value { result ≡ constant (tree_of expr.now) }
+    ensures always { (symbols : Symbols) → IfSome result (λ number. value (tree_of expr.now) symbols ≡ Ok number) }
 {
     match expr {
         Expr::Number(number) => Some(*number),
