@@ -153,6 +153,3 @@ back-back less rest bytes l b =
       within = omega (arith, l.within, b.within);
       is = l.is ∙ ap (drop (length rest - length less)) b.is ∙ drop-drop (length rest - length less) (length bytes - length rest) bytes ∙ ap (λ n. drop n bytes) count;
     }
-
-pub all-back : (bytes : List ℕ) → IsBack bytes bytes
-all-back bytes = let none : length bytes - length bytes ≡ 0 = omega arith in record { within = omega arith; is = rw none refl }

@@ -3,7 +3,7 @@ use Rattle.std.proofs.Common.{◌≡◌, ℕ, ◌+◌, ◌-◌, ◌<◌, Bool, t
 use Rattle.std.specs.Prelude.{unwrap_or}
 use Rattle.std.proofs.lemmas.Bool.{eqb-true, eqb-false}
 use Rattle.std.proofs.lemmas.Option.{slice_get-get_or}
-use Rattle.std.proofs.lemmas.List.{get_or-map, get_or-set_same, get_or-set_other, get_or-take, take-take, take_all, take-append-le, length-take, at_drop_more}
+use Rattle.std.proofs.lemmas.List.{get_or-set_same, get_or-set_other, get_or-take, take-take, take_all, take-append-le, length-take, at_drop_more}
 use Rattle.std.proofs.Math.Seq.{map-set_same}
 use Rattle.chip_lang.specs.declared.code.Coded.{Coded}
 use Rattle.chip_asm.specs.declared.kept_line.KeptLine.{KeptLine}
@@ -29,13 +29,6 @@ merged-new was lines fresh e x d m inside is = record {
   readings = map-set_same reading_in lines e.0 (record x { code = e.1 }) d (ap reading_in is) ∙ m.readings;
   each = λ k f b. new-by was lines fresh e k f x (eqb k e.0) refl m inside b;
 }
-
--- a line in which codes were written says what it said
-pub said-merged : (was lines : List KeptLine) (fresh : List (ℕ × Coded)) (k : ℕ) (x d : KeptLine) → IsMerged was fresh lines → k < length lines → x ≡ get_or lines k d
-    → reading_in x ≡ reading_in (get_or was k d)
-said-merged was lines fresh k x d m inside is =
-    ap reading_in is ∙ sym (get_or-map reading_in lines k d (reading_in d) inside)
-    ∙ ap (λ rs. get_or rs k (reading_in d)) m.readings ∙ get_or-map reading_in was k d (reading_in d) (omega (arith, m.long))
 
 -- the last new code is taken off
 pub popped : (all fresh less : List (ℕ × Coded)) (count : ℕ) (e : ℕ × Coded) → count ≡ length fresh → fresh ≡ take count all → 0 < count → less ≡ take (count - 1) fresh
