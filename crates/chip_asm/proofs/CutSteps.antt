@@ -10,7 +10,8 @@ use Rattle.std.proofs.lemmas.List.Splits.{slice_split_first, slice_split_none}
 use Rattle.std.proofs.lemmas.List.Sums.{fails_before_first}
 use Rattle.chip_asm.specs.declared.limits.TheConstants.{LINE_BYTES, MOST_LINES}
 use Rattle.chip_asm.specs.declared.refusal.OpenError.TheVariants.{LineTooLong, TooManyLines}
-use Rattle.chip_asm.specs.inner.HeldText.{IsBack, IsFront, part_from}
+use Rattle.std.specs.Io.{StartsWith}
+use Rattle.chip_asm.specs.inner.HeldText.{IsBack, part_from}
 use Rattle.chip_asm.specs.Lines.{lines_of, is_long, fault_of_lines, open_fault, is_newline, first_text}
 
 record Filled (parts : List (List ℕ)) : Type 0 where
@@ -141,10 +142,10 @@ pub short-push : (texts : List (List ℕ)) (t : List ℕ) → AllShort texts →
 short-push texts t h s = All-push (λ x. is_long x ≡ false) texts t h s
 
 -- a text at the front of what is left of some bytes is a part of them
-pub part-of : (text rest bytes : List ℕ) → IsFront text rest → IsBack rest bytes → text ≡ part_from bytes (length bytes - length rest) (length text)
+pub part-of : (text rest bytes : List ℕ) → StartsWith rest text → IsBack rest bytes → text ≡ part_from bytes (length bytes - length rest) (length text)
 part-of text rest bytes f b =
     let count : length bytes - length rest + length text - (length bytes - length rest) ≡ length text = omega arith in
-    f.is ∙ ap (take (length text)) b.is ∙ (rw count refl)
+    sym f ∙ ap (take (length text)) b.is ∙ (rw count refl)
 
 -- what is left of what is left
 pub back-back : (less rest bytes : List ℕ) → IsBack less rest → IsBack rest bytes → IsBack less bytes

@@ -26,6 +26,7 @@ pub mod SwappedLine
 pub mod SwappedFacts
 pub mod KeptSwapped
 pub mod Resumed
+pub mod KeptValues
 pub mod ChangedBytes
 pub mod Views
 pub mod EditTexts

@@ -10,10 +10,10 @@ use Rattle.std.proofs.lemmas.Option.{get_or_from_slice_get, slice_get_within}
 use Rattle.chip_lang.specs.declared.limits.TheConstants.{IMAGE_START}
 use Rattle.chip_lang.specs.declared.fault.Fault.{Fault}
 use Rattle.chip_lang.specs.declared.fault.Fault.TheVariants.{DefinedTwice, StrayBranch, OutOfRange, OrgBelowHere, PastMemory}
-use Rattle.chip_lang.specs.Line.{Body, else_line, endif, Reading, bad, read}
+use Rattle.chip_lang.specs.Line.{Body, else_line, endif, Reading, bad, read, fault_if, first_fault as first_fault_of}
 use Rattle.chip_asm.specs.Layout.{Placed, body_of, is_side_or_end, is_origin, is_align, is_align_off_body, first_of, has_else, has_ended, holds, is_redefinition, is_negative_space, is_backwards, is_past_end, value_at, value_or_zero, full_size}
 use Rattle.chip_asm.specs.computed.Walk.{place, placed, is_aligning, address, symbols, enclosing, is_live, is_misplaced, first_fault, fault_of_value}
-use Rattle.chip_asm.specs.Places.{Passes, IsLast, IsFromLast, Encloses, IsLive, sizes, fault_if, fault_in_value, is_stray, faults_in_order, first_fault_of, IsPlaced, ArePlaced}
+use Rattle.chip_asm.specs.Places.{Passes, IsLast, IsFromLast, Encloses, IsLive, sizes, fault_in_value, is_stray, faults_in_order, IsPlaced, ArePlaced}
 use Rattle.chip_asm.proofs.BlockSteps.{reverse-cons}
 use Rattle.chip_asm.proofs.LastLine.{at-end, one-side, same-there, Search, found, nowhere, search-last, Opener, opener, closed, last-opener, all-enclosing, enclosing-all, any-turned}
 use Rattle.chip_asm.proofs.Placing.{onto}
@@ -250,7 +250,10 @@ same-parts number number2 line line2 block block2 condition condition2 live live
 same-fault : (before : List Placed) (a b : Bool) (line line2 : Reading) (block block2 : Option ℕ) (live live2 : Bool) (here here2 : ℕ) (value value2 : ℤ)
     → a ≡ b → line ≡ line2 → block ≡ block2 → live ≡ live2 → here ≡ here2 → value ≡ value2
     → cond live (first_fault_of (looked_for before a line block here value)) None ≡ cond live2 (first_fault_of (looked_for before b line2 block2 here2 value2)) None
-same-fault before a b line line2 block block2 live live2 here here2 value value2 e f g h i j = rw (e, f, g, h, i, j) refl
+same-fault before a b line line2 block block2 live live2 here here2 value value2 e f g h i j =
+    let same : looked_for before a line block here value ≡ looked_for before b line2 block2 here2 value2 = rw (e, f, g, i, j) refl in
+    ap (λ faults. cond live (first_fault_of faults) None) same
+    ∙ ap (λ l. cond l (first_fault_of (looked_for before b line2 block2 here2 value2)) None) h
 
 same-size : (a b live live2 : Bool) (fault fault2 : Option Fault) (here here2 : ℕ) (body : Body) (value value2 : ℤ) → a ≡ b → live ≡ live2 → fault ≡ fault2 → here ≡ here2 → value ≡ value2
     → (let size : ℕ = cond (live && is_none fault) (full_size a here body value) 0 in size) ≡ cond (live2 && is_none fault2) (full_size b here2 body value2) 0

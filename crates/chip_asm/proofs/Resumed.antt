@@ -167,7 +167,7 @@ placements-before lines n h s =
 
 -- addresses
 
-next-placed : (lines : List Reading) (n : ℕ) (line : Reading) (d : Placed) → n < length lines → get_or lines n line ≡ line → get_or (reverse (placed lines)) n d ≡ place (placed (take n lines)) line
+pub next-placed : (lines : List Reading) (n : ℕ) (line : Reading) (d : Placed) → n < length lines → get_or lines n line ≡ line → get_or (reverse (placed lines)) n d ≡ place (placed (take n lines)) line
 next-placed lines n line d h e =
     let before : List Placed = placed (take n lines) in
     let b : Begins (placed (take (n + 1) lines)) (placed lines) = begins lines (n + 1) in

@@ -6,11 +6,11 @@ use Rattle.std.specs.List.{list_any}
 use Rattle.chip_lang.specs.declared.limits.TheConstants.{IMAGE_START}
 use Rattle.chip_lang.specs.declared.fault.Fault.{Fault}
 use Rattle.chip_lang.specs.declared.fault.Fault.TheVariants.{DefinedTwice, OutOfRange, OrgBelowHere, PastMemory, StrayBranch}
-use Rattle.chip_lang.specs.Line.{Body, Reading, bad, read}
+use Rattle.chip_lang.specs.Line.{Body, Reading, bad, read, fault_if, first_fault}
 use Rattle.chip_lang.specs.Uses.{name_defined}
 use Rattle.chip_asm.specs.declared.table.Symbol.{Symbol}
 use Rattle.chip_asm.specs.Names.{Name}
-use Rattle.chip_asm.specs.Layout.{Placed, body_of, is_if, is_else, is_endif, is_else_body, is_side_or_end, is_number, is_origin, is_align, is_align_off_body, takes_effect, symbol_of, holds, has_ended, condition_of, value_at, value_or_zero, full_size, first_of, is_redefinition, is_negative_space, is_backwards, is_past_end}
+use Rattle.chip_asm.specs.Layout.{Placed, body_of, is_if, is_else, is_endif, is_else_body, is_side_or_end, is_number, is_origin, is_align, is_align_off_body, takes_effect, symbol_of, holds, has_ended, condition_of, value_at, value_or_zero, full_size, is_redefinition, is_negative_space, is_backwards, is_past_end}
 
 -- the line at place j is this one, and passes the test
 pub record Passes (test : Placed → Bool) (before : List Placed) (j : ℕ) (p : Placed) : Type 0 where
@@ -57,9 +57,6 @@ names_given = filter_map symbol_of
 
 -- faults of the first pass
 
-abbrev pub fault_if : Bool → Fault → Option Fault
-fault_if is_so fault = if is_so then Some fault else None
-
 abbrev pub fault_of_reading : Reading → Option Fault
 fault_of_reading (bad fault) = Some fault
 fault_of_reading (read label body) = None
@@ -85,9 +82,6 @@ faults_in_order before aligning p =
     ∷ fault_if (is_past_end aligning p.here (body_of p.line) p.value) PastMemory
     ∷ []
 
-abbrev pub first_fault_of : List (Option Fault) → Option Fault
-first_fault_of faults = first_of (filter_map (λ fault. fault) faults)
-
 -- what holds of a line after the lines before it
 pub record IsPlaced (before : List Placed) (line : Reading) (p : Placed) : Type 0 where
   pub number : p.number ≡ length before + 1
@@ -103,7 +97,7 @@ pub record IsPlaced (before : List Placed) (line : Reading) (p : Placed) : Type 
   -- the last ALIGN that takes effect is not OFF
   pub aligning : Bool
   pub is_aligning : IsFromLast (Passes is_align before) (λ j p. not (is_align_off_body (body_of p.line))) true aligning
-  pub fault : p.fault ≡ (if p.live then first_fault_of (faults_in_order before aligning p) else None)
+  pub fault : p.fault ≡ (if p.live then first_fault (faults_in_order before aligning p) else None)
   pub size : p.size ≡ (if takes_effect p then full_size aligning p.here (body_of line) p.value else 0)
 
 -- what holds of each line of a source, in line order

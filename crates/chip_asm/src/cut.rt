@@ -5,7 +5,8 @@ ghost use Rattle.std.specs.Str.Lines.{strip_carriage_return};
 ghost use Rattle.chip_lang.specs.Line.{reading_of};
 ghost use Rattle.chip_lang.specs.Meter.{one_more};
 ghost use Rattle.chip_asm.specs.Lines.{lines_of, open_fault, is_newline, first_text};
-ghost use Rattle.chip_asm.specs.inner.HeldText.{IsBack, IsFront, SaysNothing, part_from};
+ghost use Rattle.std.specs.Io.{StartsWith};
+ghost use Rattle.chip_asm.specs.inner.HeldText.{IsBack, SaysNothing, part_from};
 ghost use Rattle.chip_asm.specs.inner.Records.{readings_in, texts_in};
 ghost use Rattle.chip_asm.specs.declared.refusal.OpenError.{OpenError};
 
@@ -32,7 +33,8 @@ fn line_length(bytes: &[u8]) -> usize
 /// A text without the carriage return at its end, if it has one.
 fn without_return(text: &[u8]) -> &[u8]
     ensures value { result.now ≡ strip_carriage_return text.now }
-    ensures front { IsFront result.now text.now }
+    ensures front { StartsWith text.now result.now }
+    ensures within { length result.now ≤ length text.now }
 {
     match text {
         [front @ .., b'\r'] => front,
@@ -44,7 +46,8 @@ fn without_return(text: &[u8]) -> &[u8]
 fn first_text(bytes: &[u8], end: usize) -> &[u8]
     requires end { end ≡ position_or_len is_newline bytes.now }
     ensures value { result.now ≡ first_text bytes.now }
-    ensures front { IsFront result.now bytes.now }
+    ensures front { StartsWith bytes.now result.now }
+    ensures within { length result.now ≤ length bytes.now }
 {
     if end < bytes.len() {
         without_return(&bytes[..end])

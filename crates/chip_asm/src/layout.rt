@@ -4,32 +4,35 @@ ghost use Rattle.chip_lang.specs.declared.limits.TheConstants.{MEMORY_BYTES};
 ghost use Rattle.chip_lang.specs.Line.{Reading};
 ghost use Rattle.chip_asm.specs.Layout.{body_of};
 ghost use Rattle.chip_asm.specs.computed.Walk.{address, placed, place as place_next};
-ghost use Rattle.chip_asm.specs.inner.Layouts.{first_placements};
+ghost use Rattle.chip_asm.specs.inner.Layouts.{IsLayoutOf, first_placements};
 ghost use Rattle.chip_asm.specs.inner.Resume.{Continues, first_changed as first_changed_by};
 ghost use Rattle.chip_asm.specs.inner.Follows.{Follows, placement_of};
 ghost use Rattle.std.specs.List.{list_any};
 ghost use Rattle.chip_asm.specs.inner.Marks.{marked};
 ghost use Rattle.chip_asm.specs.inner.Records.{IsPlaceWithin, lines_after, readings_in, count_after as count_of_after};
 ghost use Rattle.chip_asm.specs.inner.Hints.{names_in};
+ghost use Rattle.chip_asm.specs.inner.HeldLine.{IsKnownUnder};
+ghost use Rattle.chip_lang.specs.SeenLine.{seen_line};
 ghost use Rattle.chip_asm.specs.inner.Shift.{IsShift, IsWalked, added_by, is_keep, moved_address, moved_name, moved_placement};
 ghost use Rattle.chip_asm.specs.inner.Span.{IsSpanOf};
 ghost use Rattle.chip_asm.specs.inner.Traits.{is_steady, traits_of};
 
 use crate::block::Block;
-use crate::edit::{Edit, count_after, first_changed, kept_after, line_after};
+use crate::edit::{Edit, count_after, first_changed, kept_after, line_after, place_before};
 use crate::kept_line::BoxedLine;
 use crate::limits::MOST_LINES;
 use crate::pass::Pass;
 use crate::placement::Placement;
 use crate::shift::{
-    Shift, add_moved, added_by, are_accepted, first_plain, removed_by, takes_steady,
+    Shift, add_moved, added_by, are_accepted, first_plain, is_keep, removed_by, takes_steady,
 };
 use crate::span::{Span, clean_lines};
 use crate::table::Table;
 use crate::traits::Traits;
 use crate::way::Way;
 use chip_lang::limits::{IMAGE_START, MEMORY_BYTES};
-use chip_lang::{Fault, defines};
+use chip_lang::laws::{kept_value, same_code};
+use chip_lang::{Fault, Line, agree_on, defines};
 use std::alloc::{AllocError, Global};
 
 /// What the first pass finds: what holds of each line, the names, and the address after the last line.
@@ -88,15 +91,42 @@ fn mark_unclosed(
         .collect(alloc)
 }
 
+/// The value of the expression of the line at a place after an edit, where it is known: no name has a say in it, or the line was accepted
+/// before the edit and its names keep their values.
+fn known_value(
+    names: &Table,
+    old: &Layout,
+    lines: &[BoxedLine],
+    edit: &Edit,
+    place: usize,
+) -> Option<i32>
+    requires old { is_keep edit.now ≡ false → IsLayoutOf old.now (readings_in lines.now) }
+    requires within { IsPlaceWithin (length lines.now) edit.now }
+    requires place { place < count_of_after (length lines.now) edit.now }
+    requires few { place ≤ MOST_LINES }
+    ensures { (line : Reading) → slice_get (readings_in (lines_after lines.now edit.now)) place ≡ Some line → IsKnownUnder names.now result line }
+{
+    let kept = kept_after(lines, edit, place);
+    if let Some(value) = kept.constant() {
+        return Some(value);
+    }
+    if is_keep(edit) {
+        return None;
+    }
+    old.value_kept(names, kept.line(), place_before(edit, place)?)
+}
+
 /// Goes on by the line at a place after an edit, which is looked at only where its traits don't say all.
 fn step_at(
     pass: &mut Pass,
     alloc: Global,
+    old: &Layout,
     traits: Traits,
     lines: &[BoxedLine],
     edit: &Edit,
     place: usize,
 ) -> Result<Placement, AllocError>
+    requires old { is_keep edit.now ≡ false → IsLayoutOf old.now (readings_in lines.now) }
     requires within { IsPlaceWithin (length lines.now) edit.now }
     requires place { place < count_of_after (length lines.now) edit.now }
     requires few { place ≤ MOST_LINES }
@@ -107,8 +137,8 @@ fn step_at(
         → Follows pass.old (placed before) → place ≡ length before → OnOk result (Follows pass.new (placed (before ++ line ∷ []))) }
 {
     let Some(size) = traits.bare_size() else {
-        let kept = kept_after(lines, edit, place);
-        return pass.step(alloc, place + 1, kept.constant(), kept.line());
+        let known = known_value(&pass.names, old, lines, edit, place);
+        return pass.step(alloc, place + 1, known, line_after(lines, edit, place));
     };
     if traits.gives_name {
         match defines(line_after(lines, edit, place)) {
@@ -166,12 +196,14 @@ fn first_lines(
 fn walk(
     walked: (Vec<Placement>, Pass),
     alloc: Global,
+    old: &Layout,
     traits: &[Traits],
     lines: &[BoxedLine],
     edit: &Edit,
     place: usize,
     end: usize,
 ) -> Result<(Vec<Placement>, Pass), AllocError>
+    requires old { is_keep edit.now ≡ false → IsLayoutOf old.now (readings_in lines.now) }
     requires within { IsPlaceWithin (length lines.now) edit.now }
     requires few { length lines.now ≤ MOST_LINES }
     requires traits { traits.now ≡ map traits_of (readings_in (lines_after lines.now edit.now)) }
@@ -182,14 +214,14 @@ fn walk(
 {
     let (mut placements, mut pass) = walked;
     for next in place..end {
-        let placement = step_at(&mut pass, alloc, traits[next], lines, edit, next)?;
+        let placement = step_at(&mut pass, alloc, old, traits[next], lines, edit, next)?;
         placements.push(placement)?;
     }
     Ok((placements, pass))
 }
 
 impl Layout {
-    ghost use Rattle.chip_asm.specs.inner.Layouts.{IsLayoutOf, IsSpareFor};
+    ghost use Rattle.chip_asm.specs.inner.Layouts.{IsSpareFor};
     ghost use Rattle.chip_asm.specs.inner.Placements.{is_placed};
     ghost use Rattle.std.specs.List.{list_all};
 
@@ -214,6 +246,20 @@ impl Layout {
             end: IMAGE_START,
             all_accepted: true,
             way: Way::Walked,
+        }
+    }
+
+    /// The value of the expression of the line at a place, where the line is accepted and its names mean the same in another table.
+    fn value_kept(&self, names: &Table, line: &Line, place: usize) -> Option<i32>
+        ensures { (lines : List Reading) → IsLayoutOf self.now lines → slice_get lines place ≡ Some (seen_line line.now) → IsKnownUnder names.now result (seen_line line.now) }
+    {
+        kept_value();
+        same_code();
+        let placement = self.placements.get(place)?;
+        if placement.is_accepted() && agree_on(line, &self.names, names) {
+            Some(placement.value)
+        } else {
+            None
         }
     }
 
@@ -316,11 +362,13 @@ impl Layout {
     fn walked_on(
         walked: (Vec<Placement>, Pass),
         alloc: Global,
+        old: &Layout,
         traits: &[Traits],
         lines: &[BoxedLine],
         edit: &Edit,
         next: usize,
     ) -> Result<Self, AllocError>
+        requires old { is_keep edit.now ≡ false → IsLayoutOf old.now (readings_in lines.now) }
         requires within { IsPlaceWithin (length lines.now) edit.now }
         requires few { length lines.now ≤ MOST_LINES }
         requires traits { traits.now ≡ map traits_of (readings_in (lines_after lines.now edit.now)) }
@@ -329,7 +377,7 @@ impl Layout {
         ensures { IfOk result (λ layout. IsLayoutOf layout (readings_in (lines_after lines.now edit.now))) }
     {
         let count = count_after(lines.len(), edit);
-        let (placements, pass) = walk(walked, alloc, traits, lines, edit, next, count)?;
+        let (placements, pass) = walk(walked, alloc, old, traits, lines, edit, next, count)?;
         let placements = mark_unclosed(alloc, placements, pass.ended, &pass.blocks)?;
         let end = pass.here;
         let all_accepted = are_accepted(&placements);
@@ -371,13 +419,13 @@ impl Layout {
             && spare.names.len() == old.names.len()
         {
             if let Some(quiet) = old.quiet_shift(lines, traits, edit, next) {
-                return old.moved(alloc, spare, lines, traits, edit, quiet);
+                return old.moved(spare, lines, traits, edit, quiet);
             }
         }
         let first = steady.min(place);
         let walked = first_lines(alloc, spare, old, first, count)?;
         let known = walked.1.names.len();
-        let walked = walk(walked, alloc, traits, lines, edit, first, next)?;
+        let walked = walk(walked, alloc, old, traits, lines, edit, first, next)?;
         if steady == next {
             if let Some(shift) = old.shift(lines, edit, next, walked.1.here) {
                 let from = next + removed_by(edit) - added_by(edit);
@@ -391,7 +439,7 @@ impl Layout {
                 }
             }
         }
-        let layout = Layout::walked_on(walked, alloc, traits, lines, edit, next)?;
+        let layout = Layout::walked_on(walked, alloc, old, traits, lines, edit, next)?;
         Ok((layout, None))
     }
 }

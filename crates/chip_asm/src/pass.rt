@@ -2,7 +2,7 @@
 ghost use Rattle.std.specs.Prelude.{◌≡◌, ℕ, ◌+◌, ◌-◌, ◌≤◌, ◌<◌, ◌^◌, List, [], ◌∷◌, ◌++◌, OnOk, IfOk, IfSome, length, reverse, is_some, is_none, unsigned_abs, int_lt, pos, nat_lt, Option, None, Some, Ok, true, false, not, ◌&&◌, ◌||◌, if◌then◌else◌, option_to_list};
 ghost use Rattle.std.specs.List.{list_all};
 ghost use Rattle.chip_asm.specs.inner.Bare.{IsBare, fault_of_bare};
-ghost use Rattle.chip_asm.specs.inner.HeldLine.{IsKnown};
+ghost use Rattle.chip_asm.specs.inner.HeldLine.{IsKnownUnder};
 ghost use Rattle.chip_asm.specs.Names.{Name};
 ghost use Rattle.chip_asm.specs.Layout.{value_at, own_size, is_padded, full_size, is_negative_space, is_backwards, is_past_end, is_redefinition, is_if_body, body_of, value_or_zero, condition_of, is_org_body, is_end_body, symbol_given};
 ghost use Rattle.chip_asm.specs.computed.Walk.{fault_of_value};
@@ -265,7 +265,7 @@ impl Pass {
     /// What holds of the next line. The value of its expression may be known.
     fn place(&self, number: usize, known: Option<i32>, line: &Line) -> Placement
         requires number { number ≤ MOST_LINES + 1 }
-        requires known { IsKnown known (seen_line line.now) }
+        requires known { IsKnownUnder self.now.names known (seen_line line.now) }
         ensures placed { (before : List Placed) → Follows self.now before → number ≡ length before + 1 → result ≡ placement_of (place before (seen_line line.now)) }
         ensures new_name { is_placed result ≡ true → is_redefinition self.now.names (name_defined (seen_line line.now)) ≡ false }
         ensures fits { is_placed result ≡ true → fault_of_value self.now.aligning self.now.here (body_of (seen_line line.now)) (Ok result.value) ≡ None }
@@ -298,7 +298,7 @@ impl Pass {
         line: &Line,
     ) -> Result<Placement, AllocError>
         requires number { number ≤ MOST_LINES + 1 }
-        requires known { IsKnown known (seen_line line.now) }
+        requires known { IsKnownUnder self.old.names known (seen_line line.now) }
         ensures found { (lines : List Reading) → Follows self.old (placed lines) → number ≡ length lines + 1
             → IfOk result (λ placement. placement ≡ placement_of (place (placed lines) (seen_line line.now))) }
         ensures follows { (lines : List Reading) → Follows self.old (placed lines) → number ≡ length lines + 1

@@ -19,7 +19,7 @@ use crate::traits::Traits;
 use crate::way::Way;
 use chip_lang::defines;
 use chip_lang::limits::MEMORY_BYTES;
-use std::alloc::{AllocError, Global};
+use std::alloc::AllocError;
 
 /// Whether the line that an edit takes away, if it takes one, gives no name.
 fn takes_nameless(lines: &[BoxedLine], edit: &Edit) -> bool
@@ -124,7 +124,6 @@ impl Layout {
     /// The layout after such an edit, in the room of one with the same names, and which lines stand where they stood or moved as one.
     pub(crate) fn moved(
         &self,
-        alloc: Global,
         spare: Layout,
         lines: &[BoxedLine],
         traits: &[Traits],

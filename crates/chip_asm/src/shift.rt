@@ -3,7 +3,7 @@ ghost use Rattle.std.specs.Prelude.{◌≡◌, ◌≤◌, ◌++◌, true, OnOk, 
 ghost use Rattle.std.specs.List.{list_all};
 ghost use Rattle.chip_asm.specs.inner.Placements.{is_placed};
 ghost use Rattle.chip_asm.specs.inner.Records.{IsPlaceWithin, readings_in};
-ghost use Rattle.chip_asm.specs.inner.Shift.{added_by, removed_by, takes_steady, moved_placement};
+ghost use Rattle.chip_asm.specs.inner.Shift.{added_by, is_keep, removed_by, takes_steady, moved_placement};
 
 use crate::edit::Edit;
 use crate::kept_line::BoxedLine;
@@ -98,6 +98,13 @@ pub(crate) fn removed_by(edit: &Edit) -> usize
         Edit::Replace(_, _) | Edit::Delete(_) => 1,
         Edit::Insert(_, _) | Edit::Keep => 0,
     }
+}
+
+/// Whether an edit changes no line.
+pub(crate) fn is_keep(edit: &Edit) -> bool
+    ensures { result ≡ is_keep edit.now }
+{
+    matches!(edit, Edit::Keep)
 }
 
 /// Whether the line that an edit takes away, if it takes one, opens no block, ends no source and switches no alignment.

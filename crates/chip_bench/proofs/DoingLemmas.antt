@@ -8,7 +8,8 @@ use Rattle.std.specs.declared.io.Error.{Error as IoError}
 use Rattle.chip_asm.specs.Lines.{open_fault}
 use Rattle.chip_lang.specs.declared.limits.TheConstants.{IMAGE_BYTES}
 use Rattle.chip_views.specs.Dis.{source_of_image}
-use Rattle.chip_bench.specs.Doing.{Assembles, AssemblesBy, Checks, Debugs, Declined, Disassembles, DisassemblesBytes, Does, Explains, FromKeys, FromSource, GivesSource, IfSettled, IsAsked, IsFileWritten, IsImageHindered, IsImageOrFaults, IsKeysUnread, IsShort, IsSourceUnread, IsUnasked, IsUnsettled, Lists, Outcome, Pictures, PicturesBy, PrintsPicture, Runs, WithAsked, image_in}
+use Rattle.chip_bench.specs.Doing.{Assembles, AssemblesBy, Checks, Debugs, Declined, Disassembles, DisassemblesBytes, Does, Explains, FromKeys, FromSource, GivesSource, IfSettled, IsFileWritten, IsShort, IsSourceUnread, IsUnsettled, Lists, Outcome, Pictures, PicturesBy, PrintsPicture, Runs, WithAsked, image_in}
+use Rattle.chip_bench.specs.inner.Reads.{IsAsked, IsImageHindered, IsImageOrFaults, IsKeysUnread, IsUnasked}
 use Rattle.chip_bench.specs.Pages.{IsPageText}
 use Rattle.chip_bench.specs.Printing.{Prints, PrintsUnder, check_of_lines, listing_of_lines, picture_at, printed, printed_of, run_of}
 use Rattle.chip_bench.specs.declared.command_line.PictureWords.{PictureWords}

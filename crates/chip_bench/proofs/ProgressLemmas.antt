@@ -10,7 +10,7 @@ use Rattle.std.proofs.lemmas.Bool.{cases_lt, eqb-true, false_from_ne_true}
 use Rattle.memchr.specs.Find.{IsFirstByte, is_byte}
 use Rattle.chip_bench.specs.declared.limits.TheConstants.{SCRIPT_BYTES, SCRIPT_LINES}
 use Rattle.chip_bench.specs.declared.server.TheConstants.{KEPT_LEN}
-use Rattle.chip_bench.specs.Lines.{lines, is_newline, complete_lines, unfinished_line}
+use Rattle.chip_bench.specs.Lines.{lines, complete_lines, unfinished_line}
 use Rattle.chip_bench.specs.Session.{Session}
 use Rattle.chip_bench.specs.Transcript.{reply, after, transcript_of, session_after}
 use Rattle.chip_bench.specs.Serving.{WithinBounds, BeginsWith}
@@ -21,6 +21,7 @@ use Rattle.chip_bench.specs.declared.server.Stop.TheVariants as stop
 use Rattle.chip_bench.proofs.LineLemmas.{complete_part, unfinished_part, none_before, complete_newline, unfinished_newline, last_line, last_filled, lines_is, complete_none, unfinished_none}
 use Rattle.chip_bench.proofs.ScriptLemmas.{transcript_push, session_after_push, reply_stripped, after_stripped, reply_kept}
 use Rattle.chip_bench.proofs.WriteLemmas.{appends_known, keeps_known}
+use Rattle.chip_asm.specs.Lines.{is_newline}
 
 length_chosen : (t : Bool) (x : List ℕ) → length (cond t [] (x ∷ [])) ≤ 1
 length_chosen true x = omega arith

@@ -6,7 +6,6 @@ use Rattle.std.proofs.Math.Seq.{take-append-add}
 use Rattle.chip_bench.specs.declared.limits.TheConstants.{SCRIPT_BYTES, SCRIPT_LINES}
 use Rattle.chip_bench.specs.Lines.{lines, complete_lines}
 use Rattle.chip_bench.specs.Session.{Session}
-use Rattle.chip_bench.specs.Tally.{one_more}
 use Rattle.chip_bench.specs.Transcript.{transcript_of, session_after}
 use Rattle.chip_bench.specs.Serving.{WithinBounds, PassesBound, lines_in_bounds, BeginsWith, Served, Exchanged, Exchanges, Opens, UnlessOpened, reader_failures, writer_failures}
 use Rattle.chip_bench.specs.inner.Progress.{fault_of, failures_after, Reached, Stopped, Carries, Ended}
@@ -19,6 +18,7 @@ use Rattle.chip_bench.proofs.ProgressLemmas.{complete_within}
 use Rattle.chip_bench.proofs.LineLemmas.{complete_goes_on, lines_go_on, longer}
 use Rattle.chip_bench.proofs.ScriptLemmas.{transcript-append}
 use Rattle.chip_bench.proofs.WriteLemmas.{keeps_known}
+use Rattle.chip_lang.specs.Meter.{one_more}
 
 -- where the reader and the writer tell their bytes
 pub exchanges : (had left held holds : Option (List ℕ)) {P : List ℕ → List ℕ → List ℕ → Type 0} →

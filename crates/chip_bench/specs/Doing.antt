@@ -35,7 +35,6 @@ use Rattle.chip_bench.specs.declared.ending.Ending.{Ending}
 use Rattle.chip_bench.specs.declared.ending.Ending.TheVariants.{Done, Faulty}
 use Rattle.chip_bench.specs.declared.ending.Failure.{Failure}
 use Rattle.chip_bench.specs.declared.ending.Failure.TheVariants as failure
-use Rattle.chip_bench.specs.declared.entry.Asked.{Asked}
 use Rattle.chip_bench.specs.declared.question.PictureForm.{PictureForm}
 use Rattle.chip_bench.specs.declared.question.PictureForm.TheVariants as form
 
@@ -61,11 +60,6 @@ IsSourceUnread name why = IsUnread name why ⊎ ((why ≡ failure.Input) × (nam
 -- what hinders writing a file of that name
 abbrev pub IsUnwritten : Bor (List ℕ) → Failure → Type 0
 IsUnwritten name why = (why ≡ failure.OutOfMemory) ⊎ ((because : IoError) × (why ≡ failure.CannotWrite name because))
-
--- for private contracts: what hinders reading a file of key events
-abbrev pub IsKeysUnread : Option (Bor (List ℕ)) → Failure → Type 0
-IsKeysUnread None why = ⊥
-IsKeysUnread (Some name) why = IsUnread name why
 
 -- a file of that name was written, or it couldn't be
 abbrev pub IsFileWritten : Bor (List ℕ) → Outcome → Type 0
@@ -116,18 +110,6 @@ module _ {R : Type 0} (remaining : R → Option (List ℕ)) (in_old in_new : Tal
   WithAsked words Did ended =
       IfSettled (settings_asked words.settings) (λ settings. FromKeys words.keys (λ keys. FromSource words.source (Did settings keys))) ended
 
-module _ {R : Type 0} (remaining : R → Option (List ℕ)) (in_old in_new : Tally R) where
-  -- for private contracts: what was read is what the words of a run ask for
-  abbrev pub IsAsked : RunWords → Asked → Type 0
-  IsAsked words asked =
-      WithAsked remaining in_old in_new (Unit {0}) words (λ settings keys source ended.
-      (settings ≡ asked.settings) × (keys ≡ asked.keys.bytes.items) × (source ≡ asked.source.items)) (Ok Done)
-      × (settings_asked words.settings ≡ Some asked.settings)
-
-  -- for private contracts: it couldn't be read
-  abbrev pub IsUnasked : RunWords → Failure → Type 0
-  IsUnasked words why = WithAsked remaining in_old in_new (Unit {0}) words (λ settings keys source ended. ⊥) (Err why)
-
 -- What is written.
 module _ {W : Type 0} (contents : W → Option (List ℕ)) (out_old out_new : Tally W) where
   -- it ended on such a failure, and nothing was written
@@ -139,20 +121,6 @@ module _ {W : Type 0} (contents : W → Option (List ℕ)) (out_old out_new : Ta
   AssemblesBy (Some image) source name ended = IsFileWritten name ended × (out_new ≡ out_old)
   AssemblesBy None source name ended =
       Prints contents out_old out_new (printed_of (open_fault source) (faults_of_lines (lines source))) ended
-
-  -- for private contracts: the image of a source, or its faults, which are printed
-  abbrev pub IsImageOrFaults : List ℕ → Option (List ℕ) → Type 0
-  IsImageOrFaults source (Some image) = (image_in source ≡ Some image) × (out_new ≡ out_old)
-  IsImageOrFaults source None =
-      (image_in source ≡ None)
-      × Prints contents out_old out_new (printed_of (open_fault source) (faults_of_lines (lines source))) (Ok Faulty)
-
-  -- for private contracts: there was no memory, or the faults couldn't be printed
-  abbrev pub IsImageHindered : List ℕ → Failure → Type 0
-  IsImageHindered source why =
-      (IsShort why × (out_new ≡ out_old))
-      ⊎ ((image_in source ≡ None)
-      × Prints contents out_old out_new (printed_of (open_fault source) (faults_of_lines (lines source))) (Err why))
 
   -- `dis`: of an image that isn't too long, a source of it
   pub record DisassemblesBytes (name : Bor (List ℕ)) (image : List ℕ) (ended : Outcome) : Type 0 where

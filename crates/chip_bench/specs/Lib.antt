@@ -21,7 +21,7 @@
 --     Tape         the tape of a seed
 --     Pages        what `explain` prints
 --     Doing        what the program does for each thing that its words can ask for
---     inner        for private contracts: how far a script has been carried out, and how the parts of a kept run fit together
+--     inner        for private contracts: how far a script has been carried out, how the parts of a kept run fit together, what was read
 pub mod Tally
 pub mod Lines
 pub mod Settings

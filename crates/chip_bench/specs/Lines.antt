@@ -1,15 +1,13 @@
 -- The lines of a script, and which of them a newline has ended (own).
-use Rattle.std.specs.Prelude.{ℕ, Bool, ◌==◌, List, [], ◌∷◌, map}
+use Rattle.std.specs.Prelude.{ℕ, List, [], ◌∷◌, map}
 use Rattle.std.specs.List.{slice_split}
 use Rattle.std.specs.Str.Lines.{lines as text_lines, strip_carriage_return}
+use Rattle.chip_asm.specs.Lines.{is_newline}
 
 -- the lines, as `str::lines` cuts them: a newline ends a line, a carriage return directly before it is dropped,
 -- and what stands after the last newline is a line if it isn't empty
 abbrev pub lines : List ℕ → List (List ℕ)
 lines bytes = text_lines bytes
-
-abbrev pub is_newline : ℕ → Bool
-is_newline byte = byte == 10
 
 -- all parts but the last
 abbrev pub all_but_last : List (List ℕ) → List (List ℕ)

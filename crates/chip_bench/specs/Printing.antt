@@ -14,7 +14,7 @@ use Rattle.chip_bench.specs.Refusals.{refusal_code}
 use Rattle.chip_bench.specs.Serving.{BeginsWith}
 use Rattle.chip_bench.specs.Session.{Session, session_of}
 use Rattle.chip_bench.specs.Settings.{SessionSettings}
-use Rattle.chip_bench.specs.Tally.{Tally, one_more}
+use Rattle.chip_bench.specs.Tally.{Tally}
 use Rattle.chip_bench.specs.Transcript.{refused}
 use Rattle.chip_bench.specs.declared.ending.Ending.{Ending}
 use Rattle.chip_bench.specs.declared.ending.Ending.TheVariants.{Done, Faulty}
@@ -26,6 +26,7 @@ use Rattle.chip_bench.specs.declared.question.PictureForm.{PictureForm}
 use Rattle.chip_bench.specs.declared.question.Question.TheVariants.{Registers, Screen, Picture}
 use Rattle.chip_bench.specs.declared.refusal.Refusal.{Refusal}
 use Rattle.chip_bench.specs.declared.refusal.Refusal.TheVariants.{NoImage}
+use Rattle.chip_lang.specs.Meter.{one_more}
 
 -- what a command prints on standard output, and how it ends then
 pub record Printed : Type 0 where

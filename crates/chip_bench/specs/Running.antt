@@ -134,11 +134,6 @@ status_of (Err failure) flushed = failure_status failure
 abbrev pub AreFaulty : Kinds → Type 0
 AreFaulty kinds = (kinds ≢ []) × (IsAmong kind.DisplayHelp kinds → ⊥) × (IsAmong kind.DisplayVersion kinds → ⊥)
 
--- for private contracts: words that have a fault, or want of memory
-abbrev pub IsUsage : Result Ending Failure → Type 0
-IsUsage (Ok ending) = ⊥
-IsUsage (Err failure) = (failure_status failure ≡ 2) ⊎ (failure_status failure ≡ 4)
-
 -- what hinders reading a file of that name
 abbrev pub IsUnread : Bor (List ℕ) → Failure → Type 0
 IsUnread name hindrance = (hindrance ≡ failure.OutOfMemory) ⊎ ((why : IoError) × (hindrance ≡ failure.CannotRead name why))

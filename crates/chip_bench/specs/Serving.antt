@@ -4,11 +4,11 @@ use Rattle.chip_bench.specs.declared.limits.TheConstants.{SCRIPT_BYTES, SCRIPT_L
 use Rattle.chip_bench.specs.Lines.{lines, complete_lines}
 use Rattle.chip_bench.specs.Session.{Session}
 use Rattle.chip_bench.specs.Transcript.{transcript_of}
-use Rattle.chip_bench.specs.Tally.{one_more}
 use Rattle.chip_asm.specs.declared.refusal.OpenError.{OpenError}
 use Rattle.chip_asm.specs.declared.refusal.OpenError.TheVariants.{OutOfMemory as memory}
 use Rattle.chip_bench.specs.declared.server.ServeError.{ServeError}
 use Rattle.chip_bench.specs.declared.server.ServeError.TheVariants as fault
+use Rattle.chip_lang.specs.Meter.{one_more}
 
 -- a script within the bounds of its bytes and its lines
 pub record WithinBounds (script : List ℕ) : Type 0 where

@@ -1,13 +1,10 @@
 -- A reader or a writer with the number of its failures (own).
-use Rattle.std.specs.Prelude.{ℕ, ◌+◌, ◌-◌, ◌^◌, ◌&&◌, min, Bool, true, List, length, nat_lt, nat_eq, Result, Ok, Err, is_err, if◌then◌else◌}
+use Rattle.std.specs.Prelude.{ℕ, ◌&&◌, Bool, true, List, length, nat_lt, nat_eq, Result, Ok, Err, is_err, if◌then◌else◌}
+use Rattle.chip_lang.specs.Meter.{one_more}
 
 pub record Tally (T : Type 0) : Type 0 where
   pub inner : T
   pub failures : ℕ
-
--- one more failure, up to the greatest `u64`
-abbrev pub one_more : ℕ → ℕ
-one_more failures = min (failures + 1) (2 ^ 64 - 1)
 
 -- a read fails where it answers an error of any kind
 abbrev pub failures_after_read : {E : Type 0} → ℕ → Result ℕ E → ℕ

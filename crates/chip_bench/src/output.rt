@@ -8,7 +8,8 @@ ghost use Rattle.chip_bench.specs.Transcript.{refused};
 ghost use Rattle.chip_bench.specs.Printing.{Prints, Refuses, printed, printed_of, check_of_lines, faults_of_lines, listing_of_lines, run_of, picture_at, unanswered, keys_failure, PrintsUnder, PrintsUnless};
 ghost use Rattle.chip_bench.specs.KeyFile.{key_fault, session_under};
 ghost use Rattle.chip_bench.specs.Running.{AnswersScript};
-ghost use Rattle.chip_bench.specs.Doing.{Explains, IsImageHindered, IsImageOrFaults};
+ghost use Rattle.chip_bench.specs.Doing.{Explains};
+ghost use Rattle.chip_bench.specs.inner.Reads.{IsImageHindered, IsImageOrFaults};
 ghost use Rattle.chip_bench.specs.Pages.{version_text};
 
 use crate::answer::{faults_answer, listing_answer};

@@ -7,7 +7,7 @@ use Rattle.chip_lang.specs.declared.expr.Operator.{Operator}
 use Rattle.chip_lang.specs.declared.fault.Fault.{Fault}
 use Rattle.chip_lang.specs.Tree.{Tree, number, name, unary, binary}
 use Rattle.chip_lang.specs.Uses.{constant, if_nameless, names_in}
-use Rattle.chip_lang.specs.Value.{apply, apply_prefix, no_names, then_with, value}
+use Rattle.chip_lang.specs.Value.{apply, apply_prefix, no_names, ◌>>=◌, value}
 
 pub constant-number : (z : ℤ) → constant (number z) ≡ Some z
 unfolding constant
@@ -22,7 +22,7 @@ unfolding constant
 constant-unary sign a = by (names_in a) (value a no_names)
   where
     by : (xs : List (List ℕ)) (p : Result ℤ Fault)
-        → if_nameless xs (result_ok (then_with p (apply_prefix sign))) ≡ option_and_then (λ x. result_ok (apply_prefix sign x)) (if_nameless xs (result_ok p))
+        → if_nameless xs (result_ok (p >>= apply_prefix sign)) ≡ option_and_then (λ x. result_ok (apply_prefix sign x)) (if_nameless xs (result_ok p))
     by [] (Ok x) = refl
     by [] (Err f) = refl
     by (n ∷ xs) p = refl
@@ -33,7 +33,7 @@ unfolding constant
 constant-binary sign a b = by (names_in a) (names_in b) (value a no_names) (value b no_names)
   where
     by : (xs ys : List (List ℕ)) (p q : Result ℤ Fault)
-        → if_nameless (xs ++ ys) (result_ok (then_with p (λ x. then_with q (apply sign x))))
+        → if_nameless (xs ++ ys) (result_ok (p >>= λ x. q >>= apply sign x))
         ≡ option_and_then (λ x. option_and_then (λ y. result_ok (apply sign x y)) (if_nameless ys (result_ok q))) (if_nameless xs (result_ok p))
     by [] [] (Ok x) (Ok y) = refl
     by [] [] (Ok x) (Err f) = refl

@@ -4,8 +4,7 @@ use Rattle.std.proofs.lemmas.List.{at_drop_more}
 use Rattle.chip_lang.specs.declared.fault.Fault.{Fault}
 use Rattle.chip_lang.specs.declared.expr.Expr.{Expr}
 use Rattle.chip_lang.specs.Tree.{tree_of}
-use Rattle.chip_lang.specs.Value.{Symbols}
-use Rattle.chip_lang.specs.Encoding.{◌>>=◌}
+use Rattle.chip_lang.specs.Value.{◌>>=◌, Symbols}
 use Rattle.chip_lang.specs.Code.{datum_of, data_bytes}
 
 -- bytes, and what is left of an outcome

@@ -10,8 +10,8 @@ use Rattle.chip_lang.specs.declared.form.Pattern.{Pattern}
 use Rattle.chip_lang.specs.declared.form.Pattern.TheVariants.{Vx, Vy, Nibble, Byte, Address}
 use Rattle.chip_lang.specs.Operand.{Operand, register, expression, is_of_machine}
 use Rattle.chip_lang.specs.Table.{Row, forms}
-use Rattle.chip_lang.specs.Value.{Symbols, value}
-use Rattle.chip_lang.specs.Encoding.{◌>>=◌, number_below, signed_below, field_of, fields_of, word_of_form}
+use Rattle.chip_lang.specs.Value.{◌>>=◌, Symbols, value}
+use Rattle.chip_lang.specs.Encoding.{number_below, signed_below, field_of, fields_of, word_of_form}
 use Rattle.chip_lang.specs.Decoding.{part_in, parts_in, gives}
 use Rattle.chip_lang.specs.inner.ByDigits.{digit, takes_top, takes_x, takes_y, takes_n, has_digit}
 use Rattle.chip_lang.proofs.Sound.{equal}

@@ -11,6 +11,7 @@ pub mod NamedForms
 pub mod OneToken
 pub mod Pieces
 pub mod SameCode
+pub mod KeptValue
 pub mod Scan
 pub mod SaidForm
 pub mod Shown

@@ -12,7 +12,7 @@ use Rattle.chip_lang.specs.declared.form.Pattern.TheVariants.{Vx, Nibble, Byte, 
 use Rattle.chip_lang.specs.declared.form.Special.{Special}
 use Rattle.chip_lang.specs.Tree.{Tree, number, name, unary, binary}
 use Rattle.chip_lang.specs.Operand.{Operand, register, special, expression}
-use Rattle.chip_lang.specs.Value.{Symbols, value, value_of_name, or_fault, then_with, apply_prefix}
+use Rattle.chip_lang.specs.Value.{Symbols, value, value_of_name, or_fault, ◌>>=◌, apply_prefix}
 use Rattle.chip_lang.specs.Encoding.{field_of, fields_of}
 use Rattle.chip_lang.specs.Line.{Body, db, dw, code, Reading, bad, read}
 use Rattle.chip_lang.specs.Code.{data_bytes, byte_of, word_bytes, own_bytes, coded, code_of}
@@ -32,7 +32,7 @@ parts p xs ys h = and_parts _ _ (sym (list_all-append p xs ys) ∙ h)
 pub same_value : (S T : Symbols) (e : Tree) → list_all (has_same_value S T) (names_in e) ≡ true → value e S ≡ value e T
 same_value S T (number z) h = refl
 same_value S T (name n) h = ap (λ v. or_fault v UndefinedName) (same_option (value_of_name S n) (value_of_name T n) (and_parts _ _ h).0)
-same_value S T (unary sign e) h = ap (λ r. then_with r (apply_prefix sign)) (same_value S T e h)
+same_value S T (unary sign e) h = ap (λ r. r >>= apply_prefix sign) (same_value S T e h)
 same_value S T (binary sign a b) h =
     let both = parts (has_same_value S T) (names_in a) (names_in b) h in
     let left = same_value S T a both.0 in

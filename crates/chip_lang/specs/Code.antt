@@ -5,9 +5,9 @@ use Rattle.chip_lang.specs.declared.fault.Fault.{Fault}
 use Rattle.chip_lang.specs.declared.code.Coded.{Coded}
 use Rattle.chip_lang.specs.declared.code.Coded.TheVariants.{Bytes, Faulty}
 use Rattle.chip_lang.specs.Tree.{Tree}
-use Rattle.chip_lang.specs.Value.{Symbols, value}
+use Rattle.chip_lang.specs.Value.{◌>>=◌, Symbols, value}
 use Rattle.chip_lang.specs.Line.{Body, db, dw, da, code, Reading, bad, read}
-use Rattle.chip_lang.specs.Encoding.{◌>>=◌, signed_below, word_of_form}
+use Rattle.chip_lang.specs.Encoding.{signed_below, word_of_form}
 
 -- one byte
 abbrev pub byte_of : ℕ → List ℕ

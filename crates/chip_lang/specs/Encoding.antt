@@ -6,7 +6,7 @@ use Rattle.chip_lang.specs.declared.form.Pattern.{Pattern}
 use Rattle.chip_lang.specs.declared.form.Pattern.TheVariants.{Vx, Vy, Nibble, Byte, Address}
 use Rattle.chip_lang.specs.Operand.{Operand, register, expression}
 use Rattle.chip_lang.specs.Table.{Row}
-use Rattle.chip_lang.specs.Value.{Symbols, value}
+use Rattle.chip_lang.specs.Value.{◌>>=◌, Symbols, value}
 
 -- a value from 0 up to below a limit
 abbrev pub number_below : ℕ → ℤ → Result ℕ Fault
@@ -17,12 +17,6 @@ number_below limit (negsuc n) = Err OutOfRange
 abbrev pub signed_below : ℕ → ℤ → Result ℕ Fault
 signed_below limit (pos n) = if nat_lt n limit then Ok n else Err OutOfRange
 signed_below limit (negsuc n) = if nat_lt n (limit / 2) then Ok (limit - (n + 1)) else Err OutOfRange
-
--- what comes of an outcome
-infixl 10 ◌>>=◌
-abbrev pub ◌>>=◌ : {A B : Type 0} → Result A Fault → (A → Result B Fault) → Result B Fault
-(Ok x) >>= go = go x
-(Err f) >>= go = Err f
 
 -- what an operand puts into the word
 unfoldable pub field_of : Pattern → Operand → Symbols → Result ℕ Fault

@@ -1,6 +1,5 @@
 -- Worked examples of the definitions (own).
 use Rattle.std.specs.Prelude.{ℕ, ◌≡◌, pos, negsuc, codes, [], ◌∷◌, Some, None, Ok, Err}
-use Rattle.std.specs.FinMap as map
 use Rattle.chip_lang.specs.declared.fault.Fault.TheVariants.{Overflow, DivisionByZero, BadCharacter, UnfinishedString, UnknownWord, WrongOperands, TooDeep, BadName, NotInProfile}
 use Rattle.chip_lang.specs.declared.token.Token.{Token}
 use Rattle.chip_lang.specs.declared.token.Kind.{Kind}
@@ -11,7 +10,7 @@ use Rattle.chip_lang.specs.declared.form.Pattern.TheVariants.{Vx, V0, Byte, Addr
 use Rattle.chip_lang.specs.declared.form.Special.TheVariants.{AtIndex}
 use Rattle.chip_lang.specs.computed.Tokens.{tokens_of}
 use Rattle.chip_lang.specs.Tree.{number, name, unary, binary}
-use Rattle.chip_lang.specs.Value.{value, Symbols}
+use Rattle.chip_lang.specs.Value.{value, no_names}
 use Rattle.chip_lang.specs.Operand.{register, special, expression}
 use Rattle.chip_lang.specs.Table.{row}
 use Rattle.chip_lang.specs.Encoding.{word_of_form}
@@ -19,9 +18,6 @@ use Rattle.chip_lang.specs.Line.{read, bad, reading_of, code, db, equ, empty}
 
 abbrev pub token : Kind → ℕ → ℕ → Token
 token k s e = record { kind = k; start = s; end = e }
-
-abbrev pub none : Symbols
-none = map.empty
 
 pub record Examples : Type 0 where
   pub tokens : tokens_of (codes "P: DB #0f ;x") ≡ token Word 0 1 ∷ token (Sign 58) 1 2 ∷ token Word 3 5 ∷ token (Number (pos 15)) 6 9 ∷ []
@@ -37,9 +33,9 @@ pub record Examples : Type 0 where
   pub reserved : reading_of (codes "LD: DB 1") ≡ bad BadName
   pub outside : reading_of (codes "INCLUDE 'x'") ≡ bad NotInProfile
   pub deep : reading_of (codes "DB (((((((((((((((((1)))))))))))))))))") ≡ bad TooDeep
-  pub xor : value (binary Xor (number (pos 6)) (number (pos 3))) none ≡ Ok (pos 5)
-  pub floor : value (binary ShiftRight (number (negsuc 4)) (number (pos 1))) none ≡ Ok (negsuc 2)
-  pub towards_zero : value (binary Divide (number (negsuc 4)) (number (pos 2))) none ≡ Ok (negsuc 1)
-  pub too_far : value (binary ShiftLeft (number (pos 1)) (number (pos 31))) none ≡ Err Overflow
-  pub left_first : value (binary Add (binary Divide (number (pos 1)) (number (pos 0))) (name (codes "X"))) none ≡ Err DivisionByZero
-  pub word : word_of_form (row (codes "JP") (V0 ∷ Address ∷ []) 0xB000) (register 0 ∷ expression (number (pos 0x204)) ∷ []) none ≡ Ok 0xB204
+  pub xor : value (binary Xor (number (pos 6)) (number (pos 3))) no_names ≡ Ok (pos 5)
+  pub floor : value (binary ShiftRight (number (negsuc 4)) (number (pos 1))) no_names ≡ Ok (negsuc 2)
+  pub towards_zero : value (binary Divide (number (negsuc 4)) (number (pos 2))) no_names ≡ Ok (negsuc 1)
+  pub too_far : value (binary ShiftLeft (number (pos 1)) (number (pos 31))) no_names ≡ Err Overflow
+  pub left_first : value (binary Add (binary Divide (number (pos 1)) (number (pos 0))) (name (codes "X"))) no_names ≡ Err DivisionByZero
+  pub word : word_of_form (row (codes "JP") (V0 ∷ Address ∷ []) 0xB000) (register 0 ∷ expression (number (pos 0x204)) ∷ []) no_names ≡ Ok 0xB204

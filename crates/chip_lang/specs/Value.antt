@@ -69,14 +69,15 @@ abbrev pub or_fault : Option ℤ → Fault → Result ℤ Fault
 or_fault (Some z) f = Ok z
 or_fault None f = Err f
 
--- a value, and then what comes of it
-abbrev pub then_with : Result ℤ Fault → (ℤ → Result ℤ Fault) → Result ℤ Fault
-then_with (Ok z) go = go z
-then_with (Err f) go = Err f
+-- what comes of an outcome
+infixl 10 ◌>>=◌
+abbrev pub ◌>>=◌ : {A B : Type 0} → Result A Fault → (A → Result B Fault) → Result B Fault
+(Ok x) >>= go = go x
+(Err f) >>= go = Err f
 
 -- The value of an expression, or the first fault: the left operand's, the right one's, the sign's own.
 abbrev pub value : Tree → Symbols → Result ℤ Fault
 value (number z) symbols = Ok z
 value (name n) symbols = or_fault (value_of_name symbols n) UndefinedName
-value (unary sign a) symbols = then_with (value a symbols) (apply_prefix sign)
-value (binary sign a b) symbols = then_with (value a symbols) (λ x. then_with (value b symbols) (apply sign x))
+value (unary sign a) symbols = value a symbols >>= apply_prefix sign
+value (binary sign a b) symbols = value a symbols >>= λ x. value b symbols >>= apply sign x

@@ -4,6 +4,7 @@ ghost use Rattle.std.specs.Prelude.{◌≡◌, map, Option, ◌<◌, ◌≤◌, 
 ghost use Rattle.chip_lang.specs.Operand.{operand_of};
 ghost use Rattle.chip_lang.specs.inner.NamedForms.{from_name};
 ghost use Rattle.std.specs.List.{list_any};
+ghost use Rattle.std.specs.Option.{option_copied};
 ghost use Rattle.std.specs.Str.{bytes_eq};
 ghost use Rattle.chip_lang.specs.Reserved.{is_mnemonic};
 ghost use Rattle.chip_lang.specs.Table.{Row, forms as all_forms};
@@ -327,9 +328,9 @@ pub(crate) const FORMS: [Form; 46] = [
 
 /// The form that a name and operands are, if they are one, where the forms of the name are known.
 #[tactic(auto, using(crate::proofs::NamedForms::form_among))]
-pub(crate) fn find_form(forms: &[Form], name: &[u8], operands: &[Operand]) -> Option<Form>
+pub(crate) fn find_form<'a>(forms: &'a [Form], name: &[u8], operands: &[Operand]) -> Option<&'a Form>
     requires forms { map row_of_form forms.now ≡ from_name name.now all_forms }
-    ensures { option_row result ≡ form_of name.now (map operand_of operands.now) }
+    ensures { option_row (option_copied result) ≡ form_of name.now (map operand_of operands.now) }
 {
     find_in(forms, name, operands)
 }
@@ -368,12 +369,12 @@ fn from_first<'a>(forms: &'a [Form], name: &[u8]) -> &'a [Form]
     &[]
 }
 
-fn find_in(forms: &[Form], name: &[u8], operands: &[Operand]) -> Option<Form>
-    ensures { option_row result ≡ find_form (map row_of_form forms.now) name.now (map operand_of operands.now) }
+fn find_in<'a>(forms: &'a [Form], name: &[u8], operands: &[Operand]) -> Option<&'a Form>
+    ensures { option_row (option_copied result) ≡ find_form (map row_of_form forms.now) name.now (map operand_of operands.now) }
 {
     for form in forms {
         if form.name.as_bytes() == name && all_match(form.patterns, operands) {
-            return Some(*form);
+            return Some(form);
         }
     }
     None

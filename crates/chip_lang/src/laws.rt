@@ -5,7 +5,7 @@ ghost use Rattle.chip_lang.specs.declared.lexeme.Lexeme.{Lexeme};
 ghost use Rattle.chip_lang.specs.Tree.{Tree};
 ghost use Rattle.chip_lang.specs.Grammar.{IsExpression};
 ghost use Rattle.chip_lang.specs.computed.Parse.{expression_of};
-ghost use Rattle.std.specs.Prelude.{codes, ℕ, []};
+ghost use Rattle.std.specs.Prelude.{codes, ℕ, ℤ, []};
 ghost use Rattle.chip_lang.specs.declared.token.Token.{Token};
 ghost use Rattle.chip_lang.specs.computed.Tokens.{tokens_of};
 ghost use Rattle.chip_lang.specs.Scan.{AreTokens};
@@ -21,7 +21,7 @@ ghost use Rattle.chip_lang.specs.Table.{Row, forms};
 ghost use Rattle.chip_lang.specs.Form.{fits};
 ghost use Rattle.chip_lang.specs.Encoding.{word_of_form};
 ghost use Rattle.chip_lang.specs.Show.{form_shown, operand_in};
-ghost use Rattle.chip_lang.specs.Value.{Symbols, value};
+ghost use Rattle.chip_lang.specs.Value.{Symbols, value, value_of_name};
 ghost use Rattle.chip_lang.specs.Code.{code_of};
 ghost use Rattle.chip_lang.specs.Uses.{names_in, names_used, has_same_value, agree_on};
 
@@ -53,6 +53,11 @@ pub fn tokens_lie_in_line()
 pub fn same_code()
     ensures value { (e : Tree) (S T : Symbols) → list_all (has_same_value S T) (names_in e) ≡ true → value e S ≡ value e T }
     ensures code { (r : Reading) (S T : Symbols) → agree_on S T r ≡ true → code_of r S ≡ code_of r T }
+{}
+
+/// Where an expression has a value, it keeps it when names are added to the table: where each name with a value keeps that value.
+pub fn kept_value()
+    ensures { (e : Tree) (S T : Symbols) (v : ℤ) → ((n : List ℕ) (w : ℤ) → value_of_name S n ≡ Some w → value_of_name T n ≡ Some w) → value e S ≡ Ok v → value e T ≡ Ok v }
 {}
 
 /// The names that a line uses, repeated ones counted again, are at most half its bytes: a line of 200 bytes uses at most 100.

@@ -41,7 +41,7 @@ pub enum Body {
     /// `DA 'text'`: the bytes between the quotes.
     Da(Bytes),
     /// An instruction: the source form that fits, and its operands.
-    Code(Form, Vec<Operand>),
+    Code(&'static Form, Vec<Operand>),
     /// `DEFINE NAME`.
     Define,
     /// `IFDEF name`.
@@ -171,7 +171,7 @@ fn first_fault(
     tokens: &[Lexeme],
     shape: &Shape,
     front: Option<Directive>,
-    forms: &[Form],
+    forms: &'static [Form],
 ) -> Option<Fault>
     requires front { front ≡ front_directive (statement_of (seen_shape shape.now)) }
     requires forms { map row_of_form forms.now ≡ front_forms front (statement_of (seen_shape shape.now)) }

@@ -26,7 +26,7 @@ pub(crate) fn body_of_shape(
     alloc: Global,
     shape: &Shape,
     front: Option<Directive>,
-    forms: &[Form],
+    forms: &'static [Form],
 ) -> Result<Option<Body>, AllocError>
     requires front { front ≡ front_directive (statement_of (seen_shape shape.now)) }
     requires forms { map row_of_form forms.now ≡ front_forms front (statement_of (seen_shape shape.now)) }
@@ -45,7 +45,7 @@ fn statement_body(
     alloc: Global,
     labelled: bool,
     front: Option<Directive>,
-    forms: &[Form],
+    forms: &'static [Form],
     tokens: &[Lexeme],
 ) -> Result<Option<Body>, AllocError>
     requires front { front ≡ front_directive tokens.now }
@@ -66,7 +66,7 @@ fn statement_body(
 /// The source form of an instruction, and its operands.
 fn instruction_body(
     alloc: Global,
-    forms: &[Form],
+    forms: &'static [Form],
     name: &[u8],
     tokens: &[Lexeme],
 ) -> Result<Option<Body>, AllocError>

@@ -13,11 +13,11 @@ use Rattle.chip_lang.specs.Table.{Row}
 use Rattle.chip_lang.specs.Operand.{Operand}
 use Rattle.chip_lang.specs.Keyword.{directive_of}
 use Rattle.chip_lang.specs.Token.{token_at}
+use Rattle.chip_lang.specs.Value.{no_names}
 use Rattle.chip_lang.specs.Tree.{number}
 use Rattle.chip_lang.specs.Line.{Body, empty, equ, org, ds, db, dw, da, code, define, ifdef, ifund, else_line, endif, end_line, align, options, used, xref, Reading, bad, read, reading_of}
 use Rattle.chip_lang.specs.Code.{own_bytes, word_bytes}
 use Rattle.chip_lang.specs.Show.{show_of, hex_word, hex_byte}
-use Rattle.chip_lang.specs.Examples.{none}
 use Rattle.chip_asm.specs.Lines.{is_long, fault_of_lines, open_fault}
 use Rattle.chip_asm.specs.Names.{values_of}
 use Rattle.chip_asm.specs.Layout.{Placed, is_align_body}
@@ -28,7 +28,7 @@ use Rattle.chip_views.proofs.DataLines.{good, word_line, byte_line}
 use Rattle.chip_views.proofs.TextLines.{EachVisible, lines_of_text}
 use Rattle.chip_views.proofs.WordLayout.{Steady, Built, nothing_built, built_line, built_off, steady_code, steady_word, steady_byte, image_of_built}
 
-no_values : values_of [] ≡ none
+no_values : values_of [] ≡ no_names
 unfolding values_of
 no_values = refl
 
@@ -55,12 +55,12 @@ record Given (w : ℕ) (r : Reading) : Type 0 where
   form : Row
   operands : List Operand
   is : r ≡ read None (code form operands)
-  own : own_bytes (code form operands) none ≡ Ok (word_bytes w)
+  own : own_bytes (code form operands) no_names ≡ Ok (word_bytes w)
 
 given : (w : ℕ) (r : Reading) → gives_word w r ≡ true → Given w r
 given w (bad fault) h = cc
 given w (read (Some name) body) h = cc
-given w (read None (code form operands)) h = record { form = form; operands = operands; is = refl; own = is_word_true w (own_bytes (code form operands) none) h }
+given w (read None (code form operands)) h = record { form = form; operands = operands; is = refl; own = is_word_true w (own_bytes (code form operands) no_names) h }
 given w (read None empty) h = cc
 given w (read None (equ e)) h = cc
 given w (read None (org e)) h = cc
@@ -79,11 +79,11 @@ given w (read None options) h = cc
 given w (read None used) h = cc
 given w (read None xref) h = cc
 
-word_own : (w : ℕ) → w < 65536 → own_bytes (dw (number (pos w) ∷ [])) none ≡ Ok (word_bytes w)
+word_own : (w : ℕ) → w < 65536 → own_bytes (dw (number (pos w) ∷ [])) no_names ≡ Ok (word_bytes w)
 unfolding own_bytes
 word_own w lt = rw (le-leb (suc w) 65536 (omega arith)) refl
 
-byte_own : (b : ℕ) → b < 256 → own_bytes (db (number (pos b) ∷ [])) none ≡ Ok (b ∷ [])
+byte_own : (b : ℕ) → b < 256 → own_bytes (db (number (pos b) ∷ [])) no_names ≡ Ok (b ∷ [])
 unfolding own_bytes
 byte_own b lt = rw (le-leb (suc b) 256 (omega arith)) refl
 

@@ -7,7 +7,7 @@ use Rattle.chip_lang.specs.declared.fault.Fault.{Fault}
 use Rattle.chip_lang.specs.declared.code.Coded.{Coded}
 use Rattle.chip_lang.specs.declared.code.Coded.TheVariants.{Bytes, Faulty}
 use Rattle.chip_lang.specs.Code.{own_bytes, word_bytes}
-use Rattle.chip_lang.specs.Examples.{none}
+use Rattle.chip_lang.specs.Value.{no_names}
 use Rattle.chip_lang.specs.Line.{code, Reading, read, reading_of}
 use Rattle.chip_lang.specs.Show.{show_of, hex_word, hex_byte}
 
@@ -31,7 +31,7 @@ result_of (Faulty fault) = Err fault
 
 -- whether a line is an instruction that gives a word, and nothing else
 abbrev pub gives_word : ℕ → Reading → Bool
-gives_word w (read None (code form operands)) = is_word w (own_bytes (code form operands) none)
+gives_word w (read None (code form operands)) = is_word w (own_bytes (code form operands) no_names)
 gives_word w reading = false
 
 -- the line of a word: its instruction, where that text is a line that gives the word, else data

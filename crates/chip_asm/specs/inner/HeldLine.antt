@@ -10,9 +10,13 @@ use Rattle.chip_asm.specs.declared.kept_line.HeldLine.{HeldLine}
 use Rattle.chip_asm.specs.declared.kept_line.HeldLine.TheVariants.{Nothing, Boxed}
 use Rattle.chip_asm.specs.inner.HeldText.{SaysNothing, part_from}
 
--- a value that the line's own expression has under all names, if it is known
+-- a value that the line's own expression has under these names, if it is known
+abbrev pub IsKnownUnder : List (Name × Symbol) → Option ℤ → Reading → Type 0
+IsKnownUnder names known line = IfSome known (λ value. value_at names (body_of line) ≡ Ok value)
+
+-- the same under all names
 abbrev pub IsKnown : Option ℤ → Reading → Type 0
-IsKnown known line = (names : List (Name × Symbol)) → IfSome known (λ value. value_at names (body_of line) ≡ Ok value)
+IsKnown known line = (names : List (Name × Symbol)) → IsKnownUnder names known line
 
 abbrev pub kept_held : HeldLine → KeptLine
 kept_held (Nothing source start count) = record { text = part_from source.value.bytes start count; line = source.value.nothing; code = source.value.no_code; constant = None }

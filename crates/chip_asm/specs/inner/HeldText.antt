@@ -1,5 +1,5 @@
 -- The text of a line, from how it is held: bytes of its own, or a part of those that were read together (own).
-use Rattle.std.specs.Prelude.{◌≡◌, ℕ, ◌+◌, ◌-◌, ◌≤◌, List, None, drop, length, slice_range, take}
+use Rattle.std.specs.Prelude.{◌≡◌, ℕ, ◌+◌, ◌-◌, ◌≤◌, List, None, drop, length, slice_range}
 use Rattle.chip_lang.specs.Line.{empty, read}
 use Rattle.chip_lang.specs.SeenLine.{seen_line}
 use Rattle.chip_lang.specs.declared.line.Line.{Line}
@@ -21,11 +21,6 @@ text_held (Part source start count) = part_from source.value.bytes start count
 abbrev pub IsTextHeld : HeldText → Type 0
 IsTextHeld (Own bytes) = 0 ≤ 0
 IsTextHeld (Part source start count) = start + count ≤ length source.value.bytes
-
--- some bytes stand at the front of others
-pub record IsFront (front bytes : List ℕ) : Type 0 where
-  pub within : length front ≤ length bytes
-  pub is : front ≡ take (length front) bytes
 
 -- some bytes stand at the back of others
 pub record IsBack (back bytes : List ℕ) : Type 0 where

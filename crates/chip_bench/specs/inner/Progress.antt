@@ -7,12 +7,12 @@ use Rattle.chip_bench.specs.Lines.{lines, complete_lines, unfinished_line}
 use Rattle.chip_bench.specs.Session.{Session}
 use Rattle.chip_bench.specs.Transcript.{transcript_of, session_after}
 use Rattle.chip_bench.specs.Serving.{WithinBounds, BeginsWith}
-use Rattle.chip_bench.specs.Tally.{one_more}
 use Rattle.chip_bench.specs.declared.server.Conversation.{Conversation}
 use Rattle.chip_bench.specs.declared.server.ServeError.{ServeError}
 use Rattle.chip_bench.specs.declared.server.ServeError.TheVariants as fault
 use Rattle.chip_bench.specs.declared.server.Stop.{Stop}
 use Rattle.chip_bench.specs.declared.server.Stop.TheVariants.{WriterFailed, OutOfMemory, TooMuchInput}
+use Rattle.chip_lang.specs.Meter.{one_more}
 
 -- the fault of `serve` where the script was given up
 abbrev pub fault_of : Stop → ServeError

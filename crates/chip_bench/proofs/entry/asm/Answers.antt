@@ -1,7 +1,7 @@
 use Rattle.std.proofs.lemmas.Result.{err_from_is_err_and}
 use Rattle.std.proofs.Common.{◌∙◌, ap, refl, Err, ℕ, Option, option_map, subst}
 use Rattle.std.specs.Global.{Vec}
-use Rattle.chip_bench.specs.Doing.{IsImageOrFaults}
+use Rattle.chip_bench.specs.inner.Reads.{IsImageOrFaults}
 use Rattle.chip_bench.proofs.DoingLemmas.{assembles_faults, assembles_image, assembles_not, assembles_unread}
 use Rattle.chip_bench.proofs.entry.asm.Goals as goal
 

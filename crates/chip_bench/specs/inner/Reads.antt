@@ -1,0 +1,51 @@
+-- What the words of the command line ask for as it was read, and what hindered it, for the private contracts behind the commands (own).
+use Rattle.std.specs.Prelude.{◌≡◌, ◌⊎◌, ℕ, List, Option, Some, None, Result, Ok, Err}
+use Rattle.std.specs.Borrow.{Bor}
+use Rattle.std.specs.Str.Lines.{lines}
+use Rattle.chip_asm.specs.Lines.{open_fault}
+use Rattle.chip_bench.specs.Doing.{IsShort, Outcome, WithAsked, image_in}
+use Rattle.chip_bench.specs.Printing.{Prints, faults_of_lines, printed_of}
+use Rattle.chip_bench.specs.Running.{IsUnread, failure_status}
+use Rattle.chip_bench.specs.SettingWords.{settings_asked}
+use Rattle.chip_bench.specs.Tally.{Tally}
+use Rattle.chip_bench.specs.declared.command_line.RunWords.{RunWords}
+use Rattle.chip_bench.specs.declared.ending.Ending.TheVariants.{Done, Faulty}
+use Rattle.chip_bench.specs.declared.ending.Failure.{Failure}
+use Rattle.chip_bench.specs.declared.entry.Asked.{Asked}
+
+-- words that have a fault, or want of memory
+abbrev pub IsUsage : Outcome → Type 0
+IsUsage (Ok ending) = ⊥
+IsUsage (Err failure) = (failure_status failure ≡ 2) ⊎ (failure_status failure ≡ 4)
+
+-- what hinders reading a file of key events
+abbrev pub IsKeysUnread : Option (Bor (List ℕ)) → Failure → Type 0
+IsKeysUnread None why = ⊥
+IsKeysUnread (Some name) why = IsUnread name why
+
+module _ {R : Type 0} (remaining : R → Option (List ℕ)) (in_old in_new : Tally R) where
+  -- what was read is what the words of a run ask for
+  abbrev pub IsAsked : RunWords → Asked → Type 0
+  IsAsked words asked =
+      WithAsked remaining in_old in_new (Unit {0}) words (λ settings keys source ended.
+      (settings ≡ asked.settings) × (keys ≡ asked.keys.bytes.items) × (source ≡ asked.source.items)) (Ok Done)
+      × (settings_asked words.settings ≡ Some asked.settings)
+
+  -- it couldn't be read
+  abbrev pub IsUnasked : RunWords → Failure → Type 0
+  IsUnasked words why = WithAsked remaining in_old in_new (Unit {0}) words (λ settings keys source ended. ⊥) (Err why)
+
+module _ {W : Type 0} (contents : W → Option (List ℕ)) (out_old out_new : Tally W) where
+  -- the image of a source, or its faults, which are printed
+  abbrev pub IsImageOrFaults : List ℕ → Option (List ℕ) → Type 0
+  IsImageOrFaults source (Some image) = (image_in source ≡ Some image) × (out_new ≡ out_old)
+  IsImageOrFaults source None =
+      (image_in source ≡ None)
+      × Prints contents out_old out_new (printed_of (open_fault source) (faults_of_lines (lines source))) (Ok Faulty)
+
+  -- there was no memory, or the faults couldn't be printed
+  abbrev pub IsImageHindered : List ℕ → Failure → Type 0
+  IsImageHindered source why =
+      (IsShort why × (out_new ≡ out_old))
+      ⊎ ((image_in source ≡ None)
+      × Prints contents out_old out_new (printed_of (open_fault source) (faults_of_lines (lines source))) (Err why))
