@@ -46,7 +46,8 @@ KINDS = {
     ".svg": "image/svg+xml",
 }
 
-# An answer whose first line is `no CODE` ends there. Of the others these end with a line `.`, and these have more than one line.
+# An answer whose first line is `no CODE` ends there. Of the others these end with a line `.`, and
+# these have more than one line.
 ENDED_BY_DOT = {b"syms", b"list", b"faults", b"screen", b"dis"}
 LINES = {b"regs": 3}
 # What the program says in the place of all answers where the source doesn't open.

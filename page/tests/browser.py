@@ -629,7 +629,8 @@ class Tests:
             assert browser.value("document.getElementById('help').open")
             self.picture("help")
             browser.press("Escape")
-            # Tab reaches everything that can be pressed or typed into, but for what Escape and Shift+Tab leave
+            # Tab reaches everything that can be pressed or typed into, but for what Escape and
+            # Shift+Tab leave
             browser.value("document.activeElement.blur(); globalThis.reached = new Set(); document.addEventListener('focusin', ({ target }) => reached.add(target))")
             for _ in range(90):
                 if browser.value("document.activeElement.id") == "source-text":

@@ -211,7 +211,8 @@ int-same x y false h k = by (int_eq x y) refl
     by true e = absurd (k refl ((Decides-int_eq x y).0 e))
     by false e = refl
 
--- two tables with the same names agree on a line with one name where the values at its number are the same
+-- two tables with the same names agree on a line with one name where the values at its number are
+-- the same
 pub agree-at : (old new : List (Name × Symbol)) (line : Reading) (i : ℕ) (a b : Name × Symbol) (same : Bool) → names_in old ≡ names_in new → hint_in (names_in new) line ≡ i + 2
     → slice_get old i ≡ Some a → slice_get new i ≡ Some b → (same ≡ true → a.1.value ≡ b.1.value) → (same ≡ false → a.1.value ≢ b.1.value)
     → same ≡ agree_on (values_of old) (values_of new) line

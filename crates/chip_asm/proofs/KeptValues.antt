@@ -75,8 +75,8 @@ value-before lines n line q at is accepted =
     let d : Placed = place [] line in
     let found : q ≡ final_placement (placed lines) (place before line)
     = sym (get_or_from_slice_get (placements_of lines) n q q is)
-        ∙ get_or-map (final_placement (placed lines)) (reverse (placed lines)) n d q (omega (arith, length-numbered lines))
-        ∙ ap (final_placement (placed lines)) (next-placed lines n line d inside (get_or_from_slice_get lines n line line at)) in
+    ∙ get_or-map (final_placement (placed lines)) (reverse (placed lines)) n d q (omega (arith, length-numbered lines))
+    ∙ ap (final_placement (placed lines)) (next-placed lines n line d inside (get_or_from_slice_get lines n line line at)) in
     accepted-value (placed lines) before line (ap is_placed (sym found) ∙ accepted) ∙ ap (λ (r : Placement). Ok r.value) (sym found)
 
 -- it keeps it when names are added

@@ -1,5 +1,5 @@
--- The last line that passes a test, the IF lines that enclose what follows, and what stands before, by place: the lists from the
--- nearest line back have what the relations say.
+-- The last line that passes a test, the IF lines that enclose what follows, and what stands before,
+-- by place: the lists from the nearest line back have what the relations say.
 use Rattle.std.proofs.Common.{◌≡◌, ℕ, zero, suc, ◌+◌, ◌-◌, ◌<◌, ◌≤◌, Bool, true, false, cond, not, ◌&&◌, leb, List, [], ◌∷◌, ◌++◌, map, reverse, length, take, drop, filter, find, take_while, sum_by, count_by, slice_get, get_or, refl, ap, sym, subst, ◌∙◌, arith, Option, Some, None, option_map, ◌⊎◌, inl, inr, leb-true, le-leb, leb-false}
 use Rattle.std.specs.List.{list_any, list_all}
 use Rattle.std.proofs.Math.Seq.{drop-append_seam}

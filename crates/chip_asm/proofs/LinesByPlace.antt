@@ -1,4 +1,5 @@
--- The lines of a source by their places: they stand one after another, and each has its bytes in the image.
+-- The lines of a source by their places: they stand one after another, and each has its bytes in
+-- the image.
 use Rattle.std.proofs.Common.{◌≡◌, ℕ, zero, suc, ◌+◌, ◌-◌, ◌<◌, ◌≤◌, Bool, true, false, ◌&&◌, ltb, leb, List, [], ◌∷◌, reverse, length, get_or, slice_get, find, fold, filter, refl, ap, sym, ◌∙◌, arith, Some, None, ◌⊎◌, inl, inr}
 use Rattle.std.specs.Option.{option_map_or}
 use Rattle.std.proofs.lemmas.List.{get_or-reverse, length-reverse, length-map, get_or-map}

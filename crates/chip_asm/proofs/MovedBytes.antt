@@ -1,4 +1,5 @@
--- What an edit leaves of the image: all but the lines between the first and the last ones, and those that were encoded again.
+-- What an edit leaves of the image: all but the lines between the first and the last ones, and
+-- those that were encoded again.
 use Rattle.std.proofs.Common.{◌≡◌, ℕ, zero, suc, ◌+◌, ◌-◌, ◌<◌, ◌≤◌, pos, Bool, true, false, cond, ◌&&◌, leb, ltb, List, [], ◌∷◌, length, get_or, slice_get, refl, ap, sym, subst, ◌∙◌, arith, Option, Some, None, ◌⊎◌, inl, inr}
 use Rattle.std.specs.Prelude.{unwrap_or, nat_eq}
 use Rattle.std.specs.Option.{option_map_or}

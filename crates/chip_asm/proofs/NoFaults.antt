@@ -133,7 +133,8 @@ stays-none before lines made old new codes laid current none m good was is p q k
         ∙ All-get_or (λ (x : ℕ × Coded). coded_fault x.1 ≡ None) codes found.0 (found.1, c) there good in
         code-fault q kept b (ap coded_fault (code-is kept ∙ ap (λ o. unwrap_or o (get_or lines is kept).code) e) ∙ fine)
 
--- where no line had a fault, no new code is one and no line between the first and the last ones has one, there is none
+-- where no line had a fault, no new code is one and no line between the first and the last ones has
+-- one, there is none
 pub settled-none : (old new : Layout) (span : Span) (faults : ℕ) (image : List ℕ) (lines made : List KeptLine) (codes : List (ℕ × Coded)) (stood : StoodBefore old new span faults image lines) → faults ≡ 0
     → IsLayoutOf new (readings_in made) → AreCurrent made → IsMerged lines codes made → All (λ (e : ℕ × Coded). coded_fault e.1 ≡ None) codes
     → ((place : ℕ) (q : Placement) (kept : KeptLine) → span.front ≤ place → place < length new.placements.items - span.back

@@ -1,4 +1,5 @@
--- Each new code is the one for its place; and the first and the last lines stay, where an edit comes between them.
+-- Each new code is the one for its place; and the first and the last lines stay, where an edit
+-- comes between them.
 use Rattle.std.proofs.Common.{◌≡◌, ℕ, zero, suc, ◌+◌, ◌-◌, ◌<◌, ◌≤◌, Bool, true, false, nat_lt, nat_eq, List, [], ◌∷◌, length, get_or, slice_get, refl, ap, sym, subst, ◌∙◌, arith, Option, Some, None, option_map}
 use Rattle.std.specs.List.{enumerate_from, cons_option}
 use Rattle.std.proofs.lemmas.Bool.Decides.{nat_tests}

@@ -48,7 +48,8 @@ plain-idle (da bytes) h = refl
 plain-idle (code f os) h = refl
 plain-idle _ h = absurd (false≢true h)
 
--- a plain statement neither moves the address nor switches the padding nor ends the source, and its name is that of an address
+-- a plain statement neither moves the address nor switches the padding nor ends the source, and its
+-- name is that of an address
 pub record Plain (b : Body) : Type 0 where
   pub no_org : is_org_body b ≡ false
   pub no_end : is_end_body b ≡ false

@@ -147,7 +147,8 @@ steady-at lines edit next k line within takes low below inside new_at = by (nat_
         ∙ get_or-drop (first_changed edit + added_by edit) (readings_in (lines_after lines edit)) (k - (first_changed edit + removed_by edit)) line in
         ap (λ r. is_steady (body_of r)) same ∙ new_at (first_changed edit + added_by edit + (k - (first_changed edit + removed_by edit))) (omega (arith, past, below, count))
 
--- where the lines up to a place past the edit are steady, and the line that goes, they are on both sides
+-- where the lines up to a place past the edit are steady, and the line that goes, they are on both
+-- sides
 sides : (lines : List KeptLine) (edit : Edit) (next : ℕ) → IsPlaceWithin (length lines) edit → takes_steady (readings_in lines) edit ≡ true
     → first_changed edit + added_by edit ≤ next → next ≤ length (readings_in (lines_after lines edit)) → old_place edit next ≤ length (readings_in lines)
     → AllSteady (take next (readings_in (lines_after lines edit))) → Sides (readings_in lines) (readings_in (lines_after lines edit)) (old_place edit next) next

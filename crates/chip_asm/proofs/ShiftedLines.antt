@@ -1,4 +1,5 @@
--- Lines that only move: while they are plain and accepted, they say what they said, some lines and bytes further.
+-- Lines that only move: while they are plain and accepted, they say what they said, some lines and
+-- bytes further.
 use Rattle.std.proofs.Common.{◌≡◌, ℕ, zero, suc, slice_get, ◌+◌, ◌%◌, ◌≤◌, ℤ, pos, Bool, true, false, cond, ◌&&◌, nat_lt, is_none, is_some, List, [], ◌∷◌, ◌++◌, map, reverse, length, fold, filter_map, refl, ap, sym, subst, ◌∙◌, arith, Option, Some, None, option_map, option_to_list, append_assoc, if◌then◌else◌, min}
 use Rattle.std.specs.List.{list_all, cons_option}
 use Rattle.std.specs.Str.{bytes_eq}

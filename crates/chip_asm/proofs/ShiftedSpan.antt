@@ -265,7 +265,8 @@ made-accepted s old lines edit next here placements names b all anew =
     all-both placements (map (moved_placement s) (drop from old.placements.items)) walked
     (list_all-map is_placed (moved_placement s) (drop from old.placements.items) ∙ (all-parts from old.placements.items all).1)
 
--- where the later lines only move, it is known which lines stand where they stood, and by how much the others moved
+-- where the later lines only move, it is known which lines stand where they stood, and by how much
+-- the others moved
 pub shifted-span : (s : Shift) (old layout : Layout) (lines : List KeptLine) (edit : Edit) (next here : ℕ) (placements : List Placement) (names : List (Name × Symbol)) (b : StandsBefore old lines edit next here placements names)
     → IsShift s old (readings_in lines) edit next here → IsMade s old layout (old_place edit next) placements names → (span : Span) → span.front ≤ first_changed edit
     → ((place : ℕ) (q : Placement) → place < span.front → slice_get old.placements.items place ≡ Some q → q.fault ≡ None) → span.back ≡ length lines - old_place edit next

@@ -1,4 +1,5 @@
--- What a line in the place of one with the same effect changes: its bytes, and whether it has a fault.
+-- What a line in the place of one with the same effect changes: its bytes, and whether it has a
+-- fault.
 use Rattle.std.proofs.Common.{◌≡◌, ℕ, ◌+◌, ◌-◌, ◌<◌, ◌≤◌, Bool, true, false, cond, ◌&&◌, ltb, leb, List, [], ◌∷◌, ◌++◌, map, reverse, length, set, get_or, find, filter_map, refl, ap, sym, ◌∙◌, arith, Option, Some, None, option_map}
 use Rattle.std.specs.List.{cons_option}
 use Rattle.std.specs.Option.{option_map_or}

@@ -43,7 +43,8 @@ value-of-name names name = get-from_entries nat_list_cmp_total (map (λ e. (e.0,
 abbrev pub seen : Vec ℕ × Symbol → Name × Symbol
 seen entry = (entry.0.items, entry.1)
 
--- what is found from a place on is the entry there, where its name is the one asked for, and else what is found after it
+-- what is found from a place on is the entry there, where its name is the one asked for, and else
+-- what is found after it
 pub look-from : (entries : List (Vec ℕ × Symbol)) (names : List (Name × Symbol)) (i : ℕ) (entry : Vec ℕ × Symbol) (name : Name) (b : Bool) → map seen entries ≡ names → Some entry ≡ slice_get entries i → b ≡ bytes_eq name entry.0.items → cond b (Some entry.1) (lookup_name (drop (i + 1) names) name) ≡ lookup_name (drop i names) name
 look-from entries names i entry name b view is same =
     let there : slice_get names i ≡ Some (seen entry) = ap (λ t. slice_get t i) (sym view) ∙ slice_get-map seen entries i ∙ ap (option_map seen) (sym is) in
@@ -59,7 +60,8 @@ take-given zero (x ∷ xs) = refl
 take-given (suc i) [] = refl
 take-given (suc i) (x ∷ xs) = ap (λ l. x ∷ l) (take-given i xs)
 
--- the name with its value at a place of two tables with the same names, where it has the same value there
+-- the name with its value at a place of two tables with the same names, where it has the same value
+-- there
 pub valued-same : (old new : List (Name × Symbol)) (i : ℕ) (a b : Name × Symbol) → map (λ e. e.0) old ≡ map (λ e. e.0) new → slice_get old i ≡ Some a → slice_get new i ≡ Some b → a.1.value ≡ b.1.value
     → slice_get (valued old) i ≡ slice_get (valued new) i
 valued-same old new i a b names before after value =

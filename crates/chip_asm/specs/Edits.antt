@@ -1,5 +1,5 @@
--- Edits of the lines of a source: when one is refused, and where its lines stood before (own). Lines are numbered from 1; their
--- places count from 0.
+-- Edits of the lines of a source: when one is refused, and where its lines stood before (own).
+-- Lines are numbered from 1; their places count from 0.
 use Rattle.std.specs.Prelude.{ℕ, ◌+◌, ◌-◌, ◌&&◌, ◌||◌, not, ◌==◌, Bool, List, nat_lt, nat_le, nat_eq, Option, Some, None, if◌then◌else◌}
 use Rattle.std.specs.List.{list_any}
 use Rattle.chip_asm.specs.declared.limits.TheConstants.{MOST_LINES}
@@ -37,7 +37,8 @@ delete_refusal count number = if is_number_to count number then None else Some N
 
 -- the place that the line at a place had before a line was put in at `at`; none for the new line
 abbrev pub before_insert : ℕ → ℕ → Option ℕ
-before_insert at place = if nat_lt place at then Some place else (if nat_eq place at then None else Some (place - 1))
+before_insert at place =
+    if nat_lt place at then Some place else (if nat_eq place at then None else Some (place - 1))
 
 -- the same, where the line at `at` was replaced
 abbrev pub before_replace : ℕ → ℕ → Option ℕ

@@ -1,5 +1,6 @@
--- Words for what holds of a line of a source: what it says, what it gives, how much it takes, what can be wrong with it (Chipper
--- manual; own where it is silent). What holds of which line says Places.
+-- Words for what holds of a line of a source: what it says, what it gives, how much it takes, what
+-- can be wrong with it (Chipper manual; own where it is silent). What holds of which line says
+-- Places.
 use Rattle.std.specs.Prelude.{ℕ, ◌+◌, ◌*◌, ◌%◌, ℤ, pos, unsigned_abs, int_lt, Bool, true, false, not, ◌&&◌, ◌||◌, List, [], ◌∷◌, length, Option, Some, None, is_some, is_none, Result, Ok, Err, if◌then◌else◌, nat_eq, nat_lt, ◌==◌, option_map}
 use Rattle.std.specs.List.{list_any}
 use Rattle.chip_lang.specs.declared.limits.TheConstants.{MEMORY_BYTES}
@@ -66,8 +67,8 @@ is_else p = is_else_body (body_of p.line)
 abbrev pub is_endif : Placed → Bool
 is_endif p = is_endif_body (body_of p.line)
 
--- a live line without a fault gives its name, moves the address and switches the alignment; an IF without ENDIF, whose fault is found
--- at the end, does none of it
+-- a live line without a fault gives its name, moves the address and switches the alignment; an IF
+-- without ENDIF, whose fault is found at the end, does none of it
 abbrev pub takes_effect : Placed → Bool
 takes_effect p = p.live && is_none p.fault
 
@@ -81,7 +82,9 @@ value_given here value _ = pos here
 -- the name that a line gives, with its value and the line's number
 abbrev pub symbol_given : ℕ → ℕ → ℤ → Reading → Option (Name × Symbol)
 symbol_given number here value line =
-    option_map (λ name. (name, record { value = value_given here value (body_of line); line = number })) (name_defined line)
+    option_map
+    (λ name. (name, record { value = value_given here value (body_of line); line = number }))
+    (name_defined line)
 
 abbrev pub symbol_of : Placed → Option (Name × Symbol)
 symbol_of p = if takes_effect p then symbol_given p.number p.here p.value p.line else None
@@ -177,7 +180,8 @@ is_backwards here _ value = false
 
 abbrev pub is_past_end : Bool → ℕ → Body → ℤ → Bool
 is_past_end aligning here (org e) value = int_lt (pos MEMORY_BYTES) value
-is_past_end aligning here body value = nat_lt MEMORY_BYTES (here + full_size aligning here body value)
+is_past_end aligning here body value =
+    nat_lt MEMORY_BYTES (here + full_size aligning here body value)
 
 abbrev pub value_or_zero : Result ℤ Fault → ℤ
 value_or_zero (Ok value) = value

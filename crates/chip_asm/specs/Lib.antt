@@ -3,14 +3,17 @@
 --     Edits        when an edit is refused
 --     Names        names and tables of names
 --     Layout       words for a line: what it says, which name it gives, how much it takes
---     Places       what holds of each line: whether it is live, where it stands, what is wrong with it
+--     Places       what holds of each line: whether it is live, where it stands, what is wrong with
+--                  it
 --     Program      names, faults and image of a source
 --     Listing      the listing
 --     Work         which lines an edit makes encode anew
 --     Changes      which places of the image an edit changes
 --     Sources      what contracts see of a source
---     computed     functions that find what Places states as a relation; laws say that the two agree
---     inner        what the functions inside say of what they keep; no public clause cites it, and a reader may skip it
+--     computed     functions that find what Places states as a relation; laws say that the two
+--                  agree
+--     inner        what the functions inside say of what they keep; no public clause cites it, and
+--                  a reader may skip it
 pub mod Changes
 pub mod Edits
 pub mod Layout

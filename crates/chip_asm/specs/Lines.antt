@@ -6,24 +6,27 @@ use Rattle.chip_asm.specs.declared.limits.TheConstants.{LINE_BYTES, MOST_LINES}
 use Rattle.chip_asm.specs.declared.refusal.OpenError.{OpenError}
 use Rattle.chip_asm.specs.declared.refusal.OpenError.TheVariants.{LineTooLong, TooManyLines}
 
--- the lines of some bytes: a newline ends a line, a carriage return directly before it is dropped, and what stands after the last
--- newline is a line if it isn't empty
+-- the lines of some bytes: a newline ends a line, a carriage return directly before it is dropped,
+-- and what stands after the last newline is a line if it isn't empty
 abbrev pub lines_of : List ℕ → List (List ℕ)
 lines_of bytes = lines bytes
 
 abbrev pub is_long : List ℕ → Bool
 is_long text = nat_lt LINE_BYTES (length text)
 
--- the fault of lines of which `first` is the index of the first that is too long, or their number where none is
+-- the fault of lines of which `first` is the index of the first that is too long, or their number
+-- where none is
 abbrev pub fault_of_lines : ℕ → ℕ → Option OpenError
 fault_of_lines first count =
     if nat_lt first count && nat_lt first MOST_LINES then Some (LineTooLong (first + 1))
     else if nat_lt MOST_LINES count then Some TooManyLines
     else None
 
--- a source opens to its lines, unless one of them is one too many or too long: the first such line decides
+-- a source opens to its lines, unless one of them is one too many or too long: the first such line
+-- decides
 abbrev pub open_fault : List ℕ → Option OpenError
-open_fault source = fault_of_lines (position_or_len is_long (lines_of source)) (length (lines_of source))
+open_fault source =
+    fault_of_lines (position_or_len is_long (lines_of source)) (length (lines_of source))
 
 -- What the functions inside say:
 
@@ -33,4 +36,6 @@ is_newline byte = byte == 10
 -- the text of the first line of bytes that aren't empty
 abbrev pub first_text : List ℕ → List ℕ
 first_text bytes =
-    if nat_lt (position_or_len is_newline bytes) (length bytes) then strip_carriage_return (before_first is_newline bytes) else bytes
+    if nat_lt (position_or_len is_newline bytes) (length bytes)
+    then strip_carriage_return (before_first is_newline bytes)
+    else bytes

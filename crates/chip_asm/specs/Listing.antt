@@ -1,4 +1,5 @@
--- The listing of a source: a line for each line, with its number, its address, its bytes or value or fault, and its text (own).
+-- The listing of a source: a line for each line, with its number, its address, its bytes or value
+-- or fault, and its text (own).
 use Rattle.std.specs.Prelude.{ℕ, ◌-◌, ℤ, Bool, true, false, not, ◌&&◌, List, [], ◌∷◌, ◌++◌, length, map, reverse, replicate, min, zip, Option, Some, None, is_none, if◌then◌else◌, nat_lt, codes, slice_index}
 use Rattle.std.specs.List.{flat_map, range_with_len}
 use Rattle.std.specs.Fmt.{decimal, signed_decimal}
@@ -32,24 +33,31 @@ abbrev pub bytes_shown : ℕ → List ℕ → List ℕ
 bytes_shown count bytes = flat_map hex_byte (map (slice_index bytes) (range_with_len 0 count))
 
 -- what stands in the field of a line: its fault, its value, or its first six bytes
-abbrev pub field_shown : Option Fault → (live : Bool) → Body → (here : ℕ) → (value : ℤ) → (size : ℕ) → (bytes : List ℕ) → List ℕ
-field_shown (Some fault) live body here value size bytes = codes "F" ++ decimal (number_of_fault fault)
+abbrev pub field_shown : Option Fault → (live : Bool) → Body → (here : ℕ) → (value : ℤ) → (size : ℕ)
+    → (bytes : List ℕ) → List ℕ
+field_shown (Some fault) live body here value size bytes =
+    codes "F" ++ decimal (number_of_fault fault)
 field_shown None live body here value size bytes =
     if not live then []
-    else (if is_definition body then codes "=" ++ signed_decimal (value_given here value body) else bytes_shown (min 6 size) bytes)
+    else (if is_definition body then codes "=" ++ signed_decimal (value_given here value body)
+    else bytes_shown (min 6 size) bytes)
 
 -- `+` where a line without a fault has more than six bytes
 abbrev pub more_shown : Option Fault → ℕ → ℕ
 more_shown fault size = if is_none fault && nat_lt 6 size then 43 else 32
 
 -- one line of the listing
-unfoldable pub shown : (number : ℕ) (live : Bool) (here : ℕ) (field : List ℕ) (more : ℕ) (text : List ℕ) → List ℕ
+unfoldable pub shown : (number : ℕ) (live : Bool) (here : ℕ) (field : List ℕ) (more : ℕ)
+    (text : List ℕ) → List ℕ
 shown number live here field more text =
-    at_right 4 (decimal number) ++ 32 ∷ address_shown live here ++ 32 ∷ at_left 12 field ++ more ∷ 32 ∷ text ++ 10 ∷ []
+    at_right 4 (decimal number) ++ 32 ∷ address_shown live here ++ 32 ∷ at_left 12 field
+    ++ more ∷ 32 ∷ text ++ 10 ∷ []
 
 abbrev pub line_shown : List Placed → Placed → List ℕ → List ℕ
 line_shown all p text =
-    shown p.number p.live p.here (field_shown (fault_of all p) p.live (body_of p.line) p.here p.value p.size (bytes_in_code (code_under all p))) (more_shown (fault_of all p) p.size) text
+    shown p.number p.live p.here
+    (field_shown (fault_of all p) p.live (body_of p.line) p.here p.value p.size
+    (bytes_in_code (code_under all p))) (more_shown (fault_of all p) p.size) text
 
 abbrev pub lines_shown : List Placed → List (List ℕ) → List ℕ
 lines_shown all texts = flat_map (λ e. line_shown all e.0 e.1) (zip (reverse all) texts)

@@ -1,6 +1,7 @@
--- What holds of each line of a source, by its place in the list of all (Chipper manual; own where it is silent): a
--- relation between the lines and what holds of them. The laws say that what `computed/Walk` finds line by line is in
--- it, and nothing else. `before` has the lines before a line, the first one first.
+-- What holds of each line of a source, by its place in the list of all (Chipper manual; own where
+-- it is silent): a relation between the lines and what holds of them. The laws say that what
+-- `computed/Walk` finds line by line is in it, and nothing else. `before` has the lines before a
+-- line, the first one first.
 use Rattle.std.specs.Prelude.{◌≡◌, ℕ, ◌+◌, ◌≤◌, ℤ, unsigned_abs, Bool, true, false, not, ◌&&◌, List, [], ◌∷◌, length, take, drop, Option, Some, None, Result, Ok, Err, if◌then◌else◌, sum_by, count_by, filter_map, slice_get, Decides}
 use Rattle.std.specs.List.{list_any}
 use Rattle.chip_lang.specs.declared.limits.TheConstants.{IMAGE_START}
@@ -23,22 +24,25 @@ pub record IsLast (Fits : ℕ → Placed → Type 0) (j : ℕ) (p : Placed) : Ty
   pub latest : (k : ℕ) (q : Placed) → Fits k q → k ≤ j
 
 -- x is what the last line that fits gives, and `other` where none does
-pub record IsFromLast {X : Type 0} (Fits : ℕ → Placed → Type 0) (gives : ℕ → Placed → X) (other x : X) : Type 0 where
+pub record IsFromLast {X : Type 0} (Fits : ℕ → Placed → Type 0) (gives : ℕ → Placed → X)
+    (other x : X) : Type 0 where
   pub from_last : (j : ℕ) (p : Placed) → IsLast Fits j p → x ≡ gives j p
   pub from_none : ((j : ℕ) (p : Placed) → Fits j p → ⊥) → x ≡ other
 
 -- blocks
 
--- The IF line at place j encloses what follows: of the first n lines after it, for each n, no more are ENDIF lines
--- than IF lines.
+-- The IF line at place j encloses what follows: of the first n lines after it, for each n, no more
+-- are ENDIF lines than IF lines.
 pub record Encloses (before : List Placed) (j : ℕ) (opener : Placed) : Type 0 where
   pub there : slice_get before j ≡ Some opener
   pub opens : is_if opener ≡ true
   pub stays_open : (n : ℕ)
-      → count_by is_endif (take n (drop (j + 1) before)) ≤ count_by is_if (take n (drop (j + 1) before))
+      → count_by is_endif (take n (drop (j + 1) before))
+      ≤ count_by is_if (take n (drop (j + 1) before))
 
--- No line before is a live END. An ELSE or ENDIF is live where the last IF that encloses it is, or none does; another
--- line where the condition of each IF that encloses it holds on the side that is reached.
+-- No line before is a live END. An ELSE or ENDIF is live where the last IF that encloses it is, or
+-- none does; another line where the condition of each IF that encloses it holds on the side that is
+-- reached.
 pub record IsLive (before : List Placed) (body : Body) : Type 0 where
   pub not_ended : has_ended before ≡ false
   pub side_or_end : is_side_or_end body ≡ true
@@ -68,7 +72,8 @@ fault_in_value (Ok value) = None
 -- an ELSE or ENDIF that no IF encloses, or an ELSE after another one of the same IF
 abbrev pub is_stray : List Placed → Option ℕ → Body → Bool
 is_stray before None body = is_side_or_end body
-is_stray before (Some number) body = is_else_body body && list_any (λ q. is_else q && is_number number q.block) before
+is_stray before (Some number) body =
+    is_else_body body && list_any (λ q. is_else q && is_number number q.block) before
 
 -- those of a line, in the order in which they are looked for
 abbrev pub faults_in_order : List Placed → Bool → Placed → List (Option Fault)
@@ -91,14 +96,17 @@ pub record IsPlaced (before : List Placed) (line : Reading) (p : Placed) : Type 
   pub condition : p.condition ≡ condition_of (names_given before) (body_of line)
   pub live : Decides p.live (IsLive before (body_of line))
   -- the value of the last ORG that takes effect, or where the image stands, and the sizes since
-  pub here : IsFromLast (Passes is_origin before) (λ j org. unsigned_abs org.value + sizes (drop (j + 1) before))
+  pub here : IsFromLast (Passes is_origin before)
+      (λ j org. unsigned_abs org.value + sizes (drop (j + 1) before))
       (IMAGE_START + sizes before) p.here
   pub value : p.value ≡ value_or_zero (value_at (names_given before) (body_of line))
   -- the last ALIGN that takes effect is not OFF
   pub aligning : Bool
-  pub is_aligning : IsFromLast (Passes is_align before) (λ j p. not (is_align_off_body (body_of p.line))) true aligning
+  pub is_aligning : IsFromLast (Passes is_align before)
+      (λ j p. not (is_align_off_body (body_of p.line))) true aligning
   pub fault : p.fault ≡ (if p.live then first_fault (faults_in_order before aligning p) else None)
-  pub size : p.size ≡ (if takes_effect p then full_size aligning p.here (body_of line) p.value else 0)
+  pub size : p.size
+      ≡ (if takes_effect p then full_size aligning p.here (body_of line) p.value else 0)
 
 -- what holds of each line of a source, in line order
 pub record ArePlaced (lines : List Reading) (all : List Placed) : Type 0 where
@@ -106,7 +114,8 @@ pub record ArePlaced (lines : List Reading) (all : List Placed) : Type 0 where
   pub each : (i : ℕ) (line : Reading) (p : Placed)
       → slice_get lines i ≡ Some line → slice_get all i ≡ Some p → IsPlaced (take i all) line p
 
--- an IF without ENDIF in a whole source: it is live, it encloses what would follow, and there is no live END
+-- an IF without ENDIF in a whole source: it is live, it encloses what would follow, and there is no
+-- live END
 pub record IsUnclosed (all : List Placed) (i : ℕ) (p : Placed) : Type 0 where
   pub encloses : Encloses all i p
   pub live : p.live ≡ true

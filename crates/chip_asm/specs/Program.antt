@@ -18,7 +18,9 @@ names_of_lines lines = symbols (placed lines)
 
 -- a live IF that would enclose one line more, in a source that no END ends
 abbrev pub is_unclosed : List Placed → Placed → Bool
-is_unclosed all p = is_if p && p.live && not (has_ended all) && list_any (λ opener. nat_eq opener.number p.number) (enclosing all)
+is_unclosed all p =
+    is_if p && p.live && not (has_ended all)
+    && list_any (λ opener. nat_eq opener.number p.number) (enclosing all)
 
 -- the fault of the first pass
 abbrev pub first_pass_fault : List Placed → Placed → Option Fault
@@ -40,12 +42,14 @@ bytes_in_code (Err fault) = []
 abbrev pub fault_of : List Placed → Placed → Option Fault
 fault_of all p =
     if p.live
-    then (if is_some (first_pass_fault all p) then first_pass_fault all p else fault_in_code (code_under all p))
+    then (if is_some (first_pass_fault all p) then first_pass_fault all p
+    else fault_in_code (code_under all p))
     else None
 
 abbrev pub fault_of_line : List Reading → ℕ → Option Fault
 fault_of_line lines number =
-    if nat_eq number 0 then None else option_and_then (fault_of (placed lines)) (slice_get (reverse (placed lines)) (number - 1))
+    if nat_eq number 0 then None
+    else option_and_then (fault_of (placed lines)) (slice_get (reverse (placed lines)) (number - 1))
 
 -- the line's number with its fault
 abbrev pub numbered_fault : List Placed → Placed → Option (ℕ × Fault)
@@ -58,9 +62,12 @@ faults_of_lines lines = filter_map (numbered_fault (placed lines)) (reverse (pla
 abbrev pub covers : ℕ → Placed → Bool
 covers at p = nat_le p.here at && nat_lt at (p.here + p.size)
 
--- the byte at an address: that of the line that covers it, zero past the line's own bytes or where no line does
+-- the byte at an address: that of the line that covers it, zero past the line's own bytes or where
+-- no line does
 unfoldable pub byte_at : List Placed → ℕ → ℕ
-byte_at all at = option_map_or (λ p. slice_index (bytes_in_code (code_under all p)) (at - p.here)) (find (covers at) all) 0
+byte_at all at =
+    option_map_or (λ p. slice_index (bytes_in_code (code_under all p)) (at - p.here))
+    (find (covers at) all) 0
 
 -- the bytes from where the image stands up to the address after the last line
 abbrev pub bytes_of_lines : List Placed → List ℕ

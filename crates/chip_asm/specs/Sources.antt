@@ -1,5 +1,6 @@
--- What contracts see of a source: the texts of its lines, the work done so far, which places of the image the last accepted edit
--- changed, from the first one up to the end, and how that edit was made (own).
+-- What contracts see of a source: the texts of its lines, the work done so far, which places of the
+-- image the last accepted edit changed, from the first one up to the end, and how that edit was
+-- made (own).
 use Rattle.std.specs.Prelude.{ℕ, List}
 use Rattle.chip_lang.specs.declared.meter.Meter.{Meter}
 use Rattle.chip_asm.specs.declared.way.Way.{Way}

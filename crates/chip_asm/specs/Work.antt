@@ -15,18 +15,22 @@ is_accepted_in all p = p.live && is_none (first_pass_fault all p)
 
 -- the line at a place (from 0) is accepted
 abbrev pub is_accepted_at : List Reading → ℕ → Bool
-is_accepted_at lines place = option_map_or (is_accepted_in (placed lines)) (slice_get (reverse (placed lines)) place) false
+is_accepted_at lines place =
+    option_map_or (is_accepted_in (placed lines)) (slice_get (reverse (placed lines)) place) false
 
 -- how many lines are accepted
 abbrev pub accepted_lines : List Reading → ℕ
 accepted_lines lines = count_by (λ at. is_accepted_at lines at.0) (enumerate_from 0 lines)
 
--- A line of the new source, with its place, has to be encoded: it is accepted there, and it is the new line, or was not accepted
--- in the old source, or a name that it uses has another value now. `origin` says where the line at a place stood.
+-- A line of the new source, with its place, has to be encoded: it is accepted there, and it is the
+-- new line, or was not accepted in the old source, or a name that it uses has another value now.
+-- `origin` says where the line at a place stood.
 unfoldable pub needs : (old new : List Reading) → (origin : ℕ → Option ℕ) → ℕ × Reading → Bool
 needs old new origin at =
     is_accepted_at new at.0
-    && not (option_map_or (λ before. is_accepted_at old before && agree_on (values_of (names_of_lines old)) (values_of (names_of_lines new)) at.1) (origin at.0) false)
+    && not (option_map_or (λ before. is_accepted_at old before
+    && agree_on (values_of (names_of_lines old)) (values_of (names_of_lines new)) at.1)
+    (origin at.0) false)
 
 abbrev pub needs_count : (old new : List Reading) → (ℕ → Option ℕ) → ℕ
 needs_count old new origin = count_by (needs old new origin) (enumerate_from 0 new)

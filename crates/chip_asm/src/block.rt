@@ -8,7 +8,8 @@ ghost use Rattle.chip_asm.specs.declared.block.Block.{Block};
 use chip_lang::Body;
 use std::alloc::AllocError;
 
-/// An open block: the number of its IF line; that line was live; its condition holds on this side; an ELSE came.
+/// An open block: the number of its IF line; that line was live; its condition holds on this side;
+/// an ELSE came.
 #[derive(Clone, Copy, Debug)]
 pub(crate) struct Block {
     pub(crate) number: usize,
@@ -40,13 +41,15 @@ fn turned(block: Block) -> Block
     }
 }
 
-/// An IF opens a block, an ELSE turns to its other side, an ENDIF closes it. The last block stands last.
+/// An IF opens a block, an ELSE turns to its other side, an ENDIF closes it. The last block stands
+/// last.
 pub(crate) fn move_blocks(
     blocks: &mut Vec<Block>,
     body: &Body,
     opened: Block,
 ) -> Result<(), AllocError>
-    ensures { (nearest : List Block) → blocks.old.items ≡ reverse nearest → OnOk result (blocks.new.items ≡ reverse (moved (seen_body body.now) opened nearest)) }
+    ensures { (nearest : List Block) → blocks.old.items ≡ reverse nearest
+        → OnOk result (blocks.new.items ≡ reverse (moved (seen_body body.now) opened nearest)) }
 {
     match body {
         Body::Ifdef(_) | Body::Ifund(_) => blocks.push(opened)?,

@@ -1,7 +1,8 @@
 //! Which part of an image changed.
 use crate::way::Way;
 
-/// Places of an image, counted from its first byte: from `first` up to `end`; and how the edit was made that changed them.
+/// Places of an image, counted from its first byte: from `first` up to `end`; and how the edit was
+/// made that changed them.
 #[derive(Clone, Copy, Debug)]
 pub(crate) struct Changed {
     pub(crate) first: usize,

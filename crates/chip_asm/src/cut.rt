@@ -81,8 +81,10 @@ fn push_line(
     requires nothing { SaysNothing source.now.value.nothing }
     requires within { start + length text.now ≤ length source.now.value.bytes }
     requires part { text.now ≡ part_from source.now.value.bytes start (length text.now) }
-    ensures texts { OnOk result (texts_in lines.new.items ≡ texts_in lines.old.items ++ text.now ∷ []) }
-    ensures readings { OnOk result (readings_in lines.new.items ≡ readings_in lines.old.items ++ reading_of text.now ∷ []) }
+    ensures texts { OnOk result (texts_in lines.new.items
+        ≡ texts_in lines.old.items ++ text.now ∷ []) }
+    ensures readings { OnOk result (readings_in lines.new.items
+        ≡ readings_in lines.old.items ++ reading_of text.now ∷ []) }
     ensures count { OnOk result (length lines.new.items ≡ length lines.old.items + 1) }
     ensures counted { meter.new ≡ record meter.old { parsed = one_more meter.old.parsed } }
 {
@@ -98,12 +100,15 @@ pub(crate) fn read_lines(
     source: Vec<u8>,
 ) -> Result<Vec<BoxedLine>, OpenError>
     requires { meter.old ≡ record { parsed = 0; encoded = 0 } }
-    ensures ok { IfOk result (λ lines. (open_fault source.items ≡ None) × (texts_in lines.items ≡ lines_of source.items)) }
-    ensures read { IfOk result (λ lines. readings_in lines.items ≡ map reading_of (texts_in lines.items)) }
+    ensures ok { IfOk result (λ lines. (open_fault source.items ≡ None)
+        × (texts_in lines.items ≡ lines_of source.items)) }
+    ensures read { IfOk result (λ lines. readings_in lines.items
+        ≡ map reading_of (texts_in lines.items)) }
     ensures few { IfOk result (λ lines. length lines.items ≤ MOST_LINES) }
     ensures parsed { IfOk result (λ lines. meter.new.parsed ≡ length lines.items) }
     ensures encoded { meter.new.encoded ≡ 0 }
-    ensures err { IfErr result (λ e. (e ≡ OpenError.OutOfMemory) ⊎ (open_fault source.items ≡ Some e)) }
+    ensures err { IfErr result (λ e. (e ≡ OpenError.OutOfMemory)
+        ⊎ (open_fault source.items ≡ Some e)) }
 {
     let shared = SharedSource::new(alloc, source)?;
     let source = shared.bytes.get();

@@ -26,7 +26,8 @@ pub(crate) enum Edit {
 pub(crate) fn kept_after<'a>(lines: &'a [BoxedLine], edit: &'a Edit, place: usize) -> &'a BoxedLine
     requires within { IsPlaceWithin (length lines.now) edit.now }
     requires place { place < count_after (length lines.now) edit.now }
-    ensures { slice_get (readings_in (lines_after lines.now edit.now)) place ≡ Some (reading_in result.now) }
+    ensures { slice_get (readings_in (lines_after lines.now edit.now)) place
+        ≡ Some (reading_in result.now) }
 {
     match edit {
         Edit::Insert(at, added) => {
@@ -54,7 +55,8 @@ pub(crate) fn kept_after<'a>(lines: &'a [BoxedLine], edit: &'a Edit, place: usiz
 pub(crate) fn line_after<'a>(lines: &'a [BoxedLine], edit: &'a Edit, place: usize) -> &'a Line
     requires within { IsPlaceWithin (length lines.now) edit.now }
     requires place { place < count_after (length lines.now) edit.now }
-    ensures { slice_get (readings_in (lines_after lines.now edit.now)) place ≡ Some (seen_line result.now) }
+    ensures { slice_get (readings_in (lines_after lines.now edit.now)) place
+        ≡ Some (seen_line result.now) }
 {
     kept_after(lines, edit, place).line()
 }

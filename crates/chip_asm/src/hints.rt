@@ -1,4 +1,5 @@
-//! Where the one name that a line uses stands in the table of names, so that steps over all lines needn't look for it.
+//! Where the one name that a line uses stands in the table of names, so that steps over all lines
+//! needn't look for it.
 ghost use Rattle.std.specs.Prelude.{◌≡◌, ◌≤◌, true, if◌then◌else◌, List, IfOk, length, map};
 ghost use Rattle.chip_asm.specs.Names.{values_of};
 ghost use Rattle.chip_asm.specs.inner.Hints.{names_in, as_hint, hint_in};
@@ -26,8 +27,8 @@ fn as_hint(number: usize) -> u16
     }
 }
 
-/// The number, counted from 2, of the one name that a line uses, among those of a table; 0 where it uses none, 1 where it uses more, or the
-/// name isn't there.
+/// The number, counted from 2, of the one name that a line uses, among those of a table; 0 where it
+/// uses none, 1 where it uses more, or the name isn't there.
 pub(crate) fn hint_of(names: &Table, line: &Line) -> u16
     ensures { result ≡ hint_in (names_in names.now) (seen_line line.now) }
 {
@@ -54,7 +55,8 @@ fn hint_by(names: &Table, traits: Traits, line: &Line) -> u16
 
 /// The hints of lines where no names are known yet.
 pub(crate) fn no_hints(alloc: Global, traits: &[Traits]) -> Result<Vec<u16>, AllocError>
-    ensures { IfOk result (λ hints. hints.items ≡ map (λ t. if t.has_names then 1 else 0) traits.now) }
+    ensures { IfOk result (λ hints. hints.items
+        ≡ map (λ t. if t.has_names then 1 else 0) traits.now) }
 {
     let mut hints = Vec::with_capacity(alloc, traits.len())?;
     for place in 0..traits.len() {
@@ -74,7 +76,8 @@ fn hints_of_all(
     requires within { IsPlaceWithin (length lines.now) edit.now }
     requires few { length lines.now ≤ MOST_LINES }
     requires traits { traits.now ≡ map traits_of (readings_in (lines_after lines.now edit.now)) }
-    ensures { IfOk result (λ hints. hints.items ≡ map (hint_in (names_in names.now)) (readings_in (lines_after lines.now edit.now))) }
+    ensures { IfOk result (λ hints. hints.items
+        ≡ map (hint_in (names_in names.now)) (readings_in (lines_after lines.now edit.now))) }
 {
     let count = count_after(lines.len(), edit);
     let mut hints = Vec::with_capacity(alloc, count)?;
@@ -85,7 +88,8 @@ fn hints_of_all(
     Ok(hints)
 }
 
-/// The hints of the lines after an edit, from those before it, where the names stand where they stood.
+/// The hints of the lines after an edit, from those before it, where the names stand where they
+/// stood.
 fn edited_hints(
     alloc: Global,
     names: &Table,
@@ -93,8 +97,10 @@ fn edited_hints(
     edit: &Edit,
 ) -> Result<Vec<u16>, AllocError>
     requires within { IsPlaceWithin (length hints.now) edit.now }
-    ensures { (lines : List KeptLine) → hints.now ≡ map (hint_in (names_in names.now)) (readings_in lines)
-        → IfOk result (λ after. after.items ≡ map (hint_in (names_in names.now)) (readings_in (lines_after lines edit.now))) }
+    ensures { (lines : List KeptLine)
+        → hints.now ≡ map (hint_in (names_in names.now)) (readings_in lines)
+        → IfOk result (λ after. after.items
+        ≡ map (hint_in (names_in names.now)) (readings_in (lines_after lines edit.now))) }
 {
     match edit {
         Edit::Insert(at, added) => with_item(alloc, hints, *at, hint_of(names, added.line())),
@@ -108,7 +114,8 @@ fn edited_hints(
     }
 }
 
-/// The hints of the lines after an edit. Those before it serve where all names stand where they stood.
+/// The hints of the lines after an edit. Those before it serve where all names stand where they
+/// stood.
 pub(crate) fn hints_after(
     alloc: Global,
     same_names: bool,
@@ -122,8 +129,10 @@ pub(crate) fn hints_after(
     requires few { length lines.now ≤ MOST_LINES }
     requires traits { traits.now ≡ map traits_of (readings_in (lines_after lines.now edit.now)) }
     requires long { length hints.now ≡ length lines.now }
-    requires hints { same_names ≡ true → hints.now ≡ map (hint_in (names_in names.now)) (readings_in lines.now) }
-    ensures { IfOk result (λ after. after.items ≡ map (hint_in (names_in names.now)) (readings_in (lines_after lines.now edit.now))) }
+    requires hints { same_names ≡ true
+        → hints.now ≡ map (hint_in (names_in names.now)) (readings_in lines.now) }
+    ensures { IfOk result (λ after. after.items
+        ≡ map (hint_in (names_in names.now)) (readings_in (lines_after lines.now edit.now))) }
 {
     if same_names {
         edited_hints(alloc, names, hints, edit)

@@ -96,7 +96,9 @@ fn write_word(image: &mut [u8], here: usize, high: u8, low: u8)
     requires high { here + 2 ≤ length image.old + IMAGE_START }
     requires memory { length image.old + IMAGE_START ≤ MEMORY_BYTES }
     ensures { (index : ℕ) → slice_index image.new index
-        ≡ (if nat_le here (IMAGE_START + index) && nat_lt (IMAGE_START + index) (here + 2) then slice_index (high ∷ low ∷ []) (IMAGE_START + index - here) else slice_index image.old index) }
+        ≡ (if nat_le here (IMAGE_START + index) && nat_lt (IMAGE_START + index) (here + 2)
+        then slice_index (high ∷ low ∷ []) (IMAGE_START + index - here)
+        else slice_index image.old index) }
 {
     let first = here - IMAGE_START;
     image[first] = high;
@@ -109,7 +111,9 @@ pub(crate) fn write_line(image: &mut [u8], here: usize, size: usize, bytes: &[u8
     requires high { here + size ≤ length image.old + IMAGE_START }
     requires memory { length image.old + IMAGE_START ≤ MEMORY_BYTES }
     ensures { (index : ℕ) → slice_index image.new index
-        ≡ (if nat_le here (IMAGE_START + index) && nat_lt (IMAGE_START + index) (here + size) then slice_index bytes.now (IMAGE_START + index - here) else slice_index image.old index) }
+        ≡ (if nat_le here (IMAGE_START + index) && nat_lt (IMAGE_START + index) (here + size)
+        then slice_index bytes.now (IMAGE_START + index - here)
+        else slice_index image.old index) }
 {
     if let ([high, low], 2) = (bytes, size) {
         write_word(image, here, *high, *low);
@@ -123,7 +127,8 @@ pub(crate) fn write_line(image: &mut [u8], here: usize, size: usize, bytes: &[u8
 /// Makes an image as long as one can be, by zeros at its end.
 pub(crate) fn fill_up(image: &mut Vec<u8>) -> Result<(), AllocError>
     requires { vec_len image.old ≤ IMAGE_BYTES }
-    ensures bytes { (index : ℕ) → slice_index image.new.items index ≡ slice_index image.old.items index }
+    ensures bytes { (index : ℕ)
+        → slice_index image.new.items index ≡ slice_index image.old.items index }
     ensures short { vec_len image.new ≤ IMAGE_BYTES }
     ensures long { vec_len image.old ≡ IMAGE_BYTES → vec_len image.new ≡ IMAGE_BYTES }
     ensures full { OnOk result (vec_len image.new ≡ IMAGE_BYTES) }
@@ -158,7 +163,8 @@ fn push_fault(
     placement: &Placement,
     fault: Option<Fault>,
 ) -> Result<(), AllocError>
-    ensures { OnOk result (faults.new.items ≡ faults.old.items ++ option_to_list (option_map (λ f. (placement.now.number, f)) fault)) }
+    ensures { OnOk result (faults.new.items
+        ≡ faults.old.items ++ option_to_list (option_map (λ f. (placement.now.number, f)) fault)) }
 {
     if let Some(fault) = fault {
         faults.push((placement.number as usize, fault))?;

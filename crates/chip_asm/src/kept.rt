@@ -44,12 +44,14 @@ use std::mem;
 pub(crate) struct Kept {
     pub(crate) lines: Vec<BoxedLine>,
     pub(crate) layout: Layout,
-    /// The layout before the last edit, for its room, and for its names, where they are the same. Else it has none.
+    /// The layout before the last edit, for its room, and for its names, where they are the same.
+    /// Else it has none.
     pub(crate) spare: Layout,
-    /// At the place of each line: the number of the one name that it uses in the layout's table, counted from 2; 0 where it uses none,
-    /// and else 1.
+    /// At the place of each line: the number of the one name that it uses in the layout's table,
+    /// counted from 2; 0 where it uses none, and else 1.
     pub(crate) hints: Vec<u16>,
-    /// The byte at each address from `IMAGE_START` on, also where a line has a fault. Empty until there is a line.
+    /// The byte at each address from `IMAGE_START` on, also where a line has a fault. Empty until
+    /// there is a line.
     pub(crate) image: Vec<u8>,
     /// How many lines have a fault.
     pub(crate) faults: usize,
@@ -57,7 +59,8 @@ pub(crate) struct Kept {
     pub(crate) traits: Vec<Traits>,
 }
 
-/// What an edit makes new: the traits, the hints, the layout, and a code for each line that needs one, with its place.
+/// What an edit makes new: the traits, the hints, the layout, and a code for each line that needs
+/// one, with its place.
 #[derive(Drop)]
 struct Prepared {
     traits: Vec<Traits>,
@@ -86,8 +89,11 @@ impl Prepared {
     /// The span of an edit of a layout: as it is known, or found by the places of all lines.
     fn span(&self, old: &Layout, edit: &Edit) -> Span
         requires within { IsPlaceWithin (length old.now.placements.items) edit.now }
-        requires long { length self.now.layout.placements.items ≡ count_after (length old.now.placements.items) edit.now }
-        requires known { IfSome self.now.span (λ span. IsSpanOf old.now self.now.layout (length old.now.placements.items) edit.now span) }
+        requires long { length self.now.layout.placements.items
+            ≡ count_after (length old.now.placements.items) edit.now }
+        requires known { IfSome self.now.span
+            (λ span. IsSpanOf old.now self.now.layout
+            (length old.now.placements.items) edit.now span) }
         ensures front { result.front ≤ first_changed edit.now }
         ensures back { result.back ≤ later_lines (length old.now.placements.items) edit.now }
         ensures span { IsSpan old.now.placements.items self.now.layout.placements.items result }
@@ -126,7 +132,8 @@ impl Kept {
         requires are_read { readings_in lines.items ≡ map reading_of (texts_in lines.items) }
         ensures kept { IfOk result (λ kept. IsKept kept) }
         ensures texts { IfOk result (λ kept. texts_in kept.lines.items ≡ texts_in lines.items) }
-        ensures encoded { meter.new.encoded ≤ meter.old.encoded + needs_count [] (readings_in lines.items) Some }
+        ensures encoded { meter.new.encoded
+            ≤ meter.old.encoded + needs_count [] (readings_in lines.items) Some }
         ensures not_lowered { meter.old.encoded ≤ meter.new.encoded }
         ensures parsed { meter.new.parsed ≡ meter.old.parsed }
     {
@@ -153,7 +160,8 @@ impl Kept {
         }
     }
 
-    /// Makes an edit, and says which places of the image it changed. Each growth comes before the first change.
+    /// Makes an edit, and says which places of the image it changed. Each growth comes before the
+    /// first change.
     pub(crate) fn edit(
         &mut self,
         alloc: Global,
@@ -163,12 +171,19 @@ impl Kept {
         requires kept { IsKept self.old }
         requires within { IsPlaceWithin (vec_len self.old.lines) edit }
         requires few { length (lines_after self.old.lines.items edit) ≤ MOST_LINES }
-        requires are_read { readings_in (lines_after self.old.lines.items edit) ≡ map reading_of (texts_in (lines_after self.old.lines.items edit)) }
-        ensures ok { OnOk result (texts_in self.new.lines.items ≡ texts_in (lines_after self.old.lines.items edit)) }
+        requires are_read { readings_in (lines_after self.old.lines.items edit)
+            ≡ map reading_of (texts_in (lines_after self.old.lines.items edit)) }
+        ensures ok { OnOk result (texts_in self.new.lines.items
+            ≡ texts_in (lines_after self.old.lines.items edit)) }
         ensures err { OnErr result (texts_in self.new.lines.items ≡ texts_in self.old.lines.items) }
         ensures kept { IsKept self.new }
-        ensures changed { IfOk result (λ changed. ChangesWithin changed.first changed.end (image_of_lines (readings_in self.old.lines.items)) (image_of_lines (readings_in self.new.lines.items))) }
-        ensures encoded { meter.new.encoded ≤ meter.old.encoded + needs_count (readings_in self.old.lines.items) (readings_in (lines_after self.old.lines.items edit)) (place_before edit) }
+        ensures changed { IfOk result
+            (λ changed. ChangesWithin changed.first changed.end
+            (image_of_lines (readings_in self.old.lines.items))
+            (image_of_lines (readings_in self.new.lines.items))) }
+        ensures encoded { meter.new.encoded
+            ≤ meter.old.encoded + needs_count (readings_in self.old.lines.items)
+            (readings_in (lines_after self.old.lines.items edit)) (place_before edit) }
         ensures not_lowered { meter.old.encoded ≤ meter.new.encoded }
         ensures parsed { meter.new.parsed ≡ meter.old.parsed }
     {
@@ -188,7 +203,8 @@ impl Kept {
     pub(crate) fn has_same_effect(&self, at: usize, line: &Line) -> bool
         requires kept { IsKept self.now }
         requires inside { at < vec_len self.now.lines }
-        ensures { result ≡ true → HasSameEffectAt (readings_in self.now.lines.items) at (seen_line line.now) }
+        ensures { result ≡ true
+            → HasSameEffectAt (readings_in self.now.lines.items) at (seen_line line.now) }
     {
         let placement = self.layout.placements[at];
         has_same_effect(placement.live, self.lines[at].line(), line)
@@ -206,11 +222,18 @@ impl Kept {
         requires inside { at < vec_len self.old.lines }
         requires is_read { reading_in added ≡ reading_of added.text }
         requires same { HasSameEffectAt (readings_in self.old.lines.items) at (reading_in added) }
-        ensures ok { OnOk result (texts_in self.new.lines.items ≡ slice_set (texts_in self.old.lines.items) at added.text) }
+        ensures ok { OnOk result (texts_in self.new.lines.items
+            ≡ slice_set (texts_in self.old.lines.items) at added.text) }
         ensures err { OnErr result (texts_in self.new.lines.items ≡ texts_in self.old.lines.items) }
         ensures kept { IsKept self.new }
-        ensures changed { IfOk result (λ changed. ChangesWithin changed.first changed.end (image_of_lines (readings_in self.old.lines.items)) (image_of_lines (readings_in self.new.lines.items))) }
-        ensures encoded { meter.new.encoded ≤ meter.old.encoded + needs_count (readings_in self.old.lines.items) (slice_set (readings_in self.old.lines.items) at (reading_in added)) (before_replace at) }
+        ensures changed { IfOk result
+            (λ changed. ChangesWithin changed.first changed.end
+            (image_of_lines (readings_in self.old.lines.items))
+            (image_of_lines (readings_in self.new.lines.items))) }
+        ensures encoded { meter.new.encoded
+            ≤ meter.old.encoded + needs_count (readings_in self.old.lines.items)
+            (slice_set (readings_in self.old.lines.items) at (reading_in added))
+            (before_replace at) }
         ensures not_lowered { meter.old.encoded ≤ meter.new.encoded }
         ensures parsed { meter.new.parsed ≡ meter.old.parsed }
     {
@@ -219,16 +242,20 @@ impl Kept {
         Ok(self.put(at, with_code(added, code)))
     }
 
-    /// Puts a line with its code in the place of one with the same effect: its bytes, and whether it has a fault, are all that changes.
+    /// Puts a line with its code in the place of one with the same effect: its bytes, and whether
+    /// it has a fault, are all that changes.
     fn put(&mut self, at: usize, added: BoxedLine) -> Changed
         requires kept { IsKept self.old }
         requires inside { at < vec_len self.old.lines }
         requires is_read { reading_in added ≡ reading_of added.text }
         requires same { HasSameEffectAt (readings_in self.old.lines.items) at (reading_in added) }
         requires coded { HasCodeAt (readings_in self.old.lines.items) at added }
-        ensures text { texts_in self.new.lines.items ≡ slice_set (texts_in self.old.lines.items) at added.text }
+        ensures text { texts_in self.new.lines.items
+            ≡ slice_set (texts_in self.old.lines.items) at added.text }
         ensures kept { IsKept self.new }
-        ensures changed { ChangesWithin result.first result.end (image_of_lines (readings_in self.old.lines.items)) (image_of_lines (readings_in self.new.lines.items)) }
+        ensures changed { ChangesWithin result.first result.end
+            (image_of_lines (readings_in self.old.lines.items))
+            (image_of_lines (readings_in self.new.lines.items)) }
     {
         let placement = self.layout.placements[at];
         let was = count_of(kept_fault(&placement, &self.lines[at]));
@@ -251,7 +278,8 @@ impl Kept {
         }
     }
 
-    /// Makes an edit by the layout, the codes and the image made anew. Each growth comes before the first change.
+    /// Makes an edit by the layout, the codes and the image made anew. Each growth comes before the
+    /// first change.
     fn remake(
         &mut self,
         alloc: Global,
@@ -261,12 +289,19 @@ impl Kept {
         requires kept { IsKept self.old }
         requires within { IsPlaceWithin (vec_len self.old.lines) edit }
         requires few { length (lines_after self.old.lines.items edit) ≤ MOST_LINES }
-        requires are_read { readings_in (lines_after self.old.lines.items edit) ≡ map reading_of (texts_in (lines_after self.old.lines.items edit)) }
-        ensures ok { OnOk result (texts_in self.new.lines.items ≡ texts_in (lines_after self.old.lines.items edit)) }
+        requires are_read { readings_in (lines_after self.old.lines.items edit)
+            ≡ map reading_of (texts_in (lines_after self.old.lines.items edit)) }
+        ensures ok { OnOk result (texts_in self.new.lines.items
+            ≡ texts_in (lines_after self.old.lines.items edit)) }
         ensures err { OnErr result (texts_in self.new.lines.items ≡ texts_in self.old.lines.items) }
         ensures kept { IsKept self.new }
-        ensures changed { IfOk result (λ changed. ChangesWithin changed.first changed.end (image_of_lines (readings_in self.old.lines.items)) (image_of_lines (readings_in self.new.lines.items))) }
-        ensures encoded { meter.new.encoded ≤ meter.old.encoded + needs_count (readings_in self.old.lines.items) (readings_in (lines_after self.old.lines.items edit)) (place_before edit) }
+        ensures changed { IfOk result
+            (λ changed. ChangesWithin changed.first changed.end
+            (image_of_lines (readings_in self.old.lines.items))
+            (image_of_lines (readings_in self.new.lines.items))) }
+        ensures encoded { meter.new.encoded
+            ≤ meter.old.encoded + needs_count (readings_in self.old.lines.items)
+            (readings_in (lines_after self.old.lines.items edit)) (place_before edit) }
         ensures not_lowered { meter.old.encoded ≤ meter.new.encoded }
         ensures parsed { meter.new.parsed ≡ meter.old.parsed }
     {
@@ -282,8 +317,8 @@ impl Kept {
         })
     }
 
-    /// Makes the layout and the codes after an edit, where the layout is that of these lines before, and room for one line more and for
-    /// the image. What is kept stays as it is.
+    /// Makes the layout and the codes after an edit, where the layout is that of these lines
+    /// before, and room for one line more and for the image. What is kept stays as it is.
     fn prepare(
         &mut self,
         alloc: Global,
@@ -294,27 +329,47 @@ impl Kept {
         requires few { vec_len self.old.lines ≤ MOST_LINES }
         requires short { vec_len self.old.image ≤ IMAGE_BYTES }
         requires traits { self.old.traits.items ≡ map traits_of (readings_in self.old.lines.items) }
-        requires continues { Continues self.old.layout (readings_in (lines_after self.old.lines.items edit.now)) (first_changed edit.now) }
-        requires before { is_keep edit.now ≡ false → IsLayoutOf self.old.layout (readings_in self.old.lines.items) }
-        requires hints { self.old.hints.items ≡ map (hint_in (names_in self.old.layout.names)) (readings_in self.old.lines.items) }
+        requires continues { Continues self.old.layout
+            (readings_in (lines_after self.old.lines.items edit.now)) (first_changed edit.now) }
+        requires before { is_keep edit.now ≡ false
+            → IsLayoutOf self.old.layout (readings_in self.old.lines.items) }
+        requires hints { self.old.hints.items
+            ≡ map (hint_in (names_in self.old.layout.names)) (readings_in self.old.lines.items) }
         requires spare { IsSpareFor self.old.layout self.old.spare }
         ensures spare { IsSpareFor self.new.layout self.new.spare }
-        ensures same_names { IfOk result (λ prepared. prepared.same_names ≡ true → names_in self.old.layout.names ≡ names_in prepared.layout.names) }
+        ensures same_names { IfOk result (λ prepared. prepared.same_names ≡ true
+            → names_in self.old.layout.names ≡ names_in prepared.layout.names) }
         ensures traits { self.new.traits ≡ self.old.traits }
         ensures hints { self.new.hints ≡ self.old.hints }
-        ensures hints_after { IfOk result (λ prepared. prepared.hints.items ≡ map (hint_in (names_in prepared.layout.names)) (readings_in (lines_after self.old.lines.items edit.now))) }
-        ensures traits_after { IfOk result (λ prepared. prepared.traits.items ≡ map traits_of (readings_in (lines_after self.old.lines.items edit.now))) }
+        ensures hints_after { IfOk result (λ prepared. prepared.hints.items
+            ≡ map (hint_in (names_in prepared.layout.names))
+            (readings_in (lines_after self.old.lines.items edit.now))) }
+        ensures traits_after { IfOk result (λ prepared. prepared.traits.items
+            ≡ map traits_of (readings_in (lines_after self.old.lines.items edit.now))) }
         ensures lines { self.new.lines.items ≡ self.old.lines.items }
         ensures layout { self.new.layout ≡ self.old.layout }
         ensures faults { self.new.faults ≡ self.old.faults }
-        ensures image { (index : ℕ) → slice_index self.new.image.items index ≡ slice_index self.old.image.items index }
+        ensures image { (index : ℕ)
+            → slice_index self.new.image.items index ≡ slice_index self.old.image.items index }
         ensures short { vec_len self.new.image ≤ IMAGE_BYTES }
         ensures long { vec_len self.old.image ≡ IMAGE_BYTES → vec_len self.new.image ≡ IMAGE_BYTES }
-        ensures room { OnOk result ((vec_len self.new.lines < vec_capacity self.new.lines) × (vec_len self.new.image ≡ IMAGE_BYTES)) }
-        ensures after { IfOk result (λ prepared. IsLayoutOf prepared.layout (readings_in (lines_after self.old.lines.items edit.now))) }
-        ensures span { IfOk result (λ prepared. IfSome prepared.span (λ span. IsSpanOf self.old.layout prepared.layout (vec_len self.old.lines) edit.now span)) }
-        ensures codes { (before : List Reading) → IsLayoutOf self.old.layout before → IfOk result (λ prepared. prepared.codes.items ≡ new_codes before (readings_in (lines_after self.old.lines.items edit.now)) (place_before edit.now)) }
-        ensures encoded { (before : List Reading) → IsLayoutOf self.old.layout before → meter.new.encoded ≤ meter.old.encoded + needs_count before (readings_in (lines_after self.old.lines.items edit.now)) (place_before edit.now) }
+        ensures room { OnOk result ((vec_len self.new.lines < vec_capacity self.new.lines)
+            × (vec_len self.new.image ≡ IMAGE_BYTES)) }
+        ensures after { IfOk result
+            (λ prepared. IsLayoutOf prepared.layout
+            (readings_in (lines_after self.old.lines.items edit.now))) }
+        ensures span { IfOk result
+            (λ prepared. IfSome prepared.span
+            (λ span. IsSpanOf self.old.layout prepared.layout
+            (vec_len self.old.lines) edit.now span)) }
+        ensures codes { (before : List Reading) → IsLayoutOf self.old.layout before
+            → IfOk result (λ prepared. prepared.codes.items
+            ≡ new_codes before (readings_in (lines_after self.old.lines.items edit.now))
+            (place_before edit.now)) }
+        ensures encoded { (before : List Reading) → IsLayoutOf self.old.layout before
+            → meter.new.encoded ≤ meter.old.encoded
+            + needs_count before (readings_in (lines_after self.old.lines.items edit.now))
+            (place_before edit.now) }
         ensures not_lowered { meter.old.encoded ≤ meter.new.encoded }
         ensures parsed { meter.new.parsed ≡ meter.old.parsed }
     {
@@ -357,15 +412,19 @@ impl Kept {
     /// Puts in place what was prepared for these lines, of which those of the span stood before.
     fn settle(&mut self, prepared: Prepared, span: Span)
         requires few { length self.old.lines.items ≤ MOST_LINES }
-        requires are_read { readings_in self.old.lines.items ≡ map reading_of (texts_in self.old.lines.items) }
+        requires are_read { readings_in self.old.lines.items
+            ≡ map reading_of (texts_in self.old.lines.items) }
         requires laid_out { IsLayoutOf prepared.layout (readings_in self.old.lines.items) }
         requires traits { prepared.traits.items ≡ map traits_of (readings_in self.old.lines.items) }
-        requires hints { prepared.hints.items ≡ map (hint_in (names_in prepared.layout.names)) (readings_in self.old.lines.items) }
+        requires hints { prepared.hints.items
+            ≡ map (hint_in (names_in prepared.layout.names)) (readings_in self.old.lines.items) }
         requires own { AreOwn prepared.codes.items self.old.lines.items }
         requires current { MakesCurrent prepared.codes.items self.old.lines.items }
         requires image { vec_len self.old.image ≡ IMAGE_BYTES }
-        requires stood { StoodBefore self.old.layout prepared.layout span self.old.faults self.old.image.items self.old.lines.items }
-        requires same { prepared.same_names ≡ true → names_in self.old.layout.names ≡ names_in prepared.layout.names }
+        requires stood { StoodBefore self.old.layout prepared.layout span self.old.faults
+            self.old.image.items self.old.lines.items }
+        requires same { prepared.same_names ≡ true
+            → names_in self.old.layout.names ≡ names_in prepared.layout.names }
         ensures texts { texts_in self.new.lines.items ≡ texts_in self.old.lines.items }
         ensures kept { IsKept self.new }
     {

@@ -31,14 +31,15 @@ pub(crate) struct KeptLine {
 /// How a line is held.
 #[derive(Drop)]
 pub(crate) enum HeldLine {
-    /// A line that says nothing, as so many bytes of those that were read together, from a place on.
+    /// A line that says nothing, as so many bytes of those that were read together, from a place
+    /// on.
     Nothing(Rc<SharedSource>, u32, u16),
     /// Any line.
     Boxed(Box<KeptLine>),
 }
 
-/// The same behind a pointer, so that an edit, which moves lines, moves little. Many lines are blank or of a comment alone: where these
-/// were read with others, they take no room of their own.
+/// The same behind a pointer, so that an edit, which moves lines, moves little. Many lines are
+/// blank or of a comment alone: where these were read with others, they take no room of their own.
 #[derive(Drop)]
 pub(crate) struct BoxedLine {
     held: HeldLine,
@@ -119,7 +120,8 @@ impl BoxedLine {
         }
     }
 
-    /// The value of the expression of an EQU, ORG or DS line, where it is known whatever the names mean.
+    /// The value of the expression of an EQU, ORG or DS line, where it is known whatever the names
+    /// mean.
     pub(crate) fn constant(&self) -> Option<i32>
         ensures { IsKnown result (reading_in self.now) }
     {
@@ -195,7 +197,8 @@ fn read_said(
 ) -> Result<BoxedLine, AllocError>
     requires { start + count ≤ length source.now.value.bytes }
     ensures text { IfOk result (λ kept. kept.text ≡ part_from source.now.value.bytes start count) }
-    ensures reading { IfOk result (λ kept. seen_line kept.line ≡ reading_of (part_from source.now.value.bytes start count)) }
+    ensures reading { IfOk result (λ kept. seen_line kept.line
+        ≡ reading_of (part_from source.now.value.bytes start count)) }
     ensures counted { meter.new ≡ record meter.old { parsed = one_more meter.old.parsed } }
 {
     let line = read_line(alloc, meter, source.part(start, count))?;
@@ -217,7 +220,8 @@ fn constant_of(line: &Line) -> Option<i32>
 #[tactic(auto, unfolding(crate::specs::Layout::value_at))]
 #[inline(never)]
 fn constant_in(body: &Body) -> Option<i32>
-    ensures { (names : List (Name × Symbol)) → IfSome result (λ value. value_at names (seen_body body.now) ≡ Ok value) }
+    ensures { (names : List (Name × Symbol))
+        → IfSome result (λ value. value_at names (seen_body body.now) ≡ Ok value) }
 {
     match body {
         Body::Equ(expr) | Body::Org(expr) | Body::Ds(expr) => constant(expr),

@@ -11,12 +11,14 @@ ghost use Rattle.chip_asm.specs.Program.{symbols_of, covers, is_unclosed};
 
 /// No name stands twice among the names that a source gives.
 pub fn names_differ()
-    ensures { (texts : List (List ℕ)) → IsDistinct bytes_eq (map (λ symbol. symbol.0) (symbols_of texts)) }
+    ensures { (texts : List (List ℕ))
+        → IsDistinct bytes_eq (map (λ symbol. symbol.0) (symbols_of texts)) }
 {}
 
 /// At most one line of a source covers an address.
 pub fn one_line_covers()
-    ensures { (texts : List (List ℕ)) (address : ℕ) → length (filter (covers address) (placed (map reading_of texts))) ≤ 1 }
+    ensures { (texts : List (List ℕ)) (address : ℕ)
+        → length (filter (covers address) (placed (map reading_of texts))) ≤ 1 }
 {}
 
 /// What holds of the lines of a source one after another is what holds of them by place.
@@ -26,11 +28,13 @@ pub fn lines_are_placed()
 
 /// Nothing else holds of them by place.
 pub fn only_these_are_placed()
-    ensures { (lines : List Reading) (all : List Placed) → ArePlaced lines all → all ≡ reverse (placed lines) }
+    ensures { (lines : List Reading) (all : List Placed) → ArePlaced lines all
+        → all ≡ reverse (placed lines) }
 {}
 
 /// The IF lines without ENDIF, by place.
 pub fn unclosed_by_place()
-    ensures { (lines : List Reading) (i : ℕ) (p : Placed) → slice_get (reverse (placed lines)) i ≡ Some p
+    ensures { (lines : List Reading) (i : ℕ) (p : Placed)
+        → slice_get (reverse (placed lines)) i ≡ Some p
         → Decides (is_unclosed (placed lines) p) (IsUnclosed (reverse (placed lines)) i p) }
 {}

@@ -30,12 +30,13 @@ use crate::span::{Span, clean_lines};
 use crate::table::Table;
 use crate::traits::Traits;
 use crate::way::Way;
-use chip_lang::limits::{IMAGE_START, MEMORY_BYTES};
 use chip_lang::laws::{kept_value, same_code};
+use chip_lang::limits::{IMAGE_START, MEMORY_BYTES};
 use chip_lang::{Fault, Line, agree_on, defines};
 use std::alloc::{AllocError, Global};
 
-/// What the first pass finds: what holds of each line, the names, and the address after the last line.
+/// What the first pass finds: what holds of each line, the names, and the address after the last
+/// line.
 #[derive(Drop)]
 pub(crate) struct Layout {
     pub(crate) placements: Vec<Placement>,
@@ -91,8 +92,8 @@ fn mark_unclosed(
         .collect(alloc)
 }
 
-/// The value of the expression of the line at a place after an edit, where it is known: no name has a say in it, or the line was accepted
-/// before the edit and its names keep their values.
+/// The value of the expression of the line at a place after an edit, where it is known: no name has
+/// a say in it, or the line was accepted before the edit and its names keep their values.
 fn known_value(
     names: &Table,
     old: &Layout,
@@ -104,7 +105,9 @@ fn known_value(
     requires within { IsPlaceWithin (length lines.now) edit.now }
     requires place { place < count_of_after (length lines.now) edit.now }
     requires few { place ≤ MOST_LINES }
-    ensures { (line : Reading) → slice_get (readings_in (lines_after lines.now edit.now)) place ≡ Some line → IsKnownUnder names.now result line }
+    ensures { (line : Reading)
+        → slice_get (readings_in (lines_after lines.now edit.now)) place ≡ Some line
+        → IsKnownUnder names.now result line }
 {
     let kept = kept_after(lines, edit, place);
     if let Some(value) = kept.constant() {
@@ -116,7 +119,8 @@ fn known_value(
     old.value_kept(names, kept.line(), place_before(edit, place)?)
 }
 
-/// Goes on by the line at a place after an edit, which is looked at only where its traits don't say all.
+/// Goes on by the line at a place after an edit, which is looked at only where its traits don't say
+/// all.
 fn step_at(
     pass: &mut Pass,
     alloc: Global,
@@ -130,11 +134,17 @@ fn step_at(
     requires within { IsPlaceWithin (length lines.now) edit.now }
     requires place { place < count_of_after (length lines.now) edit.now }
     requires few { place ≤ MOST_LINES }
-    requires traits { (line : Reading) → slice_get (readings_in (lines_after lines.now edit.now)) place ≡ Some line → traits ≡ traits_of line }
-    ensures found { (before : List Reading) (line : Reading) → slice_get (readings_in (lines_after lines.now edit.now)) place ≡ Some line
-        → Follows pass.old (placed before) → place ≡ length before → IfOk result (λ placement. placement ≡ placement_of (place_next (placed before) line)) }
-    ensures follows { (before : List Reading) (line : Reading) → slice_get (readings_in (lines_after lines.now edit.now)) place ≡ Some line
-        → Follows pass.old (placed before) → place ≡ length before → OnOk result (Follows pass.new (placed (before ++ line ∷ []))) }
+    requires traits { (line : Reading)
+        → slice_get (readings_in (lines_after lines.now edit.now)) place ≡ Some line
+        → traits ≡ traits_of line }
+    ensures found { (before : List Reading) (line : Reading)
+        → slice_get (readings_in (lines_after lines.now edit.now)) place ≡ Some line
+        → Follows pass.old (placed before) → place ≡ length before
+        → IfOk result (λ placement. placement ≡ placement_of (place_next (placed before) line)) }
+    ensures follows { (before : List Reading) (line : Reading)
+        → slice_get (readings_in (lines_after lines.now edit.now)) place ≡ Some line
+        → Follows pass.old (placed before) → place ≡ length before
+        → OnOk result (Follows pass.new (placed (before ++ line ∷ []))) }
 {
     let Some(size) = traits.bare_size() else {
         let known = known_value(&pass.names, old, lines, edit, place);
@@ -154,7 +164,8 @@ fn step_at(
 fn steady_lines(traits: &[Traits], place: usize) -> usize
     requires { place ≤ length traits.now }
     ensures within { result ≤ place }
-    ensures steady { (index : ℕ) (other : Traits) → index < result → (slice_index_or traits.now index other).is_steady ≡ true }
+    ensures steady { (index : ℕ) (other : Traits) → index < result
+        → (slice_index_or traits.now index other).is_steady ≡ true }
 {
     for index in 0..place {
         if !traits[index].is_steady {
@@ -164,8 +175,8 @@ fn steady_lines(traits: &[Traits], place: usize) -> usize
     place
 }
 
-/// What the first pass finds of the first lines of a source, and its state after them, where these lines are steady, and the first ones
-/// of an old layout too. There is room for so many lines.
+/// What the first pass finds of the first lines of a source, and its state after them, where these
+/// lines are steady, and the first ones of an old layout too. There is room for so many lines.
 fn first_lines(
     alloc: Global,
     spare: Layout,
@@ -174,8 +185,10 @@ fn first_lines(
     count: usize,
 ) -> Result<(Vec<Placement>, Pass), AllocError>
     requires { first ≤ vec_len old.now.placements }
-    ensures { (lines : List Reading) → Continues old.now lines first → All (λ line. is_steady (body_of line) ≡ true) (take first lines)
-        → IfOk result (λ made. (made.0.items ≡ first_placements (take first lines)) × Follows made.1 (placed (take first lines))) }
+    ensures { (lines : List Reading) → Continues old.now lines first
+        → All (λ line. is_steady (body_of line) ≡ true) (take first lines)
+        → IfOk result (λ made. (made.0.items ≡ first_placements (take first lines))
+        × Follows made.1 (placed (take first lines))) }
 {
     let Layout {
         mut placements,
@@ -210,7 +223,8 @@ fn walk(
     requires walked { IsWalked walked (readings_in (lines_after lines.now edit.now)) place }
     requires order { place ≤ end }
     requires end { end ≤ count_of_after (length lines.now) edit.now }
-    ensures { IfOk result (λ made. IsWalked made (readings_in (lines_after lines.now edit.now)) end) }
+    ensures { IfOk result
+        (λ made. IsWalked made (readings_in (lines_after lines.now edit.now)) end) }
 {
     let (mut placements, mut pass) = walked;
     for next in place..end {
@@ -227,7 +241,8 @@ impl Layout {
 
     /// The address at which the line at a place stands, or that after the last line.
     pub(crate) fn address_at(&self, place: usize) -> usize
-        ensures { (lines : List Reading) → IsLayoutOf self.now lines → place ≤ length lines → result ≡ address (placed (take place lines)) }
+        ensures { (lines : List Reading) → IsLayoutOf self.now lines → place ≤ length lines
+            → result ≡ address (placed (take place lines)) }
     {
         match self.placements.get(place) {
             Some(placement) => placement.address(),
@@ -249,9 +264,12 @@ impl Layout {
         }
     }
 
-    /// The value of the expression of the line at a place, where the line is accepted and its names mean the same in another table.
+    /// The value of the expression of the line at a place, where the line is accepted and its names
+    /// mean the same in another table.
     fn value_kept(&self, names: &Table, line: &Line, place: usize) -> Option<i32>
-        ensures { (lines : List Reading) → IsLayoutOf self.now lines → slice_get lines place ≡ Some (seen_line line.now) → IsKnownUnder names.now result (seen_line line.now) }
+        ensures { (lines : List Reading) → IsLayoutOf self.now lines
+            → slice_get lines place ≡ Some (seen_line line.now)
+            → IsKnownUnder names.now result (seen_line line.now) }
     {
         kept_value();
         same_code();
@@ -266,14 +284,15 @@ impl Layout {
     /// Whether the lines from a place on are accepted.
     fn is_accepted_from(&self, place: usize) -> bool
         requires long { place ≤ vec_len self.now.placements }
-        requires accepted { self.now.all_accepted ≡ true → list_all is_placed self.now.placements.items ≡ true }
+        requires accepted { self.now.all_accepted ≡ true
+            → list_all is_placed self.now.placements.items ≡ true }
         ensures { result ≡ list_all is_placed (drop place self.now.placements.items) }
     {
         self.all_accepted || are_accepted(&self.placements[place..])
     }
 
-    /// How far the lines from a place on move, which are plain, where they only move: the pass stands before them at an address, and
-    /// each line before them is steady.
+    /// How far the lines from a place on move, which are plain, where they only move: the pass
+    /// stands before them at an address, and each line before them is steady.
     pub(crate) fn shift(
         &self,
         lines: &[BoxedLine],
@@ -287,7 +306,8 @@ impl Layout {
         requires few { length lines.now ≤ MOST_LINES }
         requires before { is_keep edit.now ≡ false → IsLayoutOf self.now (readings_in lines.now) }
         requires low { here ≤ MEMORY_BYTES }
-        ensures { IfSome result (λ shift. IsShift shift self.now (readings_in lines.now) edit.now next here) }
+        ensures { IfSome result
+            (λ shift. IsShift shift self.now (readings_in lines.now) edit.now next here) }
     {
         if !takes_steady(lines, edit) {
             return None;
@@ -314,9 +334,11 @@ impl Layout {
     /// How many of the first lines, up to a limit, have no fault.
     pub(crate) fn clean_lines(&self, limit: usize) -> usize
         requires long { limit ≤ vec_len self.now.placements }
-        requires accepted { self.now.all_accepted ≡ true → list_all is_placed self.now.placements.items ≡ true }
+        requires accepted { self.now.all_accepted ≡ true
+            → list_all is_placed self.now.placements.items ≡ true }
         ensures within { result ≤ limit }
-        ensures clean { (place : ℕ) (q : Placement) → place < result → slice_get self.now.placements.items place ≡ Some q → q.fault ≡ None }
+        ensures clean { (place : ℕ) (q : Placement) → place < result
+            → slice_get self.now.placements.items place ≡ Some q → q.fault ≡ None }
     {
         if self.all_accepted {
             limit
@@ -325,8 +347,8 @@ impl Layout {
         }
     }
 
-    /// The layout of which the first lines are walked, of them those from the place of the edit on anew, and the others are those from
-    /// another place on, moved.
+    /// The layout of which the first lines are walked, of them those from the place of the edit on
+    /// anew, and the others are those from another place on, moved.
     fn shifted(
         &self,
         alloc: Global,
@@ -337,12 +359,17 @@ impl Layout {
     ) -> Result<Self, AllocError>
         requires place { place ≤ vec_len walked.0 }
         requires from { from ≤ vec_len self.now.placements }
-        requires names { names_in walked.1.names ≡ take (length walked.1.names) (names_in self.now.names) }
+        requires names { names_in walked.1.names
+            ≡ take (length walked.1.names) (names_in self.now.names) }
         requires end { self.now.end ≤ MEMORY_BYTES }
-        ensures placements { IfOk result (λ made. made.placements.items ≡ walked.0.items ++ map (moved_placement shift) (drop from self.now.placements.items)) }
-        ensures names { IfOk result (λ made. made.names ≡ walked.1.names ++ map (moved_name shift) (drop (length walked.1.names) self.now.names)) }
+        ensures placements { IfOk result (λ made. made.placements.items
+            ≡ walked.0.items ++ map (moved_placement shift) (drop from self.now.placements.items)) }
+        ensures names { IfOk result (λ made. made.names
+            ≡ walked.1.names
+            ++ map (moved_name shift) (drop (length walked.1.names) self.now.names)) }
         ensures end { IfOk result (λ made. made.end ≡ moved_address shift self.now.end) }
-        ensures accepted { IfOk result (λ made. made.all_accepted ≡ (self.now.all_accepted && list_all is_placed (drop place walked.0.items))) }
+        ensures accepted { IfOk result (λ made. made.all_accepted
+            ≡ (self.now.all_accepted && list_all is_placed (drop place walked.0.items))) }
     {
         let (mut placements, pass) = walked;
         let all_accepted = self.all_accepted && are_accepted(&placements[place..]);
@@ -371,10 +398,12 @@ impl Layout {
         requires old { is_keep edit.now ≡ false → IsLayoutOf old.now (readings_in lines.now) }
         requires within { IsPlaceWithin (length lines.now) edit.now }
         requires few { length lines.now ≤ MOST_LINES }
-        requires traits { traits.now ≡ map traits_of (readings_in (lines_after lines.now edit.now)) }
+        requires traits { traits.now
+            ≡ map traits_of (readings_in (lines_after lines.now edit.now)) }
         requires walked { IsWalked walked (readings_in (lines_after lines.now edit.now)) next }
         requires next { next ≤ count_of_after (length lines.now) edit.now }
-        ensures { IfOk result (λ layout. IsLayoutOf layout (readings_in (lines_after lines.now edit.now))) }
+        ensures { IfOk result
+            (λ layout. IsLayoutOf layout (readings_in (lines_after lines.now edit.now))) }
     {
         let count = count_after(lines.len(), edit);
         let (placements, pass) = walk(walked, alloc, old, traits, lines, edit, next, count)?;
@@ -390,9 +419,10 @@ impl Layout {
         })
     }
 
-    /// The layout of the lines after an edit, where another one is that before it, in the room of a third one, whose names serve again
-    /// where they still come in this order. The pass begins at the edit, unless a line before it is no steady one. It ends where the later
-    /// lines only move: then it is known which lines stand where they stood, or moved by one distance.
+    /// The layout of the lines after an edit, where another one is that before it, in the room of a
+    /// third one, whose names serve again where they still come in this order. The pass begins at
+    /// the edit, unless a line before it is no steady one. It ends where the later lines only move:
+    /// then it is known which lines stand where they stood, or moved by one distance.
     pub(crate) fn after(
         alloc: Global,
         spare: Layout,
@@ -403,12 +433,17 @@ impl Layout {
     ) -> Result<(Self, Option<Span>), AllocError>
         requires within { IsPlaceWithin (length lines.now) edit.now }
         requires spare { IsSpareFor old.now spare }
-        requires continues { Continues old.now (readings_in (lines_after lines.now edit.now)) (first_changed_by edit.now) }
+        requires continues { Continues old.now (readings_in (lines_after lines.now edit.now))
+            (first_changed_by edit.now) }
         requires before { is_keep edit.now ≡ false → IsLayoutOf old.now (readings_in lines.now) }
         requires few { length lines.now ≤ MOST_LINES }
-        requires traits { traits.now ≡ map traits_of (readings_in (lines_after lines.now edit.now)) }
-        ensures layout { IfOk result (λ made. IsLayoutOf made.0 (readings_in (lines_after lines.now edit.now))) }
-        ensures span { IfOk result (λ made. IfSome made.1 (λ span. IsSpanOf old.now made.0 (length lines.now) edit.now span)) }
+        requires traits { traits.now
+            ≡ map traits_of (readings_in (lines_after lines.now edit.now)) }
+        ensures layout { IfOk result
+            (λ made. IsLayoutOf made.0 (readings_in (lines_after lines.now edit.now))) }
+        ensures span { IfOk result
+            (λ made. IfSome made.1
+            (λ span. IsSpanOf old.now made.0 (length lines.now) edit.now span)) }
     {
         let count = count_after(lines.len(), edit);
         let place = first_changed(edit);

@@ -8,7 +8,8 @@ use std::alloc::{AllocError, Global};
 use std::marker::Model;
 use std::rc::Rc;
 
-/// What lines that are read together share: the bytes with their texts, and a line that says nothing, with its code.
+/// What lines that are read together share: the bytes with their texts, and a line that says
+/// nothing, with its code.
 #[derive(Drop)]
 pub(crate) struct SharedSource {
     pub(crate) bytes: Bytes,

@@ -147,7 +147,9 @@ fn push_field(
     kept: &BoxedLine,
 ) -> Result<(), AllocError>
     ensures { OnOk result (out.new.items
-        ≡ out.old.items ++ field_shown fault placement.now.live (body_of (reading_in kept.now)) placement.now.here placement.now.value placement.now.size (kept_bytes kept.now)) }
+        ≡ out.old.items ++ field_shown fault placement.now.live
+        (body_of (reading_in kept.now)) placement.now.here placement.now.value placement.now.size
+        (kept_bytes kept.now)) }
 {
     if let Some(fault) = fault {
         let mut digits = Buffer::new();
@@ -187,7 +189,10 @@ fn push_line(
     more: u8,
     text: &[u8],
 ) -> Result<(), AllocError>
-    ensures { OnOk result (out.new.items ≡ out.old.items ++ shown placement.now.number placement.now.live placement.now.here field.now more text.now) }
+    ensures { OnOk result (out.new.items
+        ≡ out.old.items
+        ++ shown placement.now.number placement.now.live placement.now.here field.now more
+        text.now) }
 {
     push_number(out, placement.number as usize)?;
     out.push(b' ')?;
@@ -201,7 +206,8 @@ fn push_line(
     Ok(())
 }
 
-// How many bytes a line of the listing has beside its text, where its number has four digits at most.
+// How many bytes a line of the listing has beside its text, where its number has four digits at
+// most.
 const BESIDE_TEXT: usize = 25;
 
 /// How many bytes the listing of some lines has, at least.
@@ -223,7 +229,8 @@ pub(crate) fn listing_in(
 ) -> Result<Vec<u8>, AllocError>
     requires laid_out { IsLayoutOf layout.now (readings_in lines.now) }
     requires current { AreCurrent lines.now }
-    ensures { IfOk result (λ listing. listing.items ≡ lines_shown (placed (readings_in lines.now)) (texts_in lines.now)) }
+    ensures { IfOk result (λ listing. listing.items
+        ≡ lines_shown (placed (readings_in lines.now)) (texts_in lines.now)) }
 {
     let mut listing = Vec::with_capacity(alloc, listing_bytes(lines))?;
     let mut field = Vec::new(alloc);

@@ -95,7 +95,8 @@ impl Pass {
 
     /// At an address, after lines that give these names, where no block is open.
     pub(crate) fn resume(alloc: Global, here: usize, names: Table) -> Self
-        ensures { (before : List Placed) → here ≡ address before → here ≤ MEMORY_BYTES → is_aligning before ≡ true → has_ended before ≡ false → enclosing before ≡ []
+        ensures { (before : List Placed) → here ≡ address before → here ≤ MEMORY_BYTES
+            → is_aligning before ≡ true → has_ended before ≡ false → enclosing before ≡ []
             → names ≡ symbols before → Follows result before }
     {
         Pass {
@@ -110,7 +111,8 @@ impl Pass {
 
     #[tactic(auto, unfolding(crate::specs::computed::Walk::is_live))]
     fn is_live(&self, body: &Body) -> bool
-        ensures { (before : List Placed) → Follows self.now before → result ≡ is_live before (seen_body body.now) }
+        ensures { (before : List Placed) → Follows self.now before
+            → result ≡ is_live before (seen_body body.now) }
     {
         if self.ended {
             return false;
@@ -125,7 +127,8 @@ impl Pass {
     }
 
     fn is_misplaced(&self, body: &Body) -> bool
-        ensures { (before : List Placed) → Follows self.now before → result ≡ is_misplaced before (seen_body body.now) }
+        ensures { (before : List Placed) → Follows self.now before
+            → result ≡ is_misplaced before (seen_body body.now) }
     {
         match body {
             Body::Else => match self.blocks.last() {
@@ -137,7 +140,8 @@ impl Pass {
         }
     }
 
-    /// The value of the expression of an EQU, ORG or DS line, under the names so far. It may be known.
+    /// The value of the expression of an EQU, ORG or DS line, under the names so far. It may be
+    /// known.
     #[tactic(auto, unfolding(crate::specs::Layout::value_at))]
     fn value_at(&self, known: Option<i32>, body: &Body) -> Result<i32, Fault>
         requires { IfSome known (λ value. value_at self.now.names (seen_body body.now) ≡ Ok value) }
@@ -163,7 +167,8 @@ impl Pass {
     }
 
     fn full_size(&self, body: &Body, value: i32) -> usize
-        ensures size { result ≡ full_size self.now.aligning self.now.here (seen_body body.now) value }
+        ensures size { result
+            ≡ full_size self.now.aligning self.now.here (seen_body body.now) value }
         ensures bound { result < 2 ^ 64 }
     {
         let size = size_of_body(body, value);
@@ -194,7 +199,8 @@ impl Pass {
 
     #[tactic(auto, unfolding(crate::specs::computed::Walk::fault_of_value))]
     fn fault_of_value(&self, body: &Body, value: Result<i32, Fault>) -> Option<Fault>
-        ensures { result ≡ fault_of_value self.now.aligning self.now.here (seen_body body.now) value }
+        ensures { result
+            ≡ fault_of_value self.now.aligning self.now.here (seen_body body.now) value }
     {
         match value {
             Err(fault) => Some(fault),
@@ -215,10 +221,14 @@ impl Pass {
     /// The first fault of a live line, but for an IF without ENDIF.
     #[tactic(auto, unfolding(crate::specs::computed::Walk::first_fault))]
     fn first_fault(&self, line: &Line, value: Result<i32, Fault>) -> Option<Fault>
-        ensures fault { (before : List Placed) → Follows self.now before → value ≡ value_at (symbols before) (body_of (seen_line line.now))
+        ensures fault { (before : List Placed) → Follows self.now before
+            → value ≡ value_at (symbols before) (body_of (seen_line line.now))
             → result ≡ first_fault before (seen_line line.now) }
-        ensures new_name { result ≡ None → is_redefinition self.now.names (name_defined (seen_line line.now)) ≡ false }
-        ensures fits { result ≡ None → fault_of_value self.now.aligning self.now.here (body_of (seen_line line.now)) value ≡ None }
+        ensures new_name { result ≡ None
+            → is_redefinition self.now.names (name_defined (seen_line line.now)) ≡ false }
+        ensures fits { result ≡ None
+            → fault_of_value self.now.aligning self.now.here (body_of (seen_line line.now)) value
+            ≡ None }
     {
         match line {
             Line::Bad(fault) => Some(*fault),
@@ -236,10 +246,14 @@ impl Pass {
 
     /// The fault of the line, where it is live.
     fn fault_of(&self, live: bool, line: &Line, value: Result<i32, Fault>) -> Option<Fault>
-        ensures fault { (before : List Placed) → Follows self.now before → value ≡ value_at (symbols before) (body_of (seen_line line.now))
+        ensures fault { (before : List Placed) → Follows self.now before
+            → value ≡ value_at (symbols before) (body_of (seen_line line.now))
             → result ≡ (if live then first_fault before (seen_line line.now) else None) }
-        ensures new_name { live ≡ true → result ≡ None → is_redefinition self.now.names (name_defined (seen_line line.now)) ≡ false }
-        ensures fits { live ≡ true → result ≡ None → fault_of_value self.now.aligning self.now.here (body_of (seen_line line.now)) value ≡ None }
+        ensures new_name { live ≡ true → result ≡ None
+            → is_redefinition self.now.names (name_defined (seen_line line.now)) ≡ false }
+        ensures fits { live ≡ true → result ≡ None
+            → fault_of_value self.now.aligning self.now.here (body_of (seen_line line.now)) value
+            ≡ None }
     {
         if live {
             self.first_fault(line, value)
@@ -251,9 +265,13 @@ impl Pass {
     /// The size of the line, where it is accepted.
     #[tactic(auto, unfolding(crate::specs::computed::Walk::fault_of_value))]
     fn size_of(&self, accepted: bool, body: &Body, value: i32) -> usize
-        requires { accepted ≡ true → fault_of_value self.now.aligning self.now.here (seen_body body.now) (Ok value) ≡ None }
+        requires { accepted ≡ true
+            → fault_of_value self.now.aligning self.now.here (seen_body body.now) (Ok value)
+            ≡ None }
         ensures bound { result ≤ MEMORY_BYTES }
-        ensures size { result ≡ (if accepted then full_size self.now.aligning self.now.here (seen_body body.now) value else 0) }
+        ensures size { result
+            ≡ (if accepted then full_size self.now.aligning self.now.here (seen_body body.now) value
+            else 0) }
     {
         if accepted {
             self.full_size(body, value)
@@ -266,10 +284,19 @@ impl Pass {
     fn place(&self, number: usize, known: Option<i32>, line: &Line) -> Placement
         requires number { number ≤ MOST_LINES + 1 }
         requires known { IsKnownUnder self.now.names known (seen_line line.now) }
-        ensures placed { (before : List Placed) → Follows self.now before → number ≡ length before + 1 → result ≡ placement_of (place before (seen_line line.now)) }
-        ensures new_name { is_placed result ≡ true → is_redefinition self.now.names (name_defined (seen_line line.now)) ≡ false }
-        ensures fits { is_placed result ≡ true → fault_of_value self.now.aligning self.now.here (body_of (seen_line line.now)) (Ok result.value) ≡ None }
-        ensures size { result.size ≡ (if is_placed result then full_size self.now.aligning self.now.here (body_of (seen_line line.now)) result.value else 0) }
+        ensures placed { (before : List Placed) → Follows self.now before
+            → number ≡ length before + 1
+            → result ≡ placement_of (place before (seen_line line.now)) }
+        ensures new_name { is_placed result ≡ true
+            → is_redefinition self.now.names (name_defined (seen_line line.now)) ≡ false }
+        ensures fits { is_placed result ≡ true
+            → fault_of_value self.now.aligning self.now.here (body_of (seen_line line.now))
+            (Ok result.value) ≡ None }
+        ensures size { result.size
+            ≡ (if is_placed result
+            then full_size self.now.aligning self.now.here
+            (body_of (seen_line line.now)) result.value
+            else 0) }
     {
         let empty = Body::Empty;
         let body = body_or(line, &empty);
@@ -299,9 +326,12 @@ impl Pass {
     ) -> Result<Placement, AllocError>
         requires number { number ≤ MOST_LINES + 1 }
         requires known { IsKnownUnder self.old.names known (seen_line line.now) }
-        ensures found { (lines : List Reading) → Follows self.old (placed lines) → number ≡ length lines + 1
-            → IfOk result (λ placement. placement ≡ placement_of (place (placed lines) (seen_line line.now))) }
-        ensures follows { (lines : List Reading) → Follows self.old (placed lines) → number ≡ length lines + 1
+        ensures found { (lines : List Reading) → Follows self.old (placed lines)
+            → number ≡ length lines + 1
+            → IfOk result (λ placement. placement
+            ≡ placement_of (place (placed lines) (seen_line line.now))) }
+        ensures follows { (lines : List Reading) → Follows self.old (placed lines)
+            → number ≡ length lines + 1
             → OnOk result (Follows self.new (placed (lines ++ seen_line line.now ∷ []))) }
     {
         let empty = Body::Empty;
@@ -329,7 +359,8 @@ impl Pass {
 
     /// Notes whether a line that is no ELSE or ENDIF is live here.
     fn note_live(&mut self)
-        ensures live { self.new.live ≡ (not self.new.ended && list_all (λ b. b.holds) self.new.blocks.items) }
+        ensures live { self.new.live
+            ≡ (not self.new.ended && list_all (λ b. b.holds) self.new.blocks.items) }
         ensures here { self.new.here ≡ self.old.here }
         ensures aligning { self.new.aligning ≡ self.old.aligning }
         ensures ended { self.new.ended ≡ self.old.ended }
@@ -346,7 +377,8 @@ impl Pass {
         !self.names.is_next(name) && self.names.symbol(name).is_some()
     }
 
-    /// The fault of a line of this size of which nothing else is asked but its name, which is there already or not.
+    /// The fault of a line of this size of which nothing else is asked but its name, which is there
+    /// already or not.
     fn fault_of_bare(&self, live: bool, twice: bool, size: usize) -> Option<Fault>
         ensures fault { result ≡ fault_of_bare live twice self.now.here size }
         ensures fits { live ≡ true → result ≡ None → self.now.here + size ≤ MEMORY_BYTES }
@@ -366,8 +398,10 @@ impl Pass {
     /// What holds of such a line.
     fn place_bare(&self, number: usize, size: usize, twice: bool) -> Placement
         requires { number ≤ MOST_LINES + 1 }
-        ensures placed { (lines : List Reading) (line : Reading) (name : Option Name) → IsBare line name size → twice ≡ is_redefinition self.now.names name
-            → Follows self.now (placed lines) → number ≡ length lines + 1 → result ≡ placement_of (place (placed lines) line) }
+        ensures placed { (lines : List Reading) (line : Reading) (name : Option Name)
+            → IsBare line name size → twice ≡ is_redefinition self.now.names name
+            → Follows self.now (placed lines) → number ≡ length lines + 1
+            → result ≡ placement_of (place (placed lines) line) }
         ensures here { result.here ≡ self.now.here }
         ensures fits { self.now.here + result.size ≤ MEMORY_BYTES }
         ensures new_name { is_placed result ≡ true → twice ≡ false }
@@ -389,9 +423,11 @@ impl Pass {
     /// Goes on by such a line without a name.
     pub(crate) fn step_bare(&mut self, number: usize, size: usize) -> Placement
         requires { number ≤ MOST_LINES + 1 }
-        ensures found { (lines : List Reading) (line : Reading) → IsBare line None size → Follows self.old (placed lines) → number ≡ length lines + 1
+        ensures found { (lines : List Reading) (line : Reading) → IsBare line None size
+            → Follows self.old (placed lines) → number ≡ length lines + 1
             → result ≡ placement_of (place (placed lines) line) }
-        ensures follows { (lines : List Reading) (line : Reading) → IsBare line None size → Follows self.old (placed lines) → number ≡ length lines + 1
+        ensures follows { (lines : List Reading) (line : Reading) → IsBare line None size
+            → Follows self.old (placed lines) → number ≡ length lines + 1
             → Follows self.new (placed (lines ++ line ∷ [])) }
     {
         let placement = self.place_bare(number, size, false);
@@ -408,9 +444,11 @@ impl Pass {
         name: &[u8],
     ) -> Result<Placement, AllocError>
         requires { number ≤ MOST_LINES + 1 }
-        ensures found { (lines : List Reading) (line : Reading) → IsBare line (Some name.now) size → Follows self.old (placed lines) → number ≡ length lines + 1
+        ensures found { (lines : List Reading) (line : Reading) → IsBare line (Some name.now) size
+            → Follows self.old (placed lines) → number ≡ length lines + 1
             → IfOk result (λ placement. placement ≡ placement_of (place (placed lines) line)) }
-        ensures follows { (lines : List Reading) (line : Reading) → IsBare line (Some name.now) size → Follows self.old (placed lines) → number ≡ length lines + 1
+        ensures follows { (lines : List Reading) (line : Reading) → IsBare line (Some name.now) size
+            → Follows self.old (placed lines) → number ≡ length lines + 1
             → OnOk result (Follows self.new (placed (lines ++ line ∷ []))) }
     {
         let twice = self.is_given(name);
@@ -430,7 +468,9 @@ impl Pass {
     ) -> Result<(), AllocError>
         requires { accepted ≡ true → is_redefinition self.old.names (Some name.now) ≡ false }
         ensures names { OnOk result (self.new.names
-            ≡ self.old.names ++ option_to_list (if accepted then Some (name.now, record { value = pos self.old.here; line = number }) else None)) }
+            ≡ self.old.names ++ option_to_list (if accepted
+            then Some (name.now, record { value = pos self.old.here; line = number })
+            else None)) }
         ensures here { self.new.here ≡ self.old.here }
         ensures aligning { self.new.aligning ≡ self.old.aligning }
         ensures ended { self.new.ended ≡ self.old.ended }
@@ -467,9 +507,12 @@ impl Pass {
         line: &Line,
         value: i32,
     ) -> Result<(), AllocError>
-        requires { accepted ≡ true → is_redefinition self.old.names (name_defined (seen_line line.now)) ≡ false }
+        requires { accepted ≡ true
+            → is_redefinition self.old.names (name_defined (seen_line line.now)) ≡ false }
         ensures names { OnOk result (self.new.names
-            ≡ self.old.names ++ option_to_list (if accepted then symbol_given number self.old.here value (seen_line line.now) else None)) }
+            ≡ self.old.names ++ option_to_list (if accepted
+            then symbol_given number self.old.here value (seen_line line.now)
+            else None)) }
         ensures here { self.new.here ≡ self.old.here }
         ensures aligning { self.new.aligning ≡ self.old.aligning }
         ensures ended { self.new.ended ≡ self.old.ended }
@@ -500,11 +543,18 @@ impl Pass {
     /// Moves past a line of this size.
     #[tactic(auto, unfolding(crate::specs::computed::Walk::fault_of_value))]
     fn advance(&mut self, body: &Body, live: bool, accepted: bool, value: i32, size: usize)
-        requires fits { accepted ≡ true → fault_of_value self.old.aligning self.old.here (seen_body body.now) (Ok value) ≡ None }
-        requires size { size ≡ (if accepted then full_size self.old.aligning self.old.here (seen_body body.now) value else 0) }
-        ensures here { self.new.here ≡ next_address accepted self.old.here (seen_body body.now) value size }
-        ensures aligning { self.new.aligning ≡ next_aligning accepted self.old.aligning (seen_body body.now) }
-        ensures ended { self.new.ended ≡ ((live && is_end_body (seen_body body.now)) || self.old.ended) }
+        requires fits { accepted ≡ true
+            → fault_of_value self.old.aligning self.old.here (seen_body body.now) (Ok value)
+            ≡ None }
+        requires size { size
+            ≡ (if accepted then full_size self.old.aligning self.old.here (seen_body body.now) value
+            else 0) }
+        ensures here { self.new.here
+            ≡ next_address accepted self.old.here (seen_body body.now) value size }
+        ensures aligning { self.new.aligning
+            ≡ next_aligning accepted self.old.aligning (seen_body body.now) }
+        ensures ended { self.new.ended
+            ≡ ((live && is_end_body (seen_body body.now)) || self.old.ended) }
         ensures blocks { self.new.blocks ≡ self.old.blocks }
         ensures names { self.new.names ≡ self.old.names }
     {

@@ -36,8 +36,9 @@ fn takes_nameless(lines: &[BoxedLine], edit: &Edit) -> bool
 impl Layout {
     ghost use Rattle.chip_asm.specs.inner.Layouts.{IsLayoutOf};
 
-    /// What the first pass finds of the line that an edit brings, if it brings one, and the address after it. None where a name comes or
-    /// goes, where more is asked of the line than its size, or where it doesn't fit.
+    /// What the first pass finds of the line that an edit brings, if it brings one, and the address
+    /// after it. None where a name comes or goes, where more is asked of the line than its size, or
+    /// where it doesn't fit.
     fn found_quietly(
         &self,
         lines: &[BoxedLine],
@@ -47,11 +48,14 @@ impl Layout {
     ) -> Option<(Option<Placement>, usize)>
         requires within { IsPlaceWithin (length lines.now) edit.now }
         requires few { length lines.now ≤ MOST_LINES }
-        requires traits { traits.now ≡ map traits_of (readings_in (lines_after lines.now edit.now)) }
+        requires traits { traits.now
+            ≡ map traits_of (readings_in (lines_after lines.now edit.now)) }
         requires before { is_keep edit.now ≡ false → IsLayoutOf self.now (readings_in lines.now) }
         requires next { next ≡ first_changed edit.now + added_by edit.now }
-        requires steady { (index : ℕ) (other : Traits) → index < next → (slice_index_or traits.now index other).is_steady ≡ true }
-        ensures { IfSome result (λ found. IsQuiet found.0 found.1 self.now (readings_in lines.now) (readings_in (lines_after lines.now edit.now)) edit.now next) }
+        requires steady { (index : ℕ) (other : Traits) → index < next
+            → (slice_index_or traits.now index other).is_steady ≡ true }
+        ensures { IfSome result (λ found. IsQuiet found.0 found.1 self.now (readings_in lines.now)
+            (readings_in (lines_after lines.now edit.now)) edit.now next) }
     {
         if !takes_nameless(lines, edit) {
             return None;
@@ -77,7 +81,8 @@ impl Layout {
         Some((Some(found), here + size))
     }
 
-    /// The same with how far the later lines move, which are plain. None also where they do more than move.
+    /// The same with how far the later lines move, which are plain. None also where they do more
+    /// than move.
     pub(crate) fn quiet_shift(
         &self,
         lines: &[BoxedLine],
@@ -87,19 +92,25 @@ impl Layout {
     ) -> Option<(Option<Placement>, Shift)>
         requires within { IsPlaceWithin (length lines.now) edit.now }
         requires few { length lines.now ≤ MOST_LINES }
-        requires traits { traits.now ≡ map traits_of (readings_in (lines_after lines.now edit.now)) }
+        requires traits { traits.now
+            ≡ map traits_of (readings_in (lines_after lines.now edit.now)) }
         requires before { is_keep edit.now ≡ false → IsLayoutOf self.now (readings_in lines.now) }
         requires next { next ≡ first_changed edit.now + added_by edit.now }
-        requires steady { (index : ℕ) (other : Traits) → index < next → (slice_index_or traits.now index other).is_steady ≡ true }
-        ensures quiet { IfSome result (λ q. IsQuiet q.0 q.1.new_address self.now (readings_in lines.now) (readings_in (lines_after lines.now edit.now)) edit.now next) }
-        ensures shift { IfSome result (λ q. IsShift q.1 self.now (readings_in lines.now) edit.now next q.1.new_address) }
+        requires steady { (index : ℕ) (other : Traits) → index < next
+            → (slice_index_or traits.now index other).is_steady ≡ true }
+        ensures quiet { IfSome result
+            (λ q. IsQuiet q.0 q.1.new_address self.now (readings_in lines.now)
+            (readings_in (lines_after lines.now edit.now)) edit.now next) }
+        ensures shift { IfSome result
+            (λ q. IsShift q.1 self.now (readings_in lines.now) edit.now next q.1.new_address) }
     {
         let (found, here) = self.found_quietly(lines, traits, edit, next)?;
         let shift = self.shift(lines, edit, next, here)?;
         Some((found, shift))
     }
 
-    /// What is found of the lines before a place, of a line that comes there, and of those from another place on, which move.
+    /// What is found of the lines before a place, of a line that comes there, and of those from
+    /// another place on, which move.
     fn moved_placements(
         &self,
         room: Vec<Placement>,
@@ -110,7 +121,9 @@ impl Layout {
     ) -> Result<Vec<Placement>, AllocError>
         requires place { place ≤ vec_len self.now.placements }
         requires from { from ≤ vec_len self.now.placements }
-        ensures { IfOk result (λ made. made.items ≡ (take place self.now.placements.items ++ option_to_list found) ++ map (moved_placement shift) (drop from self.now.placements.items)) }
+        ensures { IfOk result (λ made. made.items
+            ≡ (take place self.now.placements.items ++ option_to_list found)
+            ++ map (moved_placement shift) (drop from self.now.placements.items)) }
     {
         let mut placements = room;
         placements.clear();
@@ -121,7 +134,8 @@ impl Layout {
         Ok(placements)
     }
 
-    /// The layout after such an edit, in the room of one with the same names, and which lines stand where they stood or moved as one.
+    /// The layout after such an edit, in the room of one with the same names, and which lines stand
+    /// where they stood or moved as one.
     pub(crate) fn moved(
         &self,
         spare: Layout,
@@ -132,15 +146,25 @@ impl Layout {
     ) -> Result<(Layout, Option<Span>), AllocError>
         requires within { IsPlaceWithin (length lines.now) edit.now }
         requires few { length lines.now ≤ MOST_LINES }
-        requires traits { traits.now ≡ map traits_of (readings_in (lines_after lines.now edit.now)) }
+        requires traits { traits.now
+            ≡ map traits_of (readings_in (lines_after lines.now edit.now)) }
         requires before { is_keep edit.now ≡ false → IsLayoutOf self.now (readings_in lines.now) }
-        requires steady { (index : ℕ) (other : Traits) → index < first_changed edit.now + added_by edit.now → (slice_index_or traits.now index other).is_steady ≡ true }
-        requires plain { list_all (λ t. t.is_plain) (drop (first_changed edit.now + added_by edit.now) traits.now) ≡ true }
+        requires steady { (index : ℕ) (other : Traits)
+            → index < first_changed edit.now + added_by edit.now
+            → (slice_index_or traits.now index other).is_steady ≡ true }
+        requires plain { list_all (λ t. t.is_plain)
+            (drop (first_changed edit.now + added_by edit.now) traits.now) ≡ true }
         requires names { names_in spare.names ≡ names_in self.now.names }
-        requires quiet { IsQuiet quiet.0 quiet.1.new_address self.now (readings_in lines.now) (readings_in (lines_after lines.now edit.now)) edit.now (first_changed edit.now + added_by edit.now) }
-        requires shift { IsShift quiet.1 self.now (readings_in lines.now) edit.now (first_changed edit.now + added_by edit.now) quiet.1.new_address }
-        ensures layout { IfOk result (λ made. IsLayoutOf made.0 (readings_in (lines_after lines.now edit.now))) }
-        ensures span { IfOk result (λ made. IfSome made.1 (λ span. IsSpanOf self.now made.0 (length lines.now) edit.now span)) }
+        requires quiet { IsQuiet quiet.0 quiet.1.new_address self.now (readings_in lines.now)
+            (readings_in (lines_after lines.now edit.now)) edit.now
+            (first_changed edit.now + added_by edit.now) }
+        requires shift { IsShift quiet.1 self.now (readings_in lines.now) edit.now
+            (first_changed edit.now + added_by edit.now) quiet.1.new_address }
+        ensures layout { IfOk result
+            (λ made. IsLayoutOf made.0 (readings_in (lines_after lines.now edit.now))) }
+        ensures span { IfOk result
+            (λ made. IfSome made.1
+            (λ span. IsSpanOf self.now made.0 (length lines.now) edit.now span)) }
     {
         let (found, shift) = quiet;
         let place = first_changed(edit);

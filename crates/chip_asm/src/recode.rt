@@ -40,7 +40,8 @@ fn is_placed_at(placements: &[Placement], place: usize) -> bool
 /// Whether the four lines from a place on are accepted. All four are asked before the one branch.
 fn are_four_accepted(placements: &[Placement], place: usize) -> bool
     requires { place + 4 ≤ length placements.now }
-    ensures { (index : ℕ) → result ≡ true → index < 4 → is_placed_at placements.now (place + index) ≡ true }
+    ensures { (index : ℕ) → result ≡ true → index < 4
+        → is_placed_at placements.now (place + index) ≡ true }
 {
     let mut live = true;
     let mut faulty = false;
@@ -79,7 +80,8 @@ pub(crate) struct Remaking<'a> {
     pub(crate) new: &'a Layout,
 }
 
-/// What an edit does to the name at an index. Where the names aren't the same before and after, each line has to be looked at.
+/// What an edit does to the name at an index. Where the names aren't the same before and after,
+/// each line has to be looked at.
 fn move_at(same_names: bool, old: &Table, new: &Table, index: usize) -> Moved
     requires same { same_names ≡ true → names_in old.now ≡ names_in new.now }
     requires index { index < length new.now }
@@ -118,7 +120,8 @@ pub(crate) fn moves_by_hint(
 /// Whether the line at a place stood before the edit, and was accepted there.
 fn stood(placements: &[Placement], edit: &Edit, place: usize) -> bool
     requires { place ≤ MOST_LINES }
-    ensures { result ≡ option_map_or (is_placed_at placements.now) (place_before edit.now place) false }
+    ensures { result
+        ≡ option_map_or (is_placed_at placements.now) (place_before edit.now place) false }
 {
     match place_before(edit, place) {
         Some(before) => is_placed_at(placements, before),
@@ -129,21 +132,28 @@ fn stood(placements: &[Placement], edit: &Edit, place: usize) -> bool
 impl<'a> Remaking<'a> {
     ghost use Rattle.chip_asm.specs.inner.Remaking.{IsRemaking, lines_then};
 
-    /// Whether what is known of the names says that those of the line at a place keep their values, which is so of most lines.
+    /// Whether what is known of the names says that those of the line at a place keep their values,
+    /// which is so of most lines.
     fn is_unmoved(&self, place: usize) -> bool
         requires known { IsRemaking self.now }
         requires place { place < length (lines_then self.now) }
-        ensures { (line : Reading) → result ≡ true → slice_get (lines_then self.now) place ≡ Some line → agree_on (values_of self.now.old.now.names) (values_of self.now.new.now.names) line ≡ true }
+        ensures { (line : Reading) → result ≡ true
+            → slice_get (lines_then self.now) place ≡ Some line
+            → agree_on (values_of self.now.old.now.names) (values_of self.now.new.now.names) line
+            ≡ true }
     {
         matches!(self.moves[self.hints[place] as usize], Moved::No)
     }
 
-    /// Whether each name of the line at a place has one value, or none, under both layouts. The names need a search only where the line
-    /// has several, or where the two layouts have other names.
+    /// Whether each name of the line at a place has one value, or none, under both layouts. The
+    /// names need a search only where the line has several, or where the two layouts have other
+    /// names.
     fn keeps_values(&self, place: usize) -> bool
         requires known { IsRemaking self.now }
         requires place { place < length (lines_then self.now) }
-        ensures { (line : Reading) → slice_get (lines_then self.now) place ≡ Some line → result ≡ agree_on (values_of self.now.old.now.names) (values_of self.now.new.now.names) line }
+        ensures { (line : Reading) → slice_get (lines_then self.now) place ≡ Some line
+            → result
+            ≡ agree_on (values_of self.now.old.now.names) (values_of self.now.new.now.names) line }
     {
         if self.is_unmoved(place) {
             return true;
@@ -170,7 +180,9 @@ impl<'a> Remaking<'a> {
     fn is_coded_at(&self, place: usize) -> bool
         requires known { IsRemaking self.now }
         requires place { place < length (lines_then self.now) }
-        ensures { (line : Reading) → slice_get (lines_then self.now) place ≡ Some line → result ≡ (has_code (body_of line) && is_placed_at self.now.new.now.placements.items place) }
+        ensures { (line : Reading) → slice_get (lines_then self.now) place ≡ Some line
+            → result
+            ≡ (has_code (body_of line) && is_placed_at self.now.new.now.placements.items place) }
     {
         self.traits[place].is_coded && is_placed_at(&self.new.placements, place)
     }
@@ -180,8 +192,10 @@ impl<'a> Remaking<'a> {
     fn is_encoded_again(&self, place: usize) -> bool
         requires known { IsRemaking self.now }
         requires place { place < length (lines_then self.now) }
-        ensures { (before : List Reading) (line : Reading) → slice_get (lines_then self.now) place ≡ Some line → IsLayoutOf self.now.old.now before
-            → result ≡ is_encoded_again before (lines_then self.now) (place_before self.now.edit.now) (place, line) }
+        ensures { (before : List Reading) (line : Reading)
+            → slice_get (lines_then self.now) place ≡ Some line → IsLayoutOf self.now.old.now before
+            → result ≡ is_encoded_again before (lines_then self.now)
+            (place_before self.now.edit.now) (place, line) }
     {
         if stood(&self.old.placements, self.edit, place) && self.keeps_values(place) {
             return false;
@@ -189,7 +203,8 @@ impl<'a> Remaking<'a> {
         self.is_coded_at(place)
     }
 
-    /// Appends the code of the line at a place with the place, where it is wanted. The line's names are looked for first at its hint.
+    /// Appends the code of the line at a place with the place, where it is wanted. The line's names
+    /// are looked for first at its hint.
     fn push_code_if(
         &self,
         wanted: bool,
@@ -201,7 +216,10 @@ impl<'a> Remaking<'a> {
         requires known { IsRemaking self.now }
         requires place { place < length (lines_then self.now) }
         ensures codes { (line : Reading) → slice_get (lines_then self.now) place ≡ Some line
-            → OnOk result (codes.new.items ≡ codes.old.items ++ option_to_list (if wanted then Some (place, code_of line (values_of self.now.new.now.names)) else None)) }
+            → OnOk result (codes.new.items
+            ≡ codes.old.items ++ option_to_list
+            (if wanted then Some (place, code_of line (values_of self.now.new.now.names))
+            else None)) }
         ensures encoded { meter.new.encoded ≤ meter.old.encoded + (if wanted then 1 else 0) }
         ensures not_lowered { meter.old.encoded ≤ meter.new.encoded }
         ensures parsed { meter.new.parsed ≡ meter.old.parsed }
@@ -218,14 +236,15 @@ impl<'a> Remaking<'a> {
         Ok(())
     }
 
-    /// Where the line at a place stood before the edit, and how many lines from it on stood there one after the other, as far as the
-    /// layout of that time goes; none where the line is new.
+    /// Where the line at a place stood before the edit, and how many lines from it on stood there
+    /// one after the other, as far as the layout of that time goes; none where the line is new.
     fn run_from(&self, place: usize) -> (usize, usize)
         requires known { IsRemaking self.now }
         requires place { place < length (lines_then self.now) }
         ensures lines { place + result.1 ≤ length (lines_then self.now) }
         ensures placements { result.0 + result.1 ≤ vec_len self.now.old.now.placements }
-        ensures stood { (index : ℕ) → index < result.1 → place_before self.now.edit.now (place + index) ≡ Some (result.0 + index) }
+        ensures stood { (index : ℕ) → index < result.1
+            → place_before self.now.edit.now (place + index) ≡ Some (result.0 + index) }
     {
         let Some(was) = place_before(self.edit, place) else {
             return (0, 0);
@@ -240,7 +259,8 @@ impl<'a> Remaking<'a> {
         if was < end { (was, end - was) } else { (0, 0) }
     }
 
-    /// Appends the new codes of the lines from a place up to another one, each of which is looked at.
+    /// Appends the new codes of the lines from a place up to another one, each of which is looked
+    /// at.
     #[cold]
     #[inline(never)]
     fn push_codes(
@@ -254,10 +274,16 @@ impl<'a> Remaking<'a> {
         requires known { IsRemaking self.now }
         requires order { from ≤ to }
         requires within { to ≤ length (lines_then self.now) }
-        ensures codes { (before : List Reading) → IsLayoutOf self.now.old.now before → codes.old.items ≡ codes_up_to before (lines_then self.now) (place_before self.now.edit.now) from
-            → OnOk result (codes.new.items ≡ codes_up_to before (lines_then self.now) (place_before self.now.edit.now) to) }
+        ensures codes { (before : List Reading) → IsLayoutOf self.now.old.now before
+            → codes.old.items
+            ≡ codes_up_to before (lines_then self.now) (place_before self.now.edit.now) from
+            → OnOk result (codes.new.items
+            ≡ codes_up_to before (lines_then self.now) (place_before self.now.edit.now) to) }
         ensures encoded { (before : List Reading) → IsLayoutOf self.now.old.now before
-            → meter.new.encoded + count_up_to before (lines_then self.now) (place_before self.now.edit.now) from ≤ meter.old.encoded + count_up_to before (lines_then self.now) (place_before self.now.edit.now) to }
+            → meter.new.encoded + count_up_to before (lines_then self.now)
+            (place_before self.now.edit.now) from
+            ≤ meter.old.encoded
+            + count_up_to before (lines_then self.now) (place_before self.now.edit.now) to }
         ensures not_lowered { meter.old.encoded ≤ meter.new.encoded }
         ensures parsed { meter.new.parsed ≡ meter.old.parsed }
     {
@@ -268,7 +294,8 @@ impl<'a> Remaking<'a> {
         Ok(())
     }
 
-    /// Appends the new code, if there is one, of a line with a name that moved: it is encoded again wherever it has code and is accepted.
+    /// Appends the new code, if there is one, of a line with a name that moved: it is encoded again
+    /// wherever it has code and is accepted.
     #[cold]
     #[inline(never)]
     fn push_code_of_moved(
@@ -280,11 +307,20 @@ impl<'a> Remaking<'a> {
     ) -> Result<(), AllocError>
         requires known { IsRemaking self.now }
         requires place { place < length (lines_then self.now) }
-        requires moved { (line : Reading) → slice_get (lines_then self.now) place ≡ Some line → agree_on (values_of self.now.old.now.names) (values_of self.now.new.now.names) line ≡ false }
-        ensures codes { (before : List Reading) → IsLayoutOf self.now.old.now before → codes.old.items ≡ codes_up_to before (lines_then self.now) (place_before self.now.edit.now) place
-            → OnOk result (codes.new.items ≡ codes_up_to before (lines_then self.now) (place_before self.now.edit.now) (place + 1)) }
+        requires moved { (line : Reading) → slice_get (lines_then self.now) place ≡ Some line
+            → agree_on (values_of self.now.old.now.names) (values_of self.now.new.now.names) line
+            ≡ false }
+        ensures codes { (before : List Reading) → IsLayoutOf self.now.old.now before
+            → codes.old.items
+            ≡ codes_up_to before (lines_then self.now) (place_before self.now.edit.now) place
+            → OnOk result (codes.new.items
+            ≡ codes_up_to before (lines_then self.now) (place_before self.now.edit.now)
+            (place + 1)) }
         ensures encoded { (before : List Reading) → IsLayoutOf self.now.old.now before
-            → meter.new.encoded + count_up_to before (lines_then self.now) (place_before self.now.edit.now) place ≤ meter.old.encoded + count_up_to before (lines_then self.now) (place_before self.now.edit.now) (place + 1) }
+            → meter.new.encoded + count_up_to before (lines_then self.now)
+            (place_before self.now.edit.now) place
+            ≤ meter.old.encoded + count_up_to before (lines_then self.now)
+            (place_before self.now.edit.now) (place + 1) }
         ensures not_lowered { meter.old.encoded ≤ meter.new.encoded }
         ensures parsed { meter.new.parsed ≡ meter.old.parsed }
     {
@@ -292,7 +328,8 @@ impl<'a> Remaking<'a> {
         self.push_code_if(again, alloc, meter, codes, place)
     }
 
-    /// Appends the new code, if there is one, of a line that stood before the edit and was accepted there.
+    /// Appends the new code, if there is one, of a line that stood before the edit and was accepted
+    /// there.
     fn push_code_of_stood(
         &self,
         alloc: Global,
@@ -302,11 +339,19 @@ impl<'a> Remaking<'a> {
     ) -> Result<(), AllocError>
         requires known { IsRemaking self.now }
         requires place { place < length (lines_then self.now) }
-        requires stood { option_map_or (is_placed_at self.now.old.now.placements.items) (place_before self.now.edit.now place) false ≡ true }
-        ensures codes { (before : List Reading) → IsLayoutOf self.now.old.now before → codes.old.items ≡ codes_up_to before (lines_then self.now) (place_before self.now.edit.now) place
-            → OnOk result (codes.new.items ≡ codes_up_to before (lines_then self.now) (place_before self.now.edit.now) (place + 1)) }
+        requires stood { option_map_or (is_placed_at self.now.old.now.placements.items)
+            (place_before self.now.edit.now place) false ≡ true }
+        ensures codes { (before : List Reading) → IsLayoutOf self.now.old.now before
+            → codes.old.items
+            ≡ codes_up_to before (lines_then self.now) (place_before self.now.edit.now) place
+            → OnOk result (codes.new.items
+            ≡ codes_up_to before (lines_then self.now) (place_before self.now.edit.now)
+            (place + 1)) }
         ensures encoded { (before : List Reading) → IsLayoutOf self.now.old.now before
-            → meter.new.encoded + count_up_to before (lines_then self.now) (place_before self.now.edit.now) place ≤ meter.old.encoded + count_up_to before (lines_then self.now) (place_before self.now.edit.now) (place + 1) }
+            → meter.new.encoded + count_up_to before (lines_then self.now)
+            (place_before self.now.edit.now) place
+            ≤ meter.old.encoded + count_up_to before (lines_then self.now)
+            (place_before self.now.edit.now) (place + 1) }
         ensures not_lowered { meter.old.encoded ≤ meter.new.encoded }
         ensures parsed { meter.new.parsed ≡ meter.old.parsed }
     {
@@ -327,11 +372,20 @@ impl<'a> Remaking<'a> {
     ) -> Result<(), AllocError>
         requires known { IsRemaking self.now }
         requires place { place + 4 ≤ length (lines_then self.now) }
-        requires stood { (index : ℕ) → index < 4 → option_map_or (is_placed_at self.now.old.now.placements.items) (place_before self.now.edit.now (place + index)) false ≡ true }
-        ensures codes { (before : List Reading) → IsLayoutOf self.now.old.now before → codes.old.items ≡ codes_up_to before (lines_then self.now) (place_before self.now.edit.now) place
-            → OnOk result (codes.new.items ≡ codes_up_to before (lines_then self.now) (place_before self.now.edit.now) (place + 4)) }
+        requires stood { (index : ℕ) → index < 4
+            → option_map_or (is_placed_at self.now.old.now.placements.items)
+            (place_before self.now.edit.now (place + index)) false ≡ true }
+        ensures codes { (before : List Reading) → IsLayoutOf self.now.old.now before
+            → codes.old.items
+            ≡ codes_up_to before (lines_then self.now) (place_before self.now.edit.now) place
+            → OnOk result (codes.new.items
+            ≡ codes_up_to before (lines_then self.now) (place_before self.now.edit.now)
+            (place + 4)) }
         ensures encoded { (before : List Reading) → IsLayoutOf self.now.old.now before
-            → meter.new.encoded + count_up_to before (lines_then self.now) (place_before self.now.edit.now) place ≤ meter.old.encoded + count_up_to before (lines_then self.now) (place_before self.now.edit.now) (place + 4) }
+            → meter.new.encoded + count_up_to before (lines_then self.now)
+            (place_before self.now.edit.now) place
+            ≤ meter.old.encoded + count_up_to before (lines_then self.now)
+            (place_before self.now.edit.now) (place + 4) }
         ensures not_lowered { meter.old.encoded ≤ meter.new.encoded }
         ensures parsed { meter.new.parsed ≡ meter.old.parsed }
     {
@@ -345,7 +399,8 @@ impl<'a> Remaking<'a> {
     fn were_four_accepted(&self, was: usize) -> bool
         requires known { IsRemaking self.now }
         requires placements { was + 4 ≤ vec_len self.now.old.now.placements }
-        ensures { (index : ℕ) → result ≡ true → index < 4 → is_placed_at self.now.old.now.placements.items (was + index) ≡ true }
+        ensures { (index : ℕ) → result ≡ true → index < 4
+            → is_placed_at self.now.old.now.placements.items (was + index) ≡ true }
     {
         self.old.all_accepted || are_four_accepted(&self.old.placements, was)
     }
@@ -362,11 +417,19 @@ impl<'a> Remaking<'a> {
         requires known { IsRemaking self.now }
         requires place { place + 4 ≤ length (lines_then self.now) }
         requires placements { was + 4 ≤ vec_len self.now.old.now.placements }
-        requires stood { (index : ℕ) → index < 4 → place_before self.now.edit.now (place + index) ≡ Some (was + index) }
-        ensures codes { (before : List Reading) → IsLayoutOf self.now.old.now before → codes.old.items ≡ codes_up_to before (lines_then self.now) (place_before self.now.edit.now) place
-            → OnOk result (codes.new.items ≡ codes_up_to before (lines_then self.now) (place_before self.now.edit.now) (place + 4)) }
+        requires stood { (index : ℕ) → index < 4
+            → place_before self.now.edit.now (place + index) ≡ Some (was + index) }
+        ensures codes { (before : List Reading) → IsLayoutOf self.now.old.now before
+            → codes.old.items
+            ≡ codes_up_to before (lines_then self.now) (place_before self.now.edit.now) place
+            → OnOk result (codes.new.items
+            ≡ codes_up_to before (lines_then self.now) (place_before self.now.edit.now)
+            (place + 4)) }
         ensures encoded { (before : List Reading) → IsLayoutOf self.now.old.now before
-            → meter.new.encoded + count_up_to before (lines_then self.now) (place_before self.now.edit.now) place ≤ meter.old.encoded + count_up_to before (lines_then self.now) (place_before self.now.edit.now) (place + 4) }
+            → meter.new.encoded + count_up_to before (lines_then self.now)
+            (place_before self.now.edit.now) place
+            ≤ meter.old.encoded + count_up_to before (lines_then self.now)
+            (place_before self.now.edit.now) (place + 4) }
         ensures not_lowered { meter.old.encoded ≤ meter.new.encoded }
         ensures parsed { meter.new.parsed ≡ meter.old.parsed }
     {
@@ -377,8 +440,9 @@ impl<'a> Remaking<'a> {
         }
     }
 
-    /// Appends the new codes of lines that stood one after the other before the edit. Nearly all lines stay as they are, so most of the
-    /// time of an edit passes here: they are looked at by fours, with no call but for a line that may have to be encoded again.
+    /// Appends the new codes of lines that stood one after the other before the edit. Nearly all
+    /// lines stay as they are, so most of the time of an edit passes here: they are looked at by
+    /// fours, with no call but for a line that may have to be encoded again.
     fn push_codes_of_run(
         &self,
         alloc: Global,
@@ -391,11 +455,19 @@ impl<'a> Remaking<'a> {
         requires known { IsRemaking self.now }
         requires lines { place + many ≤ length (lines_then self.now) }
         requires placements { was + many ≤ vec_len self.now.old.now.placements }
-        requires stood { (index : ℕ) → index < many → place_before self.now.edit.now (place + index) ≡ Some (was + index) }
-        ensures codes { (before : List Reading) → IsLayoutOf self.now.old.now before → codes.old.items ≡ codes_up_to before (lines_then self.now) (place_before self.now.edit.now) place
-            → OnOk result (codes.new.items ≡ codes_up_to before (lines_then self.now) (place_before self.now.edit.now) (place + many)) }
+        requires stood { (index : ℕ) → index < many
+            → place_before self.now.edit.now (place + index) ≡ Some (was + index) }
+        ensures codes { (before : List Reading) → IsLayoutOf self.now.old.now before
+            → codes.old.items
+            ≡ codes_up_to before (lines_then self.now) (place_before self.now.edit.now) place
+            → OnOk result (codes.new.items
+            ≡ codes_up_to before (lines_then self.now) (place_before self.now.edit.now)
+            (place + many)) }
         ensures encoded { (before : List Reading) → IsLayoutOf self.now.old.now before
-            → meter.new.encoded + count_up_to before (lines_then self.now) (place_before self.now.edit.now) place ≤ meter.old.encoded + count_up_to before (lines_then self.now) (place_before self.now.edit.now) (place + many) }
+            → meter.new.encoded + count_up_to before (lines_then self.now)
+            (place_before self.now.edit.now) place
+            ≤ meter.old.encoded + count_up_to before (lines_then self.now)
+            (place_before self.now.edit.now) (place + many) }
         ensures not_lowered { meter.old.encoded ≤ meter.new.encoded }
         ensures parsed { meter.new.parsed ≡ meter.old.parsed }
     {
@@ -407,7 +479,8 @@ impl<'a> Remaking<'a> {
         self.push_codes(alloc, meter, codes, place + many / 4 * 4, place + many)
     }
 
-    /// How many lines are looked at one by one after a run: the new line, or all where there was no layout.
+    /// How many lines are looked at one by one after a run: the new line, or all where there was no
+    /// layout.
     fn count_apart(&self) -> usize
         ensures { 1 ≤ result }
     {
@@ -425,8 +498,12 @@ impl<'a> Remaking<'a> {
         meter: &mut Meter,
     ) -> Result<Vec<(usize, Coded)>, AllocError>
         requires known { IsRemaking self.now }
-        ensures codes { (before : List Reading) → IsLayoutOf self.now.old.now before → IfOk result (λ codes. codes.items ≡ new_codes before (lines_then self.now) (place_before self.now.edit.now)) }
-        ensures encoded { (before : List Reading) → IsLayoutOf self.now.old.now before → meter.new.encoded ≤ meter.old.encoded + count_again before (lines_then self.now) (place_before self.now.edit.now) }
+        ensures codes { (before : List Reading) → IsLayoutOf self.now.old.now before
+            → IfOk result (λ codes. codes.items
+            ≡ new_codes before (lines_then self.now) (place_before self.now.edit.now)) }
+        ensures encoded { (before : List Reading) → IsLayoutOf self.now.old.now before
+            → meter.new.encoded ≤ meter.old.encoded
+            + count_again before (lines_then self.now) (place_before self.now.edit.now) }
         ensures not_lowered { meter.old.encoded ≤ meter.new.encoded }
         ensures parsed { meter.new.parsed ≡ meter.old.parsed }
     {
@@ -454,7 +531,8 @@ fn encode_if(
     line: &Line,
     names: &Table,
 ) -> Result<Option<Coded>, AllocError>
-    ensures code { IfOk result (λ code. code ≡ (if wanted then Some (code_of (seen_line line.now) (values_of names.now)) else None)) }
+    ensures code { IfOk result (λ code. code
+        ≡ (if wanted then Some (code_of (seen_line line.now) (values_of names.now)) else None)) }
     ensures encoded { meter.new.encoded ≤ meter.old.encoded + (if wanted then 1 else 0) }
     ensures not_lowered { meter.old.encoded ≤ meter.new.encoded }
     ensures parsed { meter.new.parsed ≡ meter.old.parsed }
@@ -474,8 +552,13 @@ pub(crate) fn code_if_accepted(
     line: &Line,
     names: &Table,
 ) -> Result<Option<Coded>, AllocError>
-    ensures code { IfOk result (λ code. code ≡ (if accepted && has_code (body_of (seen_line line.now)) then Some (code_of (seen_line line.now) (values_of names.now)) else None)) }
-    ensures encoded { meter.new.encoded ≤ meter.old.encoded + (if accepted && has_code (body_of (seen_line line.now)) then 1 else 0) }
+    ensures code { IfOk result (λ code. code
+        ≡ (if accepted && has_code (body_of (seen_line line.now))
+        then Some (code_of (seen_line line.now) (values_of names.now))
+        else None)) }
+    ensures encoded { meter.new.encoded
+        ≤ meter.old.encoded
+        + (if accepted && has_code (body_of (seen_line line.now)) then 1 else 0) }
     ensures not_lowered { meter.old.encoded ≤ meter.new.encoded }
     ensures parsed { meter.new.parsed ≡ meter.old.parsed }
 {

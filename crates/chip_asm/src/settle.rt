@@ -1,4 +1,5 @@
-//! The image after an edit: which lines stay where they were, what moves with the lines, and what is written anew.
+//! The image after an edit: which lines stay where they were, what moves with the lines, and what
+//! is written anew.
 ghost use Rattle.std.specs.Prelude.{◌≡◌, ℕ, ◌+◌, ◌-◌, ◌<◌, ◌≤◌, ◌⊎◌, List, All, None, Some, is_none, true, length, nat_lt, slice_get, slice_index, slice_index_or, if◌then◌else◌, map};
 ghost use Rattle.chip_asm.specs.declared.kept_line.KeptLine.{KeptLine};
 ghost use Rattle.chip_asm.specs.inner.Records.{readings_in};
@@ -46,14 +47,16 @@ fn end_before(placements: &[Placement], place: usize) -> usize
     }
 }
 
-/// Moves the bytes from one place on to another one, and makes those between the first place and there zero.
+/// Moves the bytes from one place on to another one, and makes those between the first place and
+/// there zero.
 fn move_bytes(image: &mut [u8], first: usize, from: usize, to: usize)
     requires from { first ≤ from }
     requires to { first ≤ to }
     requires from_end { from ≤ length image.old }
     requires to_end { to ≤ length image.old }
     ensures { (index : ℕ) → index < length image.old → slice_index image.new index
-        ≡ (if nat_lt index first then slice_index image.old index else (if nat_lt index to then 0 else slice_index image.old (index - to + from))) }
+        ≡ (if nat_lt index first then slice_index image.old index
+        else (if nat_lt index to then 0 else slice_index image.old (index - to + from))) }
 {
     let len = image.len();
     let count = len - from.max(to);
@@ -79,8 +82,11 @@ fn write_codes_anew(image: &mut [u8], placements: &[Placement], codes: &[(usize,
     requires there { All (λ e. e.0 < length placements.now) codes.now }
     requires memory { AreInMemory placements.now }
     ensures written { (right : ℕ → ℕ) (first end : ℕ) → AreRight right placements.now codes.now
-        → ((k : ℕ) → k < IMAGE_BYTES → (slice_index image.old k ≡ right k) ⊎ (Waits placements.now first end k ⊎ WaitsForCode placements.now codes.now 0 k))
-        → (k : ℕ) → k < IMAGE_BYTES → (slice_index image.new k ≡ right k) ⊎ Waits placements.now first end k }
+        → ((k : ℕ) → k < IMAGE_BYTES
+        → (slice_index image.old k ≡ right k)
+        ⊎ (Waits placements.now first end k ⊎ WaitsForCode placements.now codes.now 0 k))
+        → (k : ℕ) → k < IMAGE_BYTES
+        → (slice_index image.new k ≡ right k) ⊎ Waits placements.now first end k }
     ensures clean { result ≡ true → All (λ e. coded_fault e.1 ≡ None) codes.now }
 {
     let mut clean = true;
@@ -119,9 +125,14 @@ fn write_lines_anew(
     requires long { length image.old ≡ IMAGE_BYTES }
     requires laid_out { IsLayoutOf layout.now (readings_in lines.now) }
     requires current { AreCurrent lines.now }
-    requires waits { (k : ℕ) → k < IMAGE_BYTES → (slice_index image.old k ≡ byte_at (placed (readings_in lines.now)) (IMAGE_START + k)) ⊎ Waits layout.now.placements.items first end k }
-    ensures written { (k : ℕ) → k < IMAGE_BYTES → slice_index image.new k ≡ byte_at (placed (readings_in lines.now)) (IMAGE_START + k) }
-    ensures clean { (place : ℕ) (q : Placement) (kept : KeptLine) → result ≡ true → first ≤ place → place < end → slice_get layout.now.placements.items place ≡ Some q → kept ≡ slice_index_or lines.now place kept → kept_fault q kept ≡ None }
+    requires waits { (k : ℕ) → k < IMAGE_BYTES
+        → (slice_index image.old k ≡ byte_at (placed (readings_in lines.now)) (IMAGE_START + k))
+        ⊎ Waits layout.now.placements.items first end k }
+    ensures written { (k : ℕ) → k < IMAGE_BYTES
+        → slice_index image.new k ≡ byte_at (placed (readings_in lines.now)) (IMAGE_START + k) }
+    ensures clean { (place : ℕ) (q : Placement) (kept : KeptLine) → result ≡ true → first ≤ place
+        → place < end → slice_get layout.now.placements.items place ≡ Some q
+        → kept ≡ slice_index_or lines.now place kept → kept_fault q kept ≡ None }
 {
     let mut clean = true;
     for place in first..end {
@@ -156,12 +167,15 @@ fn count_faults(lines: &[BoxedLine], traits: &[Traits], layout: &Layout) -> usiz
     faults
 }
 
-/// Moves the bytes of the last lines to where these stand now. What lies between the first lines and them becomes zero.
+/// Moves the bytes of the last lines to where these stand now. What lies between the first lines
+/// and them becomes zero.
 fn move_last_lines(image: &mut [u8], old: &Layout, new: &Layout, span: Span)
     requires long { length image.old ≡ IMAGE_BYTES }
     requires span { IsSpan old.now.placements.items new.now.placements.items span }
     requires ordered { MayMove old.now.placements.items new.now.placements.items span }
-    ensures { (k : ℕ) → k < IMAGE_BYTES → slice_index image.new k ≡ moved_byte old.now.placements.items new.now.placements.items span image.old k }
+    ensures { (k : ℕ) → k < IMAGE_BYTES
+        → slice_index image.new k
+        ≡ moved_byte old.now.placements.items new.now.placements.items span image.old k }
 {
     let first = end_before(&old.placements, span.front);
     let from = start_at(&old.placements, old.placements.len() - span.back);
@@ -187,8 +201,8 @@ pub(crate) struct Settling<'a> {
     pub(crate) faults: usize,
 }
 
-/// Puts new codes in the place of the kept ones, and their bytes and those of the lines that are no part of the span into the image.
-/// How many lines have a fault.
+/// Puts new codes in the place of the kept ones, and their bytes and those of the lines that are no
+/// part of the span into the image. How many lines have a fault.
 pub(crate) fn settle_image(
     image: &mut [u8],
     lines: &mut [BoxedLine],
@@ -200,9 +214,11 @@ pub(crate) fn settle_image(
     requires laid_out { IsLayoutOf settling.now.new.now (readings_in lines.old) }
     requires own { AreOwn codes.items lines.old }
     requires current { MakesCurrent codes.items lines.old }
-    requires stood { StoodBefore settling.now.old.now settling.now.new.now settling.now.span settling.now.faults image.old lines.old }
+    requires stood { StoodBefore settling.now.old.now settling.now.new.now settling.now.span
+        settling.now.faults image.old lines.old }
     ensures merged { IsMerged lines.old codes.items lines.new }
-    ensures bytes { (k : ℕ) → k < IMAGE_BYTES → slice_index image.new k ≡ byte_at (placed (readings_in lines.old)) (IMAGE_START + k) }
+    ensures bytes { (k : ℕ) → k < IMAGE_BYTES
+        → slice_index image.new k ≡ byte_at (placed (readings_in lines.old)) (IMAGE_START + k) }
     ensures counted { result ≡ length (faults_of_lines (readings_in lines.old)) }
 {
     let Settling {

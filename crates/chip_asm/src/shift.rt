@@ -68,7 +68,8 @@ impl Shift {
         }
     }
 
-    /// What a name means after the edit: the same for one of a line up to a number, and else that of an address at a line that moves.
+    /// What a name means after the edit: the same for one of a line up to a number, and else that
+    /// of an address at a line that moves.
     pub(crate) fn symbol_past(self, number: usize, symbol: &Symbol) -> Symbol
         ensures { result ≡ symbol_past self number symbol.now }
     {
@@ -107,7 +108,8 @@ pub(crate) fn is_keep(edit: &Edit) -> bool
     matches!(edit, Edit::Keep)
 }
 
-/// Whether the line that an edit takes away, if it takes one, opens no block, ends no source and switches no alignment.
+/// Whether the line that an edit takes away, if it takes one, opens no block, ends no source and
+/// switches no alignment.
 pub(crate) fn takes_steady(lines: &[BoxedLine], edit: &Edit) -> bool
     requires { IsPlaceWithin (length lines.now) edit.now }
     ensures { result ≡ takes_steady (readings_in lines.now) edit.now }
@@ -119,7 +121,8 @@ pub(crate) fn takes_steady(lines: &[BoxedLine], edit: &Edit) -> bool
     }
 }
 
-/// The first place, from a lowest one on, from which the first pass asks only the size of the statement of each line.
+/// The first place, from a lowest one on, from which the first pass asks only the size of the
+/// statement of each line.
 pub(crate) fn first_plain(traits: &[Traits], lowest: usize) -> usize
     requires { lowest ≤ length traits.now }
     ensures low { lowest ≤ result }
@@ -149,7 +152,8 @@ pub(crate) fn add_moved(
     others: &[Placement],
     shift: Shift,
 ) -> Result<(), AllocError>
-    ensures { OnOk result (placements.new.items ≡ placements.old.items ++ map (moved_placement shift) others.now) }
+    ensures { OnOk result (placements.new.items
+        ≡ placements.old.items ++ map (moved_placement shift) others.now) }
 {
     let first = placements.len();
     placements.extend_from_slice(others)?;

@@ -42,7 +42,13 @@ impl Model for Source {
     ghost use Rattle.chip_asm.specs.inner.Records.{texts_in};
     ghost use Rattle.chip_asm.specs.inner.Kept.{IsKept};
 
-    ghost view = { λ s. record { lines = texts_in s.kept.lines.items; work = s.meter; first_changed = s.changed.first; end_changed = s.changed.end; way = s.changed.way } };
+    ghost view = { λ s. record {
+      lines = texts_in s.kept.lines.items;
+      work = s.meter;
+      first_changed = s.changed.first;
+      end_changed = s.changed.end;
+      way = s.changed.way;
+    } };
 
     ghost invariant = { λ s. IsKept s.kept };
 }
@@ -67,19 +73,24 @@ impl Source {
 
     /// Opens a source, by a copy of its bytes, as `open_bytes` does.
     pub fn open(alloc: Global, source: &[u8]) -> Result<Source, OpenError>
-        ensures ok { IfOk result (λ s. (open_fault source.now ≡ None) × (s.lines ≡ lines_of source.now)) }
-        ensures err { IfErr result (λ e. (e ≡ OpenError.OutOfMemory) ⊎ (open_fault source.now ≡ Some e)) }
+        ensures ok { IfOk result (λ s. (open_fault source.now ≡ None)
+            × (s.lines ≡ lines_of source.now)) }
+        ensures err { IfErr result (λ e. (e ≡ OpenError.OutOfMemory)
+            ⊎ (open_fault source.now ≡ Some e)) }
         ensures parsed { IfOk result (λ s. s.work.parsed ≡ length s.lines) }
         ensures encoded { IfOk result (λ s. s.work.encoded ≤ accepted_of s.lines) }
     {
         Source::open_bytes(alloc, Vec::from_slice(alloc, source)?)
     }
 
-    /// Opens a source, by its bytes. A line ends at a newline, a carriage return directly before which is dropped; the first line that is over
-    /// `LINE_BYTES` bytes or one more than `MOST_LINES` is answered as a fault.
+    /// Opens a source, by its bytes. A line ends at a newline, a carriage return directly before
+    /// which is dropped; the first line that is over `LINE_BYTES` bytes or one more than
+    /// `MOST_LINES` is answered as a fault.
     pub fn open_bytes(alloc: Global, source: Vec<u8>) -> Result<Source, OpenError>
-        ensures ok { IfOk result (λ s. (open_fault source.items ≡ None) × (s.lines ≡ lines_of source.items)) }
-        ensures err { IfErr result (λ e. (e ≡ OpenError.OutOfMemory) ⊎ (open_fault source.items ≡ Some e)) }
+        ensures ok { IfOk result (λ s. (open_fault source.items ≡ None)
+            × (s.lines ≡ lines_of source.items)) }
+        ensures err { IfErr result (λ e. (e ≡ OpenError.OutOfMemory)
+            ⊎ (open_fault source.items ≡ Some e)) }
         ensures parsed { IfOk result (λ s. s.work.parsed ≡ length s.lines) }
         ensures encoded { IfOk result (λ s. s.work.encoded ≤ accepted_of s.lines) }
     {
@@ -115,8 +126,9 @@ impl Source {
         self.kept.image()
     }
 
-    /// Which places of the image the last accepted edit changed, counted from its first byte; none before the first edit. Where there was
-    /// an image before the edit and is one after it, the two agree outside them.
+    /// Which places of the image the last accepted edit changed, counted from its first byte; none
+    /// before the first edit. Where there was an image before the edit and is one after it, the two
+    /// agree outside them.
     pub fn changed(&self) -> Range<usize>
         ensures first { result.start ≡ self.now.first_changed }
         ensures end { result.end ≡ self.now.end_changed }
@@ -138,14 +150,16 @@ impl Source {
         self.kept.layout.names.symbol_in_any_case(name)
     }
 
-    /// The fault of the line of this number, counted from 1; none where the line has none or there is no such line.
+    /// The fault of the line of this number, counted from 1; none where the line has none or there
+    /// is no such line.
     pub fn fault(&self, number: usize) -> Option<Fault>
         ensures { result ≡ fault_at self.now.lines number }
     {
         fault_of_number(&self.kept.lines, &self.kept.layout, number)
     }
 
-    /// The names that the source gives, in line order, each with its value and the number of its line. Err where memory ran out.
+    /// The names that the source gives, in line order, each with its value and the number of its
+    /// line. Err where memory ran out.
     pub fn symbols(&self, alloc: Global) -> Result<Vec<(Bytes, Symbol)>, AllocError>
         ensures { IfOk result (λ symbols. symbols.items ≡ symbols_of self.now.lines) }
     {
@@ -159,24 +173,35 @@ impl Source {
         faults_in(alloc, &self.kept.lines, &self.kept.layout)
     }
 
-    /// The listing: a line for each line, with its number, its address, its bytes or value or fault, and its text. Err where memory
-    /// ran out.
+    /// The listing: a line for each line, with its number, its address, its bytes or value or
+    /// fault, and its text. Err where memory ran out.
     pub fn listing(&self, alloc: Global) -> Result<Vec<u8>, AllocError>
         ensures { IfOk result (λ listing. listing.items ≡ listing_of self.now.lines) }
     {
         listing_in(alloc, &self.kept.lines, &self.kept.layout)
     }
 
-    /// Puts a line before line `number`, counted from 1, or after the last one. A refused edit changes nothing but the work, where
-    /// memory ran out.
+    /// Puts a line before line `number`, counted from 1, or after the last one. A refused edit
+    /// changes nothing but the work, where memory ran out.
     pub fn insert(&mut self, alloc: Global, number: usize, text: &[u8]) -> Result<(), Refusal>
-        ensures ok { OnOk result ((insert_refusal (length self.old.lines) number text.now ≡ None) × (self.new.lines ≡ insert self.old.lines (number - 1) text.now)) }
-        ensures err { IfErr result (λ e. (insert_refusal (length self.old.lines) number text.now ≡ Some e) ⊎ ((e ≡ Refusal.OutOfMemory) × (insert_refusal (length self.old.lines) number text.now ≡ None))) }
+        ensures ok { OnOk result ((insert_refusal (length self.old.lines) number text.now ≡ None)
+            × (self.new.lines ≡ insert self.old.lines (number - 1) text.now)) }
+        ensures err { IfErr result
+            (λ e. (insert_refusal (length self.old.lines) number text.now ≡ Some e)
+            ⊎ ((e ≡ Refusal.OutOfMemory)
+            × (insert_refusal (length self.old.lines) number text.now ≡ None))) }
         ensures same { OnErr result (self.new.lines ≡ self.old.lines) }
-        ensures changed { OnOk result (ChangesWithin self.new.first_changed self.new.end_changed (image_of self.old.lines) (image_of self.new.lines)) }
-        ensures refused { IsSome (insert_refusal (length self.old.lines) number text.now) → self.new.work ≡ self.old.work }
-        ensures parsed { insert_refusal (length self.old.lines) number text.now ≡ None → self.new.work.parsed ≡ one_more self.old.work.parsed }
-        ensures encoded { self.new.work.encoded ≤ self.old.work.encoded + lines_to_encode self.old.lines (insert self.old.lines (number - 1) text.now) (before_insert (number - 1)) }
+        ensures changed { OnOk result
+            (ChangesWithin self.new.first_changed self.new.end_changed (image_of self.old.lines)
+            (image_of self.new.lines)) }
+        ensures refused { IsSome (insert_refusal (length self.old.lines) number text.now)
+            → self.new.work ≡ self.old.work }
+        ensures parsed { insert_refusal (length self.old.lines) number text.now ≡ None
+            → self.new.work.parsed ≡ one_more self.old.work.parsed }
+        ensures encoded { self.new.work.encoded
+            ≤ self.old.work.encoded
+            + lines_to_encode self.old.lines (insert self.old.lines (number - 1) text.now)
+            (before_insert (number - 1)) }
         ensures not_lowered { self.old.work.encoded ≤ self.new.work.encoded }
     {
         if let Some(refusal) = insert_refusal(self.kept.lines.len(), number, text) {
@@ -190,15 +215,27 @@ impl Source {
         Ok(())
     }
 
-    /// Puts a text in the place of line `number`, counted from 1. A refused edit changes nothing but the work, where memory ran out.
+    /// Puts a text in the place of line `number`, counted from 1. A refused edit changes nothing
+    /// but the work, where memory ran out.
     pub fn replace(&mut self, alloc: Global, number: usize, text: &[u8]) -> Result<(), Refusal>
-        ensures ok { OnOk result ((replace_refusal (length self.old.lines) number text.now ≡ None) × (self.new.lines ≡ slice_set self.old.lines (number - 1) text.now)) }
-        ensures err { IfErr result (λ e. (replace_refusal (length self.old.lines) number text.now ≡ Some e) ⊎ ((e ≡ Refusal.OutOfMemory) × (replace_refusal (length self.old.lines) number text.now ≡ None))) }
+        ensures ok { OnOk result ((replace_refusal (length self.old.lines) number text.now ≡ None)
+            × (self.new.lines ≡ slice_set self.old.lines (number - 1) text.now)) }
+        ensures err { IfErr result
+            (λ e. (replace_refusal (length self.old.lines) number text.now ≡ Some e)
+            ⊎ ((e ≡ Refusal.OutOfMemory)
+            × (replace_refusal (length self.old.lines) number text.now ≡ None))) }
         ensures same { OnErr result (self.new.lines ≡ self.old.lines) }
-        ensures changed { OnOk result (ChangesWithin self.new.first_changed self.new.end_changed (image_of self.old.lines) (image_of self.new.lines)) }
-        ensures refused { IsSome (replace_refusal (length self.old.lines) number text.now) → self.new.work ≡ self.old.work }
-        ensures parsed { replace_refusal (length self.old.lines) number text.now ≡ None → self.new.work.parsed ≡ one_more self.old.work.parsed }
-        ensures encoded { self.new.work.encoded ≤ self.old.work.encoded + lines_to_encode self.old.lines (slice_set self.old.lines (number - 1) text.now) (before_replace (number - 1)) }
+        ensures changed { OnOk result
+            (ChangesWithin self.new.first_changed self.new.end_changed (image_of self.old.lines)
+            (image_of self.new.lines)) }
+        ensures refused { IsSome (replace_refusal (length self.old.lines) number text.now)
+            → self.new.work ≡ self.old.work }
+        ensures parsed { replace_refusal (length self.old.lines) number text.now ≡ None
+            → self.new.work.parsed ≡ one_more self.old.work.parsed }
+        ensures encoded { self.new.work.encoded
+            ≤ self.old.work.encoded
+            + lines_to_encode self.old.lines (slice_set self.old.lines (number - 1) text.now)
+            (before_replace (number - 1)) }
         ensures not_lowered { self.old.work.encoded ≤ self.new.work.encoded }
     {
         if let Some(refusal) = replace_refusal(self.kept.lines.len(), number, text) {
@@ -212,15 +249,25 @@ impl Source {
         Ok(())
     }
 
-    /// Takes out line `number`, counted from 1. A refused edit changes nothing but the work, where memory ran out.
+    /// Takes out line `number`, counted from 1. A refused edit changes nothing but the work, where
+    /// memory ran out.
     pub fn delete(&mut self, alloc: Global, number: usize) -> Result<(), Refusal>
-        ensures ok { OnOk result ((delete_refusal (length self.old.lines) number ≡ None) × (self.new.lines ≡ remove self.old.lines (number - 1))) }
-        ensures err { IfErr result (λ e. (delete_refusal (length self.old.lines) number ≡ Some e) ⊎ ((e ≡ Refusal.OutOfMemory) × (delete_refusal (length self.old.lines) number ≡ None))) }
+        ensures ok { OnOk result ((delete_refusal (length self.old.lines) number ≡ None)
+            × (self.new.lines ≡ remove self.old.lines (number - 1))) }
+        ensures err { IfErr result (λ e. (delete_refusal (length self.old.lines) number ≡ Some e)
+            ⊎ ((e ≡ Refusal.OutOfMemory)
+            × (delete_refusal (length self.old.lines) number ≡ None))) }
         ensures same { OnErr result (self.new.lines ≡ self.old.lines) }
-        ensures changed { OnOk result (ChangesWithin self.new.first_changed self.new.end_changed (image_of self.old.lines) (image_of self.new.lines)) }
-        ensures refused { IsSome (delete_refusal (length self.old.lines) number) → self.new.work ≡ self.old.work }
+        ensures changed { OnOk result
+            (ChangesWithin self.new.first_changed self.new.end_changed (image_of self.old.lines)
+            (image_of self.new.lines)) }
+        ensures refused { IsSome (delete_refusal (length self.old.lines) number)
+            → self.new.work ≡ self.old.work }
         ensures parsed { self.new.work.parsed ≡ self.old.work.parsed }
-        ensures encoded { self.new.work.encoded ≤ self.old.work.encoded + lines_to_encode self.old.lines (remove self.old.lines (number - 1)) (before_delete (number - 1)) }
+        ensures encoded { self.new.work.encoded
+            ≤ self.old.work.encoded
+            + lines_to_encode self.old.lines (remove self.old.lines (number - 1))
+            (before_delete (number - 1)) }
         ensures not_lowered { self.old.work.encoded ≤ self.new.work.encoded }
     {
         if let Some(refusal) = delete_refusal(self.kept.lines.len(), number) {

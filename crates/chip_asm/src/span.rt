@@ -8,7 +8,8 @@ ghost use Rattle.chip_asm.specs.inner.Span.{StandsAlike, IsFront, IsBack, IsSpan
 use crate::edit::{Edit, first_changed};
 use crate::placement::Placement;
 
-/// So many lines at the front that an edit leaves where they stood, and so many at the back that moved by one distance, if at all.
+/// So many lines at the front that an edit leaves where they stood, and so many at the back that
+/// moved by one distance, if at all.
 #[derive(Clone, Copy, Debug)]
 pub(crate) struct Span {
     pub(crate) front: usize,
@@ -18,7 +19,8 @@ pub(crate) struct Span {
 /// No lines.
 pub(crate) const NO_SPAN: Span = Span { front: 0, back: 0 };
 
-/// Whether a line without a fault stands where another one stood, but for the distance between two addresses, and takes the same space.
+/// Whether a line without a fault stands where another one stood, but for the distance between two
+/// addresses, and takes the same space.
 fn stands_alike(old: &Placement, new: &Placement, from: u16, to: u16) -> bool
     ensures { result ≡ true → StandsAlike from to old.now new.now }
 {
@@ -93,7 +95,8 @@ pub(crate) fn span_of(old: &[Placement], new: &[Placement], edit: &Edit) -> Span
 pub(crate) fn clean_lines(placements: &[Placement], limit: usize) -> usize
     requires { limit ≤ length placements.now }
     ensures within { result ≤ limit }
-    ensures clean { (place : ℕ) (q : Placement) → place < result → slice_get placements.now place ≡ Some q → q.fault ≡ None }
+    ensures clean { (place : ℕ) (q : Placement) → place < result
+        → slice_get placements.now place ≡ Some q → q.fault ≡ None }
 {
     for place in 0..limit {
         if placements[place].fault.is_some() {

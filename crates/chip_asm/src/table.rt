@@ -36,7 +36,8 @@ fn is_spelled(text: &[u8], name: &[u8]) -> bool
 
 /// Whether the entry at an index has this name.
 fn is_key_at(symbols: &IndexMap<Vec<u8>, Symbol>, index: usize, name: &[u8]) -> bool
-    ensures { result ≡ true → IfSome (slice_get symbols.now.entries index) (λ e. e.0.items ≡ name.now) }
+    ensures { result ≡ true
+        → IfSome (slice_get symbols.now.entries index) (λ e. e.0.items ≡ name.now) }
 {
     match symbols.get_index(index) {
         Some((key, _)) => key.as_slice() == name,
@@ -44,8 +45,9 @@ fn is_key_at(symbols: &IndexMap<Vec<u8>, Symbol>, index: usize, name: &[u8]) -> 
     }
 }
 
-/// The names in line order, each with its value and line: the first `count` entries. Names are in upper case.
-/// The entries after them are of no meaning; a name that stands there at the right place needs no new key.
+/// The names in line order, each with its value and line: the first `count` entries. Names are in
+/// upper case. The entries after them are of no meaning; a name that stands there at the right
+/// place needs no new key.
 #[derive(Drop)]
 pub(crate) struct Table {
     pub(crate) symbols: IndexMap<Vec<u8>, Symbol>,
@@ -112,7 +114,8 @@ impl Table {
         Ok(())
     }
 
-    /// Adds the other names of another table that begins with the same ones, with what they mean at lines that move.
+    /// Adds the other names of another table that begins with the same ones, with what they mean at
+    /// lines that move.
     pub(crate) fn append_moved(
         &mut self,
         alloc: Global,
@@ -120,7 +123,8 @@ impl Table {
         shift: Shift,
     ) -> Result<(), AllocError>
         requires { names_in self.old ≡ take (length self.old) (names_in other.now) }
-        ensures { OnOk result (self.new ≡ self.old ++ map (moved_name shift) (drop (length self.old) other.now)) }
+        ensures { OnOk result (self.new
+            ≡ self.old ++ map (moved_name shift) (drop (length self.old) other.now)) }
     {
         let first = self.count;
         for index in first..other.symbols.len() {
@@ -135,8 +139,8 @@ impl Table {
         Ok(())
     }
 
-    /// Gives its names, which are those of another table, what they mean after an edit by which the lines past that of a number move. No
-    /// name is compared.
+    /// Gives its names, which are those of another table, what they mean after an edit by which the
+    /// lines past that of a number move. No name is compared.
     pub(crate) fn move_from(&mut self, other: &Table, number: usize, shift: Shift)
         requires { names_in self.old ≡ names_in other.now }
         ensures { self.new ≡ map (name_past shift number) other.now }
@@ -149,12 +153,14 @@ impl Table {
         }
     }
 
-    /// Whether the names are those that lines up to a number give, of another table, with which it shares so many first ones.
+    /// Whether the names are those that lines up to a number give, of another table, with which it
+    /// shares so many first ones.
     pub(crate) fn are_those_up_to(&self, other: &Table, number: usize, known: usize) -> bool
         requires mine { known ≤ length self.now }
         requires others { known ≤ length other.now }
         requires same { take known (names_in self.now) ≡ take known (names_in other.now) }
-        requires early { (index : ℕ) (e : Name × Symbol) → index < known → (slice_index_or other.now index e).1.line ≤ number }
+        requires early { (index : ℕ) (e : Name × Symbol) → index < known
+            → (slice_index_or other.now index e).1.line ≤ number }
         ensures { result ≡ true → names_in self.now ≡ names_in (names_up_to number other.now) }
     {
         for index in known..other.symbols.len() {
@@ -200,7 +206,8 @@ impl Table {
         }
     }
 
-    /// Whether a name is that of the next entry, which doesn't count yet: then it is no name of the table.
+    /// Whether a name is that of the next entry, which doesn't count yet: then it is no name of the
+    /// table.
     pub(crate) fn is_next(&self, name: &[u8]) -> bool
         ensures { result ≡ true → lookup_name self.now name.now ≡ None }
     {
@@ -250,7 +257,8 @@ impl Table {
     fn has_same_name_at(&self, other: &Table, index: usize) -> bool
         requires mine { index < length self.now }
         requires others { index < length other.now }
-        ensures { result ≡ true → slice_get (names_in self.now) index ≡ slice_get (names_in other.now) index }
+        ensures { result ≡ true
+            → slice_get (names_in self.now) index ≡ slice_get (names_in other.now) index }
     {
         match (
             self.symbols.get_index(index),
@@ -265,8 +273,12 @@ impl Table {
     pub(crate) fn is_unmoved_at(&self, other: &Table, index: usize) -> bool
         requires mine { index < length self.now }
         requires others { index < length other.now }
-        ensures same { (mine others : Name × Symbol) → slice_get self.now index ≡ Some mine → slice_get other.now index ≡ Some others → result ≡ true → mine.1.value ≡ others.1.value }
-        ensures differs { (mine others : Name × Symbol) → slice_get self.now index ≡ Some mine → slice_get other.now index ≡ Some others → result ≡ false → mine.1.value ≢ others.1.value }
+        ensures same { (mine others : Name × Symbol) → slice_get self.now index ≡ Some mine
+            → slice_get other.now index ≡ Some others → result ≡ true
+            → mine.1.value ≡ others.1.value }
+        ensures differs { (mine others : Name × Symbol) → slice_get self.now index ≡ Some mine
+            → slice_get other.now index ≡ Some others → result ≡ false
+            → mine.1.value ≢ others.1.value }
     {
         match (
             self.symbols.get_index(index),

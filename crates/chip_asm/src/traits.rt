@@ -129,7 +129,8 @@ fn traits_of_kept(kept: &BoxedLine) -> Traits
 impl Traits {
     /// The size of a line of which the first pass asks nothing else but its name.
     pub(crate) fn bare_size(self) -> Option<usize>
-        ensures { (line : Reading) → self ≡ traits_of line → IfSome result (λ size. IsBare line (name_defined line) size) }
+        ensures { (line : Reading) → self ≡ traits_of line
+            → IfSome result (λ size. IsBare line (name_defined line) size) }
     {
         if !self.is_bare {
             return None;
@@ -140,7 +141,8 @@ impl Traits {
 
 /// The traits of all lines.
 pub(crate) fn traits_of_all(alloc: Global, lines: &[BoxedLine]) -> Result<Vec<Traits>, AllocError>
-    ensures { IfOk result (λ traits. traits.items ≡ map (λ kept. traits_of (seen_line kept.line)) lines.now) }
+    ensures { IfOk result (λ traits. traits.items
+        ≡ map (λ kept. traits_of (seen_line kept.line)) lines.now) }
 {
     let mut traits = Vec::with_capacity(alloc, lines.len())?;
     for place in 0..lines.len() {
@@ -157,7 +159,8 @@ pub(crate) fn traits_after(
 ) -> Result<Vec<Traits>, AllocError>
     requires within { IsPlaceWithin (length traits.now) edit.now }
     ensures { (lines : List KeptLine) → traits.now ≡ map traits_of (readings_in lines)
-        → IfOk result (λ after. after.items ≡ map traits_of (readings_in (lines_after lines edit.now))) }
+        → IfOk result (λ after. after.items
+        ≡ map traits_of (readings_in (lines_after lines edit.now))) }
 {
     match edit {
         Edit::Insert(at, added) => with_item(alloc, traits, *at, traits_of(added.line())),

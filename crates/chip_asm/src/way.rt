@@ -7,7 +7,8 @@ pub enum Way {
     Rewritten,
     /// No name came or went, and the later lines moved.
     Moved,
-    /// The lines from the edit up to the last of which the first pass asks more than its size were walked, and the others moved.
+    /// The lines from the edit up to the last of which the first pass asks more than its size were
+    /// walked, and the others moved.
     Shifted,
     /// All lines from the edit on were walked, or all lines.
     Walked,

@@ -1,4 +1,5 @@
--- The answer to each question, from the lines, the key events and the settings of the session alone (own).
+-- The answer to each question, from the lines, the key events and the settings of the session alone
+-- (own).
 use Rattle.std.specs.Prelude.{ℕ, ◌+◌, ◌*◌, Bool, false, List, [], ◌∷◌, ◌++◌, nat_lt, if◌then◌else◌, codes, Option, Some, None, Result, Ok, Err}
 use Rattle.std.specs.List.{flat_map}
 use Rattle.std.specs.Fmt.{decimal, signed_decimal}
@@ -43,14 +44,17 @@ full_stop = codes "." ++ 10 ∷ []
 
 -- a name, its value and its line
 abbrev pub symbol_line : List ℕ × Symbol → List ℕ
-symbol_line named = named.0 ++ codes " " ++ signed_decimal named.1.value ++ codes " " ++ decimal named.1.line ++ 10 ∷ []
+symbol_line named =
+    named.0 ++ codes " " ++ signed_decimal named.1.value ++ codes " " ++ decimal named.1.line
+    ++ 10 ∷ []
 
 abbrev pub symbols_text : List (List ℕ × Symbol) → List ℕ
 symbols_text symbols = flat_map symbol_line symbols ++ full_stop
 
 -- a line's number and its fault
 abbrev pub fault_line : ℕ × Fault → List ℕ
-fault_line numbered = decimal numbered.0 ++ codes " F" ++ decimal (number_of_fault numbered.1) ++ 10 ∷ []
+fault_line numbered =
+    decimal numbered.0 ++ codes " F" ++ decimal (number_of_fault numbered.1) ++ 10 ∷ []
 
 abbrev pub faults_text : List (ℕ × Fault) → List ℕ
 faults_text faults = flat_map fault_line faults ++ full_stop
@@ -92,15 +96,19 @@ state_answer state.Screen s = screen_of s
 state_answer (state.Disassembly at count) s = disassembly_of s at count
 state_answer (state.Picture form) s = picture_by form s
 
--- the machine with this image after so many steps from step 0, under the keys and the settings of the session
+-- the machine with this image after so many steps from step 0, under the keys and the settings of
+-- the session
 unfoldable pub machine_at : Session → List ℕ → ℕ → State
 machine_at session image step =
-    run step_of session.settings.rate (held session.keys) (start_of image session.settings.tape session.settings.profile) step
+    run step_of session.settings.rate (held session.keys)
+    (start_of image session.settings.tape session.settings.profile) step
 
 -- the first refusal of a question about a step, if there is one
 abbrev pub step_refusal : StateQuestion → ℕ → Option Refusal
 step_refusal asked step =
-    if nat_lt last_step step then Some StepPastLast else if is_past_end asked then Some AddressPastEnd else None
+    if nat_lt last_step step then Some StepPastLast
+    else if is_past_end asked then Some AddressPastEnd
+    else None
 
 abbrev pub unless_refused : Option Refusal → List ℕ → Result (List ℕ) Refusal
 unless_refused (Some why) bytes = Err why
@@ -119,7 +127,10 @@ answer_to session Symbols = Ok (symbols_text (symbols_of session.lines))
 answer_to session Listing = Ok (listing_text (listing_of session.lines))
 answer_to session Faults = Ok (faults_text (faults_of session.lines))
 answer_to session (Registers step) = answer_at session state.Registers step (image_of session.lines)
-answer_to session (Memory step at count) = answer_at session (state.Memory at count) step (image_of session.lines)
+answer_to session (Memory step at count) =
+    answer_at session (state.Memory at count) step (image_of session.lines)
 answer_to session (Screen step) = answer_at session state.Screen step (image_of session.lines)
-answer_to session (Disassembly step at count) = answer_at session (state.Disassembly at count) step (image_of session.lines)
-answer_to session (Picture step form) = answer_at session (state.Picture form) step (image_of session.lines)
+answer_to session (Disassembly step at count) =
+    answer_at session (state.Disassembly at count) step (image_of session.lines)
+answer_to session (Picture step form) =
+    answer_at session (state.Picture form) step (image_of session.lines)

@@ -86,7 +86,9 @@ abbrev pub code : Rule
 code = record (new_rule (codes "code")) { value_names = 1; action = Some Set }
 
 abbrev pub run : App
-run = with_rule (with_settings (with_rule (with_rule (new_app (codes "run")) needed_source) steps)) keys
+run =
+    with_rule
+    (with_settings (with_rule (with_rule (new_app (codes "run")) needed_source) steps)) keys
 
 abbrev pub picture : App
 picture =

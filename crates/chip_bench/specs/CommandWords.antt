@@ -23,7 +23,8 @@ use Rattle.chip_bench.specs.declared.command_line.SettingWords.{SettingWords}
 -- the name of a profile that there is not
 abbrev pub profile_fault : Option (List ℕ) → Kinds
 profile_fault None = []
-profile_fault (Some name) = if list_any (λ known. bytes_eq known name) profile_names then [] else kind.InvalidValue ∷ []
+profile_fault (Some name) =
+    if list_any (λ known. bytes_eq known name) profile_names then [] else kind.InvalidValue ∷ []
 
 -- the same, of the words of a command
 abbrev pub faults_below : Option (List ℕ × List Row) → Kinds
@@ -36,13 +37,16 @@ faults_of words = or_else (fault_of chipbench words) (faults_below (subcommand_o
 
 -- a text of decimal digits, which a plus may stand before, and which fits in so many bits
 abbrev pub IsNumber : ℕ → List ℕ → Type 0
-IsNumber bits text = IsNumeral 10 (without_leading_plus text) × (digits_value 10 (without_leading_plus text) < 2 ^ bits)
+IsNumber bits text =
+    IsNumeral 10 (without_leading_plus text)
+    × (digits_value 10 (without_leading_plus text) < 2 ^ bits)
 
 -- the number that a text stands for, where there is a text and it is a number
 abbrev pub Reads : ℕ → Option (List ℕ) → Option ℕ → Type 0
 Reads bits None number = number ≡ None
 Reads bits (Some text) None = IsNumber bits text → ⊥
-Reads bits (Some text) (Some number) = IsNumber bits text × (number ≡ digits_value 10 (without_leading_plus text))
+Reads bits (Some text) (Some number) =
+    IsNumber bits text × (number ≡ digits_value 10 (without_leading_plus text))
 
 -- the same, with a number in its place
 pub record ReadsOr (bits : ℕ) (text : Option (List ℕ)) (default number : ℕ) : Type 0 where
@@ -90,15 +94,20 @@ pub record AsksPicture (rows : List Row) (words : PictureWords) : Type 0 where
 -- What the values of a command of that name ask for.
 abbrev pub Asks : List ℕ → List Row → CommandLine → Type 0
 Asks name rows (line.Asm source image) =
-    (name ≡ codes "asm") × (source.now ≡ needed (codes "source") rows) × (image.now ≡ needed (codes "image") rows)
-Asks name rows (line.List source) = (name ≡ codes "list") × (source.now ≡ needed (codes "source") rows)
-Asks name rows (line.Check source) = (name ≡ codes "check") × (source.now ≡ needed (codes "source") rows)
+    (name ≡ codes "asm") × (source.now ≡ needed (codes "source") rows)
+    × (image.now ≡ needed (codes "image") rows)
+Asks name rows (line.List source) =
+    (name ≡ codes "list") × (source.now ≡ needed (codes "source") rows)
+Asks name rows (line.Check source) =
+    (name ≡ codes "check") × (source.now ≡ needed (codes "source") rows)
 Asks name rows (line.Dis image) = (name ≡ codes "dis") × (image.now ≡ needed (codes "image") rows)
 Asks name rows (line.Run words) = (name ≡ codes "run") × AsksRun rows words
 Asks name rows (line.Picture words) = (name ≡ codes "picture") × AsksPicture rows words
-Asks name rows (line.Explain code) = (name ≡ codes "explain") × (option_copied code ≡ first_of (codes "code") rows)
+Asks name rows (line.Explain code) =
+    (name ≡ codes "explain") × (option_copied code ≡ first_of (codes "code") rows)
 Asks name rows (line.Debug source settings) =
-    (name ≢ codes "asm") × (name ≢ codes "list") × (name ≢ codes "check") × (name ≢ codes "dis") × (name ≢ codes "run")
+    (name ≢ codes "asm") × (name ≢ codes "list") × (name ≢ codes "check") × (name ≢ codes "dis")
+    × (name ≢ codes "run")
     × (name ≢ codes "picture") × (name ≢ codes "explain")
     × (option_copied source ≡ first_of (codes "source") rows) × AsksSettings rows settings
 

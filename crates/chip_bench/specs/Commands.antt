@@ -26,7 +26,8 @@ skip_spaces (byte ∷ text) = if is_space byte then skip_spaces text else byte �
 -- the number that one to `most` digits write in a base
 abbrev pub numeral : ℕ → ℕ → Text → Option ℕ
 numeral base most digits =
-    if nat_lt 0 (length digits) && nat_le (length digits) most && list_all (λ byte. is_digit byte base) digits then Some (digits_value base digits)
+    if nat_lt 0 (length digits) && nat_le (length digits) most
+    && list_all (λ byte. is_digit byte base) digits then Some (digits_value base digits)
     else None
 
 -- a number: 1 to 9 decimal digits, or `#` and 1 to 7 hexadecimal ones of either case
@@ -75,7 +76,9 @@ key_state operands =
 
 -- a step, a key and its state, and nothing after them
 unfoldable pub key_event : Text → Option (ℕ × (ℕ × Bool))
-key_event operands = paired (front_number operands) (paired (front_number (next_words operands)) (key_state (next_words (next_words operands))))
+key_event operands =
+    paired (front_number operands)
+    (paired (front_number (next_words operands)) (key_state (next_words (next_words operands))))
 
 -- what there is makes, or no command
 abbrev pub made : {A : Type 0} → (A → Command) → Option A → Result Command CommandFault
@@ -100,7 +103,8 @@ read_by (one command) operands = made command (one_number operands)
 read_by (two command) operands = made (λ n. command n.0 n.1) (two_numbers operands)
 read_by (three command) operands = made (λ n. command n.0 n.1.0 n.1.1) (three_numbers operands)
 read_by (event command) operands = made (λ e. command e.0 e.1.0 e.1.1) (key_event operands)
-read_by (line_text command) operands = made (λ n. command n (after_first is_space operands)) (front_number operands)
+read_by (line_text command) operands =
+    made (λ n. command n (after_first is_space operands)) (front_number operands)
 
 -- a row for each command: its word, and what stands after it
 abbrev pub Row : Type 0
@@ -139,7 +143,8 @@ machine_questions =
 -- the command of the first row that has the word
 abbrev pub command_in : List Row → Text → Text → Result Command CommandFault
 command_in [] word operands = Err Unknown
-command_in (row ∷ rows) word operands = if bytes_eq word row.0 then read_by row.1 operands else command_in rows word operands
+command_in (row ∷ rows) word operands =
+    if bytes_eq word row.0 then read_by row.1 operands else command_in rows word operands
 
 -- the command of a first word, and of what follows the spaces after it
 abbrev pub worded : Text → Text → Result Command CommandFault

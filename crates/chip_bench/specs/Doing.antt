@@ -1,12 +1,16 @@
 -- What the program does for each thing that its words can ask for (own).
---     IsSourceUnread, IsUnwritten, IsFileWritten   what hinders reading a source or writing a file; that it was written
+--     IsSourceUnread, IsUnwritten, IsFileWritten   what hinders reading a source or writing a file;
+--                                                  that it was written
 --     GivesSource                    the bytes of a source of that name
---     FromSource, FromFile, FromKeys, WithAsked    what a command did with the bytes that it read, or why it read none
---     Debugs, Assembles, Lists, Checks, Disassembles, Runs, Pictures, Explains    what each command did
+--     FromSource, FromFile, FromKeys, WithAsked    what a command did with the bytes that it read,
+--                                                  or why it read none
+--     Debugs, Assembles, Lists, Checks, Disassembles, Runs, Pictures, Explains    what each command
+--         did
 --     Does                           the same, by what was asked
 --     Performs, ShowsVersion         the same, for the words of the command line
 --     Ends                           how the program ended after that
--- No contract says what bytes a file gives or takes: of a file's bytes these words say that there are some.
+-- No contract says what bytes a file gives or takes: of a file's bytes these words say that there
+-- are some.
 use Rattle.std.specs.Prelude.{◌≡◌, ◌≢◌, ◌⊎◌, ℕ, ◌<◌, ◌≤◌, Bool, List, [], codes, length, take, Option, Some, None, IfSome, Result, Ok, Err, IsErrAnd}
 use Rattle.std.specs.Borrow.{Bor}
 use Rattle.std.specs.Io.KnownBytes.{Keeps}
@@ -59,7 +63,8 @@ IsSourceUnread name why = IsUnread name why ⊎ ((why ≡ failure.Input) × (nam
 
 -- what hinders writing a file of that name
 abbrev pub IsUnwritten : Bor (List ℕ) → Failure → Type 0
-IsUnwritten name why = (why ≡ failure.OutOfMemory) ⊎ ((because : IoError) × (why ≡ failure.CannotWrite name because))
+IsUnwritten name why =
+    (why ≡ failure.OutOfMemory) ⊎ ((because : IoError) × (why ≡ failure.CannotWrite name because))
 
 -- a file of that name was written, or it couldn't be
 abbrev pub IsFileWritten : Bor (List ℕ) → Outcome → Type 0
@@ -74,14 +79,16 @@ abbrev pub image_in : List ℕ → Option (List ℕ)
 image_in source = image_if_opened (open_fault source) (image_of (lines source))
 
 module _ {R : Type 0} (remaining : R → Option (List ℕ)) (in_old in_new : Tally R) where
-  -- The bytes of a source: where its name is `-`, those of standard input, up to a number from which on no source opens. For another name
-  -- standard input isn't read.
+  -- The bytes of a source: where its name is `-`, those of standard input, up to a number from
+  -- which on no source opens. For another name standard input isn't read.
   pub record GivesSource (name bytes : List ℕ) : Type 0 where
-    pub given : name ≡ standard_input → IfSome (remaining in_old.inner) (λ all. bytes ≡ take source_bytes_read all)
+    pub given : name ≡ standard_input
+        → IfSome (remaining in_old.inner) (λ all. bytes ≡ take source_bytes_read all)
     pub untouched : name ≢ standard_input → in_new ≡ in_old
 
 -- What is read. `Unwritten` says that nothing was written.
-module _ {R : Type 0} (remaining : R → Option (List ℕ)) (in_old in_new : Tally R) (Unwritten : Type 0) where
+module _ {R : Type 0} (remaining : R → Option (List ℕ)) (in_old in_new : Tally R)
+    (Unwritten : Type 0) where
   -- It ended so before a source was read, and nothing was written.
   abbrev pub Declined : (Failure → Type 0) → Outcome → Type 0
   Declined Why ended = IsErrAnd ended Why × (in_new ≡ in_old) × Unwritten
@@ -89,7 +96,8 @@ module _ {R : Type 0} (remaining : R → Option (List ℕ)) (in_old in_new : Tal
   -- what a command did with the bytes of a source
   abbrev pub FromSource : Bor (List ℕ) → (List ℕ → Outcome → Type 0) → Outcome → Type 0
   FromSource name Did ended =
-      ((bytes : List ℕ) × GivesSource remaining in_old in_new name.now bytes × Did bytes ended) ⊎ (IsErrAnd ended (IsSourceUnread name) × Unwritten)
+      ((bytes : List ℕ) × GivesSource remaining in_old in_new name.now bytes × Did bytes ended)
+      ⊎ (IsErrAnd ended (IsSourceUnread name) × Unwritten)
 
   -- with the bytes of a file
   abbrev pub FromFile : Bor (List ℕ) → (List ℕ → Outcome → Type 0) → Outcome → Type 0
@@ -101,14 +109,17 @@ module _ {R : Type 0} (remaining : R → Option (List ℕ)) (in_old in_new : Tal
   FromKeys (Some name) Did ended = FromFile name Did ended
 
   -- under the settings that the words ask for
-  abbrev pub IfSettled : Option SessionSettings → (SessionSettings → Outcome → Type 0) → Outcome → Type 0
+  abbrev pub IfSettled : Option SessionSettings → (SessionSettings → Outcome → Type 0) → Outcome
+      → Type 0
   IfSettled None Did ended = Declined IsUnsettled ended
   IfSettled (Some settings) Did ended = Did settings ended ⊎ Declined IsShort ended
 
   -- under those settings, with the key events and the source
-  abbrev pub WithAsked : RunWords → (SessionSettings → List ℕ → List ℕ → Outcome → Type 0) → Outcome → Type 0
+  abbrev pub WithAsked : RunWords → (SessionSettings → List ℕ → List ℕ → Outcome → Type 0) → Outcome
+      → Type 0
   WithAsked words Did ended =
-      IfSettled (settings_asked words.settings) (λ settings. FromKeys words.keys (λ keys. FromSource words.source (Did settings keys))) ended
+      IfSettled (settings_asked words.settings)
+      (λ settings. FromKeys words.keys (λ keys. FromSource words.source (Did settings keys))) ended
 
 -- What is written.
 module _ {W : Type 0} (contents : W → Option (List ℕ)) (out_old out_new : Tally W) where
@@ -116,24 +127,31 @@ module _ {W : Type 0} (contents : W → Option (List ℕ)) (out_old out_new : Ta
   abbrev pub Fails : (Failure → Type 0) → Outcome → Type 0
   Fails Why ended = IsErrAnd ended Why × (out_new ≡ out_old)
 
-  -- `asm`: where the source has an image, its file was written, or couldn't be; else the faults are printed
+  -- `asm`: where the source has an image, its file was written, or couldn't be; else the faults are
+  -- printed
   abbrev pub AssemblesBy : Option (List ℕ) → List ℕ → Bor (List ℕ) → Outcome → Type 0
   AssemblesBy (Some image) source name ended = IsFileWritten name ended × (out_new ≡ out_old)
   AssemblesBy None source name ended =
-      Prints contents out_old out_new (printed_of (open_fault source) (faults_of_lines (lines source))) ended
+      Prints contents out_old out_new
+      (printed_of (open_fault source) (faults_of_lines (lines source))) ended
 
   -- `dis`: of an image that isn't too long, a source of it
-  pub record DisassemblesBytes (name : Bor (List ℕ)) (image : List ℕ) (ended : Outcome) : Type 0 where
-    pub fits : length image ≤ IMAGE_BYTES → Prints contents out_old out_new (printed (source_of_image image) Done) ended
+  pub record DisassemblesBytes (name : Bor (List ℕ)) (image : List ℕ)
+      (ended : Outcome) : Type 0 where
+    pub fits : length image ≤ IMAGE_BYTES
+        → Prints contents out_old out_new (printed (source_of_image image) Done) ended
     pub too_long : IMAGE_BYTES < length image → Fails (IsUnread name) ended
 
   -- `picture` without a file: the picture is printed
-  abbrev pub PrintsPicture : Option SessionSettings → List ℕ → List ℕ → ℕ → PictureForm → Outcome → Type 0
+  abbrev pub PrintsPicture : Option SessionSettings → List ℕ → List ℕ → ℕ → PictureForm → Outcome
+      → Type 0
   PrintsPicture None source keys step form ended = Fails IsUnsettled ended
   PrintsPicture (Some settings) source keys step form ended =
-      PrintsUnder contents out_old out_new settings source keys (λ session. picture_at session step form) ended ⊎ Fails IsShort ended
+      PrintsUnder contents out_old out_new settings source keys
+      (λ session. picture_at session step form) ended ⊎ Fails IsShort ended
 
-  -- with one: where there is a picture, its file was written, or couldn't be; else what there is in its place is printed
+  -- with one: where there is a picture, its file was written, or couldn't be; else what there is in
+  -- its place is printed
   abbrev pub WritesBy : Ending → Printed → Bor (List ℕ) → Outcome → Type 0
   WritesBy Done wanted name ended = IsFileWritten name ended × (out_new ≡ out_old)
   WritesBy Faulty wanted name ended = Prints contents out_old out_new wanted ended
@@ -142,15 +160,18 @@ module _ {W : Type 0} (contents : W → Option (List ℕ)) (out_old out_new : Ta
   WritesUnless None wanted name ended = WritesBy wanted.ending wanted name ended
   WritesUnless (Some line) wanted name ended = RefusesKeys contents out_old out_new line ended
 
-  abbrev pub WritesPicture : Option SessionSettings → List ℕ → List ℕ → ℕ → PictureForm → Bor (List ℕ) → Outcome → Type 0
+  abbrev pub WritesPicture : Option SessionSettings → List ℕ → List ℕ → ℕ → PictureForm
+      → Bor (List ℕ) → Outcome → Type 0
   WritesPicture None source keys step form name ended = Fails IsUnsettled ended
   WritesPicture (Some settings) source keys step form name ended =
       WritesUnless (fault_under (open_fault source) (key_fault (session_of settings source) keys))
-      (printed_of (open_fault source) (picture_at (session_under (session_of settings source) keys) step form)) name ended
+      (printed_of (open_fault source)
+      (picture_at (session_under (session_of settings source) keys) step form)) name ended
       ⊎ Fails IsShort ended
 
   -- both: the second where the first was written
-  abbrev pub PicturesBy : Option SessionSettings → List ℕ → List ℕ → PictureWords → Option (Bor (List ℕ)) → Option (Bor (List ℕ)) → Outcome → Type 0
+  abbrev pub PicturesBy : Option SessionSettings → List ℕ → List ℕ → PictureWords
+      → Option (Bor (List ℕ)) → Option (Bor (List ℕ)) → Outcome → Type 0
   PicturesBy settings source keys words None None ended =
       PrintsPicture settings source keys words.run.steps (form.Text words.letters) ended
   PicturesBy settings source keys words (Some bitmap) None ended =
@@ -158,19 +179,22 @@ module _ {W : Type 0} (contents : W → Option (List ℕ)) (out_old out_new : Ta
   PicturesBy settings source keys words None (Some png) ended =
       WritesPicture settings source keys words.run.steps form.Png png ended
   PicturesBy settings source keys words (Some bitmap) (Some png) ended =
-      (WritesPicture settings source keys words.run.steps form.Bitmap bitmap ended × (ended ≢ Ok Done))
+      (WritesPicture settings source keys words.run.steps form.Bitmap bitmap ended
+      × (ended ≢ Ok Done))
       ⊎ WritesPicture settings source keys words.run.steps form.Png png ended
 
   -- `explain`: the page on the code, where there is one
   abbrev pub ExplainsCode : Bor (List ℕ) → Outcome → Type 0
   ExplainsCode code ended =
-      ((page : List ℕ) × IsPageText code.now page × Prints contents out_old out_new (printed page Done) ended)
+      ((page : List ℕ) × IsPageText code.now page
+      × Prints contents out_old out_new (printed page Done) ended)
       ⊎ Fails (λ why. (why ≡ failure.NoPage code) ⊎ IsShort why) ended
 
   -- or all codes
   abbrev pub Explains : Option (Bor (List ℕ)) → Outcome → Type 0
   Explains None ended =
-      ((text : List ℕ) × IsContents text × Prints contents out_old out_new (printed text Done) ended) ⊎ Fails IsShort ended
+      ((text : List ℕ) × IsContents text
+      × Prints contents out_old out_new (printed text Done) ended) ⊎ Fails IsShort ended
   Explains (Some code) ended = ExplainsCode code ended
 
 -- What is done.
@@ -179,7 +203,8 @@ module _ {R W : Type 0} (remaining : R → Option (List ℕ)) (contents : W → 
   -- `debug`: without a source, a session on the empty one
   abbrev pub Debugs : Option (Bor (List ℕ)) → SettingWords → Outcome → Type 0
   Debugs None words ended =
-      AnswersIfAsked remaining contents [] in_old in_new out_old out_new (settings_asked words) ended
+      AnswersIfAsked remaining contents [] in_old in_new out_old out_new
+      (settings_asked words) ended
   Debugs (Some name) words ended =
       IfSettled remaining in_old in_new (out_new ≡ out_old) (settings_asked words) (λ settings.
       FromFile remaining in_old in_new (out_new ≡ out_old) name (λ source.
@@ -194,29 +219,34 @@ module _ {R W : Type 0} (remaining : R → Option (List ℕ)) (contents : W → 
   abbrev pub Lists : Bor (List ℕ) → Outcome → Type 0
   Lists source ended =
       FromSource remaining in_old in_new (out_new ≡ out_old) source (λ bytes.
-      Prints contents out_old out_new (printed_of (open_fault bytes) (listing_of_lines (lines bytes)))) ended
+      Prints contents out_old out_new
+      (printed_of (open_fault bytes) (listing_of_lines (lines bytes)))) ended
 
   -- `check`
   abbrev pub Checks : Bor (List ℕ) → Outcome → Type 0
   Checks source ended =
       FromSource remaining in_old in_new (out_new ≡ out_old) source (λ bytes.
-      Prints contents out_old out_new (printed_of (open_fault bytes) (check_of_lines source.now (lines bytes)))) ended
+      Prints contents out_old out_new
+      (printed_of (open_fault bytes) (check_of_lines source.now (lines bytes)))) ended
 
   abbrev pub Disassembles : Bor (List ℕ) → Outcome → Type 0
   Disassembles image ended =
-      FromSource remaining in_old in_new (out_new ≡ out_old) image (DisassemblesBytes contents out_old out_new image) ended
+      FromSource remaining in_old in_new (out_new ≡ out_old) image
+      (DisassemblesBytes contents out_old out_new image) ended
 
   -- `run`
   abbrev pub Runs : RunWords → Outcome → Type 0
   Runs words ended =
       WithAsked remaining in_old in_new (out_new ≡ out_old) words (λ settings keys source.
-      PrintsUnder contents out_old out_new settings source keys (λ session. run_of session words.steps)) ended
+      PrintsUnder contents out_old out_new settings source keys
+      (λ session. run_of session words.steps)) ended
 
   -- `picture`
   abbrev pub Pictures : PictureWords → Outcome → Type 0
   Pictures words ended =
       WithAsked remaining in_old in_new (out_new ≡ out_old) words.run (λ settings keys source.
-      PicturesBy contents out_old out_new (Some settings) source keys words words.bitmap words.png) ended
+      PicturesBy contents out_old out_new
+      (Some settings) source keys words words.bitmap words.png) ended
 
   -- what the program did for what it was asked
   abbrev pub Does : CommandLine → Outcome → Type 0
@@ -229,7 +259,8 @@ module _ {R W : Type 0} (remaining : R → Option (List ℕ)) (contents : W → 
   Does (line.Picture words) ended = Pictures words ended
   Does (line.Explain code) ended = Explains contents out_old out_new code ended × (in_new ≡ in_old)
 
-  -- what it did for words without a fault: what they ask for, unless there was no memory to read them
+  -- what it did for words without a fault: what they ask for, unless there was no memory to read
+  -- them
   abbrev pub Performs : List (List ℕ) → Outcome → Type 0
   Performs words ended =
       ((asked : CommandLine) × AsksFor words asked × Does asked ended)
@@ -237,10 +268,12 @@ module _ {R W : Type 0} (remaining : R → Option (List ℕ)) (contents : W → 
 
   -- what it did for the version's word
   abbrev pub ShowsVersion : Outcome → Type 0
-  ShowsVersion ended = Prints contents out_old out_new (printed version_text Done) ended × (in_new ≡ in_old)
+  ShowsVersion ended =
+      Prints contents out_old out_new (printed version_text Done) ended × (in_new ≡ in_old)
 
 -- How the program ended: `Did` says what it did, after which the output was flushed.
-pub record Ends {W : Type 0} (contents : W → Option (List ℕ)) (Did : Tally W → Outcome → Type 0) (out_new : Tally W) (status : ℕ) : Type 0 where
+pub record Ends {W : Type 0} (contents : W → Option (List ℕ)) (Did : Tally W → Outcome → Type 0)
+    (out_new : Tally W) (status : ℕ) : Type 0 where
   pub written : Tally W
   pub ended : Outcome
   pub flushed : Bool

@@ -14,8 +14,8 @@ use Rattle.chip_bench.specs.Session.{Text, Session, session_with}
 use Rattle.chip_bench.specs.declared.refusal.Refusal.{Refusal}
 use Rattle.chip_bench.specs.declared.refusal.Refusal.TheVariants.{AnswerMemory}
 
--- the settings; the key events; the last image that the lines had, or the empty one; up to which step its run is sound; and how many
--- steps were made
+-- the settings; the key events; the last image that the lines had, or the empty one; up to which
+-- step its run is sound; and how many steps were made
 pub record KeptRun : Type 0 where
   pub settings : SessionSettings
   pub keys : Events
@@ -29,14 +29,22 @@ RunParts = SessionSettings × (Events × (List ℕ × (ℕ × ℕ)))
 
 abbrev pub kept_run_code : Coded KeptRun
 kept_run_code =
-    code_by RunParts (coded× settings_code (coded× coded_events (coded× (coded_list coded_ℕ) (coded× coded_ℕ coded_ℕ))))
+    code_by RunParts (coded× settings_code
+    (coded× coded_events (coded× (coded_list coded_ℕ) (coded× coded_ℕ coded_ℕ))))
     (λ kept. (kept.settings, (kept.keys, (kept.last_image, (kept.reach, kept.ran)))))
-    (λ p. record { settings = p.0; keys = p.1.0; last_image = p.1.1.0; reach = p.1.1.1.0; ran = p.1.1.1.1 })
+    (λ p. record {
+      settings = p.0;
+      keys = p.1.0;
+      last_image = p.1.1.0;
+      reach = p.1.1.1.0;
+      ran = p.1.1.1.1;
+    })
     (λ _. refl)
 
 -- the run of the empty image, without key events
 abbrev pub empty_run : SessionSettings → KeptRun
-empty_run settings = record { settings = settings; keys = map.empty; last_image = []; reach = 0; ran = 0 }
+empty_run settings =
+    record { settings = settings; keys = map.empty; last_image = []; reach = 0; ran = 0 }
 
 -- the session on these lines, with the key events and the settings of a kept run
 abbrev pub session_on : List Text → KeptRun → Session
@@ -57,9 +65,11 @@ machine_after kept step = run step_of kept.settings.rate (held kept.keys) (kept_
 -- the first step below the reach that a new image in the place of the last one affects
 abbrev pub first_affected : KeptRun → List ℕ → ℕ
 first_affected kept image =
-    affected touches step_of kept.settings.rate (held kept.keys) kept.last_image image (kept_start kept) kept.reach
+    affected touches step_of kept.settings.rate (held kept.keys) kept.last_image image
+    (kept_start kept) kept.reach
 
--- what the image of other lines keeps of a run: all of it before the first affected step, and all where there is no image
+-- what the image of other lines keeps of a run: all of it before the first affected step, and all
+-- where there is no image
 pub record FollowsImage (image : Option (List ℕ)) (old new : KeptRun) : Type 0 where
   pub last_image : new.last_image ≡ unwrap_or image old.last_image
   pub with_image : OnSome image (first_affected old new.last_image ≤ new.reach)
@@ -70,13 +80,16 @@ pub record FollowsEvent (step : ℕ) (old new : KeptRun) : Type 0 where
   pub last_image : new.last_image ≡ old.last_image
   pub reach : min old.reach step ≤ new.reach
 
--- What a question about a step changes of the reach and of the steps made: neither falls, no more steps are made than those from the
--- last checkpoint that may be used, and the kept run reaches the step if it is answered.
-pub record ReachesStep {A E : Type 0} (step : ℕ) (result : Result A E) (old new : KeptRun) : Type 0 where
+-- What a question about a step changes of the reach and of the steps made: neither falls, no more
+-- steps are made than those from the last checkpoint that may be used, and the kept run reaches the
+-- step if it is answered.
+pub record ReachesStep {A E : Type 0} (step : ℕ) (result : Result A E)
+    (old new : KeptRun) : Type 0 where
   pub kept : old.reach ≤ new.reach
   pub reached : OnOk result (step ≤ new.reach)
   pub made : old.ran ≤ new.ran
-  pub steps : OnOk result (new.ran ≤ old.ran + (step - old.settings.spacing * (min old.reach step / old.settings.spacing)))
+  pub steps : OnOk result (new.ran
+      ≤ old.ran + (step - old.settings.spacing * (min old.reach step / old.settings.spacing)))
 
 -- neither changes
 pub record StaysPut (old new : KeptRun) : Type 0 where

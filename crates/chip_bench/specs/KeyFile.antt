@@ -1,4 +1,5 @@
--- The key events of a file: a line `S K down` or `S K up` is what `kins S K down` or `kins S K up` is in a script (own).
+-- The key events of a file: a line `S K down` or `S K up` is what `kins S K down` or `kins S K up`
+-- is in a script (own).
 use Rattle.std.specs.Prelude.{◌≡◌, ℕ, ◌+◌, ◌==◌, Bool, List, [], ◌∷◌, ◌++◌, map, codes, Option, Some, None, Result, Ok, Err, if◌then◌else◌}
 use Rattle.std.specs.List.{list_all, before_first}
 use Rattle.chip_asm.specs.Lines.{lines_of}
@@ -50,7 +51,8 @@ refused_or_later None number later = later
 abbrev pub first_refusal : Session → ℕ → List Text → Option (ℕ × Text)
 first_refusal session number [] = None
 first_refusal session number (line ∷ script) =
-    refused_or_later (refusal_to session line) number (first_refusal (after session line) (number + 1) script)
+    refused_or_later (refusal_to session line) number
+    (first_refusal (after session line) (number + 1) script)
 
 -- the number and the code of the first line of a file that is refused, if there is one
 unfoldable pub key_fault : Session → List ℕ → Option (ℕ × Text)
@@ -60,7 +62,8 @@ key_fault session file = first_refusal session 1 (key_commands file)
 unfoldable pub session_under : Session → List ℕ → Session
 session_under session file = session_after session (key_commands file)
 
--- why the key events of a file can't be made: its first refused line, or want of memory, which may come before it
+-- why the key events of a file can't be made: its first refused line, or want of memory, which may
+-- come before it
 abbrev pub IsKeyFault : Option (ℕ × Text) → KeyFileError → Type 0
 IsKeyFault fault (Line number code) = fault ≡ Some (number, code.now)
 IsKeyFault fault OutOfMemory = Unit {0}

@@ -2,13 +2,15 @@
 --     Tally        a reader or a writer with the number of its failures
 --     Lines        the lines of a script, and which of them a newline has ended
 --     Settings     the settings of a session
---     Session      a session: its lines, key events and settings; an edit of it, and the first refusal that applies
+--     Session      a session: its lines, key events and settings; an edit of it, and the first
+--                  refusal that applies
 --     Refusals     the codes of refusals
 --     Changes      the changes of the code, seen by the bytes that they hold
 --     Text, MachineAnswers, Answers      the answer to each question
 --     IsAnswer     when a result is the answer, or why there is none
 --     Costs        what an edit reads and encodes of the source
---     Kept         what a bench keeps beside its lines, and what an image, a key event or a question keeps of it
+--     Kept         what a bench keeps beside its lines, and what an image, a key event or a
+--                  question keeps of it
 --     Workbench    what contracts see of a bench, and what an edit keeps of the run
 --     Commands     the command that a line of a script spells
 --     CommandView  the commands of the code, seen by the bytes that they hold
@@ -21,7 +23,8 @@
 --     Tape         the tape of a seed
 --     Pages        what `explain` prints
 --     Doing        what the program does for each thing that its words can ask for
---     inner        for private contracts: how far a script has been carried out, how the parts of a kept run fit together, what was read
+--     inner        for private contracts: how far a script has been carried out, how the parts of a
+--                  kept run fit together, what was read
 pub mod Tally
 pub mod Lines
 pub mod Settings

@@ -4,8 +4,8 @@ use Rattle.std.specs.List.{slice_split}
 use Rattle.std.specs.Str.Lines.{lines as text_lines, strip_carriage_return}
 use Rattle.chip_asm.specs.Lines.{is_newline}
 
--- the lines, as `str::lines` cuts them: a newline ends a line, a carriage return directly before it is dropped,
--- and what stands after the last newline is a line if it isn't empty
+-- the lines, as `str::lines` cuts them: a newline ends a line, a carriage return directly before it
+-- is dropped, and what stands after the last newline is a line if it isn't empty
 abbrev pub lines : List ℕ → List (List ℕ)
 lines bytes = text_lines bytes
 

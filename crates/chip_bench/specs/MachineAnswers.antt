@@ -1,4 +1,5 @@
--- The answers to questions about the machine's state (own; the state is that of the COSMAC VIP manual and the SUPER-CHIP 1.1 documentation).
+-- The answers to questions about the machine's state (own; the state is that of the COSMAC VIP
+-- manual and the SUPER-CHIP 1.1 documentation).
 use Rattle.std.specs.Prelude.{ℕ, ◌+◌, ◌*◌, Bool, List, [], ◌∷◌, ◌++◌, map, Option, Some, None, if◌then◌else◌, slice_range, codes, nat_lt}
 use Rattle.std.specs.List.{flat_map, list_any, range_with_len}
 use Rattle.std.specs.Fmt.{decimal}
@@ -37,7 +38,9 @@ timer_part c = codes " dt " ++ hex_byte c.delay ++ codes " st " ++ hex_byte c.so
 
 -- the draws, the size of the screen, and why the machine stopped
 abbrev pub condition_part : Core → List ℕ
-condition_part c = codes " draws " ++ decimal c.draws ++ codes " " ++ size_name c.high ++ codes " " ++ state_name c.stopped ++ 10 ∷ []
+condition_part c =
+    codes " draws " ++ decimal c.draws ++ codes " " ++ size_name c.high ++ codes " "
+    ++ state_name c.stopped ++ 10 ∷ []
 
 -- pc, I, the timers, the draws, the size of the screen, and why the machine stopped
 abbrev pub state_line : Core → List ℕ
@@ -46,7 +49,8 @@ state_line c = place_part c ++ timer_part c ++ condition_part c
 -- the eight flag registers, and the frames, the oldest first
 abbrev pub flag_line : Core → List ℕ
 flag_line c =
-    codes "flags" ++ spaced hex_byte c.flags ++ codes " stack" ++ spaced hex_word c.frames ++ 10 ∷ []
+    codes "flags" ++ spaced hex_byte c.flags ++ codes " stack" ++ spaced hex_word c.frames
+    ++ 10 ∷ []
 
 unfoldable pub registers_of : State → List ℕ
 registers_of s = register_line s.core ++ state_line s.core ++ flag_line s.core
@@ -65,11 +69,13 @@ memory_of s at count = encode_lower (bytes_at s at count) ++ 10 ∷ []
 -- an address, the word there, and its text
 abbrev pub word_line : State → ℕ → List ℕ
 word_line s at =
-    hex_word at ++ codes " " ++ hex_word (word_at s.memory at) ++ codes " " ++ show_of (word_at s.memory at) ++ 10 ∷ []
+    hex_word at ++ codes " " ++ hex_word (word_at s.memory at) ++ codes " "
+    ++ show_of (word_at s.memory at) ++ 10 ∷ []
 
 -- so many words from an address
 unfoldable pub disassembly_of : State → ℕ → ℕ → List ℕ
-disassembly_of s at count = flat_map (λ place. word_line s (at + 2 * place)) (from_on 0 count) ++ codes "." ++ 10 ∷ []
+disassembly_of s at count =
+    flat_map (λ place. word_line s (at + 2 * place)) (from_on 0 count) ++ codes "." ++ 10 ∷ []
 
 -- ---- screen
 
@@ -84,8 +90,10 @@ point lit row column = bit (is_lit lit column row)
 unfoldable pub row_byte : Points → ℕ → ℕ → ℕ
 row_byte lit row place =
     let left = 8 * place in
-    128 * point lit row left + 64 * point lit row (left + 1) + 32 * point lit row (left + 2) + 16 * point lit row (left + 3)
-    + 8 * point lit row (left + 4) + 4 * point lit row (left + 5) + 2 * point lit row (left + 6) + point lit row (left + 7)
+    128 * point lit row left + 64 * point lit row (left + 1) + 32 * point lit row (left + 2)
+    + 16 * point lit row (left + 3)
+    + 8 * point lit row (left + 4) + 4 * point lit row (left + 5) + 2 * point lit row (left + 6)
+    + point lit row (left + 7)
 
 -- the 128 points of a row as 16 bytes
 unfoldable pub row_bytes : Points → ℕ → List ℕ
@@ -101,7 +109,9 @@ two_digits n = if nat_lt n 10 then 48 ∷ decimal n else decimal n
 -- a stored row with a lit point: its number, and its points in hexadecimal
 unfoldable pub row_line : Points → ℕ → List ℕ
 row_line lit row =
-    if has_lit lit row then two_digits row ++ codes " " ++ encode_lower (row_bytes lit row) ++ 10 ∷ [] else []
+    if has_lit lit row
+    then two_digits row ++ codes " " ++ encode_lower (row_bytes lit row) ++ 10 ∷ []
+    else []
 
 -- the rows with a lit point, from the top
 unfoldable pub row_lines : Points → List ℕ

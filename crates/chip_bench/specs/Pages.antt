@@ -27,15 +27,20 @@ abbrev pub indented : List ℕ → List ℕ
 indented text = flat_map indented_line (lines_of text)
 
 abbrev pub example_text : Example → List ℕ
-example_text (Source source) = codes "The last line of this source has it:\n\n" ++ indented source.now
+example_text (Source source) =
+    codes "The last line of this source has it:\n\n" ++ indented source.now
 example_text (Script source script) =
-    codes "On this source:\n\n" ++ (indented source.now ++ (codes "\nthe last of these commands is refused so:\n\n" ++ indented script.now))
-example_text (Stop source) = codes "The program of this source stops so, as `regs 100` shows:\n\n" ++ indented source.now
+    codes "On this source:\n\n"
+    ++ (indented source.now
+    ++ (codes "\nthe last of these commands is refused so:\n\n" ++ indented script.now))
+example_text (Stop source) =
+    codes "The program of this source stops so, as `regs 100` shows:\n\n" ++ indented source.now
 example_text (Told what) = codes "An example: " ++ (what.now ++ codes "\n")
 
 unfoldable pub page_text : Page → List ℕ
 page_text page =
-    page.code.now ++ (codes ": " ++ (page.title.now ++ (codes "\n\n" ++ (page.meaning.now ++ (codes "\n\n"
+    page.code.now
+    ++ (codes ": " ++ (page.title.now ++ (codes "\n\n" ++ (page.meaning.now ++ (codes "\n\n"
     ++ (example_text page.example ++ (codes "\nThe mend: " ++ (page.mend.now ++ codes "\n"))))))))
 
 -- the line of a page among all
@@ -49,7 +54,8 @@ contents_text pages = flat_map title_line pages
 abbrev pub version_text : List ℕ
 version_text = codes "chipbench " ++ (VERSION.now ++ codes "\n")
 
--- The pages are statics, which no clause can name: these say that there is such a page, or are such pages. The tests go through all.
+-- The pages are statics, which no clause can name: these say that there is such a page, or are such
+-- pages. The tests go through all.
 -- the text of a page on that code
 pub record IsPageText (code text : List ℕ) : Type 0 where
   pub page : Page

@@ -72,7 +72,8 @@ abbrev pub answer_or_why : Result (List ℕ) Refusal → Printed → Printed
 answer_or_why (Ok answer) faults = printed answer Done
 answer_or_why (Err why) faults = unanswered why faults
 
-abbrev pub both_answers : Result (List ℕ) Refusal → Result (List ℕ) Refusal → Result (List ℕ) Refusal
+abbrev pub both_answers : Result (List ℕ) Refusal → Result (List ℕ) Refusal
+    → Result (List ℕ) Refusal
 both_answers (Ok registers) (Ok screen) = Ok (registers ++ screen)
 both_answers (Ok registers) (Err why) = Err why
 both_answers (Err why) screen = Err why
@@ -80,11 +81,13 @@ both_answers (Err why) screen = Err why
 -- `run`: the answers to both questions, or why there are none
 abbrev pub run_of : Session → ℕ → Printed
 run_of session step =
-    answer_or_why (both_answers (answer_to session (Registers step)) (answer_to session (Screen step))) (faults_of_lines session.lines)
+    answer_or_why (both_answers (answer_to session (Registers step))
+    (answer_to session (Screen step))) (faults_of_lines session.lines)
 
 -- `picture`: the answer to the question, or why there is none
 abbrev pub picture_at : Session → ℕ → PictureForm → Printed
-picture_at session step form = answer_or_why (answer_to session (Picture step form)) (faults_of_lines session.lines)
+picture_at session step form =
+    answer_or_why (answer_to session (Picture step form)) (faults_of_lines session.lines)
 
 -- the first refused line of a key file, where the source opens
 abbrev pub fault_under : Option OpenError → Option (ℕ × List ℕ) → Option (ℕ × List ℕ)
@@ -109,7 +112,8 @@ module _ {W : Type 0} (contents : W → Option (List ℕ)) (old new : Tally W) w
     pub appended : Appends (contents old.inner) (contents new.inner) front
     pub counted : new.failures ≡ one_more old.failures
 
-  -- What a command that prints this did: all of it, or a front where a write failed, or nothing for want of memory.
+  -- What a command that prints this did: all of it, or a front where a write failed, or nothing for
+  -- want of memory.
   abbrev pub Prints : Printed → Result Ending Failure → Type 0
   Prints wanted (Ok ending) = (ending ≡ wanted.ending) × Writes wanted.text
   Prints wanted (Err failure.Output) = Breaks wanted.text
@@ -125,7 +129,8 @@ module _ {W : Type 0} (contents : W → Option (List ℕ)) (old new : Tally W) w
 
   -- a refused line of a key file: nothing was printed, and the failure has its number and the code
   abbrev pub RefusesKeys : ℕ × List ℕ → Result Ending Failure → Type 0
-  RefusesKeys line (Err (failure.BadKeys name number code)) = (line ≡ (number, code.0.now)) × (new ≡ old)
+  RefusesKeys line (Err (failure.BadKeys name number code)) =
+      (line ≡ (number, code.0.now)) × (new ≡ old)
   RefusesKeys line (Err failure.OutOfMemory) = new ≡ old
   RefusesKeys line (Err failure.Output) = ⊥
   RefusesKeys line (Err (failure.Usage error)) = ⊥
@@ -141,15 +146,20 @@ module _ {W : Type 0} (contents : W → Option (List ℕ)) (old new : Tally W) w
   PrintsUnless None wanted result = Prints wanted result
   PrintsUnless (Some line) wanted result = RefusesKeys line result
 
-  -- What a command prints of the session of a source and those settings, under the key events of a file: why the source doesn't
-  -- open, the first refused line of the key file, or what is printed of the session.
-  abbrev pub PrintsUnder : SessionSettings → List ℕ → List ℕ → (Session → Printed) → Result Ending Failure → Type 0
+  -- What a command prints of the session of a source and those settings, under the key events of a
+  -- file: why the source doesn't open, the first refused line of the key file, or what is printed
+  -- of the session.
+  abbrev pub PrintsUnder : SessionSettings → List ℕ → List ℕ → (Session → Printed)
+      → Result Ending Failure → Type 0
   PrintsUnder settings source keys printed_by result =
       PrintsUnless (fault_under (open_fault source) (key_fault (session_of settings source) keys))
-      (printed_of (open_fault source) (printed_by (session_under (session_of settings source) keys))) result
+      (printed_of (open_fault source)
+      (printed_by (session_under (session_of settings source) keys))) result
 
   -- a source that doesn't open is refused
   abbrev pub Refuses : OpenError → Result Ending Failure → Type 0
   Refuses unopened.OutOfMemory result = (result ≡ Err failure.OutOfMemory) × (new ≡ old)
-  Refuses unopened.TooManyLines result = Prints (printed (unopened_text unopened.TooManyLines) Faulty) result
-  Refuses (unopened.LineTooLong number) result = Prints (printed (unopened_text (unopened.LineTooLong number)) Faulty) result
+  Refuses unopened.TooManyLines result =
+      Prints (printed (unopened_text unopened.TooManyLines) Faulty) result
+  Refuses (unopened.LineTooLong number) result =
+      Prints (printed (unopened_text (unopened.LineTooLong number)) Faulty) result

@@ -26,7 +26,8 @@ use Rattle.chip_bench.specs.declared.server.ServeError.TheVariants as fault
 use Rattle.chip_bench.specs.declared.settings.SetError.{SetError}
 use Rattle.chip_bench.specs.declared.settings.SetError.TheVariants as set
 
--- the status of the program after a way to end a session on a source that opens, and a flush that went well or didn't
+-- the status of the program after a way to end a session on a source that opens, and a flush that
+-- went well or didn't
 abbrev pub status_after : Result Unit ServeError → Bool → ℕ
 status_after (Ok _) flushed = if flushed then 0 else 3
 status_after (Err fault.ReaderFailed) flushed = 3
@@ -44,12 +45,15 @@ result_after (Err fault.TooMuchInput) = Err failure.TooMuchInput
 result_after (Err fault.OutOfMemory) = Err failure.OutOfMemory
 result_after (Err (fault.Source e)) = Err failure.OutOfMemory
 
-module _ {R W : Type 0} (remaining : R → Option (List ℕ)) (contents : W → Option (List ℕ)) (settings : SessionSettings) (source : List ℕ)
+module _ {R W : Type 0} (remaining : R → Option (List ℕ)) (contents : W → Option (List ℕ))
+    (settings : SessionSettings) (source : List ℕ)
     (in_old in_new : Tally R) (out_old out_new : Tally W) where
-  -- A session on a source that ended so: what it read and wrote is its transcript, as far as that ending says, and the reader or the
-  -- writer counts one failure more just where the ending names it.
+  -- A session on a source that ended so: what it read and wrote is its transcript, as far as that
+  -- ending says, and the reader or the writer counts one failure more just where the ending names
+  -- it.
   pub record Converses (served : Result Unit ServeError) : Type 0 where
-    pub transcript : Exchanges (remaining in_old.inner) (remaining in_new.inner) (contents out_old.inner) (contents out_new.inner)
+    pub transcript : Exchanges (remaining in_old.inner) (remaining in_new.inner)
+        (contents out_old.inner) (contents out_new.inner)
         (Served served (session_of settings source))
     pub opens : Opens (open_fault source) served
     pub reader_failed : in_new.failures ≡ reader_failures served in_old.failures
@@ -65,29 +69,39 @@ module _ {R W : Type 0} (remaining : R → Option (List ℕ)) (contents : W → 
   abbrev pub AnswersAs : Result Ending Failure → Result Unit ServeError → Type 0
   AnswersAs result (Err (fault.Source e)) = Declines e result
   AnswersAs result (Ok _) = (result ≡ result_after (Ok tt)) × Converses (Ok tt)
-  AnswersAs result (Err fault.ReaderFailed) = (result ≡ result_after (Err fault.ReaderFailed)) × Converses (Err fault.ReaderFailed)
-  AnswersAs result (Err fault.WriterFailed) = (result ≡ result_after (Err fault.WriterFailed)) × Converses (Err fault.WriterFailed)
-  AnswersAs result (Err fault.OutOfMemory) = (result ≡ result_after (Err fault.OutOfMemory)) × Converses (Err fault.OutOfMemory)
-  AnswersAs result (Err fault.TooMuchInput) = (result ≡ result_after (Err fault.TooMuchInput)) × Converses (Err fault.TooMuchInput)
+  AnswersAs result (Err fault.ReaderFailed) =
+      (result ≡ result_after (Err fault.ReaderFailed)) × Converses (Err fault.ReaderFailed)
+  AnswersAs result (Err fault.WriterFailed) =
+      (result ≡ result_after (Err fault.WriterFailed)) × Converses (Err fault.WriterFailed)
+  AnswersAs result (Err fault.OutOfMemory) =
+      (result ≡ result_after (Err fault.OutOfMemory)) × Converses (Err fault.OutOfMemory)
+  AnswersAs result (Err fault.TooMuchInput) =
+      (result ≡ result_after (Err fault.TooMuchInput)) × Converses (Err fault.TooMuchInput)
 
   abbrev pub AnswersScript : Result Ending Failure → Type 0
   AnswersScript result = (served : Result Unit ServeError) × AnswersAs result served
 
--- The same where the words ask for these settings. Where they ask for none, the tape is bad; either way memory may be short.
--- Then nothing was read or written.
-module _ {R W : Type 0} (remaining : R → Option (List ℕ)) (contents : W → Option (List ℕ)) (source : List ℕ)
+-- The same where the words ask for these settings. Where they ask for none, the tape is bad; either
+-- way memory may be short. Then nothing was read or written.
+module _ {R W : Type 0} (remaining : R → Option (List ℕ)) (contents : W → Option (List ℕ))
+    (source : List ℕ)
     (in_old in_new : Tally R) (out_old out_new : Tally W) where
   abbrev pub AnswersIfAsked : Option SessionSettings → Result Ending Failure → Type 0
-  AnswersIfAsked (Some settings) result = AnswersScript remaining contents settings source in_old in_new out_old out_new result
-  AnswersIfAsked None result = ((result ≡ Err failure.BadTape) ⊎ (result ≡ Err failure.OutOfMemory)) × (in_new ≡ in_old) × (out_new ≡ out_old)
+  AnswersIfAsked (Some settings) result =
+      AnswersScript remaining contents settings source in_old in_new out_old out_new result
+  AnswersIfAsked None result =
+      ((result ≡ Err failure.BadTape) ⊎ (result ≡ Err failure.OutOfMemory)) × (in_new ≡ in_old)
+      × (out_new ≡ out_old)
 
--- The program without words: a session on the empty source, which opens unless there is no memory. `flushed` says whether the
--- flush at the end went well.
-module _ {R W : Type 0} (remaining : R → Option (List ℕ)) (contents : W → Option (List ℕ)) (in_old in_new : Tally R) (out_old out_new : Tally W) where
+-- The program without words: a session on the empty source, which opens unless there is no memory.
+-- `flushed` says whether the flush at the end went well.
+module _ {R W : Type 0} (remaining : R → Option (List ℕ)) (contents : W → Option (List ℕ))
+    (in_old in_new : Tally R) (out_old out_new : Tally W) where
   pub record RunsSession (status : ℕ) : Type 0 where
     pub served : Result Unit ServeError
     pub flushed : Bool
-    pub conversed : Converses remaining contents default_settings [] in_old in_new out_old out_new served
+    pub conversed : Converses remaining contents default_settings [] in_old in_new out_old out_new
+        served
     pub status_is : status ≡ status_after served flushed
 
 abbrev pub settings_failure : SetError → Failure
@@ -104,7 +118,8 @@ abbrev pub words_failure : ErrorKind → Error → Failure
 words_failure kind.OutOfMemory error = failure.OutOfMemory
 words_failure _ error = failure.Usage error
 
--- the status where the system can't give the program's words as text; 4 after any error where there is no memory to say so
+-- the status where the system can't give the program's words as text; 4 after any error where there
+-- is no memory to say so
 abbrev pub IsWithoutWords : IoErrorKind → ℕ → Type 0
 IsWithoutWords io_kind.OutOfMemory status = status ≡ 4
 IsWithoutWords _ status = (status ≡ 2) ⊎ (status ≡ 4)
@@ -125,18 +140,22 @@ failure_status failure.Output = 3
 failure_status failure.TooMuchInput = 3
 failure_status failure.OutOfMemory = 4
 
--- the status after a way to end and a flush: a flush that failed takes the place of a good ending alone
+-- the status after a way to end and a flush: a flush that failed takes the place of a good ending
+-- alone
 abbrev pub status_of : Result Ending Failure → Bool → ℕ
 status_of (Ok ending) flushed = if flushed then ending_status ending else 3
 status_of (Err failure) flushed = failure_status failure
 
 -- words with a fault: they are no request for help, nor in order
 abbrev pub AreFaulty : Kinds → Type 0
-AreFaulty kinds = (kinds ≢ []) × (IsAmong kind.DisplayHelp kinds → ⊥) × (IsAmong kind.DisplayVersion kinds → ⊥)
+AreFaulty kinds =
+    (kinds ≢ []) × (IsAmong kind.DisplayHelp kinds → ⊥) × (IsAmong kind.DisplayVersion kinds → ⊥)
 
 -- what hinders reading a file of that name
 abbrev pub IsUnread : Bor (List ℕ) → Failure → Type 0
-IsUnread name hindrance = (hindrance ≡ failure.OutOfMemory) ⊎ ((why : IoError) × (hindrance ≡ failure.CannotRead name why))
+IsUnread name hindrance =
+    (hindrance ≡ failure.OutOfMemory)
+    ⊎ ((why : IoError) × (hindrance ≡ failure.CannotRead name why))
 
 -- how many bytes of a source are read; one of that length or more doesn't open
 abbrev pub source_bytes_read : ℕ

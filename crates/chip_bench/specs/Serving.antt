@@ -30,21 +30,27 @@ BeginsWith text front = (back : List ℕ) × (text ≡ front ++ back)
 -- Where the reader gave `given` and has `rest` left, this is what was written.
 abbrev pub Served : Result Unit ServeError → Session → List ℕ → List ℕ → List ℕ → Type 0
 -- the reader has ended within the bounds: the whole transcript
-Served (Ok _) start given rest written = (rest ≡ []) × WithinBounds given × (written ≡ transcript_of start (lines given))
+Served (Ok _) start given rest written =
+    (rest ≡ []) × WithinBounds given × (written ≡ transcript_of start (lines given))
 -- the source doesn't open: nothing, and nothing was read
 Served (Err (fault.Source e)) start given rest written = (given ≡ []) × (written ≡ [])
 -- the reader failed: the answers to all complete lines that were read
-Served (Err fault.ReaderFailed) start given rest written = WithinBounds given × (written ≡ transcript_of start (complete_lines given))
+Served (Err fault.ReaderFailed) start given rest written =
+    WithinBounds given × (written ≡ transcript_of start (complete_lines given))
 -- the writer failed: some front of the transcript
-Served (Err fault.WriterFailed) start given rest written = BeginsWith (transcript_of start (lines (given ++ rest))) written
+Served (Err fault.WriterFailed) start given rest written =
+    BeginsWith (transcript_of start (lines (given ++ rest))) written
 -- want of memory: the answers to a number of first complete lines
-Served (Err fault.OutOfMemory) start given rest written = (n : ℕ) × (written ≡ transcript_of start (take n (complete_lines given)))
+Served (Err fault.OutOfMemory) start given rest written =
+    (n : ℕ) × (written ≡ transcript_of start (take n (complete_lines given)))
 -- more input than the bounds allow: the answers to the complete lines within them
-Served (Err fault.TooMuchInput) start given rest written = PassesBound given × (written ≡ transcript_of start (lines_in_bounds given))
+Served (Err fault.TooMuchInput) start given rest written =
+    PassesBound given × (written ≡ transcript_of start (lines_in_bounds given))
 
--- A reader that had `all` has `left` now, a writer that held `before` holds `holds` now, and P says what was read,
--- what is left to read and what was written.
-pub record Exchanged (all : List ℕ) (left : Option (List ℕ)) (before : List ℕ) (holds : Option (List ℕ)) (P : List ℕ → List ℕ → List ℕ → Type 0) : Type 0 where
+-- A reader that had `all` has `left` now, a writer that held `before` holds `holds` now, and P says
+-- what was read, what is left to read and what was written.
+pub record Exchanged (all : List ℕ) (left : Option (List ℕ)) (before : List ℕ)
+    (holds : Option (List ℕ)) (P : List ℕ → List ℕ → List ℕ → Type 0) : Type 0 where
   pub given : List ℕ
   pub rest : List ℕ
   pub written : List ℕ
@@ -54,8 +60,10 @@ pub record Exchanged (all : List ℕ) (left : Option (List ℕ)) (before : List 
   pub outcome : P given rest written
 
 -- The same, where the reader and the writer tell their bytes.
-abbrev pub Exchanges : Option (List ℕ) → Option (List ℕ) → Option (List ℕ) → Option (List ℕ) → (List ℕ → List ℕ → List ℕ → Type 0) → Type 0
-Exchanges had left held holds P = IfSome had (λ all. IfSome held (λ before. Exchanged all left before holds P))
+abbrev pub Exchanges : Option (List ℕ) → Option (List ℕ) → Option (List ℕ) → Option (List ℕ)
+    → (List ℕ → List ℕ → List ℕ → Type 0) → Type 0
+Exchanges had left held holds P =
+    IfSome had (λ all. IfSome held (λ before. Exchanged all left before holds P))
 
 -- how many failures of the reader are counted after a call that ended so
 abbrev pub reader_failures : Result Unit ServeError → ℕ → ℕ

@@ -53,17 +53,23 @@ moment step key = record { key = key; step = step }
 -- the session after a change, or the first refusal that applies
 abbrev pub edited : Session → Change → Result Session Refusal
 edited session (insert_line number text) =
-    with_lines session (insert_refusal (length session.lines) number text) (insert session.lines (number - 1) text)
+    with_lines session (insert_refusal (length session.lines) number text)
+    (insert session.lines (number - 1) text)
 edited session (replace_line number text) =
-    with_lines session (replace_refusal (length session.lines) number text) (slice_set session.lines (number - 1) text)
+    with_lines session (replace_refusal (length session.lines) number text)
+    (slice_set session.lines (number - 1) text)
 edited session (delete_line number) =
-    with_lines session (delete_refusal (length session.lines) number) (remove session.lines (number - 1))
+    with_lines session (delete_refusal (length session.lines) number)
+    (remove session.lines (number - 1))
 edited session (insert_event step key down) =
-    with_events session (insert_fault session.keys step key) (map.insert session.keys (moment step key) down)
+    with_events session (insert_fault session.keys step key)
+    (map.insert session.keys (moment step key) down)
 edited session (replace_event step key down) =
-    with_events session (edit_fault session.keys step key) (map.insert session.keys (moment step key) down)
+    with_events session (edit_fault session.keys step key)
+    (map.insert session.keys (moment step key) down)
 edited session (delete_event step key) =
-    with_events session (edit_fault session.keys step key) (map.remove session.keys (moment step key))
+    with_events session (edit_fault session.keys step key)
+    (map.remove session.keys (moment step key))
 
 -- an edit that may want memory: all but those that change or take out an event
 abbrev pub TakesMemory : Change → Type 0
@@ -74,4 +80,5 @@ TakesMemory change = Unit {0}
 -- why an edit is refused: the first refusal that applies, or want of memory where none does
 abbrev pub IsRefused : Session → Change → Refusal → Type 0
 IsRefused session change e =
-    (edited session change ≡ Err e) ⊎ ((e ≡ EditMemory) × TakesMemory change × IsOk (edited session change))
+    (edited session change ≡ Err e)
+    ⊎ ((e ≡ EditMemory) × TakesMemory change × IsOk (edited session change))

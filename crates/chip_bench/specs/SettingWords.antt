@@ -11,7 +11,8 @@ use Rattle.chip_bench.specs.declared.settings.SetError.{SetError}
 
 -- where the words say nothing of the settings
 abbrev pub default_words : SettingWords
-default_words = record { rate = 10; tape = None; seed = None; profile = Schip; spacing = LEAST_SPACING }
+default_words =
+    record { rate = 10; tape = None; seed = None; profile = Schip; spacing = LEAST_SPACING }
 
 abbrev pub if_ok : {T E : Type 0} → Result T E → Option T
 if_ok (Ok value) = Some value
@@ -23,8 +24,8 @@ tape_by (Some digits) None = if_ok (decode_of digits.now)
 tape_by None (Some seed) = Some (tape_of seed)
 tape_by None None = Some (0 ∷ [])
 
--- The tape of `--tape HEX` or of `--seed N`, or one zero byte without both. Both together ask for none, and so do digits that stand
--- for no bytes.
+-- The tape of `--tape HEX` or of `--seed N`, or one zero byte without both. Both together ask for
+-- none, and so do digits that stand for no bytes.
 abbrev pub tape_asked : SettingWords → Option (List ℕ)
 tape_asked words = tape_by words.tape words.seed
 
@@ -37,7 +38,8 @@ unless_faulty (Some why) settings = None
 abbrev pub settings_with : SettingWords → List ℕ → Option SessionSettings
 settings_with words tape =
     option_and_then (unless_faulty (spacing_fault words.spacing))
-    (unless_faulty (settings_fault words.rate tape) (record { rate = words.rate; tape = tape; profile = words.profile; spacing = words.spacing }))
+    (unless_faulty (settings_fault words.rate tape)
+    (record { rate = words.rate; tape = tape; profile = words.profile; spacing = words.spacing }))
 
 -- the settings that the words ask for, or none where their tape is bad
 abbrev pub settings_asked : SettingWords → Option SessionSettings

@@ -11,8 +11,9 @@ use Rattle.chip_bench.specs.declared.settings.TheConstants.{MOST_RATE}
 use Rattle.chip_bench.specs.declared.settings.SetError.{SetError}
 use Rattle.chip_bench.specs.declared.settings.SetError.TheVariants.{RateOutOfRange, TapeLength, SpacingOutOfRange}
 
--- how many steps there are to a tick of the timers, the bytes that stand for random ones, which machine it is, and how many
--- steps lie between one checkpoint of its run and the next, on which no answer depends
+-- how many steps there are to a tick of the timers, the bytes that stand for random ones, which
+-- machine it is, and how many steps lie between one checkpoint of its run and the next, on which no
+-- answer depends
 pub record SessionSettings : Type 0 where
   pub rate : ℕ
   pub tape : List ℕ
@@ -21,14 +22,16 @@ pub record SessionSettings : Type 0 where
 
 abbrev pub settings_code : Coded SessionSettings
 settings_code =
-    code_by (ℕ × (List ℕ × (Profile × ℕ))) (coded× coded_ℕ (coded× (coded_list coded_ℕ) (coded× profiles.the_row.coded coded_ℕ)))
+    code_by (ℕ × (List ℕ × (Profile × ℕ)))
+    (coded× coded_ℕ (coded× (coded_list coded_ℕ) (coded× profiles.the_row.coded coded_ℕ)))
     (λ s. (s.rate, (s.tape, (s.profile, s.spacing))))
     (λ p. record { rate = p.0; tape = p.1.0; profile = p.1.1.0; spacing = p.1.1.1 })
     (λ _. refl)
 
 -- the settings of a rate and a tape where nothing else is said
 abbrev pub settings_of : ℕ → List ℕ → SessionSettings
-settings_of rate tape = record { rate = rate; tape = tape; profile = Schip; spacing = LEAST_SPACING }
+settings_of rate tape =
+    record { rate = rate; tape = tape; profile = Schip; spacing = LEAST_SPACING }
 
 -- a number of steps to a tick
 abbrev pub IsRate : ℕ → Type 0
@@ -48,7 +51,8 @@ settings_fault rate tape =
 -- why there is no such spacing, if there is a reason
 abbrev pub spacing_fault : ℕ → Option SetError
 spacing_fault spacing =
-    if nat_lt spacing LEAST_SPACING || nat_lt MOST_SPACING spacing then Some SpacingOutOfRange else None
+    if nat_lt spacing LEAST_SPACING || nat_lt MOST_SPACING spacing then Some SpacingOutOfRange
+    else None
 
 -- the settings of the program where its words say nothing else
 abbrev pub default_settings : SessionSettings

@@ -16,4 +16,5 @@ write_failed (Ok count) bytes = nat_eq count 0 && nat_lt 0 (length bytes)
 write_failed (Err e) bytes = true
 
 abbrev pub failures_after_write : {E : Type 0} → ℕ → Result ℕ E → List ℕ → ℕ
-failures_after_write failures result bytes = if write_failed result bytes then one_more failures else failures
+failures_after_write failures result bytes =
+    if write_failed result bytes then one_more failures else failures

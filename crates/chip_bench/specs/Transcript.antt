@@ -50,7 +50,8 @@ after session line = command_after session (command_of line)
 -- the answers to the lines of a script, in order
 abbrev pub transcript_of : Session → List Text → List ℕ
 transcript_of session [] = []
-transcript_of session (line ∷ script) = reply session line ++ transcript_of (after session line) script
+transcript_of session (line ∷ script) =
+    reply session line ++ transcript_of (after session line) script
 
 -- the session after them
 abbrev pub session_after : Session → List Text → Session

@@ -10,8 +10,8 @@ use Rattle.chip_bench.specs.Settings.{SessionSettings, settings_code}
 use Rattle.chip_bench.specs.Session.{Session, Change, insert_line, replace_line, delete_line, insert_event, replace_event, delete_event}
 use Rattle.chip_bench.specs.Kept.{KeptRun, session_on, FollowsImage, FollowsEvent}
 
--- the session; the work done on the source; the last image that the lines had, or the empty one; up to which step the kept run is
--- sound; and how many steps were made
+-- the session; the work done on the source; the last image that the lines had, or the empty one; up
+-- to which step the kept run is sound; and how many steps were made
 pub record Workbench : Type 0 where
   pub session : Session
   pub work : Meter
@@ -25,8 +25,17 @@ Parts = List (List ℕ) × (Events × (SessionSettings × (ℕ × (ℕ × (List 
 
 abbrev pub workbench_code : Coded Workbench
 workbench_code =
-    code_by Parts (coded× (coded_list (coded_list coded_ℕ)) (coded× coded_events (coded× settings_code (coded× coded_ℕ (coded× coded_ℕ (coded× (coded_list coded_ℕ) (coded× coded_ℕ coded_ℕ)))))))
-    (λ b. (b.session.lines, (b.session.keys, (b.session.settings, (b.work.parsed, (b.work.encoded, (b.last_image, (b.reach, b.ran))))))))
+    code_by Parts (coded× (coded_list (coded_list coded_ℕ))
+    (coded× coded_events
+    (coded× settings_code
+    (coded× coded_ℕ (coded× coded_ℕ (coded× (coded_list coded_ℕ) (coded× coded_ℕ coded_ℕ)))))))
+    (λ b. (
+      b.session.lines,
+      (
+        b.session.keys,
+        (b.session.settings, (b.work.parsed, (b.work.encoded, (b.last_image, (b.reach, b.ran))))),
+      ),
+    ))
     (λ p. record {
       session = record { lines = p.0; keys = p.1.0; settings = p.1.1.0 };
       work = record { parsed = p.1.1.1.0; encoded = p.1.1.1.1.0 };

@@ -1,4 +1,5 @@
--- What private contracts say: how far a script has been carried out, how the parts of a kept run fit together, and what was read for a command.
+-- What private contracts say: how far a script has been carried out, how the parts of a kept run
+-- fit together, and what was read for a command.
 pub mod Progress
 pub mod InStep
 pub mod Reads

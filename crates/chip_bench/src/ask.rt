@@ -41,7 +41,8 @@ fn step_refusal(asked: StateQuestion, step: u32) -> Option<Refusal>
     }
 }
 
-/// The answer to a question about the machine at a step of the run of the image, where `out` was empty.
+/// The answer to a question about the machine at a step of the run of the image, where `out` was
+/// empty.
 fn answer_at(
     alloc: Global,
     source: &Source,

@@ -94,7 +94,8 @@ fn command_named<'a>(word: &[u8], operands: &'a [u8]) -> Result<Command<'a>, Com
 // An edit of the key events, or a question, by its word.
 #[tactic(auto, unfolding(crate::specs::Commands::key_edits))]
 fn key_edit<'a>(word: &[u8], operands: &'a [u8]) -> Result<Command<'a>, CommandFault>
-    ensures { Reads result (command_in (key_edits ++ (source_questions ++ machine_questions)) word.now operands.now) }
+    ensures { Reads result
+        (command_in (key_edits ++ (source_questions ++ machine_questions)) word.now operands.now) }
 {
     if word == b"kins".as_slice() {
         return match key_event(operands) {
@@ -124,7 +125,8 @@ fn key_edit<'a>(word: &[u8], operands: &'a [u8]) -> Result<Command<'a>, CommandF
 // A question, by its word.
 #[tactic(auto, unfolding(crate::specs::Commands::source_questions))]
 fn source_question<'a>(word: &[u8], operands: &'a [u8]) -> Result<Command<'a>, CommandFault>
-    ensures { Reads result (command_in (source_questions ++ machine_questions) word.now operands.now) }
+    ensures { Reads result
+        (command_in (source_questions ++ machine_questions) word.now operands.now) }
 {
     if word == b"image".as_slice() {
         return without_words(operands, Question::Image);

@@ -174,7 +174,8 @@ fn command_asked<'a>(
     found: &ArgMatches<'a>,
 ) -> Result<CommandLine<'a>, Error>
     ensures asked { IfOk result (Asks name.now (rows_of (found_of found.now))) }
-    ensures fault { FailsBy (profile_fault (first_of (codes "profile") (rows_of (found_of found.now)))) result }
+    ensures fault { FailsBy
+        (profile_fault (first_of (codes "profile") (rows_of (found_of found.now)))) result }
 {
     let profile = profile_asked(alloc, found.get_str("profile"))?;
     Ok(match name {

@@ -52,7 +52,8 @@ impl<R: Read> Read for Counted<R> {
     /// One read of the inner reader. An error of any kind counts.
     fn read(&mut self, buf: &mut [u8]) -> Result<usize>
         ensures bound { ReadsAtMost result buf.new }
-        ensures bytes { ReadConsumes (R.remaining self.old.inner) (R.remaining self.new.inner) result buf.new }
+        ensures bytes { ReadConsumes (R.remaining self.old.inner)
+            (R.remaining self.new.inner) result buf.new }
         ensures failures { self.new.failures ≡ failures_after_read self.old.failures result }
     {
         let result = self.inner.read(buf);
@@ -66,11 +67,14 @@ impl<R: Read> Read for Counted<R> {
 impl<W: Write> Write for Counted<W> {
     ghost contents = { λ c. W.contents c.inner };
 
-    /// One write to the inner writer. An error of any kind counts, and so does taking none of some bytes.
+    /// One write to the inner writer. An error of any kind counts, and so does taking none of some
+    /// bytes.
     fn write(&mut self, buf: &[u8]) -> Result<usize>
         ensures bound { WritesAtMost result buf.now }
-        ensures bytes { WriteAppends (W.contents self.old.inner) (W.contents self.new.inner) result buf.now }
-        ensures failures { self.new.failures ≡ failures_after_write self.old.failures result buf.now }
+        ensures bytes { WriteAppends (W.contents self.old.inner)
+            (W.contents self.new.inner) result buf.now }
+        ensures failures { self.new.failures
+            ≡ failures_after_write self.old.failures result buf.now }
     {
         let result = self.inner.write(buf);
         if has_failed(&result, buf) {

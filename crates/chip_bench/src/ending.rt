@@ -89,7 +89,8 @@ impl<'a> From<AllocError> for Failure<'a> {
     }
 }
 
-// The command line has numbers in their ranges alone, so the tape is all that settings can find bad.
+// The command line has numbers in their ranges alone, so the tape is all that settings can find
+// bad.
 impl<'a> From<SetError> for Failure<'a> {
     ghost from_gives = { λ error failure. failure ≡ settings_failure error };
 

@@ -43,15 +43,15 @@ const INPUT: &str = "-";
 // A source of this length or more doesn't open.
 const MOST_SOURCE: u64 = SOURCE_BYTES as u64 + 1;
 
-/// The program, with the words after its name. The answer is its status: 0 where it did what it was asked, 1 where the
-/// source has faults or doesn't open, 2 for words that it doesn't take, 3 where a file, input or output failed or there was
-/// too much input, and 4 for want of memory.
+/// The program, with the words after its name. The answer is its status: 0 where it did what it was
+/// asked, 1 where the source has faults or doesn't open, 2 for words that it doesn't take, 3 where
+/// a file, input or output failed or there was too much input, and 4 for want of memory.
 ///
-/// `asm` writes the whole image to its file, or leaves what was there. Only what is written in place, such as a pipe or a
-/// file of several names, may have taken some bytes before a failure.
+/// `asm` writes the whole image to its file, or leaves what was there. Only what is written in
+/// place, such as a pipe or a file of several names, may have taken some bytes before a failure.
 ///
-/// Without words it carries out the script that `input` gives, on the empty source, and writes the answers to `output`.
-/// What hinders it is said on `errors`; a failure there is ignored.
+/// Without words it carries out the script that `input` gives, on the empty source, and writes the
+/// answers to `output`. What hinders it is said on `errors`; a failure there is ignored.
 pub fn program<F: Files, S: AsStr, I: Read, O: Write, E: Write>(
     alloc: Global,
     files: &F,
@@ -121,7 +121,8 @@ fn carry_out<'a, F: Files, S: AsStr, I: Read, O: Write>(
     input: &mut Counted<I>,
     output: &mut Counted<O>,
 ) -> Result<Ending, Failure<'a>>
-    ensures session { words.entry.now ≡ [] → AnswersScript I.remaining O.contents default_settings []
+    ensures session { words.entry.now ≡ []
+        → AnswersScript I.remaining O.contents default_settings []
         input.old input.new output.old output.new result }
     ensures usage { AreFaulty (faults_of (map S.text words.entry.now)) → IsUsage result
         × (input.new ≡ input.old) × (output.new ≡ output.old) }
@@ -394,7 +395,8 @@ impl<'a> Shot<'a> {
         )
     }
 
-    // Writes the picture to a file, as a whole or not at all. Where there is no picture, why is printed.
+    // Writes the picture to a file, as a whole or not at all. Where there is no picture, why is
+    // printed.
     fn write<F: Files, O: Write>(
         &self,
         alloc: Global,
@@ -536,7 +538,8 @@ fn read_file<'a, F: Files>(alloc: Global, files: &F, name: &'a str) -> Result<Ve
     }
 }
 
-// What a file has, up to the length from which on no source opens. Room for it is taken at once, where the file tells its length.
+// What a file has, up to the length from which on no source opens. Room for it is taken at once,
+// where the file tells its length.
 fn read_whole<F: OpenFile + Read + Drop>(alloc: Global, file: F) -> io::Result<Vec<u8>> {
     let length = match file.metadata() {
         Ok(metadata) => metadata.len().min(MOST_SOURCE),

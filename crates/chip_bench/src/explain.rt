@@ -101,7 +101,8 @@ fn push_indented(text: &mut Vec<u8>, lines: &str) -> Result<(), AllocError>
 }
 
 fn push_all(text: &mut Vec<u8>, parts: &[&str]) -> Result<(), AllocError>
-    ensures { OnOk result (text.new.items ≡ text.old.items ++ flat_map (λ part. part.now) parts.now) }
+    ensures { OnOk result (text.new.items
+        ≡ text.old.items ++ flat_map (λ part. part.now) parts.now) }
 {
     for part in parts {
         text.extend_from_slice(part.as_bytes())?;

@@ -13,15 +13,17 @@ use std::{fs, io};
 // How many links are followed, one after another: as many as Linux follows.
 const MOST_LINKS: u32 = 40;
 
-/// Writes the file of a name whole. On an error it is as it was, or there is none, as before. What is the source isn't
-/// written, where the source is a file.
+/// Writes the file of a name whole. On an error it is as it was, or there is none, as before. What
+/// is the source isn't written, where the source is a file.
 ///
-/// The bytes go to a new file in the same folder, `chipbench.part1`, say, which gets the name once they are on the disk, and
-/// which is taken away on an error. A file of that name is replaced if it may be written, and its permissions are kept. Where
-/// the name is a link, what it leads to is replaced or made.
+/// The bytes go to a new file in the same folder, `chipbench.part1`, say, which gets the name once
+/// they are on the disk, and which is taken away on an error. A file of that name is replaced if it
+/// may be written, and its permissions are kept. Where the name is a link, what it leads to is
+/// replaced or made.
 ///
-/// What a new file can't stand for is written in place, and some bytes may have gone there before an error: a file of several
-/// names or of another owner, and what is no file, such as a terminal or a pipe.
+/// What a new file can't stand for is written in place, and some bytes may have gone there before
+/// an error: a file of several names or of another owner, and what is no file, such as a terminal
+/// or a pipe.
 pub(crate) fn write_file<F: Files>(
     alloc: Global,
     files: &F,
@@ -71,7 +73,8 @@ fn write_over<F: Files>(
     }
 }
 
-// Whether both tell of one file, by whatever names. A file system that isn't the system's has no numbers.
+// Whether both tell of one file, by whatever names. A file system that isn't the system's has no
+// numbers.
 fn is_same(one: &Metadata, other: &Metadata) -> bool {
     one.ino() != 0 && one.ino() == other.ino() && one.dev() == other.dev()
 }
@@ -178,7 +181,8 @@ fn fill<F: OpenFile + Write + Drop>(
     file.sync_all()
 }
 
-// Brings the new name down to the disk, where the system lets a folder be synced. The file is written either way.
+// Brings the new name down to the disk, where the system lets a folder be synced. The file is
+// written either way.
 fn sync_folder<F: Files>(files: &F, place: &str) {
     let folder = match Path::new(place).parent() {
         Some(folder) if !folder.as_str().is_empty() => folder.as_str(),

@@ -20,8 +20,8 @@ use std::alloc::{AllocError, Global};
 use std::marker::Model;
 use std::ops::Range;
 
-/// The run of the last image that the lines had, or of the empty one, under the settings of the session and the key events
-/// as edited so far.
+/// The run of the last image that the lines had, or of the empty one, under the settings of the
+/// session and the key events as edited so far.
 #[derive(Drop)]
 pub(crate) struct ImageRun {
     settings: Settings,
@@ -41,7 +41,8 @@ impl Model for ImageRun {
 
     ghost view = { λ r. kept_run r.settings r.replay r.last_image.items };
 
-    ghost invariant = { λ r. IsInStep r.settings r.replay r.last_image.items (vec_capacity r.last_image) };
+    ghost invariant = { λ r. IsInStep r.settings r.replay r.last_image.items
+        (vec_capacity r.last_image) };
 }
 
 impl ImageRun {
@@ -67,8 +68,8 @@ impl ImageRun {
         })
     }
 
-    /// Puts the image of the lines in the place of the last one, which agrees with it outside the changed places, if these are
-    /// known. Where the lines have none, all stays.
+    /// Puts the image of the lines in the place of the last one, which agrees with it outside the
+    /// changed places, if these are known. Where the lines have none, all stays.
     pub(crate) fn follow(&mut self, image: Option<&[u8]>, changed: Option<Range<usize>>)
         requires fits { IfSome image (λ bytes. length bytes.now ≤ IMAGE_BYTES) }
         requires alike { IfSome image (λ bytes. IfSome changed (λ places.

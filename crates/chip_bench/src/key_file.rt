@@ -29,8 +29,9 @@ impl From<AllocError> for KeyFileError {
     }
 }
 
-/// Makes the key events of a file, one after another: a line `S K down` or `S K up` does what `kins S K down` or
-/// `kins S K up` does in a script. A semicolon begins a comment, and a line may be blank.
+/// Makes the key events of a file, one after another: a line `S K down` or `S K up` does what
+/// `kins S K down` or `kins S K up` does in a script. A semicolon begins a comment, and a line may
+/// be blank.
 ///
 /// # Errors
 ///
@@ -59,8 +60,10 @@ fn insert_key(
     bench: &mut Bench,
     line: &[u8],
 ) -> Result<Option<&'static [u8]>, AllocError>
-    ensures code { IfOk result (λ code. option_copied code ≡ refusal_to bench.old.session (key_command line.now)) }
-    ensures session { OnOk result (bench.new.session ≡ after bench.old.session (key_command line.now)) }
+    ensures code { IfOk result (λ code. option_copied code
+        ≡ refusal_to bench.old.session (key_command line.now)) }
+    ensures session { OnOk result (bench.new.session
+        ≡ after bench.old.session (key_command line.now)) }
 {
     let command = key_command(alloc, line)?;
     make_change(alloc, bench, &command)
@@ -87,7 +90,8 @@ fn make_change(
     bench: &mut Bench,
     line: &[u8],
 ) -> Result<Option<&'static [u8]>, AllocError>
-    ensures code { IfOk result (λ code. option_copied code ≡ refusal_to bench.old.session line.now) }
+    ensures code { IfOk result (λ code. option_copied code
+        ≡ refusal_to bench.old.session line.now) }
     ensures session { OnOk result (bench.new.session ≡ after bench.old.session line.now) }
 {
     let change = match read_command(line) {

@@ -187,7 +187,8 @@ pub(crate) fn push_disassembly(
     answer.extend_from_slice(b".\n")
 }
 
-/// Adds a line for the word at an address. `text` has the room for its source text; what it holds means nothing.
+/// Adds a line for the word at an address. `text` has the room for its source text; what it holds
+/// means nothing.
 fn push_word_line(
     answer: &mut Vec<u8>,
     text: &mut String,

@@ -38,7 +38,8 @@ pub(crate) fn answer_script<'a, I: Read, O: Write>(
     input: &mut Counted<I>,
     output: &mut Counted<O>,
 ) -> Result<Ending, Failure<'a>>
-    ensures { AnswersScript I.remaining O.contents settings source.now input.old input.new output.old output.new result }
+    ensures { AnswersScript I.remaining O.contents settings source.now input.old input.new
+        output.old output.new result }
 {
     match serve(alloc, source, settings, input, output) {
         Ok(()) => Ok(Ending::Done),
@@ -50,14 +51,16 @@ pub(crate) fn answer_script<'a, I: Read, O: Write>(
     }
 }
 
-/// `asm`: the image of a source. Where there is none, its faults or why it doesn't open are printed.
+/// `asm`: the image of a source. Where there is none, its faults or why it doesn't open are
+/// printed.
 pub(crate) fn image_or_faults<'a, O: Write>(
     alloc: Global,
     source: Vec<u8>,
     output: &mut Counted<O>,
 ) -> Result<Option<Vec<u8>>, Failure<'a>>
     ensures { MatchResult result
-        (λ found. IsImageOrFaults O.contents output.old output.new source.items (option_map (λ v. v.items) found))
+        (λ found. IsImageOrFaults O.contents output.old output.new source.items
+        (option_map (λ v. v.items) found))
         (λ failure. IsImageHindered O.contents output.old output.new source.items failure) }
 {
     let opened = match Source::open_bytes(alloc, source) {
@@ -124,9 +127,11 @@ pub(crate) fn print_source<'a, O: Write>(
     output: &mut Counted<O>,
 ) -> Result<Ending, Failure<'a>>
     requires { length image.now ≤ IMAGE_BYTES }
-    ensures printed { Prints O.contents output.old output.new (printed (source_of_image image.now) Ending.Done) result }
+    ensures printed { Prints O.contents output.old output.new
+        (printed (source_of_image image.now) Ending.Done) result }
     ensures opens { IfOk result (λ _. open_fault (source_of_image image.now) ≡ None) }
-    ensures image { IfOk result (λ _. image_of (lines (source_of_image image.now)) ≡ Some image.now) }
+    ensures image { IfOk result (λ _. image_of (lines (source_of_image image.now))
+        ≡ Some image.now) }
 {
     let text = source_of_image(alloc, image)?;
     print(&text, Ending::Done, output)
@@ -206,7 +211,8 @@ fn print_run_under<'a, O: Write>(
     steps: u32,
     output: &mut Counted<O>,
 ) -> Result<Ending, Failure<'a>>
-    ensures { PrintsUnless O.contents output.old output.new (key_fault bench.old.session keys.now.bytes.items)
+    ensures { PrintsUnless O.contents output.old output.new
+        (key_fault bench.old.session keys.now.bytes.items)
         (run_of (session_under bench.old.session keys.now.bytes.items) steps) result }
 {
     match insert_keys(alloc, bench, &keys.bytes) {
@@ -242,7 +248,8 @@ fn print_picture_under<'a, O: Write>(
     form: PictureForm,
     output: &mut Counted<O>,
 ) -> Result<Ending, Failure<'a>>
-    ensures { PrintsUnless O.contents output.old output.new (key_fault bench.old.session keys.now.bytes.items)
+    ensures { PrintsUnless O.contents output.old output.new
+        (key_fault bench.old.session keys.now.bytes.items)
         (picture_at (session_under bench.old.session keys.now.bytes.items) steps form) result }
 {
     match insert_keys(alloc, bench, &keys.bytes) {
@@ -276,7 +283,8 @@ fn print_picture<'a, O: Write>(
     form: PictureForm,
     output: &mut Counted<O>,
 ) -> Result<Ending, Failure<'a>>
-    ensures { Prints O.contents output.old output.new (picture_at bench.old.session steps form) result }
+    ensures { Prints O.contents output.old output.new
+        (picture_at bench.old.session steps form) result }
 {
     let mut picture = Vec::new(alloc);
     let question = Question::Picture { step: steps, form };
@@ -293,8 +301,10 @@ fn print_why<'a, O: Write>(
     why: Refusal,
     output: &mut Counted<O>,
 ) -> Result<Ending, Failure<'a>>
-    ensures why { Prints O.contents output.old output.new (unanswered why (faults_of_lines bench.now.session.lines)) result }
-    ensures memory { why ≡ Refusal.AnswerMemory → (result ≡ Err Failure.OutOfMemory) × (output.new ≡ output.old) }
+    ensures why { Prints O.contents output.old output.new
+        (unanswered why (faults_of_lines bench.now.session.lines)) result }
+    ensures memory { why ≡ Refusal.AnswerMemory
+        → (result ≡ Err Failure.OutOfMemory) × (output.new ≡ output.old) }
 {
     match why {
         Refusal::NoImage => print_faults(alloc, bench.source(), output),
@@ -308,7 +318,8 @@ fn print_code<'a, O: Write>(
     code: &[u8],
     output: &mut Counted<O>,
 ) -> Result<Ending, Failure<'a>>
-    ensures { Prints O.contents output.old output.new (printed (refused code.now) Ending.Faulty) result }
+    ensures { Prints O.contents output.old output.new
+        (printed (refused code.now) Ending.Faulty) result }
 {
     let mut text = Vec::new(alloc);
     refuse(&mut text, code)?;
@@ -337,7 +348,8 @@ fn print_check<'a, O: Write>(
     output: &mut Counted<O>,
 ) -> Result<Ending, Failure<'a>>
     requires { source.now.lines ≡ lines bytes.now }
-    ensures { Prints O.contents output.old output.new (check_of_lines name.now source.now.lines) result }
+    ensures { Prints O.contents output.old output.new
+        (check_of_lines name.now source.now.lines) result }
 {
     let text = check_text(alloc, name.as_bytes(), bytes, source)?;
     match source.image() {

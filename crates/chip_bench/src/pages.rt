@@ -31,7 +31,8 @@ pub fn all_pages() -> [&'static [Page]; 3] {
     [fault_pages(), command_pages(), end_pages()]
 }
 
-// Each table is read by one function alone, since the proof of a function reads the whole of each static that it names.
+// Each table is read by one function alone, since the proof of a function reads the whole of each
+// static that it names.
 
 fn fault_pages() -> &'static [Page] {
     &FAULT_PAGES

@@ -22,7 +22,8 @@ use thiserror::Error;
 
 const PIECE_LEN: usize = 16384;
 
-// A line that is no longer than it may be can have a carriage return after it, and one byte more shows that it is too long.
+// A line that is no longer than it may be can have a carriage return after it, and one byte more
+// shows that it is too long.
 const KEPT_LEN: usize = COMMAND_BYTES + 2;
 
 /// Why a script wasn't carried out to its end.
@@ -73,13 +74,14 @@ impl From<Stop> for ServeError {
     }
 }
 
-/// Opens the source, and then carries out the script that the reader gives: the answer to each line is written before
-/// the next line is taken.
+/// Opens the source, and then carries out the script that the reader gives: the answer to each line
+/// is written before the next line is taken.
 ///
 /// # Errors
 ///
-/// The source doesn't open, and nothing was read or written; the reader or the writer failed, which is never tried again;
-/// there was no memory; or the script has over `SCRIPT_BYTES` bytes or `SCRIPT_LINES` lines.
+/// The source doesn't open, and nothing was read or written; the reader or the writer failed, which
+/// is never tried again; there was no memory; or the script has over `SCRIPT_BYTES` bytes or
+/// `SCRIPT_LINES` lines.
 pub fn serve<R: Read, W: Write>(
     alloc: Global,
     source: &[u8],
@@ -93,7 +95,8 @@ pub fn serve<R: Read, W: Write>(
         (Served result (session_of settings source.now)) }
     ensures source { Opens (open_fault source.now) result }
     // Where the source doesn't open, nothing was touched.
-    ensures untouched { UnlessOpened result ((reader.new ≡ reader.old) × (writer.new ≡ writer.old)) }
+    ensures untouched { UnlessOpened result ((reader.new ≡ reader.old)
+        × (writer.new ≡ writer.old)) }
     ensures reader_failed { reader.new.failures ≡ reader_failures result reader.old.failures }
     ensures writer_failed { writer.new.failures ≡ writer_failures result writer.old.failures }
 {
@@ -219,7 +222,8 @@ impl Conversation {
         ensures err { IfErr result (λ e. Carries self.old (W.contents writer.old.inner)
             bytes.now (Err e) self.new (W.contents writer.new.inner)) }
         ensures sound { OnOk result (writer.new.failures ≡ writer.old.failures) }
-        ensures failed { IfErr result (λ e. writer.new.failures ≡ failures_after (Err e) writer.old.failures) }
+        ensures failed { IfErr result (λ e. writer.new.failures
+            ≡ failures_after (Err e) writer.old.failures) }
     {
         if self.complete >= SCRIPT_LINES {
             return Err(Stop::TooMuchInput);
@@ -247,8 +251,8 @@ impl Conversation {
         Ok(())
     }
 
-    // Answers the line that a newline has just ended, of which these are the last bytes. A line that
-    // stands whole in its piece isn't copied.
+    // Answers the line that a newline has just ended, of which these are the last bytes. A line
+    // that stands whole in its piece isn't copied.
     fn complete_line<W: Write>(
         &mut self,
         alloc: Global,
@@ -259,9 +263,11 @@ impl Conversation {
         requires taken { self.old.taken + length part.now < SCRIPT_BYTES }
         ensures said { length self.old.line.items ≤ KEPT_LEN
             → Says result (W.contents writer.old.inner) (W.contents writer.new.inner)
-            (reply self.old.bench.session (strip_carriage_return (take KEPT_LEN (self.old.line.items ++ part.now)))) }
+            (reply self.old.bench.session
+            (strip_carriage_return (take KEPT_LEN (self.old.line.items ++ part.now)))) }
         ensures bench { length self.old.line.items ≤ KEPT_LEN → OnOk result (self.new.bench.session
-            ≡ after self.old.bench.session (strip_carriage_return (take KEPT_LEN (self.old.line.items ++ part.now)))) }
+            ≡ after self.old.bench.session
+            (strip_carriage_return (take KEPT_LEN (self.old.line.items ++ part.now)))) }
         ensures line { OnOk result (self.new.line.items ≡ []) }
         ensures complete { OnOk result (self.new.complete ≡ self.old.complete + 1) }
         ensures taken { OnOk result (self.new.taken ≡ self.old.taken + length part.now + 1) }
@@ -306,7 +312,8 @@ impl Conversation {
         requires taken { self.old.taken < SCRIPT_BYTES }
         ensures said { Says result (W.contents writer.old.inner) (W.contents writer.new.inner)
             (reply self.old.bench.session (strip_carriage_return self.old.line.items)) }
-        ensures bench { OnOk result (self.new.bench.session ≡ after self.old.bench.session (strip_carriage_return self.old.line.items)) }
+        ensures bench { OnOk result (self.new.bench.session
+            ≡ after self.old.bench.session (strip_carriage_return self.old.line.items)) }
         ensures line { OnOk result (self.new.line.items ≡ []) }
         ensures complete { OnOk result (self.new.complete ≡ self.old.complete + 1) }
         ensures taken { OnOk result (self.new.taken ≡ self.old.taken + 1) }
@@ -321,7 +328,8 @@ impl Conversation {
     }
 
     fn end<W: Write>(&mut self, alloc: Global, writer: &mut Counted<W>) -> Result<(), Stop>
-        ensures ended { (start : Session) (before given : List ℕ) → Reached start before given self.old (W.contents writer.old.inner)
+        ensures ended { (start : Session) (before given : List ℕ)
+            → Reached start before given self.old (W.contents writer.old.inner)
             → Ended result start before given (W.contents writer.new.inner) }
         ensures failures { writer.new.failures ≡ failures_after result writer.old.failures }
     {
@@ -340,7 +348,8 @@ fn say<W: Write>(
     answer: &mut Vec<u8>,
     writer: &mut Counted<W>,
 ) -> Result<(), Stop>
-    ensures said { Says result (W.contents writer.old.inner) (W.contents writer.new.inner) (reply bench.old.session line.now) }
+    ensures said { Says result (W.contents writer.old.inner) (W.contents writer.new.inner)
+        (reply bench.old.session line.now) }
     ensures bench { OnOk result (bench.new.session ≡ after bench.old.session line.now) }
     ensures failures { writer.new.failures ≡ failures_after result writer.old.failures }
 {
@@ -350,7 +359,8 @@ fn say<W: Write>(
 
 // Writes all the bytes. Any error ends it, and so does a write that takes none.
 pub(crate) fn write_whole<W: Write>(writer: &mut Counted<W>, bytes: &[u8]) -> Result<(), Stop>
-    ensures said { Says result (W.contents writer.old.inner) (W.contents writer.new.inner) bytes.now }
+    ensures said { Says result (W.contents writer.old.inner)
+        (W.contents writer.new.inner) bytes.now }
     ensures memory { result ≢ Err Stop.OutOfMemory }
     ensures failures { writer.new.failures ≡ failures_after result writer.old.failures }
 {

@@ -39,8 +39,9 @@ impl From<AllocError> for SetError {
     }
 }
 
-/// How many steps there are to a tick of the timers, the bytes that stand for random ones, which machine it is, and how
-/// many steps lie between one checkpoint of its run and the next, on which no answer depends.
+/// How many steps there are to a tick of the timers, the bytes that stand for random ones, which
+/// machine it is, and how many steps lie between one checkpoint of its run and the next, on which
+/// no answer depends.
 #[derive(Debug, Drop)]
 pub struct Settings {
     rate: u32,
@@ -54,7 +55,8 @@ impl Model for Settings {
 
     ghost Value = { SessionSettings };
 
-    ghost view = { λ s. record { rate = s.rate; tape = s.tape.items; profile = s.profile; spacing = s.spacing } };
+    ghost view = { λ s.
+        record { rate = s.rate; tape = s.tape.items; profile = s.profile; spacing = s.spacing } };
 
     ghost use Rattle.std.specs.Prelude.{vec_len};
     ghost use Rattle.chip_replay.specs.Limits.{IsSpacing};
@@ -64,12 +66,13 @@ impl Model for Settings {
 }
 
 impl Settings {
-    /// Settings with `rate` steps to a tick, 1 to `MOST_RATE`, and a tape of 1 to `TAPE_BYTES` bytes, for a SUPER-CHIP
-    /// 1.1 with the least spacing.
+    /// Settings with `rate` steps to a tick, 1 to `MOST_RATE`, and a tape of 1 to `TAPE_BYTES`
+    /// bytes, for a SUPER-CHIP 1.1 with the least spacing.
     ///
     /// # Errors
     ///
-    /// The first that applies of a rate out of range, a tape that is too short or too long, and want of memory.
+    /// The first that applies of a rate out of range, a tape that is too short or too long, and
+    /// want of memory.
     pub fn new(alloc: Global, rate: u32, tape: &[u8]) -> Result<Settings, SetError>
         ensures ok { IfOk result (λ settings. (settings_fault rate tape.now ≡ None)
             × (settings ≡ settings_of rate tape.now)) }
@@ -95,14 +98,15 @@ impl Settings {
         Settings { profile, ..self }
     }
 
-    /// The same with that many steps between one checkpoint and the next, `LEAST_SPACING` to `MOST_SPACING`: fewer make
-    /// an edit cheaper to follow, more take less memory.
+    /// The same with that many steps between one checkpoint and the next, `LEAST_SPACING` to
+    /// `MOST_SPACING`: fewer make an edit cheaper to follow, more take less memory.
     ///
     /// # Errors
     ///
     /// A spacing out of range; nothing is handed back then.
     pub fn with_spacing(self, spacing: u32) -> Result<Settings, SetError>
-        ensures { MatchOption (spacing_fault spacing) (result ≡ Ok (record self { spacing = spacing }))
+        ensures { MatchOption (spacing_fault spacing)
+            (result ≡ Ok (record self { spacing = spacing }))
             (λ fault. result ≡ Err fault) }
     {
         if spacing < LEAST_SPACING || spacing > MOST_SPACING {

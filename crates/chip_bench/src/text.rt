@@ -36,7 +36,8 @@ fn write_hex(bytes: &[u8], digits: &mut [u8])
     }
 }
 
-/// The two hexadecimal digits of each byte, at twice its place, for where one is made after another.
+/// The two hexadecimal digits of each byte, at twice its place, for where one is made after
+/// another.
 const DIGIT_PAIRS: [u8; 512] = *b"000102030405060708090a0b0c0d0e0f\
     101112131415161718191a1b1c1d1e1f\
     202122232425262728292a2b2c2d2e2f\

@@ -24,7 +24,8 @@ same_digits a b h g p q r s = omega arith
 
 -- ---- which digits an operand takes
 
--- a word's part in an operand's place has the word's digit where the operand takes it, and 0 elsewhere
+-- a word's part in an operand's place has the word's digit where the operand takes it, and 0
+-- elsewhere
 abbrev HasOwn : ℕ → (Pattern → Bool) → Type 0
 HasOwn bits takes = (p : Pattern) (w : ℕ) → digit bits (part_in p w) ≡ (if takes p then digit bits w else 0)
 

@@ -1,4 +1,5 @@
--- The instruction of a line: its form is that of its name and operands, and its registers are V0 to VF.
+-- The instruction of a line: its form is that of its name and operands, and its registers are V0 to
+-- VF.
 use Rattle.std.proofs.Common.{◌≡◌, ◌≢◌, ℕ, Bool, true, false, ◌==◌, ◌&&◌, ◌||◌, not, ltb, arith, if◌then◌else◌, is_some, List, [], ◌∷◌, map, codes, Option, Some, None, Ok, refl, subst}
 use Rattle.std.specs.Prelude.{option_and_then, option_map}
 use Rattle.std.specs.List.{list_all}

@@ -7,9 +7,9 @@ use Rattle.chip_lang.specs.Value.{Symbols, value, value_of_name, or_fault, ◌>>
 
 -- an outcome was had, and a value comes of it
 record Comes (r : Result ℤ Fault) (go : ℤ → Result ℤ Fault) (v : ℤ) : Type 0 where
-    first : ℤ
-    had : r ≡ Ok first
-    then : go first ≡ Ok v
+  first : ℤ
+  had : r ≡ Ok first
+  then : go first ≡ Ok v
 
 first-value : (r : Result ℤ Fault) (go : ℤ → Result ℤ Fault) (v : ℤ) → (r >>= go) ≡ Ok v → Comes r go v
 first-value (Ok x) go v h = record { first = x; had = refl; then = h }

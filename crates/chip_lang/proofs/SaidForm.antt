@@ -60,7 +60,8 @@ sign_of (Some e) = Some (e.form.name, e.form.base)
 abbrev unless_sys : Row → Sign → Sign
 unless_sys r s = if is_sys r then None else s
 
--- the entry at a form's digits has the form's name and base; a shift whose second register is V0 has the shorter form
+-- the entry at a form's digits has the form's name and base; a shift whose second register is V0
+-- has the shorter form
 signs : (w : ℕ) (b : Bool) → (digit 4 w == 0) ≡ b → map (λ r. unless_sys r (sign_of (own_entry r w))) forms ≡ map (λ r. unless_sys r (Some (r.name, r.base))) forms
 signs w true e = rw e refl
 signs w false e = rw e refl

@@ -19,7 +19,8 @@ shows w r = not (is_sys r) && gives r w
 last_sys : (w : ℕ) (s : Row) → is_sys s ≡ true → find (shows w) (s ∷ []) ≡ None
 last_sys w s h = rw h refl
 
--- of some entries without SYS, and SYS after them, the first form that shows a word is the form of the first entry that gives it
+-- of some entries without SYS, and SYS after them, the first form that shows a word is the form of
+-- the first entry that gives it
 first_shown : (w : ℕ) (s : Row) (es : List Entry) → is_sys s ≡ true → list_all (λ e. not (is_sys e.form)) es ≡ true →
     find (shows w) (map (λ e. e.form) es ++ s ∷ []) ≡ option_map (λ e. e.form) (find (λ e. gives e.form w) es)
 first_shown w s [] last h = last_sys w s last

@@ -89,7 +89,8 @@ other_level (Text bs ∷ ts) level other = refl
 other_level (Bad f ∷ ts) level other = refl
 other_level (Sign c ∷ ts) level other = other_sign (operator_of c) level other
 
--- what a level finds is what a weaker one finds, where no operator of a level between stands in front
+-- what a level finds is what a weaker one finds, where no operator of a level between stands in
+-- front
 pub raised : (d k level : ℕ) (ts rest : List Lexeme) (left : Tree) → d + k ≡ level → 1 ≤ k → length rest < length ts →
     ((l : ℕ) → k < l → l ≤ level → None ≡ front_operator rest l) →
     ((m : ℕ) → 9 * length ts + k < m → Some (left, rest) ≡ parse m k ts) →
@@ -174,7 +175,8 @@ further_at n level k sign left ts rest p y is high same l q front found more =
 
 -- ---- operators one after another
 
--- what is found after a left side and the tokens after it is what is found after a first one and more tokens
+-- what is found after a left side and the tokens after it is what is found after a first one and
+-- more tokens
 abbrev pub Leads : ℕ → Tree → List Lexeme → Tree → List Lexeme → Type 0
 Leads level first ts left rest =
     (y : Parsed) → ((m : ℕ) → 9 * length rest + 8 < m → y ≡ further m level left rest) → (n : ℕ) → 9 * length ts + 8 < n → y ≡ further n level first ts

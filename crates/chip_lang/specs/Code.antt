@@ -1,5 +1,6 @@
--- The code of a line under a map of names: its own bytes, or its first fault from the left
--- (COSMAC VIP manual and SUPER-CHIP 1.1 documentation for the words of instructions; Chipper manual for data).
+-- The code of a line under a map of names: its own bytes, or its first fault from the left (COSMAC
+-- VIP manual and SUPER-CHIP 1.1 documentation for the words of instructions; Chipper manual for
+-- data).
 use Rattle.std.specs.Prelude.{ℕ, ◌/◌, ◌%◌, List, [], ◌∷◌, ◌++◌, Result, Ok, Err}
 use Rattle.chip_lang.specs.declared.fault.Fault.{Fault}
 use Rattle.chip_lang.specs.declared.code.Coded.{Coded}
@@ -25,14 +26,16 @@ datum_of limit e symbols = value e symbols >>= signed_below limit
 abbrev pub data_bytes : ℕ → (ℕ → List ℕ) → List Tree → Symbols → Result (List ℕ) Fault
 data_bytes limit shown [] symbols = Ok []
 data_bytes limit shown (e ∷ es) symbols =
-    datum_of limit e symbols >>= λ n. data_bytes limit shown es symbols >>= λ rest. Ok (shown n ++ rest)
+    datum_of limit e symbols >>= λ n. data_bytes limit shown es symbols
+    >>= λ rest. Ok (shown n ++ rest)
 
 -- the bytes that a statement has of its own, without padding
 unfoldable pub own_bytes : Body → Symbols → Result (List ℕ) Fault
 own_bytes (db es) symbols = data_bytes 256 byte_of es symbols
 own_bytes (dw es) symbols = data_bytes 65536 word_bytes es symbols
 own_bytes (da bytes) symbols = Ok bytes
-own_bytes (code form operands) symbols = word_of_form form operands symbols >>= λ w. Ok (word_bytes w)
+own_bytes (code form operands) symbols =
+    word_of_form form operands symbols >>= λ w. Ok (word_bytes w)
 own_bytes body symbols = Ok []
 
 abbrev pub coded : Result (List ℕ) Fault → Coded

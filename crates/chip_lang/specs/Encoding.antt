@@ -1,4 +1,5 @@
--- The word of a form and its operands (COSMAC VIP manual and SUPER-CHIP 1.1 documentation; own for the ranges of values).
+-- The word of a form and its operands (COSMAC VIP manual and SUPER-CHIP 1.1 documentation; own for
+-- the ranges of values).
 use Rattle.std.specs.Prelude.{ℕ, ◌+◌, ◌*◌, ◌-◌, ◌/◌, ℤ, pos, negsuc, nat_lt, if◌then◌else◌, bit_or, List, [], ◌∷◌, Result, Ok, Err}
 use Rattle.chip_lang.specs.declared.fault.Fault.{Fault}
 use Rattle.chip_lang.specs.declared.fault.Fault.TheVariants.{OutOfRange}
@@ -16,7 +17,8 @@ number_below limit (negsuc n) = Err OutOfRange
 -- a value from -limit / 2 up to below limit, a negative one modulo limit
 abbrev pub signed_below : ℕ → ℤ → Result ℕ Fault
 signed_below limit (pos n) = if nat_lt n limit then Ok n else Err OutOfRange
-signed_below limit (negsuc n) = if nat_lt n (limit / 2) then Ok (limit - (n + 1)) else Err OutOfRange
+signed_below limit (negsuc n) =
+    if nat_lt n (limit / 2) then Ok (limit - (n + 1)) else Err OutOfRange
 
 -- what an operand puts into the word
 unfoldable pub field_of : Pattern → Operand → Symbols → Result ℕ Fault
@@ -31,7 +33,8 @@ field_of p o symbols = Ok 0
 abbrev pub fields_of : List Pattern → List Operand → Symbols → Result ℕ Fault
 fields_of [] os symbols = Ok 0
 fields_of (p ∷ ps) [] symbols = Ok 0
-fields_of (p ∷ ps) (o ∷ os) symbols = field_of p o symbols >>= λ field. fields_of ps os symbols >>= λ rest. Ok (bit_or field rest)
+fields_of (p ∷ ps) (o ∷ os) symbols =
+    field_of p o symbols >>= λ field. fields_of ps os symbols >>= λ rest. Ok (bit_or field rest)
 
 -- the word of a form and its operands
 abbrev pub word_of_form : Row → List Operand → Symbols → Result ℕ Fault

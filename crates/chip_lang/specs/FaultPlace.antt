@@ -44,7 +44,8 @@ deepest opened closed (t ∷ ts) =
     let closed_now = if is_sign_of 41 t then closed + 1 else closed in
     if nat_lt (closed_now + 16) opened_now then 0 else deepest opened_now closed_now ts + 1
 
--- the first token of the statement, after a label and its colon; of a definition the name. `count` is how many tokens the line has
+-- the first token of the statement, after a label and its colon; of a definition the name. `count`
+-- is how many tokens the line has
 abbrev pub statement_at : (count : ℕ) → Shape → ℕ
 statement_at count (definition w value) = 0
 statement_at count (statement label ts) = count - length ts
@@ -76,7 +77,8 @@ is_fit false piece = is_some (operand_of_tokens piece)
 -- how many tokens stand before the first piece that doesn't fit, with a comma after each piece
 abbrev pub before_misfit : (values : Bool) → List (List Lexeme) → ℕ
 before_misfit values [] = 0
-before_misfit values (p ∷ ps) = if is_fit values p then length p + 1 + before_misfit values ps else 0
+before_misfit values (p ∷ ps) =
+    if is_fit values p then length p + 1 + before_misfit values ps else 0
 
 -- operands from an index on: the first that doesn't fit, or all of them where each fits by itself
 abbrev pub misfit_from : (first count before : ℕ) → Place
@@ -101,7 +103,8 @@ is_misplaced labelled d = labelled && not (takes_label d)
 abbrev pub wrong_in_word : (labelled : Bool) → Option Directive → (first : ℕ) → List Lexeme → Place
 wrong_in_word labelled None first ts = misfit false (first + 1) ts
 wrong_in_word labelled (Some d) first ts =
-    if is_misplaced labelled d then at first else (if takes_values d then misfit true (first + 1) ts else from (first + 1))
+    if is_misplaced labelled d then at first
+    else (if takes_values d then misfit true (first + 1) ts else from (first + 1))
 
 -- a statement that begins with no word lies wrong at its first token
 abbrev pub wrong_in_statement : (labelled : Bool) (first : ℕ) → List Lexeme → Place

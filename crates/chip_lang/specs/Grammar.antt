@@ -1,4 +1,5 @@
--- The grammar of expressions (own: the levels, and that a level groups to the left; Chipper manual for the signs).
+-- The grammar of expressions (own: the levels, and that a level groups to the left; Chipper manual
+-- for the signs).
 use Rattle.std.specs.Prelude.{ℕ, suc, ◌≡◌, ◌==◌, if◌then◌else◌, false, pos, ℤ, List, [], ◌∷◌, ◌++◌, Option, Some, None}
 use Rattle.chip_lang.specs.declared.lexeme.Lexeme.{Lexeme}
 use Rattle.chip_lang.specs.declared.lexeme.Lexeme.TheVariants.{Word, Number, Text, Sign}
@@ -11,7 +12,9 @@ use Rattle.chip_lang.specs.Reserved.{is_reserved}
 
 -- the sign before an operand that a byte is: + - ~
 abbrev pub prefix_of : ℕ → Option Prefix
-prefix_of c = if c == 43 then Some Plus else (if c == 45 then Some Minus else (if c == 126 then Some Not else None))
+prefix_of c =
+    if c == 43 then Some Plus
+    else (if c == 45 then Some Minus else (if c == 126 then Some Not else None))
 
 -- the sign between operands that a byte is: < > * / + - & | ^ and the backslash
 abbrev pub operator_of : ℕ → Option Operator
@@ -34,14 +37,18 @@ level_of And = 5
 level_of Or = 6
 level_of Xor = 7
 
--- The tokens are an expression of a level: an atom at 0, signs before an operand at 1, operators from 2 to 7.
--- An operator's left side is of its own level, its right side of a stronger one: so operators group to the left.
+-- The tokens are an expression of a level: an atom at 0, signs before an operand at 1, operators
+-- from 2 to 7.
+-- An operator's left side is of its own level, its right side of a stronger one: so operators group
+-- to the left.
 pub data Parses : ℕ → List Lexeme → Tree → Type 0 where
   a_number : {z : ℤ} → Parses 0 (Number z ∷ []) (number z)
   a_name : {w : List ℕ} → is_reserved w ≡ false → Parses 0 (Word w ∷ []) (name w)
   a_text : {b : ℕ} → Parses 0 (Text (b ∷ []) ∷ []) (number (pos b))
-  in_parentheses : {inside all : List Lexeme} {e : Tree} → Parses 7 inside e → all ≡ Sign 40 ∷ inside ++ Sign 41 ∷ [] → Parses 0 all e
-  with_prefix : (c : ℕ) {sign : Prefix} {ts : List Lexeme} {e : Tree} → prefix_of c ≡ Some sign → Parses 1 ts e → Parses 1 (Sign c ∷ ts) (unary sign e)
+  in_parentheses : {inside all : List Lexeme} {e : Tree} → Parses 7 inside e
+      → all ≡ Sign 40 ∷ inside ++ Sign 41 ∷ [] → Parses 0 all e
+  with_prefix : (c : ℕ) {sign : Prefix} {ts : List Lexeme} {e : Tree} → prefix_of c ≡ Some sign
+      → Parses 1 ts e → Parses 1 (Sign c ∷ ts) (unary sign e)
   with_operator : (c : ℕ) {l : ℕ} {sign : Operator} {left right all : List Lexeme} {a b : Tree} →
       operator_of c ≡ Some sign → level_of sign ≡ suc l → Parses (suc l) left a → Parses l right b →
       all ≡ left ++ Sign c ∷ right → Parses (suc l) all (binary sign a b)

@@ -1,4 +1,5 @@
--- The names of directives, the words for parts of the machine, and the registers, all in upper case (Chipper manual).
+-- The names of directives, the words for parts of the machine, and the registers, all in upper case
+-- (Chipper manual).
 use Rattle.std.specs.Prelude.{ℕ, ◌==◌, ◌&&◌, ◌||◌, if◌then◌else◌, List, [], ◌∷◌, codes, Option, Some, None}
 use Rattle.chip_lang.specs.Named.{find_word}
 use Rattle.chip_lang.specs.declared.form.Special.{Special}
@@ -9,11 +10,19 @@ use Rattle.chip_lang.specs.Token.{is_between, digit_value}
 
 -- the names of directives
 abbrev pub directives : List (List ℕ × Directive)
-directives = (codes "EQU", Equ) ∷ (codes "ORG", Org) ∷ (codes "ALIGN", Align) ∷ (codes "DB", Db) ∷ (codes "DW", Dw) ∷ (codes "DA", Da) ∷ (codes "DS", Ds) ∷ (codes "IFDEF", Ifdef) ∷ (codes "IFUND", Ifund) ∷ (codes "ELSE", Else) ∷ (codes "ENDIF", Endif) ∷ (codes "END", End) ∷ (codes "OPTION", Options) ∷ (codes "USED", Used) ∷ (codes "XREF", Xref) ∷ (codes "DEFINE", Define) ∷ (codes "INCLUDE", Include) ∷ (codes "UNDEF", Undef) ∷ []
+directives =
+    (codes "EQU", Equ) ∷ (codes "ORG", Org) ∷ (codes "ALIGN", Align) ∷ (codes "DB", Db)
+    ∷ (codes "DW", Dw) ∷ (codes "DA", Da) ∷ (codes "DS", Ds) ∷ (codes "IFDEF", Ifdef)
+    ∷ (codes "IFUND", Ifund) ∷ (codes "ELSE", Else) ∷ (codes "ENDIF", Endif) ∷ (codes "END", End)
+    ∷ (codes "OPTION", Options) ∷ (codes "USED", Used) ∷ (codes "XREF", Xref)
+    ∷ (codes "DEFINE", Define) ∷ (codes "INCLUDE", Include) ∷ (codes "UNDEF", Undef) ∷ []
 
 -- the words for parts of the machine
 abbrev pub specials : List (List ℕ × Special)
-specials = (codes "I", Index) ∷ (codes "DT", DelayTimer) ∷ (codes "ST", SoundTimer) ∷ (codes "K", Key) ∷ (codes "F", SmallDigit) ∷ (codes "HF", BigDigit) ∷ (codes "B", Decimal) ∷ (codes "R", Flags) ∷ []
+specials =
+    (codes "I", Index) ∷ (codes "DT", DelayTimer) ∷ (codes "ST", SoundTimer) ∷ (codes "K", Key)
+    ∷ (codes "F", SmallDigit) ∷ (codes "HF", BigDigit) ∷ (codes "B", Decimal)
+    ∷ (codes "R", Flags) ∷ []
 
 unfoldable pub directive_of : List ℕ → Option Directive
 directive_of w = find_word directives w
@@ -24,7 +33,9 @@ special_of w = find_word specials w
 -- V and a hexadecimal digit
 abbrev pub register_named : ℕ → ℕ → Option ℕ
 register_named letter digit =
-    if letter == 86 && (is_between 48 57 digit || is_between 65 70 digit) then Some (digit_value digit) else None
+    if letter == 86 && (is_between 48 57 digit || is_between 65 70 digit)
+    then Some (digit_value digit)
+    else None
 
 -- the register that a word is: V0 to VF
 unfoldable pub register_of : List ℕ → Option ℕ

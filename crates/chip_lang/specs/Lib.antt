@@ -17,8 +17,8 @@
 --     FaultPlace       at which tokens a fault lies
 --     SeenLine   the values of a line without where they lie in memory
 --     Examples   worked examples
---     computed   the tokens of a line and the expression that tokens are, found step by step; laws say that they are
---                those of Scan and of Grammar
+--     computed   the tokens of a line and the expression that tokens are, found step by step; laws
+--                say that they are those of Scan and of Grammar
 --     inner      what the functions inside say; no public clause cites it, and a reader may skip it
 pub mod Code
 pub mod Decoding

@@ -1,4 +1,5 @@
--- The reading of a line: its label and its statement, or its first fault (Chipper manual; own for the order of faults).
+-- The reading of a line: its label and its statement, or its first fault (Chipper manual; own for
+-- the order of faults).
 use Rattle.std.specs.Prelude.{ℕ, ◌+◌, ◌-◌, ◌==◌, ◌&&◌, ◌||◌, not, Bool, true, false, if◌then◌else◌, nat_lt, is_some, is_none, List, [], ◌∷◌, ◌++◌, length, map, drop, Option, Some, None, option_map, option_and_then, codes, slice_range}
 use Rattle.std.specs.List.{list_any}
 use Rattle.std.specs.Str.{bytes_eq}
@@ -66,7 +67,8 @@ is_a_word t = false
 abbrev pub is_equ : Lexeme → Bool
 is_equ t = is_the (codes "EQU") t || is_sign_of 61 t
 
--- What a line is, by its tokens: a definition with what follows EQU or =, or a statement, and the name that it gives.
+-- What a line is, by its tokens: a definition with what follows EQU or =, or a statement, and the
+-- name that it gives.
 pub data Shape : Type 0 where
   definition : (name : List ℕ) (value : List Lexeme) → Shape
   statement : (label : Option (List ℕ)) (tokens : List Lexeme) → Shape
@@ -210,7 +212,9 @@ one_name (Word w ∷ []) = if is_reserved w then None else Some w
 one_name ts = None
 
 abbrev pub one_switch : List Lexeme → Option Bool
-one_switch (t ∷ []) = if is_the (codes "ON") t then Some true else (if is_the (codes "OFF") t then Some false else None)
+one_switch (t ∷ []) =
+    if is_the (codes "ON") t then Some true
+    else (if is_the (codes "OFF") t then Some false else None)
 one_switch ts = None
 
 abbrev pub nothing : List Lexeme → Body → Option Body
@@ -220,7 +224,8 @@ nothing (t ∷ ts) body = None
 -- BINARY, CHIP8, CHIP48, SCHIP10 or SCHIP11 alone
 abbrev pub is_known_option : List Lexeme → Bool
 is_known_option (t ∷ []) =
-    is_the (codes "BINARY") t || is_the (codes "CHIP8") t || is_the (codes "CHIP48") t || is_the (codes "SCHIP10") t || is_the (codes "SCHIP11") t
+    is_the (codes "BINARY") t || is_the (codes "CHIP8") t || is_the (codes "CHIP48") t
+    || is_the (codes "SCHIP10") t || is_the (codes "SCHIP11") t
 is_known_option ts = false
 
 abbrev pub directive_body : Directive → List Lexeme → Option Body
@@ -259,10 +264,12 @@ takes_label d = true
 -- an instruction of the source form that its name and operands have
 abbrev pub instruction_body : List ℕ → List Lexeme → Option Body
 instruction_body w ts =
-    option_and_then (λ operands. option_map (λ form. code form operands) (form_of w operands)) (operands_of ts)
+    option_and_then (λ operands. option_map (λ form. code form operands) (form_of w operands))
+    (operands_of ts)
 
 abbrev pub word_body : (labelled : Bool) → List ℕ → Option Directive → List Lexeme → Option Body
-word_body labelled w (Some d) ts = if labelled && not (takes_label d) then None else directive_body d ts
+word_body labelled w (Some d) ts =
+    if labelled && not (takes_label d) then None else directive_body d ts
 word_body labelled w None ts = instruction_body w ts
 
 abbrev pub statement_body : (labelled : Bool) → List Lexeme → Option Body
@@ -320,7 +327,8 @@ too_deep opened closed (t ∷ ts) =
 abbrev pub fault_if : Bool → Fault → Option Fault
 fault_if holds fault = if holds then Some fault else None
 
--- The faults of a reading in their order, each where it holds. WrongOperands comes once more after them: where nothing fits.
+-- The faults of a reading in their order, each where it holds. WrongOperands comes once more after
+-- them: where nothing fits.
 abbrev pub faults_in_order : List Lexeme → Shape → List (Option Fault)
 faults_in_order ts shape =
     bad_token ts
@@ -354,7 +362,8 @@ fault_or_body None name None = bad WrongOperands
 
 abbrev pub reading_of_shape : List Lexeme → Shape → Reading
 reading_of_shape ts shape =
-    fault_or_body (first_fault (faults_in_order ts shape)) (first_name (names_of shape)) (body_of_shape shape)
+    fault_or_body (first_fault (faults_in_order ts shape)) (first_name (names_of shape))
+    (body_of_shape shape)
 
 abbrev pub reading_of_tokens : List Lexeme → Reading
 reading_of_tokens ts = reading_of_shape ts (shape_of ts)

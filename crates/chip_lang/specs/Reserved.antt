@@ -1,5 +1,5 @@
--- Reserved words, all in upper case: the names of instructions and directives, the words for parts of the machine,
--- and the registers (Chipper manual).
+-- Reserved words, all in upper case: the names of instructions and directives, the words for parts
+-- of the machine, and the registers (Chipper manual).
 use Rattle.std.specs.Prelude.{ℕ, ◌||◌, Bool, List, is_some}
 use Rattle.std.specs.List.{list_any}
 use Rattle.std.specs.Str.{bytes_eq}
@@ -12,4 +12,5 @@ is_mnemonic w = list_any (λ r. bytes_eq r.name w) forms
 
 -- a word that can't be a name
 unfoldable pub is_reserved : List ℕ → Bool
-is_reserved w = is_mnemonic w || is_some (directive_of w) || is_some (special_of w) || is_some (register_of w)
+is_reserved w =
+    is_mnemonic w || is_some (directive_of w) || is_some (special_of w) || is_some (register_of w)

@@ -1,5 +1,5 @@
--- The token list of a line, as a relation: each token stands where only blanks come before it, and is what stands there
--- (Chipper manual for the tokens; own).
+-- The token list of a line, as a relation: each token stands where only blanks come before it, and
+-- is what stands there (Chipper manual for the tokens; own).
 use Rattle.std.specs.Prelude.{ℕ, ◌≡◌, ◌+◌, ◌<◌, ◌≤◌, ◌==◌, true, false, List, [], ◌∷◌, length, slice_index, drop}
 use Rattle.chip_lang.specs.declared.token.Token.{Token}
 use Rattle.chip_lang.specs.Token.{is_blank, token_at}
@@ -8,7 +8,8 @@ use Rattle.chip_lang.specs.Token.{is_blank, token_at}
 abbrev pub AllBlank : List ℕ → (from to : ℕ) → Type 0
 AllBlank line from to = (k : ℕ) → from ≤ k → k < to → is_blank (slice_index line k) ≡ true
 
--- A token stands at its place, which is no blank and begins no comment: the first kind that fits, with the longest run.
+-- A token stands at its place, which is no blank and begins no comment: the first kind that fits,
+-- with the longest run.
 pub record IsToken (line : List ℕ) (t : Token) : Type 0 where
   pub inside : t.start < length line
   pub no_blank : is_blank (slice_index line t.start) ≡ false
@@ -27,4 +28,5 @@ pub record IsOver (line : List ℕ) (place : ℕ) : Type 0 where
 -- these are the tokens from a place on
 abbrev pub AreTokens : List ℕ → (place : ℕ) → List Token → Type 0
 AreTokens line place [] = IsOver line place
-AreTokens line place (t ∷ ts) = (place ≤ t.start) × AllBlank line place t.start × IsToken line t × AreTokens line t.end ts
+AreTokens line place (t ∷ ts) =
+    (place ≤ t.start) × AllBlank line place t.start × IsToken line t × AreTokens line t.end ts

@@ -1,4 +1,5 @@
--- What stands at a place of a line: the kind and the length of the token there (Chipper manual; own for what is no token).
+-- What stands at a place of a line: the kind and the length of the token there (Chipper manual; own
+-- for what is no token).
 use Rattle.std.specs.Prelude.{ℕ, ◌+◌, ◌*◌, ◌-◌, ◌==◌, ◌||◌, ◌&&◌, not, Bool, if◌then◌else◌, nat_le, nat_lt, List, [], ◌∷◌, length, fold, take, pos}
 use Rattle.std.specs.List.{list_all, prefix_len}
 use Rattle.chip_lang.specs.declared.fault.Fault.TheVariants.{BadCharacter, UnfinishedString, NumberTooLarge}
@@ -43,17 +44,21 @@ is_run_byte b = is_name_byte b || b == 46
 -- one of , : = [ ] ( ) + - * / & | ^ ~ < > \
 abbrev pub is_sign : ℕ → Bool
 is_sign b =
-    b == 44 || b == 58 || b == 61 || b == 91 || b == 93 || b == 40 || b == 41 || b == 43 || b == 45 || b == 42
+    b == 44 || b == 58 || b == 61 || b == 91 || b == 93 || b == 40 || b == 41 || b == 43 || b == 45
+    || b == 42
     || b == 47 || b == 38 || b == 124 || b == 94 || b == 126 || b == 60 || b == 62 || b == 92
 
 -- the value of a digit; that of a full stop is 0
 unfoldable pub digit_value : ℕ → ℕ
-digit_value b = if nat_lt b 48 then 0 else (if nat_le b 57 then b - 48 else (if nat_le b 90 then b - 55 else b - 87))
+digit_value b =
+    if nat_lt b 48 then 0
+    else (if nat_le b 57 then b - 48 else (if nat_le b 90 then b - 55 else b - 87))
 
 -- a digit of numbers to the base 2, 8, 10 or 16
 abbrev pub is_digit_of : ℕ → ℕ → Bool
 is_digit_of base b =
-    if base == 2 then is_binary b else (if base == 8 then is_octal b else (if base == 10 then is_digit b else is_hexadecimal b))
+    if base == 2 then is_binary b
+    else (if base == 8 then is_octal b else (if base == 10 then is_digit b else is_hexadecimal b))
 
 -- the number before one more digit, and with it
 abbrev pub with_digit : ℕ → ℕ → ℕ → ℕ
@@ -71,7 +76,9 @@ kind_of_number n = if nat_le n 2147483647 then Number (pos n) else Bad NumberToo
 unfoldable pub kind_of_digits : ℕ → List ℕ → Kind
 kind_of_digits base [] = Bad BadCharacter
 kind_of_digits base (d ∷ ds) =
-    if is_digit_of base d && list_all (is_digit_of base) ds then kind_of_number (number_of base (d ∷ ds)) else Bad BadCharacter
+    if is_digit_of base d && list_all (is_digit_of base) ds
+    then kind_of_number (number_of base (d ∷ ds))
+    else Bad BadCharacter
 
 -- a text that a quote begins: it goes up to the next such quote
 unfoldable pub text_at : ℕ → List ℕ → Kind × ℕ
@@ -79,7 +86,8 @@ text_at quote bytes =
     let inside = prefix_len (λ b. not (b == quote)) bytes in
     if nat_lt inside (length bytes) then (Text, inside + 2) else (Bad UnfinishedString, inside + 1)
 
--- The kind and the length of the token that begins with a byte, by the bytes after it: the first row that fits.
+-- The kind and the length of the token that begins with a byte, by the bytes after it: the first
+-- row that fits.
 unfoldable pub token_at : ℕ → List ℕ → Kind × ℕ
 token_at b bytes =
     let name = prefix_len is_name_byte bytes in

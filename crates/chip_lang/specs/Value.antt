@@ -75,7 +75,8 @@ abbrev pub ◌>>=◌ : {A B : Type 0} → Result A Fault → (A → Result B Fau
 (Ok x) >>= go = go x
 (Err f) >>= go = Err f
 
--- The value of an expression, or the first fault: the left operand's, the right one's, the sign's own.
+-- The value of an expression, or the first fault: the left operand's, the right one's, the sign's
+-- own.
 abbrev pub value : Tree → Symbols → Result ℤ Fault
 value (number z) symbols = Ok z
 value (name n) symbols = or_fault (value_of_name symbols n) UndefinedName

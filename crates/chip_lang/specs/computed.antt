@@ -1,3 +1,4 @@
--- Functions that find what the manual states as a relation; public laws say that the two agree, both ways.
+-- Functions that find what the manual states as a relation; public laws say that the two agree,
+-- both ways.
 pub mod Parse
 pub mod Tokens

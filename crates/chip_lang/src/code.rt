@@ -23,7 +23,8 @@ use std::alloc::{AllocError, Global};
 /// What encoding a line gives.
 #[derive(Debug, Drop)]
 pub enum Coded {
-    /// The line's own bytes, without padding: of an instruction, DB, DW or DA, and none of any other line.
+    /// The line's own bytes, without padding: of an instruction, DB, DW or DA, and none of any
+    /// other line.
     Bytes(ShortBytes),
     /// The line's fault in the second pass, or its reading fault.
     Faulty(Fault),
@@ -36,7 +37,8 @@ pub fn encode<N: Names>(
     line: &Line,
     names: &N,
 ) -> Result<Coded, AllocError>
-    ensures code { IfOk result (λ coded. coded ≡ code_of (seen_line line.now) (N.symbols names.now)) }
+    ensures code { IfOk result (λ coded. coded
+        ≡ code_of (seen_line line.now) (N.symbols names.now)) }
     ensures counted { meter.new ≡ record meter.old { encoded = one_more meter.old.encoded } }
     ensures not_lowered { meter.old.encoded ≤ meter.new.encoded }
 {
@@ -49,7 +51,8 @@ pub fn encode<N: Names>(
 
 #[tactic(auto, unfolding(crate::specs::Code::own_bytes))]
 fn code_of_body<N: Names>(alloc: Global, body: &Body, names: &N) -> Result<Coded, AllocError>
-    ensures { IfOk result (λ code. code ≡ coded (own_bytes (seen_body body.now) (N.symbols names.now))) }
+    ensures { IfOk result (λ code. code
+        ≡ coded (own_bytes (seen_body body.now) (N.symbols names.now))) }
 {
     match body {
         Body::Db(exprs) => code_of_bytes(alloc, exprs, names),
@@ -84,7 +87,8 @@ fn bytes_of_word(word: u16) -> [u8; 2]
 /// The code of DB: a byte for each value, or the first fault from the left.
 #[tactic(auto, using(crate::proofs::Data::data_steps))]
 fn code_of_bytes<N: Names>(alloc: Global, exprs: &[Expr], names: &N) -> Result<Coded, AllocError>
-    ensures { IfOk result (λ code. code ≡ coded (data_bytes 256 byte_of (map tree_of exprs.now) (N.symbols names.now))) }
+    ensures { IfOk result (λ code. code
+        ≡ coded (data_bytes 256 byte_of (map tree_of exprs.now) (N.symbols names.now))) }
 {
     let mut bytes = ShortBytes::empty(alloc);
     for expr in exprs {
@@ -99,7 +103,8 @@ fn code_of_bytes<N: Names>(alloc: Global, exprs: &[Expr], names: &N) -> Result<C
 /// The code of DW: a word for each value, or the first fault from the left.
 #[tactic(auto, using(crate::proofs::Data::data_steps))]
 fn code_of_words<N: Names>(alloc: Global, exprs: &[Expr], names: &N) -> Result<Coded, AllocError>
-    ensures { IfOk result (λ code. code ≡ coded (data_bytes 65536 word_bytes (map tree_of exprs.now) (N.symbols names.now))) }
+    ensures { IfOk result (λ code. code
+        ≡ coded (data_bytes 65536 word_bytes (map tree_of exprs.now) (N.symbols names.now))) }
 {
     let mut bytes = ShortBytes::empty(alloc);
     for expr in exprs {
@@ -126,7 +131,8 @@ fn datum<N: Names>(limit: u32, expr: &Expr, names: &N) -> Result<u16, Fault>
 
 /// The word of a form and its operands, or the first fault from the left.
 fn word_of_form<N: Names>(form: &Form, operands: &[Operand], names: &N) -> Result<u16, Fault>
-    ensures { result ≡ word_of_form (row_of_form form.now) (map operand_of operands.now) (N.symbols names.now) }
+    ensures { result
+        ≡ word_of_form (row_of_form form.now) (map operand_of operands.now) (N.symbols names.now) }
 {
     let fields = fields_of(form.patterns, operands, names)?;
     Ok(form.base | fields)

@@ -13,7 +13,8 @@ ghost use Rattle.chip_lang.specs.Form.{row_of_form, option_row, is_special, matc
 use crate::expr::Expr;
 use crate::number::Reg;
 
-/// What stands in an operand's place in a form: a register by its part of the word, a word, or a value by its field.
+/// What stands in an operand's place in a form: a register by its part of the word, a word, or a
+/// value by its field.
 #[derive(Clone, Copy, Debug, PartialEq, Eq)]
 pub enum Pattern {
     /// A register, the second digit of the word.
@@ -328,7 +329,11 @@ pub(crate) const FORMS: [Form; 46] = [
 
 /// The form that a name and operands are, if they are one, where the forms of the name are known.
 #[tactic(auto, using(crate::proofs::NamedForms::form_among))]
-pub(crate) fn find_form<'a>(forms: &'a [Form], name: &[u8], operands: &[Operand]) -> Option<&'a Form>
+pub(crate) fn find_form<'a>(
+    forms: &'a [Form],
+    name: &[u8],
+    operands: &[Operand],
+) -> Option<&'a Form>
     requires forms { map row_of_form forms.now ≡ from_name name.now all_forms }
     ensures { option_row (option_copied result) ≡ form_of name.now (map operand_of operands.now) }
 {
@@ -370,7 +375,8 @@ fn from_first<'a>(forms: &'a [Form], name: &[u8]) -> &'a [Form]
 }
 
 fn find_in<'a>(forms: &'a [Form], name: &[u8], operands: &[Operand]) -> Option<&'a Form>
-    ensures { option_row (option_copied result) ≡ find_form (map row_of_form forms.now) name.now (map operand_of operands.now) }
+    ensures { option_row (option_copied result)
+        ≡ find_form (map row_of_form forms.now) name.now (map operand_of operands.now) }
 {
     for form in forms {
         if form.name.as_bytes() == name && all_match(form.patterns, operands) {

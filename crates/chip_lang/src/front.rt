@@ -136,8 +136,10 @@ pub fn name_atom<'a>(
     word: &ShortBytes,
     tokens: &'a [Lexeme],
 ) -> Result<Option<(Expr, &'a [Lexeme])>, AllocError>
-    ensures value { IfOk result (λ found. seen found ≡ (if is_reserved word.now then None else Some (name word.now, tokens.now))) }
-    ensures shorter { IfOk result (λ found. IfSome found (λ x. length x.1.now ≤ length tokens.now)) }
+    ensures value { IfOk result (λ found. seen found
+        ≡ (if is_reserved word.now then None else Some (name word.now, tokens.now))) }
+    ensures shorter { IfOk result
+        (λ found. IfSome found (λ x. length x.1.now ≤ length tokens.now)) }
 {
     match free_name(alloc, word.get())? {
         Some(name) => Ok(Some((Expr::Name(name), tokens))),
@@ -158,8 +160,8 @@ pub fn free_name(alloc: Global, word: &[u8]) -> Result<Option<Bytes>, AllocError
 // No reserved word has more bytes, so that most names need no search.
 const LONGEST_RESERVED: usize = 7;
 
-/// Whether a word in upper case is reserved only if it is a register, as its last byte shows: no other reserved word
-/// ends in a digit.
+/// Whether a word in upper case is reserved only if it is a register, as its last byte shows: no
+/// other reserved word ends in a digit.
 #[tactic(auto, using(crate::proofs::LastDigits::only_registers))]
 fn is_at_most_a_register(word: &[u8]) -> bool
     ensures { result ≡ true → is_reserved word.now ≡ is_some (register_of word.now) }

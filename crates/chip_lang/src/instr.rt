@@ -161,7 +161,8 @@ fn of_system(byte: u8) -> u16
 /// The word of a first digit and an address.
 fn with_address(top: u16, a: Addr) -> u16
     requires { top < 16 }
-    ensures { decode_of result ≡ instr_below 16 top (fields (a / 256) (a / 16 % 16) (a % 16) (a % 256) a) }
+    ensures { decode_of result
+        ≡ instr_below 16 top (fields (a / 256) (a / 16 % 16) (a % 16) (a % 256) a) }
 {
     top * 4096 + a.number()
 }
@@ -169,7 +170,8 @@ fn with_address(top: u16, a: Addr) -> u16
 /// The word of a first digit, a register and a byte.
 fn with_byte(top: u16, x: Reg, byte: u8) -> u16
     requires { top < 16 }
-    ensures { decode_of result ≡ instr_below 16 top (fields x (byte / 16) (byte % 16) byte (256 * x + byte)) }
+    ensures { decode_of result
+        ≡ instr_below 16 top (fields x (byte / 16) (byte % 16) byte (256 * x + byte)) }
 {
     top * 4096 + u16::from(x.number()) * 256 + u16::from(byte)
 }
@@ -178,7 +180,8 @@ fn with_byte(top: u16, x: Reg, byte: u8) -> u16
 fn with_registers(top: u16, x: Reg, y: Reg, n: u8) -> u16
     requires top { top < 16 }
     requires n { n < 16 }
-    ensures { decode_of result ≡ instr_below 16 top (fields x y n (16 * y + n) (256 * x + (16 * y + n))) }
+    ensures { decode_of result
+        ≡ instr_below 16 top (fields x y n (16 * y + n) (256 * x + (16 * y + n))) }
 {
     top * 4096 + u16::from(x.number()) * 256 + u16::from(y.number()) * 16 + u16::from(n)
 }

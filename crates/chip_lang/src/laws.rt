@@ -45,46 +45,63 @@ pub fn one_token_list()
 
 /// Each token has a byte at least, and lies in its line.
 pub fn tokens_lie_in_line()
-    ensures { (line : List ℕ) → All (λ token. (token.start < token.end) × (token.end ≤ length line)) (tokens_of line) }
+    ensures { (line : List ℕ)
+        → All (λ token. (token.start < token.end) × (token.end ≤ length line)) (tokens_of line) }
 {}
 
-/// Where two tables agree on the names of an expression, it has one value under both; where they agree on the names that a line uses, it has
-/// one code.
+/// Where two tables agree on the names of an expression, it has one value under both; where they
+/// agree on the names that a line uses, it has one code.
 pub fn same_code()
-    ensures value { (e : Tree) (S T : Symbols) → list_all (has_same_value S T) (names_in e) ≡ true → value e S ≡ value e T }
-    ensures code { (r : Reading) (S T : Symbols) → agree_on S T r ≡ true → code_of r S ≡ code_of r T }
+    ensures value { (e : Tree) (S T : Symbols) → list_all (has_same_value S T) (names_in e) ≡ true
+        → value e S ≡ value e T }
+    ensures code { (r : Reading) (S T : Symbols) → agree_on S T r ≡ true
+        → code_of r S ≡ code_of r T }
 {}
 
-/// Where an expression has a value, it keeps it when names are added to the table: where each name with a value keeps that value.
+/// Where an expression has a value, it keeps it when names are added to the table: where each name
+/// with a value keeps that value.
 pub fn kept_value()
-    ensures { (e : Tree) (S T : Symbols) (v : ℤ) → ((n : List ℕ) (w : ℤ) → value_of_name S n ≡ Some w → value_of_name T n ≡ Some w) → value e S ≡ Ok v → value e T ≡ Ok v }
+    ensures { (e : Tree) (S T : Symbols) (v : ℤ)
+        → ((n : List ℕ) (w : ℤ) → value_of_name S n ≡ Some w → value_of_name T n ≡ Some w)
+        → value e S ≡ Ok v → value e T ≡ Ok v }
 {}
 
-/// The names that a line uses, repeated ones counted again, are at most half its bytes: a line of 200 bytes uses at most 100.
+/// The names that a line uses, repeated ones counted again, are at most half its bytes: a line of
+/// 200 bytes uses at most 100.
 pub fn names_bound()
     ensures { (line : List ℕ) → 2 * length (names_used (reading_of line)) ≤ length line }
 {}
 
 /// At most one source form fits a name and operands.
 pub fn one_form()
-    ensures { (name : List ℕ) (operands : List Operand) → length (filter (λ form. fits form name operands) forms) ≤ 1 }
+    ensures { (name : List ℕ) (operands : List Operand)
+        → length (filter (λ form. fits form name operands) forms) ≤ 1 }
 {}
 
-/// The form in which a word is shown, with the operands that stand in the word, fits them and has that word under any names.
+/// The form in which a word is shown, with the operands that stand in the word, fits them and has
+/// that word under any names.
 pub fn shown_form()
-    ensures word { (w : ℕ) (form : Row) (symbols : Symbols) → form_shown w ≡ Some form → word_of_form form (map (operand_in w) form.patterns) symbols ≡ Ok w }
-    ensures fits { (w : ℕ) (form : Row) → fits form form.name (map (operand_in w) form.patterns) ≡ true }
+    ensures word { (w : ℕ) (form : Row) (symbols : Symbols) → form_shown w ≡ Some form
+        → word_of_form form (map (operand_in w) form.patterns) symbols ≡ Ok w }
+    ensures fits { (w : ℕ) (form : Row)
+        → fits form form.name (map (operand_in w) form.patterns) ≡ true }
 {}
 
 /// Each instruction has one word: two words that decode to it are the same.
 pub fn one_word()
-    ensures { (v w : ℕ) (instr : Instr) → decode_of v ≡ Some instr → decode_of w ≡ Some instr → v ≡ w }
+    ensures { (v w : ℕ) (instr : Instr) → decode_of v ≡ Some instr → decode_of w ≡ Some instr
+        → v ≡ w }
 {}
 
-/// The source forms and `decode` agree: a word is shown in a form just where it decodes; and the word of a statement with a form but SYS
-/// decodes to an instruction of that form, so that of an instruction's line.
+/// The source forms and `decode` agree: a word is shown in a form just where it decodes; and the
+/// word of a statement with a form but SYS decodes to an instruction of that form, so that of an
+/// instruction's line.
 pub fn forms_and_decode()
     ensures shown { (w : ℕ) → is_some (form_shown w) ≡ is_some (decode_of w) }
-    ensures said { (name : List ℕ) (operands : List Operand) (symbols : Symbols) (form : Row) (w : ℕ) → HasWord name operands symbols form w → form.name ≢ codes "SYS" → DecodesTo form w }
-    ensures line { (line : List ℕ) (label : Option (List ℕ)) (form : Row) (operands : List Operand) (symbols : Symbols) (w : ℕ) → reading_of line ≡ read label (code form operands) → word_of_form form operands symbols ≡ Ok w → form.name ≢ codes "SYS" → DecodesTo form w }
+    ensures said { (name : List ℕ) (operands : List Operand) (symbols : Symbols) (form : Row)
+        (w : ℕ) → HasWord name operands symbols form w → form.name ≢ codes "SYS"
+        → DecodesTo form w }
+    ensures line { (line : List ℕ) (label : Option (List ℕ)) (form : Row) (operands : List Operand)
+        (symbols : Symbols) (w : ℕ) → reading_of line ≡ read label (code form operands)
+        → word_of_form form operands symbols ≡ Ok w → form.name ≢ codes "SYS" → DecodesTo form w }
 {}

@@ -1,7 +1,9 @@
-//! The language of the Chipper assembler: words of instructions, tokens, expressions, the reading of a line, and its code.
+//! The language of the Chipper assembler: words of instructions, tokens, expressions, the reading
+//! of a line, and its code.
 //!
-//! [`read_line`] gives the one reading of a text, and [`encode`] the code of a reading under a table of [`Names`]. [`word`], [`decode`] and
-//! [`show`] go between instructions, words and source text. What each of them gives is defined in `specs/`.
+//! [`read_line`] gives the one reading of a text, and [`encode`] the code of a reading under a
+//! table of [`Names`]. [`word`], [`decode`] and [`show`] go between instructions, words and source
+//! text. What each of them gives is defined in `specs/`.
 #![tactic(auto)]
 
 pub mod bytes;

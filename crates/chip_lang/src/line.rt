@@ -64,7 +64,8 @@ pub enum Body {
     Xref,
 }
 
-/// The reading of a line: a label or defined name, if any, and a statement; or the line's reading fault.
+/// The reading of a line: a label or defined name, if any, and a statement; or the line's reading
+/// fault.
 #[derive(Debug, Drop)]
 pub enum Line {
     /// The first fault of the reading.
@@ -78,13 +79,14 @@ pub enum Line {
     },
 }
 
-/// Reads the text of a line, any bytes at all. Each text has one reading, which uses at most half as many names as the text has bytes.
-/// Adds 1 to `parsed`, also where memory runs out.
+/// Reads the text of a line, any bytes at all. Each text has one reading, which uses at most half
+/// as many names as the text has bytes. Adds 1 to `parsed`, also where memory runs out.
 #[tactic(auto, unfolding(crate::specs::Line::reading_of), using(crate::proofs::NamesBound::names_bound_of))]
 #[inline]
 pub fn read_line(alloc: Global, meter: &mut Meter, text: &[u8]) -> Result<Line, AllocError>
     ensures reading { IfOk result (λ line. seen_line line ≡ reading_of text.now) }
-    ensures names { IfOk result (λ line. 2 * length (names_used (seen_line line)) ≤ length text.now) }
+    ensures names { IfOk result (λ line. 2 * length (names_used (seen_line line))
+        ≤ length text.now) }
     ensures counted { meter.new ≡ record meter.old { parsed = one_more meter.old.parsed } }
 {
     if read_nothing(meter, text) {
@@ -97,14 +99,15 @@ pub fn read_line(alloc: Global, meter: &mut Meter, text: &[u8]) -> Result<Line, 
     reading_of_text(alloc, text)
 }
 
-/// Reads a line that says nothing, as its first byte shows, and adds 1 to `parsed`: many lines have no bytes or a comment alone. Any other
-/// line isn't read, and nothing changes.
+/// Reads a line that says nothing, as its first byte shows, and adds 1 to `parsed`: many lines have
+/// no bytes or a comment alone. Any other line isn't read, and nothing changes.
 #[tactic(auto, unfolding(crate::specs::Line::reading_of))]
 #[inline]
 pub fn read_nothing(meter: &mut Meter, text: &[u8]) -> bool
     ensures shown { result ≡ shows_nothing text.now }
     ensures reading { result ≡ true → reading_of text.now ≡ read None empty }
-    ensures counted { result ≡ true → meter.new ≡ record meter.old { parsed = one_more meter.old.parsed } }
+    ensures counted { result ≡ true
+        → meter.new ≡ record meter.old { parsed = one_more meter.old.parsed } }
     ensures same { result ≡ false → meter.new ≡ meter.old }
 {
     if !is_plainly_empty(text) {
@@ -165,8 +168,8 @@ fn front_forms(front: Option<Directive>, statement: &[Lexeme]) -> &'static [Form
     }
 }
 
-/// The first fault of a reading, but for one of operands that fit nothing. `front` is the directive at
-/// the front of the statement, and `forms` has those of an instruction there.
+/// The first fault of a reading, but for one of operands that fit nothing. `front` is the directive
+/// at the front of the statement, and `forms` has those of an instruction there.
 fn first_fault(
     tokens: &[Lexeme],
     shape: &Shape,
@@ -174,7 +177,8 @@ fn first_fault(
     forms: &'static [Form],
 ) -> Option<Fault>
     requires front { front ≡ front_directive (statement_of (seen_shape shape.now)) }
-    requires forms { map row_of_form forms.now ≡ front_forms front (statement_of (seen_shape shape.now)) }
+    requires forms { map row_of_form forms.now
+        ≡ front_forms front (statement_of (seen_shape shape.now)) }
     ensures { result ≡ first_fault (faults_in_order tokens.now (seen_shape shape.now)) }
 {
     if let Some(fault) = bad_token(tokens) {
@@ -241,7 +245,8 @@ fn bad_token(tokens: &[Lexeme]) -> Option<Fault>
     None
 }
 
-/// Whether at some token the parentheses opened so far are over `OPEN_PARENTHESES` more than those closed.
+/// Whether at some token the parentheses opened so far are over `OPEN_PARENTHESES` more than those
+/// closed.
 #[tactic(auto, using(crate::proofs::FewTokens::not_deep))]
 fn is_too_deep(tokens: &[Lexeme]) -> bool
     ensures { result ≡ too_deep 0 0 tokens.now }

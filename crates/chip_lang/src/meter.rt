@@ -2,7 +2,8 @@
 
 ghost use Rattle.std.specs.Prelude.{◌≡◌};
 
-/// How many texts of lines were read and how many lines were encoded. A count stays at its greatest value.
+/// How many texts of lines were read and how many lines were encoded. A count stays at its greatest
+/// value.
 #[derive(Clone, Copy, Debug, PartialEq, Eq)]
 pub struct Meter {
     /// The lines that were read.

@@ -3,7 +3,8 @@
 ghost use Rattle.std.specs.Prelude.{◌≡◌};
 ghost use Rattle.chip_lang.specs.Value.{Symbols, value_of_name};
 
-/// A table of names. What it means is a finite map from names in upper case to values of 32 bits with a sign.
+/// A table of names. What it means is a finite map from names in upper case to values of 32 bits
+/// with a sign.
 pub trait Names {
     /// The names and their values.
     ghost symbols: { Self → Symbols };

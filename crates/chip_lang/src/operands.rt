@@ -52,7 +52,8 @@ pub(crate) fn first_piece(tokens: &[Lexeme]) -> (&[Lexeme], Option<&[Lexeme]>)
 /// The expressions between commas, if each of them is one.
 #[tactic(auto, using(crate::proofs::Pieces::value_steps))]
 pub(crate) fn values_of(alloc: Global, tokens: &[Lexeme]) -> Result<Option<Vec<Expr>>, AllocError>
-    ensures { IfOk result (λ found. option_map (λ values. map tree_of values.items) found ≡ values_of tokens.now) }
+    ensures { IfOk result (λ found. option_map (λ values. map tree_of values.items) found
+        ≡ values_of tokens.now) }
 {
     let mut values = Vec::new(alloc);
     let mut rest = Some(tokens);
@@ -73,7 +74,8 @@ pub(crate) fn operands_of(
     alloc: Global,
     tokens: &[Lexeme],
 ) -> Result<Option<Vec<Operand>>, AllocError>
-    ensures { IfOk result (λ found. option_map (λ operands. map operand_of operands.items) found ≡ operands_of tokens.now) }
+    ensures { IfOk result (λ found. option_map (λ operands. map operand_of operands.items) found
+        ≡ operands_of tokens.now) }
 {
     if tokens.is_empty() {
         return Ok(Some(Vec::new(alloc)));

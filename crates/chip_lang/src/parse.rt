@@ -22,7 +22,8 @@ type Found<'a> = Option<(Expr, &'a [Lexeme])>;
 pub fn parse_expression(alloc: Global, tokens: &[Lexeme]) -> Result<Option<Expr>, AllocError>
     ensures value { IfOk result (λ found. seen_whole found ≡ expression_of tokens.now) }
     ensures found { IfOk result (λ found. IfSome found (λ e. IsExpression tokens.now (tree_of e))) }
-    ensures none { IfOk result (λ found. IfNone found ((e : Tree) → IsExpression tokens.now e → ⊥)) }
+    ensures none { IfOk result
+        (λ found. IfNone found ((e : Tree) → IsExpression tokens.now e → ⊥)) }
 {
     if let [token] = tokens {
         return expression_of_token(alloc, token);
@@ -54,8 +55,10 @@ fn expression_of_token(alloc: Global, token: &Lexeme) -> Result<Option<Expr>, Al
 #[cycle(parser)]
 fn parse_level<'a>(alloc: Global, tokens: &'a [Lexeme], level: u32) -> Result<Found<'a>, AllocError>
     requires { level ≤ 7 }
-    ensures value { IfOk result (λ found. (n : ℕ) → 9 * length tokens.now + level < n → seen found ≡ parse n level tokens.now) }
-    ensures shorter { IfOk result (λ found. IfSome found (λ x. length x.1.now < length tokens.now)) }
+    ensures value { IfOk result (λ found. (n : ℕ) → 9 * length tokens.now + level < n
+        → seen found ≡ parse n level tokens.now) }
+    ensures shorter { IfOk result
+        (λ found. IfSome found (λ x. length x.1.now < length tokens.now)) }
 {
     if level == 0 {
         return parse_atom(alloc, tokens);
@@ -81,8 +84,10 @@ fn parse_level<'a>(alloc: Global, tokens: &'a [Lexeme], level: u32) -> Result<Fo
 
 #[cycle(parser)]
 fn parse_prefixed<'a>(alloc: Global, tokens: &'a [Lexeme]) -> Result<Found<'a>, AllocError>
-    ensures value { IfOk result (λ found. (n : ℕ) → 9 * length tokens.now + 1 < n → seen found ≡ parse n 1 tokens.now) }
-    ensures shorter { IfOk result (λ found. IfSome found (λ x. length x.1.now < length tokens.now)) }
+    ensures value { IfOk result (λ found. (n : ℕ) → 9 * length tokens.now + 1 < n
+        → seen found ≡ parse n 1 tokens.now) }
+    ensures shorter { IfOk result
+        (λ found. IfSome found (λ x. length x.1.now < length tokens.now)) }
 {
     let (signs, rest) = prefixes(alloc, tokens)?;
     let Some((operand, rest)) = parse_atom(alloc, rest)? else {
@@ -94,8 +99,10 @@ fn parse_prefixed<'a>(alloc: Global, tokens: &'a [Lexeme]) -> Result<Found<'a>, 
 
 #[cycle(parser)]
 fn parse_atom<'a>(alloc: Global, tokens: &'a [Lexeme]) -> Result<Found<'a>, AllocError>
-    ensures value { IfOk result (λ found. (n : ℕ) → 9 * length tokens.now < n → seen found ≡ parse n 0 tokens.now) }
-    ensures shorter { IfOk result (λ found. IfSome found (λ x. length x.1.now < length tokens.now)) }
+    ensures value { IfOk result (λ found. (n : ℕ) → 9 * length tokens.now < n
+        → seen found ≡ parse n 0 tokens.now) }
+    ensures shorter { IfOk result
+        (λ found. IfSome found (λ x. length x.1.now < length tokens.now)) }
 {
     let Some((first, rest)) = tokens.split_first() else {
         return Ok(None);
@@ -126,8 +133,10 @@ fn parse_further<'a>(
 ) -> Result<Found<'a>, AllocError>
     requires low { 2 ≤ level }
     requires high { level ≤ 7 }
-    ensures value { IfOk result (λ found. (n : ℕ) → 9 * length tokens.now + 8 < n → seen found ≡ further n level (tree_of first) tokens.now) }
-    ensures shorter { IfOk result (λ found. IfSome found (λ x. length x.1.now ≤ length tokens.now)) }
+    ensures value { IfOk result (λ found. (n : ℕ) → 9 * length tokens.now + 8 < n
+        → seen found ≡ further n level (tree_of first) tokens.now) }
+    ensures shorter { IfOk result
+        (λ found. IfSome found (λ x. length x.1.now ≤ length tokens.now)) }
 {
     let mut left = first;
     let mut rest = tokens;

@@ -104,8 +104,8 @@ fn name_after_define(front: Option<Directive>, tokens: &[Lexeme]) -> Option<&Sho
     }
 }
 
-/// Whether a line defines a word that can't be defined. `front` is the directive at the front of its
-/// statement.
+/// Whether a line defines a word that can't be defined. `front` is the directive at the front of
+/// its statement.
 pub(crate) fn defines_bad_name(shape: &Shape, front: Option<Directive>) -> bool
     requires front { front ≡ front_directive (statement_of (seen_shape shape.now)) }
     ensures { result ≡ list_any is_bad_name (names_of (seen_shape shape.now)) }

@@ -10,8 +10,9 @@ ghost use Rattle.chip_lang.specs.Show.{hex_digit, hex_byte, hex_address, hex_wor
 use crate::form::{FORMS, Form, Pattern};
 use std::alloc::{AllocError, Global};
 
-/// The source text of a word: registers `V0` to `VF`, a byte as `#kk`, an address as `#nnn`, a nibble in decimal. A word that is no
-/// instruction is `DW #wwww`. Read as a line and encoded, the text gives the word.
+/// The source text of a word: registers `V0` to `VF`, a byte as `#kk`, an address as `#nnn`, a
+/// nibble in decimal. A word that is no instruction is `DW #wwww`. Read as a line and encoded, the
+/// text gives the word.
 pub fn show(alloc: Global, word: u16) -> Result<String, AllocError>
     ensures text { IfOk result (λ text. string_bytes text ≡ show_of word) }
 {
@@ -20,10 +21,12 @@ pub fn show(alloc: Global, word: u16) -> Result<String, AllocError>
     Ok(text)
 }
 
-/// Adds the source text of a word, as `show` gives it. Err where memory ran out; a part of the text may be added then.
+/// Adds the source text of a word, as `show` gives it. Err where memory ran out; a part of the text
+/// may be added then.
 #[tactic(auto, unfolding(crate::specs::Show::show_of))]
 pub fn push_shown(text: &mut String, word: u16) -> Result<(), AllocError>
-    ensures text { IfOk result (λ _. string_bytes text.new ≡ string_bytes text.old ++ show_of word) }
+    ensures text { IfOk result (λ _. string_bytes text.new
+        ≡ string_bytes text.old ++ show_of word) }
 {
     match form_shown(word) {
         Some(form) => {
@@ -46,7 +49,9 @@ fn form_shown(word: u16) -> Option<Form>
 }
 
 fn first_giving(forms: &[Form], word: u16) -> Option<Form>
-    ensures { option_row result ≡ find (λ r. not (bytes_eq r.name (codes "SYS")) && gives r word) (map row_of_form forms.now) }
+    ensures { option_row result
+        ≡ find (λ r. not (bytes_eq r.name (codes "SYS")) && gives r word)
+        (map row_of_form forms.now) }
 {
     for form in forms {
         if gives(form, word) && form.name != "SYS" {
@@ -56,7 +61,8 @@ fn first_giving(forms: &[Form], word: u16) -> Option<Form>
     None
 }
 
-/// Whether a form, with the operands that stand in a word, gives that word. No operand takes the first digit.
+/// Whether a form, with the operands that stand in a word, gives that word. No operand takes the
+/// first digit.
 fn gives(form: &Form, word: u16) -> bool
     ensures { result ≡ gives (row_of_form form.now) word }
 {
@@ -103,7 +109,8 @@ fn push_operands(
     patterns: &[Pattern],
     word: u16,
 ) -> Result<(), AllocError>
-    ensures { IfOk result (λ _. string_bytes text.new ≡ string_bytes text.old ++ operands_text before.now patterns.now word) }
+    ensures { IfOk result (λ _. string_bytes text.new
+        ≡ string_bytes text.old ++ operands_text before.now patterns.now word) }
 {
     let Some((pattern, patterns)) = patterns.split_first() else {
         return Ok(());
@@ -114,7 +121,8 @@ fn push_operands(
 }
 
 fn push_operand(text: &mut String, pattern: Pattern, word: u16) -> Result<(), AllocError>
-    ensures { IfOk result (λ _. string_bytes text.new ≡ string_bytes text.old ++ operand_text pattern word) }
+    ensures { IfOk result (λ _. string_bytes text.new
+        ≡ string_bytes text.old ++ operand_text pattern word) }
 {
     match pattern {
         Pattern::Vx | Pattern::Vy => push_register(text, field_in(pattern, word)),
@@ -137,7 +145,8 @@ fn push_operand(text: &mut String, pattern: Pattern, word: u16) -> Result<(), Al
 /// `V0` to `VF`.
 fn push_register(text: &mut String, register: u16) -> Result<(), AllocError>
     requires { register < 16 }
-    ensures { IfOk result (λ _. string_bytes text.new ≡ string_bytes text.old ++ register_text register) }
+    ensures { IfOk result (λ _. string_bytes text.new
+        ≡ string_bytes text.old ++ register_text register) }
 {
     let digit = if register < 10 {
         b'0' + register as u8
@@ -151,7 +160,8 @@ fn push_register(text: &mut String, register: u16) -> Result<(), AllocError>
 /// A number below 16, in decimal.
 fn push_small_decimal(text: &mut String, number: u16) -> Result<(), AllocError>
     requires { number < 16 }
-    ensures { IfOk result (λ _. string_bytes text.new ≡ string_bytes text.old ++ small_decimal number) }
+    ensures { IfOk result (λ _. string_bytes text.new
+        ≡ string_bytes text.old ++ small_decimal number) }
 {
     if number < 10 {
         return text.push(char::from(b'0' + number as u8));
@@ -163,7 +173,8 @@ fn push_small_decimal(text: &mut String, number: u16) -> Result<(), AllocError>
 /// A digit below 16, in lower case.
 fn push_hex_digit(text: &mut String, digit: u16) -> Result<(), AllocError>
     requires { digit < 16 }
-    ensures { IfOk result (λ _. string_bytes text.new ≡ string_bytes text.old ++ hex_digit digit ∷ []) }
+    ensures { IfOk result (λ _. string_bytes text.new
+        ≡ string_bytes text.old ++ hex_digit digit ∷ []) }
 {
     if digit < 10 {
         text.push(char::from(b'0' + digit as u8))
@@ -174,7 +185,8 @@ fn push_hex_digit(text: &mut String, digit: u16) -> Result<(), AllocError>
 
 /// `#kk`.
 fn push_byte(text: &mut String, byte: u16) -> Result<(), AllocError>
-    ensures { IfOk result (λ _. string_bytes text.new ≡ string_bytes text.old ++ (codes "#" ++ hex_byte byte)) }
+    ensures { IfOk result (λ _. string_bytes text.new
+        ≡ string_bytes text.old ++ (codes "#" ++ hex_byte byte)) }
 {
     text.push('#')?;
     push_two_digits(text, byte)
@@ -182,7 +194,8 @@ fn push_byte(text: &mut String, byte: u16) -> Result<(), AllocError>
 
 /// `#nnn`.
 fn push_address(text: &mut String, address: u16) -> Result<(), AllocError>
-    ensures { IfOk result (λ _. string_bytes text.new ≡ string_bytes text.old ++ (codes "#" ++ hex_address address)) }
+    ensures { IfOk result (λ _. string_bytes text.new
+        ≡ string_bytes text.old ++ (codes "#" ++ hex_address address)) }
 {
     text.push('#')?;
     push_three_digits(text, address)
@@ -196,7 +209,8 @@ fn push_two_digits(text: &mut String, number: u16) -> Result<(), AllocError>
 }
 
 fn push_three_digits(text: &mut String, number: u16) -> Result<(), AllocError>
-    ensures { IfOk result (λ _. string_bytes text.new ≡ string_bytes text.old ++ hex_address number) }
+    ensures { IfOk result (λ _. string_bytes text.new
+        ≡ string_bytes text.old ++ hex_address number) }
 {
     push_hex_digit(text, number / 256 % 16)?;
     push_two_digits(text, number)

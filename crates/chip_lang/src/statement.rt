@@ -29,7 +29,8 @@ pub(crate) fn body_of_shape(
     forms: &'static [Form],
 ) -> Result<Option<Body>, AllocError>
     requires front { front ≡ front_directive (statement_of (seen_shape shape.now)) }
-    requires forms { map row_of_form forms.now ≡ front_forms front (statement_of (seen_shape shape.now)) }
+    requires forms { map row_of_form forms.now
+        ≡ front_forms front (statement_of (seen_shape shape.now)) }
     ensures { IfOk result (λ body. seen_statement body ≡ body_of_shape (seen_shape shape.now)) }
 {
     match shape {
@@ -176,8 +177,8 @@ pub(crate) fn takes_label(directive: Directive) -> bool
     )
 }
 
-/// Whether a statement is outside the profile: INCLUDE, UNDEF, and OPTION without exactly one of its
-/// words.
+/// Whether a statement is outside the profile: INCLUDE, UNDEF, and OPTION without exactly one of
+/// its words.
 pub(crate) fn is_outside(front: Option<Directive>, tokens: &[Lexeme]) -> bool
     ensures { result ≡ is_outside front tokens.now }
 {

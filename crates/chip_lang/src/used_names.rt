@@ -13,7 +13,8 @@ use crate::form::Operand;
 use crate::line::{Body, Line};
 use crate::names::Names;
 
-/// The name that a label, EQU, `=` or DEFINE gives, in upper case. None for a line with a reading fault.
+/// The name that a label, EQU, `=` or DEFINE gives, in upper case. None for a line with a reading
+/// fault.
 pub fn defines(line: &Line) -> Option<&[u8]>
     ensures { option_copied result ≡ name_defined (seen_line line.now) }
 {
@@ -37,7 +38,8 @@ pub fn agree_on<N: Names>(line: &Line, old: &N, new: &N) -> bool
 }
 
 fn agree_in_body<N: Names>(body: &Body, old: &N, new: &N) -> bool
-    ensures { result ≡ list_all (has_same_value (N.symbols old.now) (N.symbols new.now)) (names_in_body (seen_body body.now)) }
+    ensures { result ≡ list_all (has_same_value (N.symbols old.now) (N.symbols new.now))
+        (names_in_body (seen_body body.now)) }
 {
     match body {
         Body::Equ(expr) | Body::Org(expr) | Body::Ds(expr) => agree_in(expr, old, new),
@@ -49,7 +51,8 @@ fn agree_in_body<N: Names>(body: &Body, old: &N, new: &N) -> bool
 
 #[tactic(auto, using(crate::proofs::NamesUsed::names_together))]
 fn agree_in_each<N: Names>(exprs: &[Expr], old: &N, new: &N) -> bool
-    ensures { result ≡ list_all (has_same_value (N.symbols old.now) (N.symbols new.now)) (flat_map names_in (map tree_of exprs.now)) }
+    ensures { result ≡ list_all (has_same_value (N.symbols old.now) (N.symbols new.now))
+        (flat_map names_in (map tree_of exprs.now)) }
 {
     let Some((expr, exprs)) = exprs.split_first() else {
         return true;
@@ -59,7 +62,8 @@ fn agree_in_each<N: Names>(exprs: &[Expr], old: &N, new: &N) -> bool
 
 #[tactic(auto, using(crate::proofs::NamesUsed::names_together))]
 fn agree_in_operands<N: Names>(operands: &[Operand], old: &N, new: &N) -> bool
-    ensures { result ≡ list_all (has_same_value (N.symbols old.now) (N.symbols new.now)) (flat_map names_in_operand (map operand_of operands.now)) }
+    ensures { result ≡ list_all (has_same_value (N.symbols old.now) (N.symbols new.now))
+        (flat_map names_in_operand (map operand_of operands.now)) }
 {
     let Some((operand, operands)) = operands.split_first() else {
         return true;
@@ -68,7 +72,8 @@ fn agree_in_operands<N: Names>(operands: &[Operand], old: &N, new: &N) -> bool
 }
 
 fn agree_in_operand<N: Names>(operand: &Operand, old: &N, new: &N) -> bool
-    ensures { result ≡ list_all (has_same_value (N.symbols old.now) (N.symbols new.now)) (names_in_operand (operand_of operand.now)) }
+    ensures { result ≡ list_all (has_same_value (N.symbols old.now) (N.symbols new.now))
+        (names_in_operand (operand_of operand.now)) }
 {
     match operand {
         Operand::Value(expr) => agree_in(expr, old, new),
@@ -78,7 +83,8 @@ fn agree_in_operand<N: Names>(operand: &Operand, old: &N, new: &N) -> bool
 
 #[tactic(auto, using(crate::proofs::NamesUsed::names_together))]
 fn agree_in<N: Names>(expr: &Expr, old: &N, new: &N) -> bool
-    ensures { result ≡ list_all (has_same_value (N.symbols old.now) (N.symbols new.now)) (names_in (tree_of expr.now)) }
+    ensures { result ≡ list_all (has_same_value (N.symbols old.now) (N.symbols new.now))
+        (names_in (tree_of expr.now)) }
 {
     match expr {
         Expr::Number(_) => true,
@@ -121,7 +127,8 @@ fn has_name_in_each(exprs: &[Expr]) -> bool
 
 #[tactic(auto, using(crate::proofs::NamesUsed::first_together))]
 fn has_name_in_operands(operands: &[Operand]) -> bool
-    ensures { result ≡ is_some (slice_get (flat_map names_in_operand (map operand_of operands.now)) 0) }
+    ensures { result
+        ≡ is_some (slice_get (flat_map names_in_operand (map operand_of operands.now)) 0) }
 {
     let Some((operand, operands)) = operands.split_first() else {
         return false;
@@ -150,8 +157,8 @@ fn has_name_in(expr: &Expr) -> bool
     }
 }
 
-/// The name at a place, from 0 on, in the list of the names in the expressions of a line, left to right. A name that stands there twice is
-/// two places. None past the last.
+/// The name at a place, from 0 on, in the list of the names in the expressions of a line, left to
+/// right. A name that stands there twice is two places. None past the last.
 #[tactic(auto, using(crate::proofs::NamesUsed::names_together))]
 pub fn uses(line: &Line, place: usize) -> Option<&[u8]>
     ensures { option_copied result ≡ slice_get (names_used (seen_line line.now)) place }
@@ -164,7 +171,9 @@ pub fn uses(line: &Line, place: usize) -> Option<&[u8]>
 
 /// The name at a place, or how far the place is past the last name.
 fn name_in_body(body: &Body, place: usize) -> Result<&[u8], usize>
-    ensures { MatchResult result (λ name. slice_get (names_in_body (seen_body body.now)) place ≡ Some name.now) (λ past. length (names_in_body (seen_body body.now)) + past ≡ place) }
+    ensures { MatchResult result
+        (λ name. slice_get (names_in_body (seen_body body.now)) place ≡ Some name.now)
+        (λ past. length (names_in_body (seen_body body.now)) + past ≡ place) }
 {
     match body {
         Body::Equ(expr) | Body::Org(expr) | Body::Ds(expr) => name_in(expr, place),
@@ -176,7 +185,9 @@ fn name_in_body(body: &Body, place: usize) -> Result<&[u8], usize>
 
 #[tactic(auto, using(crate::proofs::NamesUsed::places_together))]
 fn name_in_each(exprs: &[Expr], place: usize) -> Result<&[u8], usize>
-    ensures { MatchResult result (λ name. slice_get (flat_map names_in (map tree_of exprs.now)) place ≡ Some name.now) (λ past. length (flat_map names_in (map tree_of exprs.now)) + past ≡ place) }
+    ensures { MatchResult result
+        (λ name. slice_get (flat_map names_in (map tree_of exprs.now)) place ≡ Some name.now)
+        (λ past. length (flat_map names_in (map tree_of exprs.now)) + past ≡ place) }
 {
     let Some((expr, exprs)) = exprs.split_first() else {
         return Err(place);
@@ -189,7 +200,10 @@ fn name_in_each(exprs: &[Expr], place: usize) -> Result<&[u8], usize>
 
 #[tactic(auto, using(crate::proofs::NamesUsed::places_together))]
 fn name_in_operands(operands: &[Operand], place: usize) -> Result<&[u8], usize>
-    ensures { MatchResult result (λ name. slice_get (flat_map names_in_operand (map operand_of operands.now)) place ≡ Some name.now) (λ past. length (flat_map names_in_operand (map operand_of operands.now)) + past ≡ place) }
+    ensures { MatchResult result
+        (λ name. slice_get (flat_map names_in_operand (map operand_of operands.now)) place
+        ≡ Some name.now)
+        (λ past. length (flat_map names_in_operand (map operand_of operands.now)) + past ≡ place) }
 {
     let Some((operand, operands)) = operands.split_first() else {
         return Err(place);
@@ -201,7 +215,9 @@ fn name_in_operands(operands: &[Operand], place: usize) -> Result<&[u8], usize>
 }
 
 fn name_in_operand(operand: &Operand, place: usize) -> Result<&[u8], usize>
-    ensures { MatchResult result (λ name. slice_get (names_in_operand (operand_of operand.now)) place ≡ Some name.now) (λ past. length (names_in_operand (operand_of operand.now)) + past ≡ place) }
+    ensures { MatchResult result
+        (λ name. slice_get (names_in_operand (operand_of operand.now)) place ≡ Some name.now)
+        (λ past. length (names_in_operand (operand_of operand.now)) + past ≡ place) }
 {
     match operand {
         Operand::Value(expr) => name_in(expr, place),
@@ -211,7 +227,9 @@ fn name_in_operand(operand: &Operand, place: usize) -> Result<&[u8], usize>
 
 #[tactic(auto, using(crate::proofs::NamesUsed::places_together))]
 fn name_in(expr: &Expr, place: usize) -> Result<&[u8], usize>
-    ensures { MatchResult result (λ name. slice_get (names_in (tree_of expr.now)) place ≡ Some name.now) (λ past. length (names_in (tree_of expr.now)) + past ≡ place) }
+    ensures { MatchResult result
+        (λ name. slice_get (names_in (tree_of expr.now)) place ≡ Some name.now)
+        (λ past. length (names_in (tree_of expr.now)) + past ≡ place) }
 {
     match expr {
         Expr::Number(_) => Err(place),

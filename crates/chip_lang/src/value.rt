@@ -28,11 +28,13 @@ pub fn eval<N: Names>(expr: &Expr, names: &N) -> Result<i32, Fault>
     }
 }
 
-/// The value of an expression that has the same one under all tables of names; none for one with a name, or with a fault.
+/// The value of an expression that has the same one under all tables of names; none for one with a
+/// name, or with a fault.
 #[tactic(auto, using(crate::proofs::Constants::constants))]
 pub fn constant(expr: &Expr) -> Option<i32>
     ensures value { result ≡ constant (tree_of expr.now) }
-    ensures always { (symbols : Symbols) → IfSome result (λ number. value (tree_of expr.now) symbols ≡ Ok number) }
+    ensures always { (symbols : Symbols)
+        → IfSome result (λ number. value (tree_of expr.now) symbols ≡ Ok number) }
 {
     match expr {
         Expr::Number(number) => Some(*number),

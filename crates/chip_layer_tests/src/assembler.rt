@@ -9,7 +9,8 @@ use chip_lang::{Bytes, Fault};
 use std::alloc::{AllocError, Global};
 use std::test::Fail;
 
-// What a source does and answers, without its clauses, of which the tests have no use: a test of many calls would be proved slowly.
+// What a source does and answers, without its clauses, of which the tests have no use: a test of
+// many calls would be proved slowly.
 pub(crate) fn insert(
     alloc: Global,
     source: &mut Source,
@@ -81,7 +82,8 @@ fn number(fault: Fault) -> u8 {
     fault.number()
 }
 
-/// The bytes of the image in hexadecimal; of a long one, how many there are and how many of them aren't 0.
+/// The bytes of the image in hexadecimal; of a long one, how many there are and how many of them
+/// aren't 0.
 pub(crate) fn image_text(alloc: Global, source: &Source) -> Result<String, Fail> {
     let Some(image) = image(source) else {
         return Ok(String::from_str(alloc, "none")?);
@@ -485,7 +487,8 @@ fn is_refused_for(alloc: Global, text: &[u8], line: usize) -> bool {
     }
 }
 
-/// Whether 200 blanks, these bytes and so many blanks are refused for the line of this number, or opened where that is 0.
+/// Whether 200 blanks, these bytes and so many blanks are refused for the line of this number, or
+/// opened where that is 0.
 fn is_refused(alloc: Global, more: &[u8], blanks: usize, line: usize) -> Result<bool, AllocError> {
     let text = blanks_round(alloc, 200, more, blanks)?;
     Ok(is_refused_for(alloc, &text, line))

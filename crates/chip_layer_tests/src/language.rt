@@ -190,8 +190,8 @@ fn blanks_and_other_bytes(rt: HostRuntime) -> Result<(), Fail> {
     Ok(())
 }
 
-/// What a line of one byte says, by the table of tokens: nothing, a text without its end, an unknown word, a statement that begins with no
-/// word, or a byte that begins no token.
+/// What a line of one byte says, by the table of tokens: nothing, a text without its end, an
+/// unknown word, a statement that begins with no word, or a byte that begins no token.
 fn answer_of_byte(byte: u8) -> &'static str {
     match byte {
         b' ' | b'\t' | b'\x0c' | b'\r' | b'\x1a' | b';' => "- Empty",

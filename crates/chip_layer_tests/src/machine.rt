@@ -144,7 +144,8 @@ fn has_room(touch: &mut Touch) -> (bool, bool) {
     (has_room, touch.add(7))
 }
 
-/// Whether these are the addresses: two from the first one on, and then so many from the second one on.
+/// Whether these are the addresses: two from the first one on, and then so many from the second one
+/// on.
 pub(crate) fn has_addresses(touch: &Touch, word: u16, from: u16, count: u16) -> bool {
     for index in 0..count {
         if touch.get(2 + index as usize) != Some(from.wrapping_add(index)) {
@@ -288,7 +289,8 @@ fn seventeenth_call_stops(rt: HostRuntime) -> Result<(), Fail> {
     Ok(())
 }
 
-/// Whether the first digit of each size stands in its place, and zeros after the digits up to the end.
+/// Whether the first digit of each size stands in its place, and zeros after the digits up to the
+/// end.
 fn has_digits(machine: &Machine) -> bool {
     has_bytes(machine, 0, b"\xf0\x90\x90\x90\xf0")
         && has_bytes(machine, 80, b"\x3c\x7e\xe7\xc3\xc3\xc3\xc3\xe7\x7e\x3c")
@@ -311,7 +313,8 @@ fn has_flags(machine: &Machine, flags: [u8; 8]) -> bool {
         && machine.flag(8).is_none()
 }
 
-/// Whether each row that is lent has the points of the screen, and past the last one there are none.
+/// Whether each row that is lent has the points of the screen, and past the last one there are
+/// none.
 fn has_rows(machine: &Machine) -> bool {
     (0..64).all(|row| machine.row(row) == row_bits(machine, row)) && machine.row(64) == 0
 }

@@ -44,7 +44,8 @@ impl Toy {
     ghost use Rattle.std.specs.Prelude.{replicate};
 
     fn new(alloc: Global) -> Result<Toy, AllocError>
-        ensures { IfOk result (λ toy. toy ≡ record { bytes = replicate MEMORY_BYTES 0; counter = 0; sum = 0 }) }
+        ensures { IfOk result (λ toy. toy
+            ≡ record { bytes = replicate MEMORY_BYTES 0; counter = 0; sum = 0 }) }
     {
         Ok(Toy {
             alloc,
@@ -231,12 +232,14 @@ fn change_none(replay: &mut Replay<Toy>)
     replay.image_changed_within(0..0, &[], &[]);
 }
 
-/// Whether so many steps were made, this is the last step that is known, and so many checkpoints are kept.
+/// Whether so many steps were made, this is the last step that is known, and so many checkpoints
+/// are kept.
 fn has_counts(replay: &Replay<Toy>, ran: u64, reach: u32, kept: usize) -> bool {
     replay.ran() == ran && replay.reach() == reach && replay.kept() == kept
 }
 
-// Step 512 is the first to touch the changed byte, and step 4608 touches it again. A key event at a step leaves the run before it.
+// Step 512 is the first to touch the changed byte, and step 4608 touches it again. A key event at a
+// step leaves the run before it.
 const CHANGED: &str = "\
 counts: 5000 512 1
 at 5000: 10
@@ -255,7 +258,8 @@ fn replays_from_checkpoints(rt: HostRuntime) -> Result<(), Fail> {
     follow(&rt, &mut replay, CHANGED)
 }
 
-// An earlier step goes on from the checkpoint before it, and a later one from the state that was lent.
+// An earlier step goes on from the checkpoint before it, and a later one from the state that was
+// lent.
 const NEAREST: &str = "\
 at 5000: 0
 at 4321: 0

@@ -1,5 +1,5 @@
-//! Replays of generated programs, asked in any order with edits of key events between: each answer is the state of a bare
-//! machine that makes every step from the start.
+//! Replays of generated programs, asked in any order with edits of key events between: each answer
+//! is the state of a bare machine that makes every step from the start.
 
 use crate::machine::loaded;
 use chip_machine::{Machine, Touch};
@@ -25,7 +25,8 @@ fn next(state: &mut u32) -> u32 {
     *state / 65_536
 }
 
-/// A word of a kind, with these digits: mostly instructions that stay in the program, write into it or read the keys.
+/// A word of a kind, with these digits: mostly instructions that stay in the program, write into it
+/// or read the keys.
 fn word_of(kind: u32, digits: u32) -> u32 {
     match kind % 20 {
         0 | 1 => 0x6000 + digits % 0x1000,

@@ -1,4 +1,5 @@
--- Worked rows of the screen: the columns that a sprite covers, as a number whose highest bit is the leftmost column.
+-- Worked rows of the screen: the columns that a sprite covers, as a number whose highest bit is the
+-- leftmost column.
 use Rattle.std.proofs.Common.{◌≡◌, ℕ, zero, suc, ◌+◌, ◌*◌, Bool, true, false, cond, List, [], ◌∷◌, ◌++◌, replicate, refl}
 use Rattle.chip_machine.specs.Sprite.{covers, is_set, row_bytes}
 

@@ -40,4 +40,5 @@ StepKeepsProper = (s : State) (keys : ℕ) (tick : Bool) → IsProper s → IsPr
 
 -- a step keeps the profile
 abbrev pub StepKeepsProfile : Type 0
-StepKeepsProfile = (s : State) (keys : ℕ) (tick : Bool) → (step_of s keys tick).core.profile ≡ s.core.profile
+StepKeepsProfile =
+    (s : State) (keys : ℕ) (tick : Bool) → (step_of s keys tick).core.profile ≡ s.core.profile

@@ -6,8 +6,11 @@ use Rattle.chip_machine.specs.Start.{start_memory}
 
 -- from the place of the image on there are the image and zeros
 abbrev pub ImageAndZeros : Type 0
-ImageAndZeros = (image : List ℕ) → length image ≤ IMAGE_BYTES → drop IMAGE_START (start_memory image) ≡ image ++ replicate (IMAGE_BYTES - length image) 0
+ImageAndZeros =
+    (image : List ℕ) → length image ≤ IMAGE_BYTES
+    → drop IMAGE_START (start_memory image) ≡ image ++ replicate (IMAGE_BYTES - length image) 0
 
 -- below it the memory is the same for every image
 abbrev pub SameBelowTheImage : Type 0
-SameBelowTheImage = (old new : List ℕ) → take IMAGE_START (start_memory old) ≡ take IMAGE_START (start_memory new)
+SameBelowTheImage =
+    (old new : List ℕ) → take IMAGE_START (start_memory old) ≡ take IMAGE_START (start_memory new)

@@ -14,7 +14,8 @@
 --   ImageLaw  what the image is in the memory at the start
 --   Limits    the size of the memory and where the image stands
 --   Numbers   the numbers of stop causes and of errors at the start
---   inner     how a state is stored, and proofs that a trait above asks for as its laws; a reader may skip it
+--   inner     how a state is stored, and proofs that a trait above asks for as its laws; a reader
+--             may skip it
 pub mod Block
 pub mod Digits
 pub mod Frame

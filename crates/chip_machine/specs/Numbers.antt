@@ -1,4 +1,5 @@
--- The numbers by which causes are printed: S1 to S7 of a stop, and M1 to M3 of a machine that could not start.
+-- The numbers by which causes are printed: S1 to S7 of a stop, and M1 to M3 of a machine that could
+-- not start.
 -- Source: own.
 use Rattle.std.specs.Prelude.{ℕ}
 use Rattle.chip_machine.specs.declared.stop.Stop.{Stop}

@@ -30,7 +30,8 @@ is_lit lit column row = set.contains lit (column, row)
 -- every point of a rectangle, row by row
 unfoldable pub rectangle : ℕ → ℕ → Points
 rectangle width height =
-    set.from_list (flat_map (λ row. map (λ column. (column, row)) (range_with_len 0 width)) (range_with_len 0 height))
+    set.from_list (flat_map (λ row. map (λ column. (column, row)) (range_with_len 0 width))
+    (range_with_len 0 height))
 
 -- the points of the screen at which a test of column and row passes
 unfoldable pub points_where : (ℕ → ℕ → Bool) → Points

@@ -1,6 +1,8 @@
--- A sprite drawn on the screen. In the high size a point is a stored point, and in the low size it is two by two of them.
+-- A sprite drawn on the screen. In the high size a point is a stored point, and in the low size it
+-- is two by two of them.
 -- Source: COSMAC VIP manual (8 wide, the highest bit at the left, exclusive or, collisions);
--- SUPER-CHIP 1.1 documentation (the high size, sprites of 16 by 16); own: 8 by 16 in the low size, starts modulo the size, clipping.
+-- SUPER-CHIP 1.1 documentation (the high size, sprites of 16 by 16); own: 8 by 16 in the low size,
+-- starts modulo the size, clipping.
 use Rattle.std.specs.Prelude.{ℕ, ◌+◌, ◌-◌, ◌*◌, ◌/◌, ◌%◌, Bool, true, false, ◌&&◌, ◌==◌, nat_lt, nat_le, List, slice_index, if◌then◌else◌}
 use Rattle.std.specs.Int.{bit_at}
 use Rattle.chip_machine.specs.declared.limits.TheConstants.{SPRITE_BYTES}
@@ -15,15 +17,19 @@ abbrev pub scale : Bool → ℕ
 scale true = 1
 scale false = 2
 
--- the bytes in a row of a sprite of n rows: two for sixteen rows in the high size, and otherwise one
+-- the bytes in a row of a sprite of n rows: two for sixteen rows in the high size, and otherwise
+-- one
 unfoldable pub row_bytes : Bool → ℕ → ℕ
 row_bytes high n = if high && (n == 0) then 2 else 1
 
--- whether the point in column i and row j of a sprite with w bytes a row is set: the highest bit is at the left
+-- whether the point in column i and row j of a sprite with w bytes a row is set: the highest bit is
+-- at the left
 unfoldable pub is_set : ℕ → List ℕ → ℕ → ℕ → Bool
-is_set w sprite i j = nat_lt i (8 * w) && (bit_at (slice_index sprite (w * j + i / 8)) (7 - i % 8) == 1)
+is_set w sprite i j =
+    nat_lt i (8 * w) && (bit_at (slice_index sprite (w * j + i / 8)) (7 - i % 8) == 1)
 
--- whether a sprite with w bytes a row, drawn at x and y, each modulo the size, has a set point over this stored point
+-- whether a sprite with w bytes a row, drawn at x and y, each modulo the size, has a set point over
+-- this stored point
 unfoldable pub covers : Bool → ℕ → ℕ → ℕ → List ℕ → ℕ → ℕ → Bool
 covers high x y w sprite column row =
     let left = x % (128 / scale high) in

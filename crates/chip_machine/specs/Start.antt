@@ -11,7 +11,8 @@ use Rattle.chip_machine.specs.State.{Core, State, overwrite}
 -- memory with the small digits written at 0, the big digits at 80 and the image where it stands
 unfoldable pub with_image : List ℕ → List ℕ → List ℕ
 with_image image memory =
-    overwrite (overwrite (overwrite memory 0 (bytes_of small_shapes)) 80 (bytes_of big_shapes)) IMAGE_START image
+    overwrite (overwrite (overwrite memory 0 (bytes_of small_shapes)) 80 (bytes_of big_shapes))
+    IMAGE_START image
 
 -- a memory of zeros
 unfoldable pub zeros : List ℕ

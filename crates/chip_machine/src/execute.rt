@@ -11,7 +11,8 @@ use crate::stop::Stop;
 use crate::touch::Span;
 use chip_lang::instr::Instr;
 
-/// Carries out an instruction in a step, and says which bytes it accesses at I, or why the machine stops.
+/// Carries out an instruction in a step, and says which bytes it accesses at I, or why the machine
+/// stops.
 #[inline(always)]
 pub(crate) fn execute<K: HeldKeys>(
     processor: &mut Processor,
@@ -24,11 +25,18 @@ pub(crate) fn execute<K: HeldKeys>(
     requires pc { processor.old.pc ≤ LAST_WORD }
     requires in_range { step < 2 ^ 32 - 1 }
     requires ready { K.is_ready keys.old step }
-    ensures ok { OnOk result (perform (K.held keys.old step) (record { core = processor.old; memory = memory.old }) (effect instr processor.old) ≡ Ok (record { core = processor.new; memory = memory.new })) }
-    ensures why { IfErr result (λ why. perform (K.held keys.old step) (record { core = processor.old; memory = memory.old }) (effect instr processor.old) ≡ Err why) }
+    ensures ok { OnOk result
+        (perform (K.held keys.old step) (record { core = processor.old; memory = memory.old })
+        (effect instr processor.old) ≡ Ok (record { core = processor.new; memory = memory.new })) }
+    ensures why { IfErr result
+        (λ why. perform (K.held keys.old step)
+        (record { core = processor.old; memory = memory.old }) (effect instr processor.old)
+        ≡ Err why) }
     ensures same { OnErr result ((processor.new ≡ processor.old) × (memory.new ≡ memory.old)) }
-    ensures touched { IfOk result (λ span. span ≡ accessed processor.old.index (effect instr processor.old)) }
-    ensures untouched { OnErr result (accessed processor.old.index (effect instr processor.old) ≡ []) }
+    ensures touched { IfOk result (λ span. span
+        ≡ accessed processor.old.index (effect instr processor.old)) }
+    ensures untouched { OnErr result (accessed processor.old.index (effect instr processor.old)
+        ≡ []) }
     ensures keys { K.held keys.new ≡ K.held keys.old }
     ensures ready { K.is_ready keys.old (step + 1) → K.is_ready keys.new (step + 1) }
 {

@@ -24,7 +24,8 @@ pub fn keyless_step()
     ensures { KeylessStep }
 {}
 
-/// What the image is in the memory at the start: it stands from its place on, with zeros after it, and nothing below depends on it.
+/// What the image is in the memory at the start: it stands from its place on, with zeros after it,
+/// and nothing below depends on it.
 pub fn image_at_the_start()
     ensures from_512 { ImageAndZeros }
     ensures below { SameBelowTheImage }

@@ -1,4 +1,5 @@
-//! A SUPER-CHIP 1.1 machine, or one after the COSMAC VIP: its state, one step of it, and the addresses that a step touches.
+//! A SUPER-CHIP 1.1 machine, or one after the COSMAC VIP: its state, one step of it, and the
+//! addresses that a step touches.
 #![tactic(auto)]
 
 mod decoded;

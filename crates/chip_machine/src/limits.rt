@@ -1,4 +1,5 @@
-//! The limits of a machine, each under one name. Those that the language speaks of too stand in chip_lang.
+//! The limits of a machine, each under one name. Those that the language speaks of too stand in
+//! chip_lang.
 
 pub use chip_lang::limits::{IMAGE_BYTES, IMAGE_START, MEMORY_BYTES};
 

@@ -51,7 +51,8 @@ pub(crate) fn store(memory: &mut [u8], at: u16, bytes: &[u8]) -> Result<(), Stop
     Ok(())
 }
 
-/// Puts the bytes of `new` in the place of those of `old` where the two differ, and stores each of the others as it was.
+/// Puts the bytes of `new` in the place of those of `old` where the two differ, and stores each of
+/// the others as it was.
 fn exchange_all(bytes: &mut [u8], old: &[u8], new: &[u8])
     requires old_alike { length old.now ≡ length bytes.old }
     requires new_alike { length new.now ≡ length bytes.old }

@@ -172,7 +172,8 @@ impl Processor {
     /// Stops where the machine is one without the instructions that SUPER-CHIP added.
     pub(crate) fn needs_schip(&self) -> Result<(), Stop>
         ensures ok { OnOk result ((effect : Effect) → schip_only self.now effect ≡ effect) }
-        ensures why { IfErr result (λ why. (effect : Effect) → schip_only self.now effect ≡ Stops why) }
+        ensures why { IfErr result (λ why. (effect : Effect)
+            → schip_only self.now effect ≡ Stops why) }
     {
         match self.profile {
             Profile::Schip => Ok(()),
@@ -190,7 +191,8 @@ impl Processor {
         }
     }
 
-    /// What a jump adds to its address: the value of the register of the address's top digit, or that of V0.
+    /// What a jump adds to its address: the value of the register of the address's top digit, or
+    /// that of V0.
     pub(crate) fn jump_offset(&self, address: Addr) -> u8
         ensures { result ≡ reg self.now (by_profile self.now.profile (address / 256) 0) }
     {
@@ -202,7 +204,8 @@ impl Processor {
 
     /// Sets a register to what a logical operation gives: VF stays, or is 0 then.
     pub(crate) fn set_logic(&mut self, x: Reg, value: u8)
-        ensures { self.new ≡ by_profile self.old.profile (with_reg x value self.old) (with_flag x value 0 self.old) }
+        ensures { self.new ≡ by_profile self.old.profile (with_reg x value self.old)
+            (with_flag x value 0 self.old) }
     {
         match self.profile {
             Profile::Schip => self.set(x, value),
@@ -212,7 +215,8 @@ impl Processor {
 
     /// Ends a move of V0 to Vx to or from the memory: I stays, or moves past their bytes.
     pub(crate) fn finish_move(&mut self, x: Reg)
-        ensures { self.new ≡ with_index (by_profile self.old.profile self.old.index (past_registers x self.old)) self.old }
+        ensures { self.new ≡ with_index
+            (by_profile self.old.profile self.old.index (past_registers x self.old)) self.old }
     {
         match self.profile {
             Profile::Schip => {}
@@ -220,7 +224,8 @@ impl Processor {
         }
     }
 
-    /// Whether a sprite of this number of rows is nothing at all: of number 0, where that doesn't stand for sixteen rows.
+    /// Whether a sprite of this number of rows is nothing at all: of number 0, where that doesn't
+    /// stand for sixteen rows.
     pub(crate) fn draws_nothing(&self, n: Nibble) -> bool
         ensures { result ≡ by_profile self.now.profile false (n == 0) }
     {
@@ -376,8 +381,10 @@ impl Processor {
 
     /// The points of a row of the screen, the leftmost the highest bit.
     pub(crate) fn row(&self, row: usize) -> u128
-        ensures points { (column : ℕ) → column < 128 → lights result column ≡ is_lit self.now.lit column row }
-        ensures dark { (result ≡ 0) ↔ ((column : ℕ) → column < 128 → is_lit self.now.lit column row ≡ false) }
+        ensures points { (column : ℕ) → column < 128
+            → lights result column ≡ is_lit self.now.lit column row }
+        ensures dark { (result ≡ 0)
+            ↔ ((column : ℕ) → column < 128 → is_lit self.now.lit column row ≡ false) }
     {
         self.screen.row(row)
     }
@@ -431,10 +438,12 @@ impl Processor {
         self.registers[15] = 0;
     }
 
-    /// Draws a sprite of as many rows as its bytes tell, and sets VF where it covers a point that was lit.
+    /// Draws a sprite of as many rows as its bytes tell, and sets VF where it covers a point that
+    /// was lit.
     #[inline(never)]
     pub(crate) fn draw(&mut self, x: u8, y: u8, sprite: &[u8])
-        ensures { (n : ℕ) → n < 16 → length sprite.now ≡ sprite_bytes self.old.high n → self.new ≡ with_sprite x y n sprite.now self.old }
+        ensures { (n : ℕ) → n < 16 → length sprite.now ≡ sprite_bytes self.old.high n
+            → self.new ≡ with_sprite x y n sprite.now self.old }
     {
         let hit = self.screen.draw(self.high, x, y, sprite);
         self.registers[15] = u8::from(hit);

@@ -444,7 +444,10 @@ impl Processor {
     #[tactic(auto, unfolding(crate::specs::Step::effect))]
     pub(crate) fn row_skip_if_key(&mut self, x: Reg, keys: u16)
         requires { self.old.pc ≤ LAST_WORD }
-        ensures done { (memory : List ℕ) → perform keys (record { core = self.old; memory = memory }) (effect (Instr.SkipIfKey x) self.old) ≡ Ok (record { core = self.new; memory = memory }) }
+        ensures done { (memory : List ℕ)
+            → perform keys (record { core = self.old; memory = memory })
+            (effect (Instr.SkipIfKey x) self.old)
+            ≡ Ok (record { core = self.new; memory = memory }) }
         ensures untouched { accessed self.old.index (effect (Instr.SkipIfKey x) self.old) ≡ [] }
     {
         let down = is_down(keys, self.reg(x) % 16);
@@ -455,7 +458,10 @@ impl Processor {
     #[tactic(auto, unfolding(crate::specs::Step::effect))]
     pub(crate) fn row_skip_unless_key(&mut self, x: Reg, keys: u16)
         requires { self.old.pc ≤ LAST_WORD }
-        ensures done { (memory : List ℕ) → perform keys (record { core = self.old; memory = memory }) (effect (Instr.SkipUnlessKey x) self.old) ≡ Ok (record { core = self.new; memory = memory }) }
+        ensures done { (memory : List ℕ)
+            → perform keys (record { core = self.old; memory = memory })
+            (effect (Instr.SkipUnlessKey x) self.old)
+            ≡ Ok (record { core = self.new; memory = memory }) }
         ensures untouched { accessed self.old.index (effect (Instr.SkipUnlessKey x) self.old) ≡ [] }
     {
         let down = is_down(keys, self.reg(x) % 16);
@@ -466,7 +472,9 @@ impl Processor {
     #[tactic(auto, unfolding(crate::specs::Step::effect))]
     pub(crate) fn row_wait_key(&mut self, x: Reg, keys: u16)
         requires { self.old.pc ≤ LAST_WORD }
-        ensures done { (memory : List ℕ) → perform keys (record { core = self.old; memory = memory }) (effect (Instr.WaitKey x) self.old) ≡ Ok (record { core = self.new; memory = memory }) }
+        ensures done { (memory : List ℕ)
+            → perform keys (record { core = self.old; memory = memory })
+            (effect (Instr.WaitKey x) self.old) ≡ Ok (record { core = self.new; memory = memory }) }
         ensures untouched { accessed self.old.index (effect (Instr.WaitKey x) self.old) ≡ [] }
     {
         if let Some(key) = least_down(keys) {
@@ -475,7 +483,8 @@ impl Processor {
         }
     }
 
-    /// `DXYN`, `DRW Vx, Vy, n`: draws the sprite at I; VF says whether it met a lit point. Of 0 rows it may be none.
+    /// `DXYN`, `DRW Vx, Vy, n`: draws the sprite at I; VF says whether it met a lit point. Of 0
+    /// rows it may be none.
     #[inline(always)]
     #[tactic(auto, unfolding(crate::specs::Step::effect))]
     pub(crate) fn row_draw(
@@ -487,11 +496,18 @@ impl Processor {
     ) -> Result<Span, Stop>
         requires size { length memory.now ≡ MEMORY_BYTES }
         requires pc { self.old.pc ≤ LAST_WORD }
-        ensures ok { OnOk result ((keys : ℕ) → perform keys (record { core = self.old; memory = memory.now }) (effect (Instr.Draw x y n) self.old) ≡ Ok (record { core = self.new; memory = memory.now })) }
-        ensures why { IfErr result (λ why. (keys : ℕ) → perform keys (record { core = self.old; memory = memory.now }) (effect (Instr.Draw x y n) self.old) ≡ Err why) }
+        ensures ok { OnOk result ((keys : ℕ)
+            → perform keys (record { core = self.old; memory = memory.now })
+            (effect (Instr.Draw x y n) self.old)
+            ≡ Ok (record { core = self.new; memory = memory.now })) }
+        ensures why { IfErr result (λ why. (keys : ℕ)
+            → perform keys (record { core = self.old; memory = memory.now })
+            (effect (Instr.Draw x y n) self.old) ≡ Err why) }
         ensures same { OnErr result (self.new ≡ self.old) }
-        ensures touched { IfOk result (λ span. span ≡ accessed self.old.index (effect (Instr.Draw x y n) self.old)) }
-        ensures untouched { OnErr result (accessed self.old.index (effect (Instr.Draw x y n) self.old) ≡ []) }
+        ensures touched { IfOk result (λ span. span
+            ≡ accessed self.old.index (effect (Instr.Draw x y n) self.old)) }
+        ensures untouched { OnErr result
+            (accessed self.old.index (effect (Instr.Draw x y n) self.old) ≡ []) }
     {
         if self.draws_nothing(n) {
             self.clear_flag();
@@ -514,11 +530,18 @@ impl Processor {
     pub(crate) fn row_store_decimal(&mut self, x: Reg, memory: &mut [u8]) -> Result<Span, Stop>
         requires size { length memory.old ≡ MEMORY_BYTES }
         requires pc { self.old.pc ≤ LAST_WORD }
-        ensures ok { OnOk result ((keys : ℕ) → perform keys (record { core = self.old; memory = memory.old }) (effect (Instr.StoreDecimal x) self.old) ≡ Ok (record { core = self.new; memory = memory.new })) }
-        ensures why { IfErr result (λ why. (keys : ℕ) → perform keys (record { core = self.old; memory = memory.old }) (effect (Instr.StoreDecimal x) self.old) ≡ Err why) }
+        ensures ok { OnOk result ((keys : ℕ)
+            → perform keys (record { core = self.old; memory = memory.old })
+            (effect (Instr.StoreDecimal x) self.old)
+            ≡ Ok (record { core = self.new; memory = memory.new })) }
+        ensures why { IfErr result (λ why. (keys : ℕ)
+            → perform keys (record { core = self.old; memory = memory.old })
+            (effect (Instr.StoreDecimal x) self.old) ≡ Err why) }
         ensures same { OnErr result ((self.new ≡ self.old) × (memory.new ≡ memory.old)) }
-        ensures touched { IfOk result (λ span. span ≡ accessed self.old.index (effect (Instr.StoreDecimal x) self.old)) }
-        ensures untouched { OnErr result (accessed self.old.index (effect (Instr.StoreDecimal x) self.old) ≡ []) }
+        ensures touched { IfOk result (λ span. span
+            ≡ accessed self.old.index (effect (Instr.StoreDecimal x) self.old)) }
+        ensures untouched { OnErr result
+            (accessed self.old.index (effect (Instr.StoreDecimal x) self.old) ≡ []) }
     {
         let value = self.reg(x);
         let digits = [value / 100, value / 10 % 10, value % 10];
@@ -534,11 +557,18 @@ impl Processor {
     pub(crate) fn row_store_registers(&mut self, x: Reg, memory: &mut [u8]) -> Result<Span, Stop>
         requires size { length memory.old ≡ MEMORY_BYTES }
         requires pc { self.old.pc ≤ LAST_WORD }
-        ensures ok { OnOk result ((keys : ℕ) → perform keys (record { core = self.old; memory = memory.old }) (effect (Instr.StoreRegisters x) self.old) ≡ Ok (record { core = self.new; memory = memory.new })) }
-        ensures why { IfErr result (λ why. (keys : ℕ) → perform keys (record { core = self.old; memory = memory.old }) (effect (Instr.StoreRegisters x) self.old) ≡ Err why) }
+        ensures ok { OnOk result ((keys : ℕ)
+            → perform keys (record { core = self.old; memory = memory.old })
+            (effect (Instr.StoreRegisters x) self.old)
+            ≡ Ok (record { core = self.new; memory = memory.new })) }
+        ensures why { IfErr result (λ why. (keys : ℕ)
+            → perform keys (record { core = self.old; memory = memory.old })
+            (effect (Instr.StoreRegisters x) self.old) ≡ Err why) }
         ensures same { OnErr result ((self.new ≡ self.old) × (memory.new ≡ memory.old)) }
-        ensures touched { IfOk result (λ span. span ≡ accessed self.old.index (effect (Instr.StoreRegisters x) self.old)) }
-        ensures untouched { OnErr result (accessed self.old.index (effect (Instr.StoreRegisters x) self.old) ≡ []) }
+        ensures touched { IfOk result (λ span. span
+            ≡ accessed self.old.index (effect (Instr.StoreRegisters x) self.old)) }
+        ensures untouched { OnErr result
+            (accessed self.old.index (effect (Instr.StoreRegisters x) self.old) ≡ []) }
     {
         let count = x.number() as usize + 1;
         let registers = self.registers();
@@ -555,11 +585,18 @@ impl Processor {
     pub(crate) fn row_load_registers(&mut self, x: Reg, memory: &[u8]) -> Result<Span, Stop>
         requires size { length memory.now ≡ MEMORY_BYTES }
         requires pc { self.old.pc ≤ LAST_WORD }
-        ensures ok { OnOk result ((keys : ℕ) → perform keys (record { core = self.old; memory = memory.now }) (effect (Instr.LoadRegisters x) self.old) ≡ Ok (record { core = self.new; memory = memory.now })) }
-        ensures why { IfErr result (λ why. (keys : ℕ) → perform keys (record { core = self.old; memory = memory.now }) (effect (Instr.LoadRegisters x) self.old) ≡ Err why) }
+        ensures ok { OnOk result ((keys : ℕ)
+            → perform keys (record { core = self.old; memory = memory.now })
+            (effect (Instr.LoadRegisters x) self.old)
+            ≡ Ok (record { core = self.new; memory = memory.now })) }
+        ensures why { IfErr result (λ why. (keys : ℕ)
+            → perform keys (record { core = self.old; memory = memory.now })
+            (effect (Instr.LoadRegisters x) self.old) ≡ Err why) }
         ensures same { OnErr result (self.new ≡ self.old) }
-        ensures touched { IfOk result (λ span. span ≡ accessed self.old.index (effect (Instr.LoadRegisters x) self.old)) }
-        ensures untouched { OnErr result (accessed self.old.index (effect (Instr.LoadRegisters x) self.old) ≡ []) }
+        ensures touched { IfOk result (λ span. span
+            ≡ accessed self.old.index (effect (Instr.LoadRegisters x) self.old)) }
+        ensures untouched { OnErr result
+            (accessed self.old.index (effect (Instr.LoadRegisters x) self.old) ≡ []) }
     {
         let count = x.number() as usize + 1;
         let bytes = load(memory, self.index(), count)?;

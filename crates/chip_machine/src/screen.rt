@@ -52,8 +52,10 @@ impl Screen {
 
     /// The points of a row, the leftmost the highest bit: past the last row none is lit.
     pub(crate) fn row(&self, row: usize) -> u128
-        ensures points { (column : ℕ) → column < 128 → lights result column ≡ is_lit self.now column row }
-        ensures dark { (result ≡ 0) ↔ ((column : ℕ) → column < 128 → is_lit self.now column row ≡ false) }
+        ensures points { (column : ℕ) → column < 128
+            → lights result column ≡ is_lit self.now column row }
+        ensures dark { (result ≡ 0)
+            ↔ ((column : ℕ) → column < 128 → is_lit self.now column row ≡ false) }
     {
         if row < HEIGHT { self.rows[row] } else { 0 }
     }
@@ -103,7 +105,8 @@ impl Screen {
 
     /// Draws a sprite, and answers whether it covers a point that was lit.
     pub(crate) fn draw(&mut self, high: bool, x: u8, y: u8, sprite: &[u8]) -> bool
-        ensures lit { self.new ≡ symmetric_difference self.old (covered_by_length high x y sprite.now) }
+        ensures lit { self.new
+            ≡ symmetric_difference self.old (covered_by_length high x y sprite.now) }
         ensures hit { result ≡ meets self.old (covered_by_length high x y sprite.now) }
     {
         toggle(&mut self.rows, high, x, y, sprite)
@@ -122,7 +125,8 @@ fn darken(rows: &mut [u128])
 /// Moves each item to the place `by` later, as far as it stays inside.
 fn move_later<T: Copy>(items: &mut [T], by: usize)
     requires { by ≤ length items.old }
-    ensures { (k : ℕ) (d : T) → by ≤ k → k < length items.old → slice_index_or items.new k d ≡ slice_index_or items.old (k - by) d }
+    ensures { (k : ℕ) (d : T) → by ≤ k → k < length items.old
+        → slice_index_or items.new k d ≡ slice_index_or items.old (k - by) d }
 {
     let end = items.len() - by;
     items.copy_within(..end, by);
@@ -131,7 +135,8 @@ fn move_later<T: Copy>(items: &mut [T], by: usize)
 /// Moves each row down by `n`.
 fn lower(rows: &mut [u128], n: usize)
     requires { length rows.old ≡ 64 }
-    ensures moved { (row : ℕ) → n ≤ row → row < 64 → slice_index rows.new row ≡ slice_index rows.old (row - n) }
+    ensures moved { (row : ℕ) → n ≤ row → row < 64
+        → slice_index rows.new row ≡ slice_index rows.old (row - n) }
     ensures entered { (row : ℕ) → row < n → row < 64 → slice_index rows.new row ≡ 0 }
 {
     let n = n.min(HEIGHT);
@@ -142,7 +147,8 @@ fn lower(rows: &mut [u128], n: usize)
 /// Moves the columns of each row right by four.
 fn to_the_right(rows: &mut [u128])
     ensures bits { (row : ℕ) → slice_index rows.old row < 2 ^ 128 }
-    ensures moved { (row : ℕ) → row < length rows.old → slice_index rows.new row ≡ slice_index rows.old row / 16 }
+    ensures moved { (row : ℕ) → row < length rows.old
+        → slice_index rows.new row ≡ slice_index rows.old row / 16 }
 {
     for bits in rows.iter_mut() {
         *bits >>= 4;
@@ -151,7 +157,8 @@ fn to_the_right(rows: &mut [u128])
 
 /// Moves the columns of each row left by four.
 fn to_the_left(rows: &mut [u128])
-    ensures { (row : ℕ) → row < length rows.old → slice_index rows.new row ≡ slice_index rows.old row * 16 % 2 ^ 128 }
+    ensures { (row : ℕ) → row < length rows.old
+        → slice_index rows.new row ≡ slice_index rows.old row * 16 % 2 ^ 128 }
 {
     for bits in rows.iter_mut() {
         *bits <<= 4;
@@ -161,10 +168,18 @@ fn to_the_left(rows: &mut [u128])
 /// Turns the points of a stripe of columns in so many rows, and says whether one of them was lit.
 fn turn(rows: &mut [u128], from: usize, count: usize, stripe: u128) -> bool
     requires { from + count ≤ length rows.old }
-    ensures turned { (row column : ℕ) → from ≤ row → row < from + count → column < 128 → lights (slice_index rows.new row) column ≡ differ (lights (slice_index rows.old row) column) (lights stripe column) }
-    ensures same_before { (row : ℕ) → row < from → slice_index rows.new row ≡ slice_index rows.old row }
-    ensures same_after { (row : ℕ) → from + count ≤ row → slice_index rows.new row ≡ slice_index rows.old row }
-    ensures hit { (test : ℕ → Bool) → ((row : ℕ) → from ≤ row → row < from + count → test row ≡ any_below (λ column. lights (slice_index rows.old row) column && lights stripe column) 128) → (any_below test from || result) ≡ any_below test (from + count) }
+    ensures turned { (row column : ℕ) → from ≤ row → row < from + count → column < 128
+        → lights (slice_index rows.new row) column
+        ≡ differ (lights (slice_index rows.old row) column) (lights stripe column) }
+    ensures same_before { (row : ℕ) → row < from
+        → slice_index rows.new row ≡ slice_index rows.old row }
+    ensures same_after { (row : ℕ) → from + count ≤ row
+        → slice_index rows.new row ≡ slice_index rows.old row }
+    ensures hit { (test : ℕ → Bool)
+        → ((row : ℕ) → from ≤ row → row < from + count
+        → test row ≡ any_below
+        (λ column. lights (slice_index rows.old row) column && lights stripe column) 128)
+        → (any_below test from || result) ≡ any_below test (from + count) }
 {
     let mut hit = false;
     for row in from..from + count {
@@ -177,10 +192,16 @@ fn turn(rows: &mut [u128], from: usize, count: usize, stripe: u128) -> bool
 /// Turns each point that a sprite covers, and says whether one of them was lit.
 fn toggle(rows: &mut [u128], high: bool, x: u8, y: u8, sprite: &[u8]) -> bool
     requires { length rows.old ≡ 64 }
-    ensures turned { (row column : ℕ) → row < 64 → column < 128 → lights (slice_index rows.new row) column ≡ differ (lights (slice_index rows.old row) column) (covers_by_length high x y sprite.now column row) }
-    ensures hit { result ≡ any_below (λ row. any_below (λ column. lights (slice_index rows.old row) column && covers_by_length high x y sprite.now column row) 128) 64 }
+    ensures turned { (row column : ℕ) → row < 64 → column < 128
+        → lights (slice_index rows.new row) column
+        ≡ differ (lights (slice_index rows.old row) column)
+        (covers_by_length high x y sprite.now column row) }
+    ensures hit { result ≡ any_below
+        (λ row. any_below (λ column. lights (slice_index rows.old row) column
+        && covers_by_length high x y sprite.now column row) 128) 64 }
 {
-    // A loop for each half, size and width: there all are constants, which is faster than one for all.
+    // A loop for each half, size and width: there all are constants, which is faster than one for
+    // all.
     match half_of(high, x) {
         Half::Left => toggle_in(rows, high, Half::Left, x, y, sprite),
         Half::Middle => toggle_in(rows, high, Half::Middle, x, y, sprite),
@@ -188,14 +209,19 @@ fn toggle(rows: &mut [u128], high: bool, x: u8, y: u8, sprite: &[u8]) -> bool
     }
 }
 
-/// Turns them, for a sprite whose columns lie in this half. The same call stands twice, since each is
-/// compiled for its own width.
+/// Turns them, for a sprite whose columns lie in this half. The same call stands twice, since each
+/// is compiled for its own width.
 #[inline(always)]
 fn toggle_in(rows: &mut [u128], high: bool, half: Half, x: u8, y: u8, sprite: &[u8]) -> bool
     requires size { length rows.old ≡ 64 }
     requires half { LiesIn half (first_column high x) }
-    ensures turned { (row column : ℕ) → row < 64 → column < 128 → lights (slice_index rows.new row) column ≡ differ (lights (slice_index rows.old row) column) (covers_by_length high x y sprite.now column row) }
-    ensures hit { result ≡ any_below (λ row. any_below (λ column. lights (slice_index rows.old row) column && covers_by_length high x y sprite.now column row) 128) 64 }
+    ensures turned { (row column : ℕ) → row < 64 → column < 128
+        → lights (slice_index rows.new row) column
+        ≡ differ (lights (slice_index rows.old row) column)
+        (covers_by_length high x y sprite.now column row) }
+    ensures hit { result ≡ any_below
+        (λ row. any_below (λ column. lights (slice_index rows.old row) column
+        && covers_by_length high x y sprite.now column row) 128) 64 }
 {
     if !high {
         toggle_lines(rows, false, half, x, y, sprite)
@@ -211,8 +237,13 @@ fn toggle_in(rows: &mut [u128], high: bool, half: Half, x: u8, y: u8, sprite: &[
 fn toggle_lines(rows: &mut [u128], high: bool, half: Half, x: u8, y: u8, sprite: &[u8]) -> bool
     requires size { length rows.old ≡ 64 }
     requires half { LiesIn half (first_column high x) }
-    ensures turned { (row column : ℕ) → row < 64 → column < 128 → lights (slice_index rows.new row) column ≡ differ (lights (slice_index rows.old row) column) (covers_by_length high x y sprite.now column row) }
-    ensures hit { result ≡ any_below (λ row. any_below (λ column. lights (slice_index rows.old row) column && covers_by_length high x y sprite.now column row) 128) 64 }
+    ensures turned { (row column : ℕ) → row < 64 → column < 128
+        → lights (slice_index rows.new row) column
+        ≡ differ (lights (slice_index rows.old row) column)
+        (covers_by_length high x y sprite.now column row) }
+    ensures hit { result ≡ any_below
+        (λ row. any_below (λ column. lights (slice_index rows.old row) column
+        && covers_by_length high x y sprite.now column row) 128) 64 }
 {
     let scale = scale_of(high);
     let (first, end) = lines_under(high, y, sprite);

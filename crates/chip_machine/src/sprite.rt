@@ -56,13 +56,16 @@ fn rows_of(high: bool, sprite: &[u8]) -> usize
     }
 }
 
-/// The lines that a sprite may cover: the first of them, and the first past them. A line is a row of points of the size.
+/// The lines that a sprite may cover: the first of them, and the first past them. A line is a row
+/// of points of the size.
 pub(crate) fn lines_under(high: bool, y: u8, sprite: &[u8]) -> (usize, usize)
     ensures first { result.0 ≡ y % (64 / scale high) }
     ensures ordered { result.0 ≤ result.1 }
     ensures on_screen { scale high * result.1 ≤ 64 }
-    ensures above { (x column row : ℕ) → row < scale high * result.0 → covers_by_length high x y sprite.now column row ≡ false }
-    ensures below { (x column row : ℕ) → scale high * result.1 ≤ row → row < 64 → covers_by_length high x y sprite.now column row ≡ false }
+    ensures above { (x column row : ℕ) → row < scale high * result.0
+        → covers_by_length high x y sprite.now column row ≡ false }
+    ensures below { (x column row : ℕ) → scale high * result.1 ≤ row → row < 64
+        → covers_by_length high x y sprite.now column row ≡ false }
 {
     let height = HEIGHT / scale_of(high);
     let first = y as usize % height;
@@ -70,8 +73,8 @@ pub(crate) fn lines_under(high: bool, y: u8, sprite: &[u8]) -> (usize, usize)
     (first, end.min(height))
 }
 
-/// Where the sixteen columns that a row of a sprite has at most lie among the stored ones: a loop for
-/// each of these reads and writes no more than it has to.
+/// Where the sixteen columns that a row of a sprite has at most lie among the stored ones: a loop
+/// for each of these reads and writes no more than it has to.
 #[derive(Clone, Copy)]
 pub(crate) enum Half {
     /// All of them in the left half.
@@ -102,7 +105,9 @@ pub(crate) fn covered_bits(high: bool, half: Half, x: u8, y: u8, sprite: &[u8], 
     requires half { LiesIn half (first_column high x) }
     requires below_the_top { y % (64 / scale high) ≤ line }
     requires on_screen { line < 64 }
-    ensures { (column row : ℕ) → column < 128 → scale high * line ≤ row → row < scale high * line + scale high → lights result column ≡ covers_by_length high x y sprite.now column row }
+    ensures { (column row : ℕ) → column < 128 → scale high * line ≤ row
+        → row < scale high * line + scale high
+        → lights result column ≡ covers_by_length high x y sprite.now column row }
 {
     let scale = scale_of(high);
     let left = x as usize % (WIDTH / scale);
@@ -111,8 +116,8 @@ pub(crate) fn covered_bits(high: bool, half: Half, x: u8, y: u8, sprite: &[u8], 
     placed(pattern, half, scale * left)
 }
 
-/// Sixteen columns, the first of them at `start`, as far as they are on the screen. Each shift is by
-/// under 64 columns, which is faster than one by any number.
+/// Sixteen columns, the first of them at `start`, as far as they are on the screen. Each shift is
+/// by under 64 columns, which is faster than one by any number.
 fn placed(columns: u16, half: Half, start: usize) -> u128
     requires on_screen { start < 128 }
     requires half { LiesIn half start }
@@ -128,7 +133,9 @@ fn placed(columns: u16, half: Half, start: usize) -> u128
 /// The sixteen stored columns that a row of a sprite has at most, the leftmost the highest bit.
 fn pattern_at(high: bool, sprite: &[u8], row: usize) -> u16
     requires { row < 64 }
-    ensures { (i : ℕ) → i < 16 → (bit_at result (15 - i) == 1) ≡ is_set (row_bytes_by_length high sprite.now) sprite.now (i / scale high) row }
+    ensures { (i : ℕ) → i < 16
+        → (bit_at result (15 - i) == 1)
+        ≡ is_set (row_bytes_by_length high sprite.now) sprite.now (i / scale high) row }
 {
     if !high {
         doubled(byte_at(sprite, row))

@@ -30,7 +30,9 @@ impl Model for Touch {
 
     ghost view = { λ t. take t.count t.addresses ++ range_with_len t.row_start t.row_len };
 
-    ghost invariant = { λ t. (t.count + t.row_len ≤ TOUCHES) × (t.row_start + t.row_len ≤ MEMORY_BYTES) × All (λ at. at < MEMORY_BYTES) (take t.count t.addresses) };
+    ghost invariant = { λ t. (t.count + t.row_len ≤ TOUCHES)
+        × (t.row_start + t.row_len ≤ MEMORY_BYTES)
+        × All (λ at. at < MEMORY_BYTES) (take t.count t.addresses) };
 }
 
 /// The addresses of so many bytes in a row that an instruction accesses, or none.
@@ -118,7 +120,8 @@ impl Touch {
         self.len() == 0
     }
 
-    /// The address at a place, in the order in which they were added, and `None` from the length on.
+    /// The address at a place, in the order in which they were added, and `None` from the length
+    /// on.
     pub fn get(&self, place: usize) -> Option<u16>
         ensures value { result ≡ slice_get self.now place }
         ensures in_memory { IfSome result (λ at. at < MEMORY_BYTES) }
@@ -132,7 +135,8 @@ impl Touch {
         }
     }
 
-    /// Adds an address, and answers whether it did: not where `TOUCHES` are held, nor past the end of the memory.
+    /// Adds an address, and answers whether it did: not where `TOUCHES` are held, nor past the end
+    /// of the memory.
     pub fn add(&mut self, at: u16) -> bool
         ensures room { IsTrue result ↔ ((length self.old < TOUCHES) × (at < MEMORY_BYTES)) }
         ensures added { OnTrue result (self.new ≡ self.old ++ at ∷ []) }
@@ -145,8 +149,8 @@ impl Touch {
         true
     }
 
-    /// Notes a step at the addresses: in the table each address keeps the least number of a step that
-    /// was noted there.
+    /// Notes a step at the addresses: in the table each address keeps the least number of a step
+    /// that was noted there.
     #[inline(always)]
     pub fn note(&self, first_touch: &mut [u32], number: u32)
         requires { length first_touch.old ≡ MEMORY_BYTES }

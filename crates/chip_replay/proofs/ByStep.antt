@@ -82,7 +82,8 @@ after_suc down (e ∷ es) (suc n) d l = after_suc (set down e.key e.down) es n d
 pub after_more : (down : List Bool) (es : List Event) (n : ℕ) (d : Event) → n < length es → after_events down es (n + 1) ≡ set (after_events down es n) (get_or es n d).key (get_or es n d).down
 after_more down es n d l = ap (after_events down es) (add-one n) ∙ after_suc down es n d l
 
--- what a table says after the events in order up to a place: each key is so in a step up to which those are, and none of its later ones
+-- what a table says after the events in order up to a place: each key is so in a step up to which
+-- those are, and none of its later ones
 abbrev pub IsUpTo : Events → List Event → ℕ → ℕ → List Bool → Type 0
 IsUpTo events es from place down =
     (k s : ℕ) → k < 16 → from ≤ s + 1
@@ -151,7 +152,8 @@ was_down-same : (events later : Events) (from t k : ℕ) → t ≤ from → ((s 
 was_down-same events later from zero k l same = refl
 was_down-same events later from (suc t) k l same = same t (omega arith) k
 
--- what is known of the keys at the lent state's step, under events that are alike in the steps below from
+-- what is known of the keys at the lent state's step, under events that are alike in the steps
+-- below from
 pub holding_cut : (events later : Events) (m from : ℕ) (h : Holding) (step step' : Option ℕ) → m ≤ from → IsHolding events step h → ((s : ℕ) → s < from → (k : ℕ) → is_down later k s ≡ is_down events k s) → IfSome step' (λ t. (t ≤ m) × (step ≡ Some t)) → IsHolding later step' (record h { until = min h.until from })
 holding_cut events later m from h step None within known same kept = tt
 holding_cut events later m from h step (Some t) within known same kept =

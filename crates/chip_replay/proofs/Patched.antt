@@ -130,7 +130,8 @@ module _ {S : Type 0} (memory : S → List ℕ) (with_memory : S → List ℕ �
     after-patched s keys tick p u =
         sym (framed s keys tick p u).still_agree.rest ∙ ap (with_memory (after s keys tick)) (same_bytes s keys tick p u)
 
-    -- the state of the new run is the patched state of the old one, as long as no step touched a changed byte
+    -- the state of the new run is the patched state of the old one, as long as no step touched a
+    -- changed byte
     pub run-patched : (rate : ℕ) (held : ℕ → ℕ) (start : S) → proper start → (t : ℕ) → ((r : ℕ) → r < t → AllUntouched (run after rate held start r)) → run after rate held (patched memory with_memory old new start) t ≡ patched memory with_memory old new (run after rate held start t)
     run-patched rate held start p zero u = refl
     run-patched rate held start p (suc t) u =

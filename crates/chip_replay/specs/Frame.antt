@@ -1,17 +1,21 @@
--- The frame law of a machine with a memory: a step neither depends on the bytes that it does not touch nor changes them.
+-- The frame law of a machine with a memory: a step neither depends on the bytes that it does not
+-- touch nor changes them.
 -- Source: own.
 --     AgreeOff            one state is another but for the bytes at a set of addresses
---     IsFramed            what the same step makes of two such states, where it touches nothing of the set
+--     IsFramed            what the same step makes of two such states, where it touches nothing of
+--                         the set
 use Rattle.std.specs.Prelude.{◌≡◌, ℕ, Bool, List}
 use Rattle.chip_machine.specs.Frame.{SameOff, SameOn}
 
 -- b is a but for the bytes at a set of addresses
-pub record AgreeOff {M : Type 0} (memory : M → List ℕ) (with_memory : M → List ℕ → M) (set : ℕ → Bool) (a b : M) : Type 0 where
+pub record AgreeOff {M : Type 0} (memory : M → List ℕ) (with_memory : M → List ℕ → M)
+    (set : ℕ → Bool) (a b : M) : Type 0 where
   pub rest : with_memory a (memory b) ≡ b
   pub bytes : SameOff set (memory a) (memory b)
 
 -- what the same step makes of two such states
-pub record IsFramed {M : Type 0} (memory : M → List ℕ) (with_memory : M → List ℕ → M) (step : M → M) (touches : M → List ℕ) (set : ℕ → Bool) (a b : M) : Type 0 where
+pub record IsFramed {M : Type 0} (memory : M → List ℕ) (with_memory : M → List ℕ → M) (step : M → M)
+    (touches : M → List ℕ) (set : ℕ → Bool) (a b : M) : Type 0 where
   pub same_touches : touches b ≡ touches a
   pub still_agree : AgreeOff memory with_memory set (step a) (step b)
   pub first_keeps : SameOn set (memory (step a)) (memory a)

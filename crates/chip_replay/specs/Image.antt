@@ -30,8 +30,12 @@ pub record AgreeOutside (first end : ℕ) (old new : List ℕ) : Type 0 where
 
 -- whether a state's next step touches a byte at which the images differ
 unfoldable pub touches_change : {S : Type 0} → (S → List ℕ) → List ℕ → List ℕ → S → Bool
-touches_change touches old new s = list_any (λ i. differs old new i && touched touches s (image_start + i)) (range_with_len 0 image_room)
+touches_change touches old new s =
+    list_any (λ i. differs old new i && touched touches s (image_start + i))
+    (range_with_len 0 image_room)
 
 -- the first step below f that touches a byte at which the images differ, or f
-abbrev pub affected : {S : Type 0} → (S → List ℕ) → (S → ℕ → Bool → S) → ℕ → (ℕ → ℕ) → List ℕ → List ℕ → S → ℕ → ℕ
-affected touches after rate held old new start f = first_below (λ s. touches_change touches old new (run after rate held start s)) f
+abbrev pub affected : {S : Type 0} → (S → List ℕ) → (S → ℕ → Bool → S) → ℕ → (ℕ → ℕ) → List ℕ
+    → List ℕ → S → ℕ → ℕ
+affected touches after rate held old new start f =
+    first_below (λ s. touches_change touches old new (run after rate held start s)) f

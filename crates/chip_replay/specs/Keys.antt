@@ -4,7 +4,8 @@
 --     Events          what each event says, down (true) or up, by its step and key
 --     is_down         whether a key is down in a step
 --     held            the mask of the 16 keys in a step
---     insert_fault, edit_fault      why an event cannot be inserted; why one cannot be replaced or deleted
+--     insert_fault, edit_fault      why an event cannot be inserted; why one cannot be replaced or
+--                                   deleted
 use Rattle.std.specs.Prelude.{ℕ, zero, suc, Bool, false, Option, Some, None, nat_lt, nat_le, is_some, unwrap_or, if◌then◌else◌}
 use Rattle.std.specs.declared.cmp.Ordering.{Ordering}
 use Rattle.std.specs.Ordering.{nat_cmp, ordering_then}
@@ -21,7 +22,9 @@ abbrev pub moment_cmp : Moment → Moment → Ordering
 moment_cmp a b = ordering_then (nat_cmp a.key b.key) (nat_cmp a.step b.step)
 
 abbrev pub coded_moment : Coded Moment
-coded_moment = code_by (ℕ × ℕ) (coded× coded_ℕ coded_ℕ) (λ m. (m.key, m.step)) (λ p. record { key = p.0; step = p.1 }) (λ _. refl)
+coded_moment =
+    code_by (ℕ × ℕ) (coded× coded_ℕ coded_ℕ) (λ m. (m.key, m.step))
+    (λ p. record { key = p.0; step = p.1 }) (λ _. refl)
 
 abbrev pub Events : Type 0
 Events = map.FinMap moment_cmp Bool
@@ -45,8 +48,15 @@ held events step = mask (λ key. is_down events key step) 16
 -- the first refusal, in the order of the tests
 abbrev pub insert_fault : Events → ℕ → ℕ → Option KeyFault
 insert_fault events step key =
-    if nat_lt last_step step then Some StepTooLarge else if nat_lt 15 key then Some NoSuchKey else if is_some (event_at events step key) then Some EventThere else if nat_le most_events (map.len events) then Some TooManyEvents else None
+    if nat_lt last_step step then Some StepTooLarge
+    else if nat_lt 15 key then Some NoSuchKey
+    else if is_some (event_at events step key) then Some EventThere
+    else if nat_le most_events (map.len events) then Some TooManyEvents
+    else None
 
 abbrev pub edit_fault : Events → ℕ → ℕ → Option KeyFault
 edit_fault events step key =
-    if nat_lt last_step step then Some StepTooLarge else if nat_lt 15 key then Some NoSuchKey else if is_some (event_at events step key) then None else Some NoEvent
+    if nat_lt last_step step then Some StepTooLarge
+    else if nat_lt 15 key then Some NoSuchKey
+    else if is_some (event_at events step key) then None
+    else Some NoEvent

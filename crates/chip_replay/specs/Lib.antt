@@ -1,5 +1,6 @@
 -- What a replay promises.
--- Source: own, but for the key events and the run, which follow the COSMAC VIP manual's keys and timers.
+-- Source: own, but for the key events and the run, which follow the COSMAC VIP manual's keys and
+-- timers.
 --     Limits       the last step, the spacing of the checkpoints, the most events
 --     Frame        two states that agree but for some bytes, and what the same step makes of them
 --     Run          the state after some steps
@@ -7,7 +8,8 @@
 --     Mask         the keys that are down as one number
 --     Keys         key events, which keys they hold down, and why an edit of them is refused
 --     History      what a replay is seen as, and what a question changes
---     inner        what is kept of a run and of the key events, what the functions inside say, and laws in the form of the trait; a reader may skip it
+--     inner        what is kept of a run and of the key events, what the functions inside say, and
+--                  laws in the form of the trait; a reader may skip it
 pub mod Limits
 pub mod Frame
 pub mod Run

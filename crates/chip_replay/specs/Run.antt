@@ -1,5 +1,6 @@
 -- A run of a machine, step by step.
--- Source: COSMAC VIP manual for timers that count down in step with the display; own for the rate in steps.
+-- Source: COSMAC VIP manual for timers that count down in step with the display; own for the rate
+-- in steps.
 --     run            the state after t steps
 --     first_below    the first step below f that passes a test, or f
 use Rattle.std.specs.Prelude.{ℕ, zero, suc, Bool}

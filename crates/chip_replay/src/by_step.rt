@@ -36,8 +36,8 @@ impl Place {
     pub(crate) const FIRST: Place = Place { page: 0, index: 0 };
 }
 
-/// The events in the order of their steps, and in a step of their keys. They stand in pages, so that an edit
-/// moves the events of one page alone.
+/// The events in the order of their steps, and in a step of their keys. They stand in pages, so
+/// that an edit moves the events of one page alone.
 #[derive(Drop)]
 pub(crate) struct Steps {
     pub(crate) pages: Vec<Vec<Event>>,
@@ -57,9 +57,13 @@ impl Steps {
     /// The step of the event at a place, and `NEVER` past the last one.
     pub(crate) fn step_at(&self, place: Place) -> u32
         requires { IsPlace self.now.pages.items place }
-        ensures there { (d : Event) → index_of self.now.pages.items place < length (all_events self.now.pages.items)
-            → result ≡ (slice_index_or (all_events self.now.pages.items) (index_of self.now.pages.items place) d).step }
-        ensures past { length (all_events self.now.pages.items) ≤ index_of self.now.pages.items place
+        ensures there { (d : Event)
+            → index_of self.now.pages.items place < length (all_events self.now.pages.items)
+            → result
+            ≡ (slice_index_or (all_events self.now.pages.items)
+            (index_of self.now.pages.items place) d).step }
+        ensures past { length (all_events self.now.pages.items)
+            ≤ index_of self.now.pages.items place
             → result ≡ NEVER }
     {
         if place.page < self.pages.len() {
@@ -72,26 +76,31 @@ impl Steps {
     /// The events of a page from one on.
     pub(crate) fn rest_of_page(&self, place: Place) -> &[Event]
         requires place { IsPlace self.now.pages.items place }
-        requires there { index_of self.now.pages.items place < length (all_events self.now.pages.items) }
+        requires there { index_of self.now.pages.items place
+            < length (all_events self.now.pages.items) }
         ensures length { (d : Vec Event) → place.index + length result.now
             ≡ length (slice_index_or self.now.pages.items place.page d).items }
         ensures some { 0 < length result.now }
         ensures within { index_of self.now.pages.items place + length result.now
             ≤ length (all_events self.now.pages.items) }
         ensures same { (i : ℕ) (d : Event) → i < length result.now
-            → slice_index_or (all_events self.now.pages.items) (index_of self.now.pages.items place + i) d
+            → slice_index_or (all_events self.now.pages.items)
+            (index_of self.now.pages.items place + i) d
             ≡ slice_index_or result.now i d }
     {
         &self.pages[place.page][place.index..]
     }
 
-    /// The place so many events after one in its page: of the next page's first event where these are all of the rest.
+    /// The place so many events after one in its page: of the next page's first event where these
+    /// are all of the rest.
     pub(crate) fn later(&self, place: Place, count: usize) -> Place
         requires page { place.page < length self.now.pages.items }
         requires within { (d : Vec Event)
-            → place.index + count ≤ length (slice_index_or self.now.pages.items place.page d).items }
+            → place.index + count
+            ≤ length (slice_index_or self.now.pages.items place.page d).items }
         ensures place { IsPlace self.now.pages.items result }
-        ensures later { index_of self.now.pages.items result ≡ index_of self.now.pages.items place + count }
+        ensures later { index_of self.now.pages.items result
+            ≡ index_of self.now.pages.items place + count }
     {
         let events = &self.pages[place.page];
         let index = place.index + count;
@@ -114,7 +123,8 @@ impl Steps {
     fn place(&self, step: u32, key: u8) -> Place
         requires { IsInOrder (all_events self.now.pages.items) }
         ensures place { IsPlace self.now.pages.items result }
-        ensures at_most { index_of self.now.pages.items result ≤ length (all_events self.now.pages.items) }
+        ensures at_most { index_of self.now.pages.items result
+            ≤ length (all_events self.now.pages.items) }
         ensures before { (i : ℕ) (d : Event) → i < index_of self.now.pages.items result
             → rank (slice_index_or (all_events self.now.pages.items) i d) < step * 16 + key }
         ensures after { (i : ℕ) (d : Event) → index_of self.now.pages.items result ≤ i
@@ -139,7 +149,8 @@ impl Steps {
         ensures before { (i : ℕ) (d : Event) → i < count_before self.now.pages.items result
             → rank (slice_index_or (all_events self.now.pages.items) i d) < wanted }
         ensures after { (i : ℕ) (d : Event) → result < length self.now.pages.items
-            → count_before self.now.pages.items (result + 1) ≤ i + 1 → i < length (all_events self.now.pages.items)
+            → count_before self.now.pages.items (result + 1) ≤ i + 1
+            → i < length (all_events self.now.pages.items)
             → wanted ≤ rank (slice_index_or (all_events self.now.pages.items) i d) }
     {
         let mut low = 0;
@@ -159,8 +170,10 @@ impl Steps {
     /// The last event of a page.
     fn last_of(&self, page: usize) -> Event
         requires { page < length self.now.pages.items }
-        ensures some { count_before self.now.pages.items page < count_before self.now.pages.items (page + 1) }
-        ensures within { count_before self.now.pages.items (page + 1) ≤ length (all_events self.now.pages.items) }
+        ensures some { count_before self.now.pages.items page
+            < count_before self.now.pages.items (page + 1) }
+        ensures within { count_before self.now.pages.items (page + 1)
+            ≤ length (all_events self.now.pages.items) }
         ensures last { (i : ℕ) (d : Event) → i + 1 ≡ count_before self.now.pages.items (page + 1)
             → slice_index_or (all_events self.now.pages.items) i d ≡ result }
     {
@@ -168,11 +181,13 @@ impl Steps {
         events[events.len() - 1]
     }
 
-    /// The place of the first event that is not before a step's. `guess` is tried before it is looked for.
+    /// The place of the first event that is not before a step's. `guess` is tried before it is
+    /// looked for.
     pub(crate) fn first_from(&self, step: u32, guess: Place) -> Place
         requires { IsInOrder (all_events self.now.pages.items) }
         ensures place { IsPlace self.now.pages.items result }
-        ensures first { IsFirstFrom (all_events self.now.pages.items) step (index_of self.now.pages.items result) }
+        ensures first { IsFirstFrom (all_events self.now.pages.items) step
+            (index_of self.now.pages.items result) }
     {
         if self.is_first_from(guess, step) {
             guess
@@ -186,7 +201,8 @@ impl Steps {
         requires { IsInOrder (all_events self.now.pages.items) }
         ensures place { IsTrue result → IsPlace self.now.pages.items place }
         ensures first { IsTrue result
-            → IsFirstFrom (all_events self.now.pages.items) step (index_of self.now.pages.items place) }
+            → IsFirstFrom (all_events self.now.pages.items) step
+            (index_of self.now.pages.items place) }
     {
         if place.page >= self.pages.len() {
             return false;
@@ -201,7 +217,8 @@ impl Steps {
         place.page == 0 || self.last_of(place.page - 1).step < step
     }
 
-    /// Adds an event where its key has none at its step. Errors: memory ran out, and the events stay.
+    /// Adds an event where its key has none at its step. Errors: memory ran out, and the events
+    /// stay.
     pub(crate) fn insert(&mut self, event: Event) -> Result<(), AllocError>
         requires key { event.key < KEY_COUNT }
         requires in_order { IsInOrder (all_events self.old.pages.items) }
@@ -210,20 +227,25 @@ impl Steps {
         ensures ok { OnOk result ((s k : ℕ) → change_at (all_events self.new.pages.items) s k
             ≡ (if s == event.step && k == event.key then Some event.down
             else change_at (all_events self.old.pages.items) s k)) }
-        ensures err { OnErr result (all_events self.new.pages.items ≡ all_events self.old.pages.items) }
+        ensures err { OnErr result (all_events self.new.pages.items
+            ≡ all_events self.old.pages.items) }
     {
         let place = self.place(event.step, event.key);
         self.insert_at(place, event)?;
         Ok(())
     }
 
-    /// Adds an event in front of the one at a place, or behind all. Errors: memory ran out, and the events stay.
+    /// Adds an event in front of the one at a place, or behind all. Errors: memory ran out, and the
+    /// events stay.
     fn insert_at(&mut self, place: Place, event: Event) -> Result<(), AllocError>
         requires place { IsPlace self.old.pages.items place }
-        requires at_most { index_of self.old.pages.items place ≤ length (all_events self.old.pages.items) }
+        requires at_most { index_of self.old.pages.items place
+            ≤ length (all_events self.old.pages.items) }
         ensures ok { OnOk result (all_events self.new.pages.items
-            ≡ insert (all_events self.old.pages.items) (index_of self.old.pages.items place) event) }
-        ensures err { OnErr result (all_events self.new.pages.items ≡ all_events self.old.pages.items) }
+            ≡ insert (all_events self.old.pages.items)
+            (index_of self.old.pages.items place) event) }
+        ensures err { OnErr result (all_events self.new.pages.items
+            ≡ all_events self.old.pages.items) }
     {
         if place.page >= self.pages.len() {
             return self.push(event);
@@ -233,13 +255,15 @@ impl Steps {
         Ok(())
     }
 
-    /// The place in a page with room for an event; a full page is parted into two. Errors: memory ran out.
+    /// The place in a page with room for an event; a full page is parted into two. Errors: memory
+    /// ran out.
     fn with_room(&mut self, place: Place) -> Result<Place, AllocError>
         requires page { place.page < length self.old.pages.items }
         requires place { IsPlace self.old.pages.items place }
         ensures same { all_events self.new.pages.items ≡ all_events self.old.pages.items }
         ensures room { IfOk result (λ p. HasRoom self.new.pages.items p) }
-        ensures index { IfOk result (λ p. index_of self.new.pages.items p ≡ index_of self.old.pages.items place) }
+        ensures index { IfOk result (λ p. index_of self.new.pages.items p
+            ≡ index_of self.old.pages.items place) }
     {
         if self.pages[place.page].len() < PAGE_EVENTS {
             return Ok(place);
@@ -260,8 +284,10 @@ impl Steps {
 
     /// Adds an event after all others. Errors: memory ran out, and the events stay.
     fn push(&mut self, event: Event) -> Result<(), AllocError>
-        ensures ok { OnOk result (all_events self.new.pages.items ≡ all_events self.old.pages.items ++ event ∷ []) }
-        ensures err { OnErr result (all_events self.new.pages.items ≡ all_events self.old.pages.items) }
+        ensures ok { OnOk result (all_events self.new.pages.items
+            ≡ all_events self.old.pages.items ++ event ∷ []) }
+        ensures err { OnErr result (all_events self.new.pages.items
+            ≡ all_events self.old.pages.items) }
     {
         let count = self.pages.len();
         if count > 0 && self.pages[count - 1].len() < PAGE_EVENTS {
@@ -295,7 +321,8 @@ impl Steps {
         requires there { IsSome (change_at (all_events self.old.pages.items) step key) }
         ensures in_order { IsInOrder (all_events self.new.pages.items) }
         ensures set { (s k : ℕ) → change_at (all_events self.new.pages.items) s k
-            ≡ (if s == step && k == key then None else change_at (all_events self.old.pages.items) s k) }
+            ≡ (if s == step && k == key then None
+            else change_at (all_events self.old.pages.items) s k) }
     {
         let place = self.place(step, key);
         self.remove_at(place);
@@ -304,7 +331,8 @@ impl Steps {
     /// Takes out the event at a place, and its page where it has no other.
     fn remove_at(&mut self, place: Place)
         requires place { IsPlace self.old.pages.items place }
-        requires there { index_of self.old.pages.items place < length (all_events self.old.pages.items) }
+        requires there { index_of self.old.pages.items place
+            < length (all_events self.old.pages.items) }
         ensures { all_events self.new.pages.items
             ≡ remove (all_events self.old.pages.items) (index_of self.old.pages.items place) }
     {
@@ -320,7 +348,8 @@ impl Steps {
 fn index_in(events: &[Event], wanted: u64) -> usize
     requires { IsInOrder events.now }
     ensures at_most { result ≤ length events.now }
-    ensures before { (i : ℕ) (d : Event) → i < result → rank (slice_index_or events.now i d) < wanted }
+    ensures before { (i : ℕ) (d : Event) → i < result
+        → rank (slice_index_or events.now i d) < wanted }
     ensures after { (i : ℕ) (d : Event) → result ≤ i → i < length events.now
         → wanted ≤ rank (slice_index_or events.now i d) }
 {

@@ -44,9 +44,12 @@ impl<M: Traced> Kept<M> {
         ensures lent { IfOk result (λ kept. (kept.lent ≡ start) × (kept.lent_step ≡ Some 0)) }
         ensures checkpoints { IfOk result (λ kept. kept.checkpoints.items ≡ []) }
         ensures table { IfOk result (λ kept. length kept.first_touch.items ≡ MEMORY_BYTES) }
-        ensures never { IfOk result (λ kept. (at : ℕ) → at < MEMORY_BYTES → slice_index kept.first_touch.items at ≡ NEVER) }
-        ensures holding { IfOk result (λ kept. (events : Events) → KnowsKeys events 0 kept.holding) }
-        ensures counts { IfOk result (λ kept. (kept.spacing ≡ spacing) × (kept.reach ≡ 0) × (kept.ran ≡ 0)) }
+        ensures never { IfOk result (λ kept. (at : ℕ) → at < MEMORY_BYTES
+            → slice_index kept.first_touch.items at ≡ NEVER) }
+        ensures holding { IfOk result (λ kept. (events : Events)
+            → KnowsKeys events 0 kept.holding) }
+        ensures counts { IfOk result (λ kept. (kept.spacing ≡ spacing) × (kept.reach ≡ 0)
+            × (kept.ran ≡ 0)) }
     {
         let first_touch = vec![in alloc; NEVER; MEMORY_BYTES]?;
         Ok(Kept {
@@ -74,19 +77,27 @@ impl<M: Traced> Kept<M> {
         requires rate { 0 < rate }
         requires spaced { 0 < self.old.spacing }
         requires in_range { step ≤ LAST_STEP }
-        requires sound { IsSound self.old.spacing M.is_proper (touched M.touches) (run M.step_of rate (held keys.now) start.now) self.old.checkpoints.items self.old.first_touch.items self.old.reach }
-        requires lent { IsLent (run M.step_of rate (held keys.now) start.now) self.old.reach self.old.lent self.old.lent_step }
+        requires sound { IsSound self.old.spacing M.is_proper (touched M.touches)
+            (run M.step_of rate (held keys.now) start.now) self.old.checkpoints.items
+            self.old.first_touch.items self.old.reach }
+        requires lent { IsLent (run M.step_of rate (held keys.now) start.now) self.old.reach
+            self.old.lent self.old.lent_step }
         requires holding { IsHolding keys.now self.old.lent_step self.old.holding }
         ensures spacing { self.new.spacing ≡ self.old.spacing }
-        ensures sound { IsSound self.new.spacing M.is_proper (touched M.touches) (run M.step_of rate (held keys.now) start.now) self.new.checkpoints.items self.new.first_touch.items self.new.reach }
-        ensures lent { IsLent (run M.step_of rate (held keys.now) start.now) self.new.reach self.new.lent self.new.lent_step }
+        ensures sound { IsSound self.new.spacing M.is_proper (touched M.touches)
+            (run M.step_of rate (held keys.now) start.now) self.new.checkpoints.items
+            self.new.first_touch.items self.new.reach }
+        ensures lent { IsLent (run M.step_of rate (held keys.now) start.now) self.new.reach
+            self.new.lent self.new.lent_step }
         ensures holding { IsHolding keys.now self.new.lent_step self.new.holding }
-        ensures state { OnOk result (self.new.lent ≡ run M.step_of rate (held keys.now) start.now step) }
+        ensures state { OnOk result (self.new.lent
+            ≡ run M.step_of rate (held keys.now) start.now step) }
         ensures reached { OnOk result (step ≤ self.new.reach) }
         ensures reach_kept { self.old.reach ≤ self.new.reach }
         ensures ran_kept { self.old.ran ≤ self.new.ran }
         ensures steps { OnOk result (self.new.ran
-            ≤ self.old.ran + (step - self.old.spacing * (min self.old.reach step / self.old.spacing))) }
+            ≤ self.old.ran
+            + (step - self.old.spacing * (min self.old.reach step / self.old.spacing))) }
     {
         let mut at = self.set_out(start, keys, step)?;
         self.lent_step = None;
@@ -116,12 +127,18 @@ impl<M: Traced> Kept<M> {
         ensures first { (start : M) (reach : ℕ)
             → self.old.lent ≡ run M.step_of rate (held keys.now) start at
             → at ≤ reach
-            → AreFirst (touched M.touches) (run M.step_of rate (held keys.now) start) reach self.old.first_touch.items
+            → AreFirst (touched M.touches)
+            (run M.step_of rate (held keys.now) start) reach self.old.first_touch.items
             → AreFirst (touched M.touches) (run M.step_of rate (held keys.now) start)
             (max reach (at + count)) self.new.first_touch.items }
         ensures table { length self.new.first_touch.items ≡ MEMORY_BYTES }
         ensures holding { KnowsKeys keys.now (at + count) self.new.holding }
-        ensures others { self.new ≡ record self.old { lent = self.new.lent; holding = self.new.holding; first_touch = self.new.first_touch } }
+        ensures others { self.new
+            ≡ record self.old {
+              lent = self.new.lent;
+              holding = self.new.holding;
+              first_touch = self.new.first_touch;
+            } }
     {
         let mut cursor = Cursor {
             keys,
@@ -132,17 +149,24 @@ impl<M: Traced> Kept<M> {
         self.holding = cursor.holding;
     }
 
-    /// The run is known up to a later step, that of the lent state, whose first touches are noted: a
-    /// checkpoint is kept if one is due. After an error it is known as far as before.
+    /// The run is known up to a later step, that of the lent state, whose first touches are noted:
+    /// a checkpoint is kept if one is due. After an error it is known as far as before.
     #[inline(always)]
     fn extend(&mut self, reach: u32, due: bool) -> Result<(), AllocError>
         ensures kept { OnOk result (self.new.checkpoints.items
-            ≡ (if due then self.old.checkpoints.items ++ self.old.lent ∷ [] else self.old.checkpoints.items)) }
+            ≡ (if due then self.old.checkpoints.items ++ self.old.lent ∷ []
+            else self.old.checkpoints.items)) }
         ensures others { OnOk result (self.new
-            ≡ record self.old { checkpoints = self.new.checkpoints; spare = self.new.spare; reach = reach }) }
-        ensures checkpoints_stay { OnErr result (self.new.checkpoints.items ≡ self.old.checkpoints.items) }
+            ≡ record self.old {
+              checkpoints = self.new.checkpoints;
+              spare = self.new.spare;
+              reach = reach;
+            }) }
+        ensures checkpoints_stay { OnErr result (self.new.checkpoints.items
+            ≡ self.old.checkpoints.items) }
         ensures table_cut { OnErr result (self.new.first_touch.items
-            ≡ map (λ first. if nat_lt first self.old.reach then first else NEVER) self.old.first_touch.items) }
+            ≡ map (λ first. if nat_lt first self.old.reach then first
+            else NEVER) self.old.first_touch.items) }
         ensures others_stay { OnErr result (self.new ≡ record self.old {
           checkpoints = self.new.checkpoints;
           spare = self.new.spare;
@@ -161,9 +185,11 @@ impl<M: Traced> Kept<M> {
     #[cold]
     #[inline(never)]
     fn keep(&mut self) -> Result<(), AllocError>
-        ensures kept { OnOk result (self.new.checkpoints.items ≡ self.old.checkpoints.items ++ self.old.lent ∷ []) }
+        ensures kept { OnOk result (self.new.checkpoints.items
+            ≡ self.old.checkpoints.items ++ self.old.lent ∷ []) }
         ensures err { OnErr result (self.new.checkpoints.items ≡ self.old.checkpoints.items) }
-        ensures others { self.new ≡ record self.old { checkpoints = self.new.checkpoints; spare = self.new.spare } }
+        ensures others { self.new
+            ≡ record self.old { checkpoints = self.new.checkpoints; spare = self.new.spare } }
     {
         let state = match self.spare.pop() {
             Some(mut state) => {
@@ -179,8 +205,8 @@ impl<M: Traced> Kept<M> {
         Ok(())
     }
 
-    /// Makes the lent state one from which the run can go on to a step, and answers which step it is
-    /// of: it stays where no checkpoint up to that step is nearer. An error changes nothing.
+    /// Makes the lent state one from which the run can go on to a step, and answers which step it
+    /// is of: it stays where no checkpoint up to that step is nearer. An error changes nothing.
     fn set_out(&mut self, start: &M, keys: &Keys, step: u32) -> Result<u32, AllocError>
         requires spaced { 0 < self.old.spacing }
         requires each { self.old.reach / self.old.spacing ≤ length self.old.checkpoints.items }
@@ -189,12 +215,19 @@ impl<M: Traced> Kept<M> {
             self.old.spacing * (min self.old.reach step / self.old.spacing) ≤ from) }
         ensures known { (state : ℕ → M)
             → start.now ≡ state 0
-            → IsSound self.old.spacing M.is_proper (touched M.touches) state self.old.checkpoints.items self.old.first_touch.items self.old.reach
+            → IsSound self.old.spacing M.is_proper
+            (touched M.touches) state self.old.checkpoints.items self.old.first_touch.items
+            self.old.reach
             → IsLent state self.old.reach self.old.lent self.old.lent_step
             → IfOk result (λ from. (from ≤ self.old.reach) × (self.new.lent ≡ state from)) }
         ensures holding { IsHolding keys.now self.old.lent_step self.old.holding
             → IfOk result (λ from. KnowsKeys keys.now from self.new.holding) }
-        ensures others { self.new ≡ record self.old { lent = self.new.lent; lent_step = self.new.lent_step; holding = self.new.holding } }
+        ensures others { self.new
+            ≡ record self.old {
+              lent = self.new.lent;
+              lent_step = self.new.lent_step;
+              holding = self.new.holding;
+            } }
         ensures err { OnErr result (self.new ≡ self.old) }
     {
         let place = self.reach.min(step) / self.spacing;
@@ -215,11 +248,17 @@ impl<M: Traced> Kept<M> {
     pub(crate) fn forget(&mut self, from: u32)
         requires { 0 < self.old.spacing }
         ensures sound { (state : ℕ → M)
-            → IsSound self.old.spacing M.is_proper (touched M.touches) state self.old.checkpoints.items self.old.first_touch.items self.old.reach
-            → IsSound self.old.spacing M.is_proper (touched M.touches) state self.new.checkpoints.items self.new.first_touch.items self.new.reach }
+            → IsSound self.old.spacing M.is_proper
+            (touched M.touches) state self.old.checkpoints.items self.old.first_touch.items
+            self.old.reach
+            → IsSound self.old.spacing M.is_proper
+            (touched M.touches) state self.new.checkpoints.items self.new.first_touch.items
+            self.new.reach }
         ensures reach { self.new.reach ≡ min self.old.reach from }
-        ensures lent_step { IsCutBack self.old.reach self.new.reach self.old.lent_step self.new.lent_step }
-        ensures holding { self.new.holding ≡ record self.old.holding { until = min self.old.holding.until from } }
+        ensures lent_step { IsCutBack self.old.reach self.new.reach self.old.lent_step
+            self.new.lent_step }
+        ensures holding { self.new.holding
+            ≡ record self.old.holding { until = min self.old.holding.until from } }
         ensures others { self.new ≡ record self.old {
           checkpoints = self.new.checkpoints;
           spare = self.new.spare;
@@ -238,10 +277,13 @@ impl<M: Traced> Kept<M> {
     /// Drops what was kept of the steps from one on, which are known.
     fn cut_off(&mut self, reach: u32)
         requires { 0 < self.old.spacing }
-        ensures checkpoints { self.new.checkpoints.items ≡ take (reach / self.old.spacing) self.old.checkpoints.items }
+        ensures checkpoints { self.new.checkpoints.items
+            ≡ take (reach / self.old.spacing) self.old.checkpoints.items }
         ensures table { self.new.first_touch.items
-            ≡ map (λ first. if nat_lt first reach then first else NEVER) self.old.first_touch.items }
-        ensures lent_step { IfSome self.new.lent_step (λ t. (t ≤ reach) × (self.old.lent_step ≡ Some t)) }
+            ≡ map
+            (λ first. if nat_lt first reach then first else NEVER) self.old.first_touch.items }
+        ensures lent_step { IfSome self.new.lent_step (λ t. (t ≤ reach)
+            × (self.old.lent_step ≡ Some t)) }
         ensures others { self.new ≡ record self.old {
           checkpoints = self.new.checkpoints;
           spare = self.new.spare;
@@ -257,15 +299,18 @@ impl<M: Traced> Kept<M> {
         self.reach = reach;
     }
 
-    /// Puts the bytes of the new image in the place of the old one's in each state that is kept. They
-    /// agree outside the places from `first` up to `end`.
+    /// Puts the bytes of the new image in the place of the old one's in each state that is kept.
+    /// They agree outside the places from `first` up to `end`.
     pub(crate) fn patch(&mut self, first: usize, end: usize, old: &[u8], new: &[u8])
         requires old_fits { length old.now ≤ image_room }
         requires new_fits { length new.now ≤ image_room }
         requires alike { AgreeOutside first end old.now new.now }
-        ensures checkpoints { self.new.checkpoints.items ≡ map (patched M.memory M.with_memory old.now new.now) self.old.checkpoints.items }
-        ensures lent { self.new.lent ≡ patched M.memory M.with_memory old.now new.now self.old.lent }
-        ensures others { self.new ≡ record self.old { checkpoints = self.new.checkpoints; lent = self.new.lent } }
+        ensures checkpoints { self.new.checkpoints.items
+            ≡ map (patched M.memory M.with_memory old.now new.now) self.old.checkpoints.items }
+        ensures lent { self.new.lent
+            ≡ patched M.memory M.with_memory old.now new.now self.old.lent }
+        ensures others { self.new
+            ≡ record self.old { checkpoints = self.new.checkpoints; lent = self.new.lent } }
     {
         patch_all(&mut self.checkpoints, first, end, old, new);
         patch(&mut self.lent, first, end, old, new);
@@ -294,8 +339,11 @@ pub(crate) fn least_touch(
     requires new_fits { length new.now ≤ image_room }
     requires alike { AgreeOutside first end old.now new.now }
     ensures within { result ≤ reach }
-    ensures least { (i : ℕ) → i < image_room → differs old.now new.now i ≡ true → result ≤ slice_index first_touch.now (image_start + i) }
-    ensures attained { (result ≡ reach) ⊎ ((i : ℕ) × (i < image_room) × (differs old.now new.now i ≡ true) × (result ≡ slice_index first_touch.now (image_start + i))) }
+    ensures least { (i : ℕ) → i < image_room → differs old.now new.now i ≡ true
+        → result ≤ slice_index first_touch.now (image_start + i) }
+    ensures attained { (result ≡ reach)
+        ⊎ ((i : ℕ) × (i < image_room) × (differs old.now new.now i ≡ true)
+        × (result ≡ slice_index first_touch.now (image_start + i))) }
 {
     if reach == 0 {
         return 0;
@@ -366,7 +414,8 @@ fn patch_all<M: Traced>(states: &mut [M], first: usize, end: usize, old: &[u8], 
 
 /// Changes the first touches from a step on to none.
 fn cut(first_touch: &mut [u32], reach: u32)
-    ensures { first_touch.new ≡ map (λ first. if nat_lt first reach then first else NEVER) first_touch.old }
+    ensures { first_touch.new
+        ≡ map (λ first. if nat_lt first reach then first else NEVER) first_touch.old }
 {
     for first in first_touch.iter_mut() {
         *first = if_before(*first, reach);
@@ -408,7 +457,8 @@ fn set_apart<M: Traced>(states: &mut Vec<M>, spare: &mut Vec<M>, place: usize)
 fn nearest<'a, M: Traced>(start: &'a M, checkpoints: &'a [M], place: usize) -> &'a M
     requires { place ≤ length checkpoints.now }
     ensures start { place ≡ 0 → result.now ≡ start.now }
-    ensures checkpoint { (i : ℕ) → place ≡ i + 1 → result.now ≡ slice_index_or checkpoints.now i result.now }
+    ensures checkpoint { (i : ℕ) → place ≡ i + 1
+        → result.now ≡ slice_index_or checkpoints.now i result.now }
 {
     if place == 0 {
         start

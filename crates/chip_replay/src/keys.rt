@@ -92,7 +92,8 @@ impl HeldKeys for Cursor<'_> {
     }
 }
 
-/// The events of the keys, each at a step: a key goes down or up, and stays so until its next event.
+/// The events of the keys, each at a step: a key goes down or up, and stays so until its next
+/// event.
 #[derive(Drop)]
 pub struct Keys {
     /// In the order of the keys, for the last event of a key up to a step.
@@ -113,7 +114,8 @@ impl Model for Keys {
 
     ghost view = { λ k. map.from_entries k.events.entries };
 
-    ghost invariant = { λ k. (map.len (map.from_entries {R = moment_cmp} k.events.entries) ≡ length k.events.entries)
+    ghost invariant = { λ k. (map.len (map.from_entries {R = moment_cmp} k.events.entries)
+        ≡ length k.events.entries)
         × SaysTheSame (map.from_entries k.events.entries) (all_events k.steps.pages.items)
         × IsInOrder (all_events k.steps.pages.items) };
 }
@@ -133,8 +135,8 @@ impl Keys {
         }
     }
 
-    /// The keys that are down in a step, key k at bit k: each is as its last event up to then says, and up
-    /// if there is none.
+    /// The keys that are down in a step, key k at bit k: each is as its last event up to then says,
+    /// and up if there is none.
     pub fn held(&self, step: u32) -> u16
         ensures { result ≡ held self.now step }
     {
@@ -192,8 +194,8 @@ impl Keys {
         }
     }
 
-    /// From the keys that were down before the events of an earlier step, or of this one, to those that are
-    /// down in it and from there on.
+    /// From the keys that were down before the events of an earlier step, or of this one, to those
+    /// that are down in it and from there on.
     #[inline(never)]
     fn pass_events(&self, known: &mut Holding, step: u32)
         requires in_range { step < NEVER }
@@ -214,13 +216,14 @@ impl Keys {
         known.place = place;
     }
 
-    /// Adds an event: the key goes down, or up, at the step. Errors, the first that holds: the step is
-    /// above the last one, the key is above 15, an event is there, there are `MOST_EVENTS` events, memory ran
-    /// out. An error changes nothing.
+    /// Adds an event: the key goes down, or up, at the step. Errors, the first that holds: the step
+    /// is above the last one, the key is above 15, an event is there, there are `MOST_EVENTS`
+    /// events, memory ran out. An error changes nothing.
     pub fn insert(&mut self, step: u32, key: u32, down: bool) -> Result<(), KeyFault>
         ensures fault { MatchOption (insert_fault self.old step key)
             (IsOkUnless result KeyFault.OutOfMemory) (λ fault. result ≡ Err fault) }
-        ensures ok { OnOk result (self.new ≡ map.insert self.old (record { key = key; step = step }) down) }
+        ensures ok { OnOk result (self.new
+            ≡ map.insert self.old (record { key = key; step = step }) down) }
         ensures err { OnErr result (self.new ≡ self.old) }
     {
         if let Some(fault) = self.insert_fault(step, key) {
@@ -245,11 +248,13 @@ impl Keys {
         }
     }
 
-    /// Changes what an event says, and takes no memory. Errors, the first that holds: the step is above
-    /// the last one, the key is above 15, no event is there. An error changes nothing.
+    /// Changes what an event says, and takes no memory. Errors, the first that holds: the step is
+    /// above the last one, the key is above 15, no event is there. An error changes nothing.
     pub fn replace(&mut self, step: u32, key: u32, down: bool) -> Result<(), KeyFault>
-        ensures fault { MatchOption (edit_fault self.old step key) (result ≡ Ok tt) (λ fault. result ≡ Err fault) }
-        ensures ok { OnOk result (self.new ≡ map.insert self.old (record { key = key; step = step }) down) }
+        ensures fault { MatchOption (edit_fault self.old step key) (result ≡ Ok tt)
+            (λ fault. result ≡ Err fault) }
+        ensures ok { OnOk result (self.new
+            ≡ map.insert self.old (record { key = key; step = step }) down) }
         ensures err { OnErr result (self.new ≡ self.old) }
     {
         if let Some(fault) = self.edit_fault(step, key) {
@@ -270,8 +275,10 @@ impl Keys {
 
     /// Takes an event out, and takes no memory. Errors as `replace`.
     pub fn delete(&mut self, step: u32, key: u32) -> Result<(), KeyFault>
-        ensures fault { MatchOption (edit_fault self.old step key) (result ≡ Ok tt) (λ fault. result ≡ Err fault) }
-        ensures ok { OnOk result (self.new ≡ map.remove self.old (record { key = key; step = step })) }
+        ensures fault { MatchOption (edit_fault self.old step key) (result ≡ Ok tt)
+            (λ fault. result ≡ Err fault) }
+        ensures ok { OnOk result (self.new
+            ≡ map.remove self.old (record { key = key; step = step })) }
         ensures err { OnErr result (self.new ≡ self.old) }
     {
         if let Some(fault) = self.edit_fault(step, key) {
@@ -319,14 +326,17 @@ impl Keys {
     }
 }
 
-/// Takes over what the events up to a step say, which are the first ones, and answers how many they are.
+/// Takes over what the events up to a step say, which are the first ones, and answers how many they
+/// are.
 #[inline(always)]
 fn pass(events: &[Event], step: u32, keys: &mut u16, down: &mut [bool; KEY_COUNT]) -> usize
-    requires keys { (i : ℕ) (d : Event) → i < length events.now → (slice_index_or events.now i d).key < KEY_COUNT }
+    requires keys { (i : ℕ) (d : Event) → i < length events.now
+        → (slice_index_or events.now i d).key < KEY_COUNT }
     requires mask { keys.old ≡ mask (λ k. slice_index_or down.old k false) 16 }
     ensures at_most { result ≤ length events.now }
     ensures early { (i : ℕ) (d : Event) → i < result → (slice_index_or events.now i d).step ≤ step }
-    ensures next { (d : Event) → result < length events.now → step < (slice_index_or events.now result d).step }
+    ensures next { (d : Event) → result < length events.now
+        → step < (slice_index_or events.now result d).step }
     ensures down { down.new ≡ after_events down.old events.now result }
     ensures mask { keys.new ≡ mask (λ k. slice_index_or down.new k false) 16 }
 {

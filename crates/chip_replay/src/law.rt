@@ -17,9 +17,12 @@ pub fn patched_checkpoint<M: Traced>()
         → length old ≤ image_room
         → length new ≤ image_room
         → drop image_start (M.memory start) ≡ padded old
-        → patched M.memory M.with_memory old new start ≡ with_image M.memory M.with_memory new start }
+        → patched M.memory M.with_memory old new start
+        ≡ with_image M.memory M.with_memory new start }
     ensures state { (start : M) (old new : List ℕ) (rate t : ℕ) (held : ℕ → ℕ)
         → M.is_proper start
-        → ((s i : ℕ) → s < t → i < image_room → differs old new i ≡ true → touched M.touches (run M.step_of rate held start s) (image_start + i) ≡ false)
-        → run M.step_of rate held (patched M.memory M.with_memory old new start) t ≡ patched M.memory M.with_memory old new (run M.step_of rate held start t) }
+        → ((s i : ℕ) → s < t → i < image_room → differs old new i ≡ true
+        → touched M.touches (run M.step_of rate held start s) (image_start + i) ≡ false)
+        → run M.step_of rate held (patched M.memory M.with_memory old new start) t
+        ≡ patched M.memory M.with_memory old new (run M.step_of rate held start t) }
 {}

@@ -44,12 +44,23 @@ impl<M: Traced> Model for Replay<M> {
 
     ghost coded = { history_code M.code };
 
-    ghost view = { λ a. record { start = a.start; rate = a.rate; spacing = a.kept.spacing; keys = a.keys; kept = length a.kept.checkpoints.items + 1; reach = a.kept.reach; ran = a.kept.ran } };
+    ghost view = { λ a. record {
+      start = a.start;
+      rate = a.rate;
+      spacing = a.kept.spacing;
+      keys = a.keys;
+      kept = length a.kept.checkpoints.items + 1;
+      reach = a.kept.reach;
+      ran = a.kept.ran;
+    } };
 
     ghost invariant = { λ a. (0 < a.rate)
         × IsSpacing a.kept.spacing
-        × IsSound a.kept.spacing M.is_proper (touched M.touches) (run M.step_of a.rate (held a.keys) a.start) a.kept.checkpoints.items a.kept.first_touch.items a.kept.reach
-        × IsLent (run M.step_of a.rate (held a.keys) a.start) a.kept.reach a.kept.lent a.kept.lent_step
+        × IsSound a.kept.spacing M.is_proper (touched M.touches)
+        (run M.step_of a.rate (held a.keys) a.start) a.kept.checkpoints.items
+        a.kept.first_touch.items a.kept.reach
+        × IsLent
+        (run M.step_of a.rate (held a.keys) a.start) a.kept.reach a.kept.lent a.kept.lent_step
         × IsHolding a.keys a.kept.lent_step a.kept.holding };
 }
 
@@ -118,14 +129,15 @@ impl<M: Traced> Replay<M> {
         &self.keys
     }
 
-    /// The state at a step: that after the steps 0 to `step - 1`, under the events as they are. It is made
-    /// from the nearest checkpoint, or from the state that was lent last where that is nearer. Errors,
-    /// the first that holds: the step is above the last one, memory ran out; later answers are then
-    /// as if the question had not been asked.
+    /// The state at a step: that after the steps 0 to `step - 1`, under the events as they are. It
+    /// is made from the nearest checkpoint, or from the state that was lent last where that is
+    /// nearer. Errors, the first that holds: the step is above the last one, memory ran out; later
+    /// answers are then as if the question had not been asked.
     pub fn at(&mut self, step: u32) -> Result<&M, AtError>
         ensures past_the_last { (result ≡ Err AtError.StepTooLarge) ↔ (LAST_STEP < step) }
         ensures state { IfOk result (λ state. state.now ≡ state_at M.step_of self.old step) }
-        ensures* answered { sem 𝓛 (Rests (the_row M.row M.Traced) self.entry (λ new. Answered self.old new step result)) }
+        ensures* answered { sem 𝓛
+            (Rests (the_row M.row M.Traced) self.entry (λ new. Answered self.old new step result)) }
     {
         if step > LAST_STEP {
             return Err(AtError::StepTooLarge);
@@ -141,9 +153,11 @@ impl<M: Traced> Replay<M> {
     pub fn insert_key(&mut self, step: u32, key: u32, down: bool) -> Result<(), KeyFault>
         ensures fault { MatchOption (insert_fault self.old.keys step key)
             (IsOkUnless result KeyFault.OutOfMemory) (λ fault. result ≡ Err fault) }
-        ensures keys { OnOk result (self.new.keys ≡ finmap.insert self.old.keys (record { key = key; step = step }) down) }
+        ensures keys { OnOk result (self.new.keys
+            ≡ finmap.insert self.old.keys (record { key = key; step = step }) down) }
         ensures reach { OnOk result (min self.old.reach step ≤ self.new.reach) }
-        ensures others { OnOk result ((self.new.start ≡ self.old.start) × (self.new.rate ≡ self.old.rate)
+        ensures others { OnOk result ((self.new.start ≡ self.old.start)
+            × (self.new.rate ≡ self.old.rate)
             × (self.new.spacing ≡ self.old.spacing) × (self.new.ran ≡ self.old.ran)) }
         ensures err { OnErr result (self.new ≡ self.old) }
     {
@@ -152,14 +166,16 @@ impl<M: Traced> Replay<M> {
         Ok(())
     }
 
-    /// Changes what a key event says, as `Keys::replace`. What is kept of the run up to its step stays.
-    /// An error changes nothing.
+    /// Changes what a key event says, as `Keys::replace`. What is kept of the run up to its step
+    /// stays. An error changes nothing.
     pub fn replace_key(&mut self, step: u32, key: u32, down: bool) -> Result<(), KeyFault>
         ensures fault { MatchOption (edit_fault self.old.keys step key)
             (result ≡ Ok tt) (λ fault. result ≡ Err fault) }
-        ensures keys { OnOk result (self.new.keys ≡ finmap.insert self.old.keys (record { key = key; step = step }) down) }
+        ensures keys { OnOk result (self.new.keys
+            ≡ finmap.insert self.old.keys (record { key = key; step = step }) down) }
         ensures reach { OnOk result (min self.old.reach step ≤ self.new.reach) }
-        ensures others { OnOk result ((self.new.start ≡ self.old.start) × (self.new.rate ≡ self.old.rate)
+        ensures others { OnOk result ((self.new.start ≡ self.old.start)
+            × (self.new.rate ≡ self.old.rate)
             × (self.new.spacing ≡ self.old.spacing) × (self.new.ran ≡ self.old.ran)) }
         ensures err { OnErr result (self.new ≡ self.old) }
     {
@@ -168,14 +184,16 @@ impl<M: Traced> Replay<M> {
         Ok(())
     }
 
-    /// Takes a key event out, as `Keys::delete`. What is kept of the run up to its step stays. An error
-    /// changes nothing.
+    /// Takes a key event out, as `Keys::delete`. What is kept of the run up to its step stays. An
+    /// error changes nothing.
     pub fn delete_key(&mut self, step: u32, key: u32) -> Result<(), KeyFault>
         ensures fault { MatchOption (edit_fault self.old.keys step key)
             (result ≡ Ok tt) (λ fault. result ≡ Err fault) }
-        ensures keys { OnOk result (self.new.keys ≡ finmap.remove self.old.keys (record { key = key; step = step })) }
+        ensures keys { OnOk result (self.new.keys
+            ≡ finmap.remove self.old.keys (record { key = key; step = step })) }
         ensures reach { OnOk result (min self.old.reach step ≤ self.new.reach) }
-        ensures others { OnOk result ((self.new.start ≡ self.old.start) × (self.new.rate ≡ self.old.rate)
+        ensures others { OnOk result ((self.new.start ≡ self.old.start)
+            × (self.new.rate ≡ self.old.rate)
             × (self.new.spacing ≡ self.old.spacing) × (self.new.ran ≡ self.old.ran)) }
         ensures err { OnErr result (self.new ≡ self.old) }
     {
@@ -184,9 +202,9 @@ impl<M: Traced> Replay<M> {
         Ok(())
     }
 
-    /// The machine starts with another image in its memory from now on: the bytes of `new`, and zeros
-    /// after them, stand in the place of those of `old`. What is kept of the run up to the first step
-    /// that touches a byte at which they differ stays. It takes no memory.
+    /// The machine starts with another image in its memory from now on: the bytes of `new`, and
+    /// zeros after them, stand in the place of those of `old`. What is kept of the run up to the
+    /// first step that touches a byte at which they differ stays. It takes no memory.
     pub fn image_changed(&mut self, old: &[u8], new: &[u8])
         requires old_fits { length old.now ≤ image_room }
         requires new_fits { length new.now ≤ image_room }
@@ -196,7 +214,8 @@ impl<M: Traced> Replay<M> {
         ensures spacing { self.new.spacing ≡ self.old.spacing }
         ensures keys { self.new.keys ≡ self.old.keys }
         ensures ran { self.new.ran ≡ self.old.ran }
-        ensures reach { affected M.touches M.step_of self.old.rate (held self.old.keys) old.now new.now self.old.start self.old.reach ≤ self.new.reach }
+        ensures reach { affected M.touches M.step_of self.old.rate
+            (held self.old.keys) old.now new.now self.old.start self.old.reach ≤ self.new.reach }
     {
         self.image_changed_within(0..IMAGE_BYTES, old, new);
     }
@@ -213,7 +232,8 @@ impl<M: Traced> Replay<M> {
         ensures spacing { self.new.spacing ≡ self.old.spacing }
         ensures keys { self.new.keys ≡ self.old.keys }
         ensures ran { self.new.ran ≡ self.old.ran }
-        ensures reach { affected M.touches M.step_of self.old.rate (held self.old.keys) old.now new.now self.old.start self.old.reach ≤ self.new.reach }
+        ensures reach { affected M.touches M.step_of self.old.rate
+            (held self.old.keys) old.now new.now self.old.start self.old.reach ≤ self.new.reach }
     {
         let (first, end) = (changed.start, changed.end);
         let first_touch = &self.kept.first_touch;

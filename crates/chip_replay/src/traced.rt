@@ -28,16 +28,16 @@ pub trait Traced: Drop + Sized {
     /// Holds of each state of a machine.
     ghost is_proper: { Self → Type 0 };
 
-    /// Makes one step with these keys down (key k at bit k), where the timers tick if `tick` says so.
-    /// `touch` then holds the addresses that the step read or wrote, in any order.
+    /// Makes one step with these keys down (key k at bit k), where the timers tick if `tick` says
+    /// so. `touch` then holds the addresses that the step read or wrote, in any order.
     fn step(&mut self, keys: u16, tick: bool, touch: &mut Touch)
         ensures state { self.new ≡ step_of self.old keys tick }
         ensures touched { (at : ℕ) → Contains touch.new at ↔ Contains (touches self.old) at }
         ensures proper { is_proper self.new };
 
-    /// Makes the next `count` steps. The first has the number `from`; step t uses the keys held at t,
-    /// and the timers tick where t + 1 is a multiple of the rate. Each address keeps in `first_touch`
-    /// the least number of a step that touched it.
+    /// Makes the next `count` steps. The first has the number `from`; step t uses the keys held at
+    /// t, and the timers tick where t + 1 is a multiple of the rate. Each address keeps in
+    /// `first_touch` the least number of a step that touched it.
     fn steps<K: HeldKeys>(
         &mut self,
         keys: &mut K,
@@ -101,16 +101,22 @@ pub trait Traced: Drop + Sized {
 
     ghost changed_to_same: { (s : Self) → with_memory s (memory s) ≡ s };
 
-    ghost changed_twice: { (s : Self) (m n : List ℕ) → with_memory (with_memory s m) n ≡ with_memory s n };
+    ghost changed_twice: { (s : Self) (m n : List ℕ)
+        → with_memory (with_memory s m) n ≡ with_memory s n };
 
     /// The memory of a proper state has `MEMORY_BYTES` bytes, and no more is asked of it.
     ghost proper_size: { (s : Self) → is_proper s → length (memory s) ≡ memory_size };
 
-    ghost proper_changed: { (s : Self) (m : List ℕ) → is_proper s → length m ≡ memory_size → is_proper (with_memory s m) };
+    ghost proper_changed: { (s : Self) (m : List ℕ) → is_proper s → length m ≡ memory_size
+        → is_proper (with_memory s m) };
 
     /// A step keeps a state proper.
-    ghost step_keeps: { (s : Self) (keys : ℕ) (tick : Bool) → is_proper s → is_proper (step_of s keys tick) };
+    ghost step_keeps: { (s : Self) (keys : ℕ) (tick : Bool) → is_proper s
+        → is_proper (step_of s keys tick) };
 
     /// A step neither depends on the bytes that it doesn't touch nor changes them.
-    ghost frame_law: { (set : ℕ → Bool) (keys : ℕ) (tick : Bool) (a b : Self) → is_proper a → is_proper b → AgreeOff memory with_memory set a b → All (λ at. IsFalse (set at)) (touches a) → IsFramed memory with_memory (λ s. step_of s keys tick) touches set a b };
+    ghost frame_law: { (set : ℕ → Bool) (keys : ℕ) (tick : Bool) (a b : Self) → is_proper a
+        → is_proper b → AgreeOff memory with_memory set a b
+        → All (λ at. IsFalse (set at)) (touches a)
+        → IsFramed memory with_memory (λ s. step_of s keys tick) touches set a b };
 }

@@ -1,8 +1,9 @@
 //! Cases in a text: sources, commands, and the answers to them.
 //!
-//! A case begins with a line `== NAME`. Of the lines after it those after `| ` are the source's, and those after `> ` are
-//! commands; all others are answers. A line `tape HEX` gives the tape, which is `00` without it. After a line `-- PROFILE`
-//! come the commands and answers of a session of their own on the same source, for a machine of that profile.
+//! A case begins with a line `== NAME`. Of the lines after it those after `| ` are the source's,
+//! and those after `> ` are commands; all others are answers. A line `tape HEX` gives the tape,
+//! which is `00` without it. After a line `-- PROFILE` come the commands and answers of a session
+//! of their own on the same source, for a machine of that profile.
 use chip_bench::{Counted, SetError, Settings, serve};
 use chip_machine::Profile;
 use chip_replay::{LEAST_SPACING, MOST_SPACING};

@@ -1,9 +1,10 @@
 //! What a session counts: what it reads, encodes, and runs.
 //!
-//! A case begins with a line `== NAME`. Lines after `| ` are the source's, and `open N` opens it with N steps between two
-//! checkpoints. Lines after `> ` are commands, and all others are answers, but for these, of what is counted after the last
-//! command: `parsed N` lines were read in all, at most `encoded N` were encoded in all, the last command made at most
-//! `ran N` steps, and the kept run is sound up to `reach N` or further.
+//! A case begins with a line `== NAME`. Lines after `| ` are the source's, and `open N` opens it
+//! with N steps between two checkpoints. Lines after `> ` are commands, and all others are answers,
+//! but for these, of what is counted after the last command: `parsed N` lines were read in all, at
+//! most `encoded N` were encoded in all, the last command made at most `ran N` steps, and the kept
+//! run is sound up to `reach N` or further.
 use crate::cases::append;
 use crate::session::Session;
 use std::alloc::Global;

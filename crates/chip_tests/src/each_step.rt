@@ -8,8 +8,8 @@ const SOURCE: &[u8] = b"L: LD I, T + 1\nLD V0, [I]\nADD V0, 1\nLD [I], V0\nT: LD
 
 const LAST: u32 = 600;
 
-/// The registers and the changing word after so many steps, six of which are a round: a round adds one to the byte, by its
-/// third step in V0, by its fourth in the memory, and by its fifth in V3.
+/// The registers and the changing word after so many steps, six of which are a round: a round adds
+/// one to the byte, by its third step in V0, by its fourth in the memory, and by its fifth in V3.
 fn answers_at(alloc: Global, step: u32) -> Result<String, Fail> {
     let rounds = step / 6;
     let rest = step % 6;

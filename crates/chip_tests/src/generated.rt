@@ -1,5 +1,5 @@
-//! Generated sessions: words, edits of words and keys, and questions between them, answered as a new session on the edited
-//! words and keys answers.
+//! Generated sessions: words, edits of words and keys, and questions between them, answered as a
+//! new session on the edited words and keys answers.
 use crate::session::Session;
 use std::alloc::Global;
 use std::process::Abort;
@@ -139,7 +139,8 @@ fn place_of(events: &[(u32, u32, bool)], step: u32, key: u32) -> Option<usize> {
         .position(|event| event.0 == step && event.1 == key)
 }
 
-/// An edit of a key event, made in what is kept of the session, as a command: an event that is there is taken out.
+/// An edit of a key event, made in what is kept of the session, as a command: an event that is
+/// there is taken out.
 fn key_edit(alloc: Global, edited: &mut Edited, state: &mut u32) -> Result<String, Fail> {
     let step = 64 * (next(state) % 32);
     let key = next(state) % 4;

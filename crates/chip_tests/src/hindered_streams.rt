@@ -5,7 +5,8 @@ use std::alloc::Global;
 use std::process::Abort;
 use std::test::Fail;
 
-/// Each command is answered by one line, and its first five bytes are the fewest that are a command.
+/// Each command is answered by one line, and its first five bytes are the fewest that are a
+/// command.
 const SCRIPT: &[u8] =
     b"ins 1 LD V0, 5\nins 2 LOOP: ADD V0, 1\nins 3 JP LOOP\nimage\nins 2 CLS\nimage\ndel 9\n";
 
@@ -47,7 +48,8 @@ fn last_length(bytes: &[u8]) -> usize {
     length
 }
 
-/// What is written for the script's front: a command that was cut off is none, unless five bytes are left of it.
+/// What is written for the script's front: a command that was cut off is none, unless five bytes
+/// are left of it.
 fn answers_to(alloc: Global, front: &[u8]) -> Result<Vec<u8>, Fail> {
     let lines = count_lines(front);
     let last = last_length(front);
@@ -85,7 +87,8 @@ fn pieces_make_no_difference(rt: HostRuntime) -> Result<(), Fail> {
     Ok(())
 }
 
-/// Asserts that a reader that fails after the script's front leaves the answers to its complete lines.
+/// Asserts that a reader that fails after the script's front leaves the answers to its complete
+/// lines.
 fn expect_reader_failed(
     rt: &(impl Abort + AllocGlobal),
     front: &[u8],

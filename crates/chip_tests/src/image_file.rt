@@ -36,8 +36,8 @@ fn first_line(rt: &HostRuntime, room: &Room<'_>, image: &str, status: u8) -> Res
     }
 }
 
-/// An error unless `asm` on a good source, to an image of that name, ends with the status, and says what it has to. Where it
-/// can't write there is a second line with the reason.
+/// An error unless `asm` on a good source, to an image of that name, ends with the status, and says
+/// what it has to. Where it can't write there is a second line with the reason.
 fn expect_end<F: Files>(
     rt: &HostRuntime,
     files: &F,
@@ -207,7 +207,8 @@ fn keeps_all_names_of_an_image(rt: HostRuntime) -> Result<(), Fail> {
     room.end_with(3)
 }
 
-/// An error unless `asm` with the hindrance writes the image, and says how many files were synced since the last renaming.
+/// An error unless `asm` with the hindrance writes the image, and says how many files were synced
+/// since the last renaming.
 fn synced_of(rt: &HostRuntime, room: &Room<'_>, hindrance: Hindrance) -> Result<u32, Fail> {
     let synced = Cell::new(0);
     let files = HinderedFiles {
@@ -280,7 +281,8 @@ fn put_another(room: &Room<'_>) -> Result<(), Fail> {
     room.put("image", b"before")
 }
 
-/// An error unless an image that is there stays so where a call fails, and that none is made where there is none.
+/// An error unless an image that is there stays so where a call fails, and that none is made where
+/// there is none.
 fn expect_no_change(rt: &HostRuntime, hindrance: Hindrance, status: u8) -> Result<(), Fail> {
     let synced = Cell::new(0);
     let files = HinderedFiles {

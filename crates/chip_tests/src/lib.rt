@@ -1,4 +1,5 @@
-//! Tests that cross crates: worked rows, sessions, the examples of the documents, and the program by its words.
+//! Tests that cross crates: worked rows, sessions, the examples of the documents, and the program
+//! by its words.
 #![tactic(auto)]
 
 #[cfg(test)]

@@ -1,5 +1,5 @@
-//! A folder of files, for tests of what the program does with them. Its calls have no clauses, so that tests of many calls are
-//! proved fast.
+//! A folder of files, for tests of what the program does with them. Its calls have no clauses, so
+//! that tests of many calls are proved fast.
 use crate::words::{Ran, ensure, new_folder, run_on};
 use std::fs;
 use std::os::unix::fs::{MetadataExt, PermissionsExt, symlink};
@@ -143,7 +143,8 @@ impl<'a> Room<'a> {
         Ok(words)
     }
 
-    /// A run of the program by the words of a line, on these files. A word after `@` is a name in the folder.
+    /// A run of the program by the words of a line, on these files. A word after `@` is a name in
+    /// the folder.
     pub(crate) fn run<F: Files>(&self, files: &F, line: &str) -> Result<Ran, Fail> {
         let words = self.words(line)?;
         run_on(self.rt.alloc(), files, &words, b"")

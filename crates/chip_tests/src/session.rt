@@ -1,4 +1,5 @@
-//! A session that takes its commands as text. Its calls have no clauses, so that tests of many calls are proved fast.
+//! A session that takes its commands as text. Its calls have no clauses, so that tests of many
+//! calls are proved fast.
 use chip_bench::{Bench, Change, Command, CommandFault, Question, Refusal, Settings, read_command};
 use std::alloc::Global;
 use std::test::Fail;

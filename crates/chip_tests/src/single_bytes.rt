@@ -3,8 +3,9 @@ use crate::cases::expect;
 use std::process::Abort;
 use std::test::Fail;
 
-/// The faults of a source of one byte, and its image: blanks and comments are no tokens, letters are no mnemonics, digits
-/// and signs begin no statement, a quote has no end, and what else there is begins no token.
+/// The faults of a source of one byte, and its image: blanks and comments are no tokens, letters
+/// are no mnemonics, digits and signs begin no statement, a quote has no end, and what else there
+/// is begins no token.
 fn answers_to_source(byte: u8) -> &'static [u8] {
     match byte {
         b'\n' | b' ' | 9 | 12 | b'\r' | 26 | b';' => b".\n\n",

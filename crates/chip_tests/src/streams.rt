@@ -57,7 +57,8 @@ impl Read for Feed<'_> {
     }
 }
 
-/// A writer with room for so many bytes, which takes so many a call at most. Once it is full it fails, or takes none.
+/// A writer with room for so many bytes, which takes so many a call at most. Once it is full it
+/// fails, or takes none.
 #[derive(Drop)]
 pub(crate) struct Sink {
     taken: Vec<u8>,
@@ -128,7 +129,8 @@ pub(crate) struct Talk {
     written: Vec<u8>,
     reader_failures: u64,
     writer_failures: u64,
-    /// Whether the failures that were counted are those that the reader and the writer counted themselves.
+    /// Whether the failures that were counted are those that the reader and the writer counted
+    /// themselves.
     is_counted: bool,
 }
 

@@ -1,4 +1,5 @@
-//! What `run` and `dis` print, whole, by the settings that the words give. The answers come from a program of its own in Python.
+//! What `run` and `dis` print, whole, by the settings that the words give. The answers come from a
+//! program of its own in Python.
 use crate::room::Room;
 use crate::words::ensure;
 use std::alloc::{AllocError, Global};
@@ -12,7 +13,8 @@ const RANDOM: &str = "RND V0, 255\nRND V1, 255\n";
 
 const SHIFT: &str = "LD V1, 6\nSHR V0, V1\n";
 
-/// An error unless a run on a source of that text, by these words, prints the registers that begin so, and the empty screen.
+/// An error unless a run on a source of that text, by these words, prints the registers that begin
+/// so, and the empty screen.
 fn expect_run(rt: &HostRuntime, text: &str, words: &str, front: &str) -> Result<(), Fail> {
     let room = Room::new(rt, "whole")?;
     room.put("source", text.as_bytes())?;

@@ -264,8 +264,8 @@ fn takes_tapes_up_to_a_length(rt: HostRuntime) -> Result<(), Fail> {
     ensure(status_at_tape(&rt, 8194)? == 2, "8194")
 }
 
-/// The lowest bytes of the first 256 words of PCG XSH RR 64/32 that the seed 1 begins, from a program of its own that follows
-/// the paper of the generator.
+/// The lowest bytes of the first 256 words of PCG XSH RR 64/32 that the seed 1 begins, from a
+/// program of its own that follows the paper of the generator.
 const TAPE_OF_ONE: &str = "\
 e6ee51c03be838c0d49823d45762b5e44e03b55510ff57c77f6bb2017f35fb1b\
 228f00cd5a3ad55bc29e65b2d2a49539a7bf3f7e02b8fe73a62ef4d68ea73884\

@@ -18,7 +18,8 @@ use Rattle.chip_lang.specs.Line.{Reading, reading_of, reading_of_tokens, lexeme_
 
 -- ---- digits
 
--- whether the digits of the first n numbers are digits and name bytes, are visible, and have the value of their number
+-- whether the digits of the first n numbers are digits and name bytes, are visible, and have the
+-- value of their number
 abbrev is_good : ℕ → Bool
 is_good k = is_hexadecimal (hex_digit k) && (is_name_byte (hex_digit k) && (is_visible (hex_digit k) && (digit_value (hex_digit k) == k)))
 

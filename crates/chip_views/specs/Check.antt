@@ -37,19 +37,23 @@ unfoldable pub sentence_with : Fault → Option (List ℕ) → List ℕ
 sentence_with WrongOperands (Some mnemonic) = codes "the operands fit no form of " ++ mnemonic
 sentence_with fault mnemonic = sentence_of fault
 
--- file, line and column, each counted from 1, the column in bytes; the fault's code, and its sentence
+-- file, line and column, each counted from 1, the column in bytes; the fault's code, and its
+-- sentence
 unfoldable pub head : (name : List ℕ) (number : ℕ) → Span → Fault → (sentence : List ℕ) → List ℕ
 head name number span fault sentence =
     name ++ codes ":" ++ decimal number ++ codes ":" ++ decimal (span.start + 1) ++ codes ": F"
     ++ decimal (number_of_fault fault) ++ codes ": " ++ sentence ++ codes "\n"
 
--- what stands below a byte of the line: a tab stays, and the further bytes of a character in UTF-8 take no place
+-- what stands below a byte of the line: a tab stays, and the further bytes of a character in UTF-8
+-- take no place
 abbrev pub blank_of : ℕ → List ℕ
 blank_of b = if b == 9 then 9 ∷ [] else (if is_between 128 191 b then [] else 32 ∷ [])
 
 -- a caret below the first byte of the place, and a tilde below each further one
 unfoldable pub marks : (line : List ℕ) → Span → List ℕ
-marks line span = flat_map blank_of (take span.start line) ++ codes "^" ++ replicate (span.end - span.start - 1) 126 ++ codes "\n"
+marks line span =
+    flat_map blank_of (take span.start line) ++ codes "^"
+    ++ replicate (span.end - span.start - 1) 126 ++ codes "\n"
 
 unfoldable pub help : Option Hint → List ℕ
 help None = []
@@ -58,17 +62,22 @@ help (Some hint) = codes "help: " ++ sentence_of_hint hint ++ codes "\n"
 -- what is printed of a fault that lies at a span of its line
 unfoldable pub report_at : (name : List ℕ) (number : ℕ) (line : List ℕ) → Fault → Span → List ℕ
 report_at name number line fault span =
-    head name number span fault (sentence_with fault (mnemonic_of line)) ++ line ++ codes "\n" ++ marks line span
+    head name number span fault (sentence_with fault (mnemonic_of line)) ++ line ++ codes "\n"
+    ++ marks line span
     ++ help (hint_of fault line span.start)
 
-abbrev pub report_of : (name : List ℕ) (all : List (List ℕ)) (number : ℕ) (line : List ℕ) → Option Fault → List ℕ
+abbrev pub report_of : (name : List ℕ) (all : List (List ℕ)) (number : ℕ) (line : List ℕ)
+    → Option Fault → List ℕ
 report_of name all number line None = []
-report_of name all number line (Some fault) = report_at name number line fault (place_in fault all number line)
+report_of name all number line (Some fault) =
+    report_at name number line fault (place_in fault all number line)
 
 -- the reports of the lines from a number on
-abbrev pub reports_from : (name : List ℕ) (all : List (List ℕ)) (number : ℕ) (lines : List (List ℕ)) → List ℕ
+abbrev pub reports_from : (name : List ℕ) (all : List (List ℕ)) (number : ℕ) (lines : List (List ℕ))
+    → List ℕ
 reports_from name all number [] = []
-reports_from name all number (line ∷ lines) = report_of name all number line (fault_at all number) ++ reports_from name all (number + 1) lines
+reports_from name all number (line ∷ lines) =
+    report_of name all number line (fault_at all number) ++ reports_from name all (number + 1) lines
 
 -- all reports of a source's lines, in their order
 abbrev pub check_of : (name : List ℕ) (lines : List (List ℕ)) → List ℕ

@@ -1,4 +1,5 @@
--- The source text of an image that has none: each word as the instruction that it is, else as data (own).
+-- The source text of an image that has none: each word as the instruction that it is, else as data
+-- (own).
 use Rattle.std.specs.Prelude.{ℕ, ◌+◌, ◌*◌, ◌&&◌, Bool, false, nat_le, List, [], ◌∷◌, ◌++◌, codes, length, if◌then◌else◌, None, Result, Ok, Err}
 use Rattle.std.specs.List.{list_all, flat_map}
 use Rattle.std.specs.Str.{bytes_eq}
@@ -37,7 +38,8 @@ gives_word w reading = false
 -- the line of a word: its instruction, where that text is a line that gives the word, else data
 unfoldable pub word_text : ℕ → List ℕ
 word_text w =
-    if is_plain (show_of w) && gives_word w (reading_of (show_of w)) then show_of w else codes "DW #" ++ hex_word w
+    if is_plain (show_of w) && gives_word w (reading_of (show_of w)) then show_of w
+    else codes "DW #" ++ hex_word w
 
 -- the lines of an image: a line for each word, and an odd last byte as data that isn't padded
 abbrev pub lines_of_image : List ℕ → List (List ℕ)

@@ -1,4 +1,5 @@
--- What may help with a fault: one sentence, where the line has something that other assemblers or editors write (own).
+-- What may help with a fault: one sentence, where the line has something that other assemblers or
+-- editors write (own).
 use Rattle.std.specs.Prelude.{ℕ, ◌-◌, ◌==◌, ◌&&◌, ◌||◌, not, Bool, true, false, if◌then◌else◌, nat_lt, List, [], ◌∷◌, Option, Some, None, codes, drop}
 use Rattle.std.specs.List.{list_any}
 use Rattle.chip_lang.specs.declared.fault.Fault.{Fault}
@@ -80,7 +81,8 @@ is_read (read name body) = true
 abbrev pub hint_of_word : List ℕ → List Token → Option Hint
 hint_of_word rest [] = None
 hint_of_word rest (t ∷ []) = Some Colon
-hint_of_word rest (t ∷ u ∷ ts) = if is_read (reading_of (drop u.start rest)) then Some Colon else None
+hint_of_word rest (t ∷ u ∷ ts) =
+    if is_read (reading_of (drop u.start rest)) then Some Colon else None
 
 abbrev pub hint_of_operators : List Token → List Token → Option Hint
 hint_of_operators all rest =
@@ -108,4 +110,5 @@ is_of_form fault = false
 -- the hint for a fault of a line that lies at a place
 unfoldable pub hint_of : Fault → List ℕ → (place : ℕ) → Option Hint
 hint_of fault line place =
-    if is_of_form fault && has_twice 47 (tokens_of line) then Some Slashes else hint_by_fault fault line (drop place line)
+    if is_of_form fault && has_twice 47 (tokens_of line) then Some Slashes
+    else hint_by_fault fault line (drop place line)

@@ -13,9 +13,11 @@ width high = if high then 128 else 64
 abbrev pub height : Bool → ℕ
 height high = if high then 64 else 32
 
--- whether a point of the size is lit: one of the low size is four stored points, of which the left upper one stands for it
+-- whether a point of the size is lit: one of the low size is four stored points, of which the left
+-- upper one stands for it
 abbrev pub is_seen : Bool → Points → ℕ → ℕ → Bool
-is_seen high lit column row = if high then is_lit lit column row else is_lit lit (2 * column) (2 * row)
+is_seen high lit column row =
+    if high then is_lit lit column row else is_lit lit (2 * column) (2 * row)
 
 -- the character for a point and the one below it
 unfoldable pub cell : Letters → Bool → Bool → List ℕ
@@ -30,15 +32,19 @@ cell Plain true true = codes ":"
 
 -- the character in a column of a line
 unfoldable pub cell_at : Letters → Bool → Points → ℕ → ℕ → List ℕ
-cell_at letters high lit line column = cell letters (is_seen high lit column (2 * line)) (is_seen high lit column (2 * line + 1))
+cell_at letters high lit line column =
+    cell letters (is_seen high lit column (2 * line)) (is_seen high lit column (2 * line + 1))
 
 -- a line of characters: two rows of points
 unfoldable pub picture_line : Letters → Bool → Points → ℕ → List ℕ
-picture_line letters high lit line = flat_map (cell_at letters high lit line) (range_with_len 0 (width high)) ++ 10 ∷ []
+picture_line letters high lit line =
+    flat_map (cell_at letters high lit line) (range_with_len 0 (width high)) ++ 10 ∷ []
 
 abbrev pub lines_high : Bool → ℕ
 lines_high high = if high then 32 else 16
 
 -- the screen of a state, line by line from the top
 unfoldable pub picture_of : Letters → State → List ℕ
-picture_of letters s = flat_map (picture_line letters s.core.high s.core.lit) (range_with_len 0 (lines_high s.core.high))
+picture_of letters s =
+    flat_map (picture_line letters s.core.high s.core.lit)
+    (range_with_len 0 (lines_high s.core.high))

@@ -26,8 +26,9 @@ impl Names for NoNames {
     }
 }
 
-/// The source text of an image of at most 3,584 bytes: a line for each word, as the instruction that it is or else as `DW #wwww`, and for
-/// an odd last byte `ALIGN OFF` and `DB #bb`. The text opens, has no fault, and its image is that one.
+/// The source text of an image of at most 3,584 bytes: a line for each word, as the instruction
+/// that it is or else as `DW #wwww`, and for an odd last byte `ALIGN OFF` and `DB #bb`. The text
+/// opens, has no fault, and its image is that one.
 ///
 /// # Errors
 ///
@@ -131,7 +132,9 @@ fn push_data_word(text: &mut Vec<u8>, word: u16) -> Result<(), AllocError>
 
 // Adds the lines of an odd last byte.
 fn push_byte_lines(text: &mut Vec<u8>, byte: u8) -> Result<(), AllocError>
-    ensures { OnOk result (text.new.items ≡ text.old.items ++ line_text (codes "ALIGN OFF") ++ line_text (codes "DB #" ++ hex_byte byte)) }
+    ensures { OnOk result (text.new.items
+        ≡ text.old.items ++ line_text (codes "ALIGN OFF")
+        ++ line_text (codes "DB #" ++ hex_byte byte)) }
 {
     let byte = u16::from(byte);
     text.extend_from_slice(b"ALIGN OFF\nDB #")?;

@@ -1,4 +1,5 @@
-//! Views of images, sources and screens: a source text for an image, faults as compilers print them, and pictures.
+//! Views of images, sources and screens: a source text for an image, faults as compilers print
+//! them, and pictures.
 #![tactic(auto)]
 
 mod bitmap;

@@ -15,8 +15,8 @@ pub enum Letters {
     Plain,
 }
 
-/// The screen of a machine as text: a line for two rows of points, each character two points, 64 characters and 16 lines in the
-/// low size, 128 and 32 in the high one.
+/// The screen of a machine as text: a line for two rows of points, each character two points, 64
+/// characters and 16 lines in the low size, 128 and 32 in the high one.
 ///
 /// # Errors
 ///

@@ -1,5 +1,5 @@
--- What holds of each line, found line by line (own). The lines before a line are listed from the nearest one back. Laws say that
--- this is what Places states, and that nothing else is.
+-- What holds of each line, found line by line (own). The lines before a line are listed from the
+-- nearest one back. Laws say that this is what Places states, and that nothing else is.
 use Rattle.std.specs.Prelude.{ℕ, ◌+◌, ℤ, unsigned_abs, Bool, true, false, not, ◌&&◌, List, [], ◌∷◌, reverse, map, length, Option, Some, None, is_none, Result, Ok, Err, if◌then◌else◌, nat_le, fold, sum_by, count_by, filter, find, take_while, filter_map, option_map}
 use Rattle.std.specs.List.{list_all}
 use Rattle.std.specs.Option.{option_map_or}
@@ -24,7 +24,8 @@ with_between (p ∷ before) = ([], p) ∷ map (λ s. (p ∷ s.0, s.1)) (with_bet
 abbrev pub closes_no_more : List Placed → Bool
 closes_no_more [] = true
 closes_no_more (p ∷ earlier) =
-    nat_le (count_by is_endif (p ∷ earlier)) (count_by is_if (p ∷ earlier)) && closes_no_more earlier
+    nat_le (count_by is_endif (p ∷ earlier)) (count_by is_if (p ∷ earlier))
+    && closes_no_more earlier
 
 -- an IF line encloses what follows while no run of lines after it closes more than it opens
 abbrev pub encloses : List Placed × Placed → Bool
@@ -49,7 +50,8 @@ address before =
 
 -- the last ALIGN that takes effect is not OFF
 unfoldable pub is_aligning : List Placed → Bool
-is_aligning before = option_map_or (λ p. not (is_align_off_body (body_of p.line))) (find is_align before) true
+is_aligning before =
+    option_map_or (λ p. not (is_align_off_body (body_of p.line))) (find is_align before) true
 
 -- an ELSE or ENDIF that no IF encloses, or an ELSE after another one of its IF
 abbrev pub is_misplaced : List Placed → Body → Bool
@@ -88,7 +90,10 @@ place before line =
       here = address before;
       value = number_value;
       fault = fault;
-      size = if live && is_none fault then full_size (is_aligning before) (address before) body number_value else 0;
+      size =
+          if live && is_none fault
+          then full_size (is_aligning before) (address before) body number_value
+          else 0;
     }
 
 -- what holds of each line, the last one first

@@ -1,4 +1,5 @@
--- Lines of which the first pass asks only their size and their name: an instruction or no statement (own).
+-- Lines of which the first pass asks only their size and their name: an instruction or no statement
+-- (own).
 use Rattle.std.specs.Prelude.{◌≡◌, ℕ, ◌+◌, ◌≤◌, nat_lt, pos, Bool, true, false, if◌then◌else◌, Option, Some, None}
 use Rattle.chip_lang.specs.declared.limits.TheConstants.{MEMORY_BYTES}
 use Rattle.chip_lang.specs.declared.fault.Fault.{Fault}
@@ -23,5 +24,6 @@ pub record IsBare (line : Reading) (name : Option Name) (size : ℕ) : Type 0 wh
 abbrev pub fault_of_bare : (live twice : Bool) (here size : ℕ) → Option Fault
 fault_of_bare live twice here size =
     if live
-    then (if twice then Some DefinedTwice else (if nat_lt MEMORY_BYTES (here + size) then Some PastMemory else None))
+    then (if twice then Some DefinedTwice
+    else (if nat_lt MEMORY_BYTES (here + size) then Some PastMemory else None))
     else None

@@ -21,7 +21,8 @@ abbrev pub is_plain_line : Reading → Bool
 is_plain_line (bad fault) = false
 is_plain_line (read label body) = is_plain body
 
--- the statement does nothing where it isn't live: it opens, turns or closes no block, and its value isn't asked for
+-- the statement does nothing where it isn't live: it opens, turns or closes no block, and its value
+-- isn't asked for
 abbrev pub is_idle : Body → Bool
 is_idle (ifdef n) = false
 is_idle (ifund n) = false
@@ -54,4 +55,5 @@ pub record HasSameEffect (live : Bool) (old new : Reading) : Type 0 where
 
 -- the same, of the line at a place of some lines
 pub record HasSameEffectAt (lines : List Reading) (at : ℕ) (new : Reading) : Type 0 where
-  pub each : (p : Placed) → slice_get (reverse (placed lines)) at ≡ Some p → HasSameEffect p.live p.line new
+  pub each : (p : Placed) → slice_get (reverse (placed lines)) at ≡ Some p
+      → HasSameEffect p.live p.line new

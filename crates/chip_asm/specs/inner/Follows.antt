@@ -10,11 +10,26 @@ use Rattle.chip_asm.specs.declared.pass.Pass.{Pass}
 
 -- an open block, as the lines before say
 abbrev pub block_of : List Placed → Placed → Block
-block_of before opener = record { number = opener.number; live = opener.live; holds = holds before opener; has_else = has_else before opener }
+block_of before opener =
+    record {
+      number = opener.number;
+      live = opener.live;
+      holds = holds before opener;
+      has_else = has_else before opener;
+    }
 
 -- the first-pass result of a line
 abbrev pub placement_of : Placed → Placement
-placement_of p = record { number = p.number; is_if = is_if p; live = p.live; here = p.here; fault = p.fault; value = p.value; size = p.size }
+placement_of p =
+    record {
+      number = p.number;
+      is_if = is_if p;
+      live = p.live;
+      here = p.here;
+      fault = p.fault;
+      value = p.value;
+      size = p.size;
+    }
 
 pub record Follows (pass : Pass) (before : List Placed) : Type 0 where
   pub at_address : pass.here ≡ address before
@@ -26,7 +41,8 @@ pub record Follows (pass : Pass) (before : List Placed) : Type 0 where
   pub live : pass.live ≡ (not pass.ended && list_all (λ b. b.holds) pass.blocks.items)
 
 abbrev pub next_address : Bool → ℕ → Body → ℤ → ℕ → ℕ
-next_address accepted here body value size = if accepted && is_org_body body then unsigned_abs value else here + size
+next_address accepted here body value size =
+    if accepted && is_org_body body then unsigned_abs value else here + size
 
 abbrev pub next_aligning : Bool → Bool → Body → Bool
 next_aligning accepted aligning (align on) = if accepted then on else aligning

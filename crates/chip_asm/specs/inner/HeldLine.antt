@@ -19,9 +19,16 @@ abbrev pub IsKnown : Option ℤ → Reading → Type 0
 IsKnown known line = (names : List (Name × Symbol)) → IsKnownUnder names known line
 
 abbrev pub kept_held : HeldLine → KeptLine
-kept_held (Nothing source start count) = record { text = part_from source.value.bytes start count; line = source.value.nothing; code = source.value.no_code; constant = None }
+kept_held (Nothing source start count) =
+    record {
+      text = part_from source.value.bytes start count;
+      line = source.value.nothing;
+      code = source.value.no_code;
+      constant = None;
+    }
 kept_held (Boxed kept) = kept.value
 
 abbrev pub IsLineHeld : HeldLine → Type 0
-IsLineHeld (Nothing source start count) = (start + count ≤ length source.value.bytes) × SaysNothing source.value.nothing
+IsLineHeld (Nothing source start count) =
+    (start + count ≤ length source.value.bytes) × SaysNothing source.value.nothing
 IsLineHeld (Boxed kept) = IsKnown kept.value.constant (seen_line kept.value.line)

@@ -1,4 +1,5 @@
--- The text of a line, from how it is held: bytes of its own, or a part of those that were read together (own).
+-- The text of a line, from how it is held: bytes of its own, or a part of those that were read
+-- together (own).
 use Rattle.std.specs.Prelude.{◌≡◌, ℕ, ◌+◌, ◌-◌, ◌≤◌, List, None, drop, length, slice_range}
 use Rattle.chip_lang.specs.Line.{empty, read}
 use Rattle.chip_lang.specs.SeenLine.{seen_line}

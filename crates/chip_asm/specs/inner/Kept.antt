@@ -20,11 +20,14 @@ pub record AreCurrent (lines : List KeptLine) : Type 0 where
   pub each : (place : ℕ) (line : KeptLine) → place < length lines
       → has_code (body_of (reading_in (slice_index_or lines place line))) ≡ true
       → is_placed_at (placements_of (readings_in lines)) place ≡ true
-      → (slice_index_or lines place line).code ≡ code_among (readings_in lines) (reading_in (slice_index_or lines place line))
+      → (slice_index_or lines place line).code
+      ≡ code_among (readings_in lines) (reading_in (slice_index_or lines place line))
 
 -- where the line at a place is accepted and has code, this is its code
 pub record HasCodeAt (lines : List Reading) (at : ℕ) (kept : KeptLine) : Type 0 where
-  pub is : has_code (body_of (reading_in kept)) ≡ true → is_placed_at (placements_of lines) at ≡ true → kept.code ≡ code_among lines (reading_in kept)
+  pub is : has_code (body_of (reading_in kept)) ≡ true
+      → is_placed_at (placements_of lines) at ≡ true
+      → kept.code ≡ code_among lines (reading_in kept)
 
 -- what is kept is right for the texts
 pub record IsKept (kept : Kept) : Type 0 where
@@ -32,19 +35,25 @@ pub record IsKept (kept : Kept) : Type 0 where
   pub are_read : readings_in kept.lines.items ≡ map reading_of (texts_in kept.lines.items)
   pub laid_out : IsLayoutOf kept.layout (readings_in kept.lines.items)
   pub current : AreCurrent kept.lines.items
-  -- each byte is that at its address, also where a line has a fault; past the kept bytes they are zeros
-  pub imaged : (index : ℕ) → index < IMAGE_BYTES → slice_index kept.image.items index ≡ byte_at (placed (readings_in kept.lines.items)) (IMAGE_START + index)
+  -- each byte is that at its address, also where a line has a fault; past the kept bytes they are
+  -- zeros
+  pub imaged : (index : ℕ) → index < IMAGE_BYTES
+      → slice_index kept.image.items index
+      ≡ byte_at (placed (readings_in kept.lines.items)) (IMAGE_START + index)
   pub short : vec_len kept.image ≤ IMAGE_BYTES
   pub long : 0 < length kept.lines.items → vec_len kept.image ≡ IMAGE_BYTES
   pub counted : kept.faults ≡ length (faults_of_lines (readings_in kept.lines.items))
   pub traits : kept.traits.items ≡ map traits_of (readings_in kept.lines.items)
-  pub hints : kept.hints.items ≡ map (hint_in (names_in kept.layout.names)) (readings_in kept.lines.items)
+  pub hints : kept.hints.items
+      ≡ map (hint_in (names_in kept.layout.names)) (readings_in kept.lines.items)
   pub spare : IsSpareFor kept.layout kept.spare
 
 -- the new codes stand in the place of the kept ones, and nothing else changed
-pub record IsMerged (kept : List KeptLine) (fresh : List (ℕ × Coded)) (lines : List KeptLine) : Type 0 where
+pub record IsMerged (kept : List KeptLine) (fresh : List (ℕ × Coded))
+    (lines : List KeptLine) : Type 0 where
   pub long : length lines ≡ length kept
   pub texts : texts_in lines ≡ texts_in kept
   pub readings : readings_in lines ≡ readings_in kept
   pub each : (place : ℕ) (line : KeptLine) → place < length kept
-      → (slice_index_or lines place line).code ≡ unwrap_or (code_at fresh place) (slice_index_or kept place line).code
+      → (slice_index_or lines place line).code
+      ≡ unwrap_or (code_at fresh place) (slice_index_or kept place line).code

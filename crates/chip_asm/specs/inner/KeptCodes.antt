@@ -20,7 +20,8 @@ coded_bytes (Faulty fault) = []
 abbrev pub kept_fault : Placement → KeptLine → Option Fault
 kept_fault q kept =
     if q.live
-    then (if is_some q.fault then q.fault else (if has_code (body_of (reading_in kept)) then coded_fault kept.code else None))
+    then (if is_some q.fault then q.fault
+    else (if has_code (body_of (reading_in kept)) then coded_fault kept.code else None))
     else None
 
 abbrev pub kept_bytes : KeptLine → List ℕ

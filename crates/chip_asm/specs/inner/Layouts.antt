@@ -30,4 +30,5 @@ pub record IsLayoutOf (layout : Layout) (lines : List Reading) : Type 0 where
 
 -- the room for the next layout: where it has as many names, it has the same ones
 abbrev pub IsSpareFor : (layout spare : Layout) → Type 0
-IsSpareFor layout spare = length spare.names ≡ length layout.names → names_in spare.names ≡ names_in layout.names
+IsSpareFor layout spare =
+    length spare.names ≡ length layout.names → names_in spare.names ≡ names_in layout.names

@@ -29,7 +29,9 @@ unfoldable pub is_encoded_again : (old new : List Reading) → (ℕ → Option �
 is_encoded_again old new origin at =
     has_code (body_of at.1)
     && (is_placed_at (placements_of new) at.0
-    && not (option_map_or (λ before. is_placed_at (placements_of old) before && agree_on (values_of (names_of_lines old)) (values_of (names_of_lines new)) at.1) (origin at.0) false))
+    && not (option_map_or (λ before. is_placed_at (placements_of old) before
+    && agree_on (values_of (names_of_lines old)) (values_of (names_of_lines new)) at.1)
+    (origin at.0) false))
 
 -- the code of a line of some lines
 unfoldable pub code_among : List Reading → Reading → Coded
@@ -37,7 +39,8 @@ code_among lines line = coded (own_bytes (body_of line) (values_of (names_of_lin
 
 -- the new code of a line, where it is encoded again
 abbrev pub new_code : (old new : List Reading) → (ℕ → Option ℕ) → ℕ × Reading → Option Coded
-new_code old new origin at = if is_encoded_again old new origin at then Some (code_among new at.1) else None
+new_code old new origin at =
+    if is_encoded_again old new origin at then Some (code_among new at.1) else None
 
 -- the codes of the lines that have one, each with the place of its line
 abbrev pub codes_placed : (ℕ × Reading → Option Coded) → List (ℕ × Reading) → List (ℕ × Coded)
@@ -48,7 +51,8 @@ new_codes old new origin = codes_placed (new_code old new origin) (enumerate_fro
 
 -- the same of the lines up to a place
 abbrev pub codes_up_to : (old new : List Reading) → (ℕ → Option ℕ) → ℕ → List (ℕ × Coded)
-codes_up_to old new origin place = codes_placed (new_code old new origin) (take place (enumerate_from 0 new))
+codes_up_to old new origin place =
+    codes_placed (new_code old new origin) (take place (enumerate_from 0 new))
 
 -- the code for a place
 abbrev pub code_at : List (ℕ × Coded) → ℕ → Option Coded
@@ -59,4 +63,5 @@ count_again old new origin = count_by (is_encoded_again old new origin) (enumera
 
 -- that of the lines up to a place
 abbrev pub count_up_to : (old new : List Reading) → (ℕ → Option ℕ) → ℕ → ℕ
-count_up_to old new origin place = count_by (is_encoded_again old new origin) (take place (enumerate_from 0 new))
+count_up_to old new origin place =
+    count_by (is_encoded_again old new origin) (take place (enumerate_from 0 new))

@@ -23,4 +23,5 @@ pub record IsRemaking (r : Remaking) : Type 0 where
   pub long : length r.moves.now ≡ length r.new.now.names + 2
   pub moves : AreMoves r.moves.now r.old.now.names r.new.now.names
   pub laid_out : IsLayoutOf r.new.now (lines_then r)
-  pub accepted : r.old.now.all_accepted ≡ true → list_all is_placed r.old.now.placements.items ≡ true
+  pub accepted : r.old.now.all_accepted ≡ true
+      → list_all is_placed r.old.now.placements.items ≡ true

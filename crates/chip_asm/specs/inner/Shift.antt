@@ -1,4 +1,5 @@
--- What moves where the lines after an edit only move (own). The sums are those of 16 bits, and stay far below where these would end.
+-- What moves where the lines after an edit only move (own). The sums are those of 16 bits, and stay
+-- far below where these would end.
 use Rattle.std.specs.Prelude.{◌≡◌, ℕ, ◌+◌, ◌-◌, ◌^◌, ◌%◌, ◌≤◌, ◌++◌, nat_le, is_none, Option, option_to_list, if◌then◌else◌, min, pos, unsigned_abs, Bool, true, false, List, take, drop, slice_get}
 use Rattle.std.specs.List.{list_all}
 use Rattle.std.specs.Global.{Vec}
@@ -28,10 +29,12 @@ abbrev pub moved_number : Shift → ℕ → ℕ
 moved_number shift number = ((number + shift.added) % 2 ^ 16 + (2 ^ 16 - shift.removed)) % 2 ^ 16
 
 abbrev pub moved_address : Shift → ℕ → ℕ
-moved_address shift address = ((address + shift.new_address) % 2 ^ 16 + (2 ^ 16 - shift.old_address)) % 2 ^ 16
+moved_address shift address =
+    ((address + shift.new_address) % 2 ^ 16 + (2 ^ 16 - shift.old_address)) % 2 ^ 16
 
 abbrev pub moved_placement : Shift → Placement → Placement
-moved_placement shift q = record q { number = moved_number shift q.number; here = moved_address shift q.here }
+moved_placement shift q =
+    record q { number = moved_number shift q.number; here = moved_address shift q.here }
 
 -- a name of an address
 abbrev pub moved_symbol : Shift → Symbol → Symbol
@@ -42,7 +45,8 @@ moved_symbol shift symbol = record {
 
 -- what a name means after the edit, where the lines past that of a number move
 abbrev pub symbol_past : Shift → ℕ → Symbol → Symbol
-symbol_past shift number symbol = if nat_le symbol.line number then symbol else moved_symbol shift symbol
+symbol_past shift number symbol =
+    if nat_le symbol.line number then symbol else moved_symbol shift symbol
 
 abbrev pub name_past : Shift → ℕ → Name × Symbol → Name × Symbol
 name_past shift number e = (e.0, symbol_past shift number e.1)
@@ -80,7 +84,8 @@ takes_steady lines Keep = false
 
 -- the line that goes gives no name, if one does
 abbrev pub is_nameless_at : List Reading → ℕ → Bool
-is_nameless_at lines at = option_map_or (λ line. is_none (name_defined line)) (slice_get lines at) false
+is_nameless_at lines at =
+    option_map_or (λ line. is_none (name_defined line)) (slice_get lines at) false
 
 abbrev pub takes_nameless : List Reading → Edit → Bool
 takes_nameless lines (Insert at line) = true
@@ -92,8 +97,10 @@ takes_nameless lines Keep = false
 abbrev pub old_place : Edit → ℕ → ℕ
 old_place edit place = place + removed_by edit - added_by edit
 
--- from a place on the lines after an edit only move, if they are plain, where the pass stands before them at an address
-pub record IsShift (shift : Shift) (old : Layout) (lines : List Reading) (edit : Edit) (next here : ℕ) : Type 0 where
+-- from a place on the lines after an edit only move, if they are plain, where the pass stands
+-- before them at an address
+pub record IsShift (shift : Shift) (old : Layout) (lines : List Reading) (edit : Edit)
+    (next here : ℕ) : Type 0 where
   pub steady : takes_steady lines edit ≡ true
   pub added : shift.added ≡ added_by edit
   pub removed : shift.removed ≡ removed_by edit
@@ -104,15 +111,19 @@ pub record IsShift (shift : Shift) (old : Layout) (lines : List Reading) (edit :
   pub accepted : list_all is_placed (drop (old_place edit next) old.placements.items) ≡ true
 
 -- the pass stands after the first of some lines, with what it found of them
-pub record IsWalked (walked : Vec Placement × Pass) (lines : List Reading) (place : ℕ) : Type 0 where
+pub record IsWalked (walked : Vec Placement × Pass) (lines : List Reading)
+    (place : ℕ) : Type 0 where
   pub placements : walked.0.items ≡ first_placements (take place lines)
   pub follows : Follows walked.1 (placed (take place lines))
 
--- What the first pass finds of the line that an edit brings, if it brings one, and the address after it, where no name comes or goes. The
--- edit changes the lines up to a place.
-pub record IsQuiet (found : Option Placement) (here : ℕ) (old : Layout) (lines news : List Reading) (edit : Edit) (next : ℕ) : Type 0 where
-  pub placements : take (first_changed edit) old.placements.items ++ option_to_list found ≡ first_placements (take next news)
+-- What the first pass finds of the line that an edit brings, if it brings one, and the address
+-- after it, where no name comes or goes. The edit changes the lines up to a place.
+pub record IsQuiet (found : Option Placement) (here : ℕ) (old : Layout) (lines news : List Reading)
+    (edit : Edit) (next : ℕ) : Type 0 where
+  pub placements : take (first_changed edit) old.placements.items ++ option_to_list found
+      ≡ first_placements (take next news)
   pub accepted : list_all is_placed (option_to_list found) ≡ true
   pub at : here ≡ address (placed (take next news))
   pub names : names_up_to (first_changed edit) old.names ≡ symbols (placed (take next news))
-  pub same_names : names_in (names_up_to (first_changed edit) old.names) ≡ names_in (names_up_to (old_place edit next) old.names)
+  pub same_names : names_in (names_up_to (first_changed edit) old.names)
+      ≡ names_in (names_up_to (old_place edit next) old.names)

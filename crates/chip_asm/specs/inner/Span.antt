@@ -11,7 +11,8 @@ use Rattle.chip_asm.specs.declared.span.Span.{Span}
 use Rattle.chip_asm.specs.inner.Hints.{names_in}
 use Rattle.chip_asm.specs.inner.Resume.{first_changed}
 
--- a line without a fault stands where another one stood, but for the distance between two addresses, and takes the same space
+-- a line without a fault stands where another one stood, but for the distance between two
+-- addresses, and takes the same space
 pub record StandsAlike (from to : ℕ) (old new : Placement) : Type 0 where
   pub here : old.here + to ≡ new.here + from
   pub size : old.size ≡ new.size
@@ -23,7 +24,8 @@ pub record StandsAlike (from to : ℕ) (old new : Placement) : Type 0 where
 pub record IsFront (old new : List Placement) (front : ℕ) : Type 0 where
   pub old_long : front ≤ length old
   pub new_long : front ≤ length new
-  pub each : (place : ℕ) (p q : Placement) → place < front → slice_get old place ≡ Some p → slice_get new place ≡ Some q → StandsAlike 0 0 p q
+  pub each : (place : ℕ) (p q : Placement) → place < front → slice_get old place ≡ Some p
+      → slice_get new place ≡ Some q → StandsAlike 0 0 p q
 
 -- so many last lines moved by one distance
 pub record IsBack (old new : List Placement) (back : ℕ) : Type 0 where
@@ -32,7 +34,8 @@ pub record IsBack (old new : List Placement) (back : ℕ) : Type 0 where
   pub old_long : back ≤ length old
   pub new_long : back ≤ length new
   pub each : (place : ℕ) (p q : Placement) → place < back
-      → slice_get old (length old - 1 - place) ≡ Some p → slice_get new (length new - 1 - place) ≡ Some q → StandsAlike from to p q
+      → slice_get old (length old - 1 - place) ≡ Some p
+      → slice_get new (length new - 1 - place) ≡ Some q → StandsAlike from to p q
 
 pub record IsSpan (old new : List Placement) (span : Span) : Type 0 where
   pub front : IsFront old new span.front
@@ -52,13 +55,16 @@ start_at placements place = option_map_or (λ p. p.here) (slice_get placements p
 -- the address after the line before a place, or where the image begins
 abbrev pub end_before : List Placement → ℕ → ℕ
 end_before placements zero = IMAGE_START
-end_before placements (suc place) = option_map_or (λ p. p.here + p.size) (slice_get placements place) IMAGE_START
+end_before placements (suc place) =
+    option_map_or (λ p. p.here + p.size) (slice_get placements place) IMAGE_START
 
 -- between two lists of lines the first lines and the last ones are the same
 pub record KeepsEnds (before after : List KeptLine) (span : Span) : Type 0 where
-  pub front : (place : ℕ) (line : KeptLine) → place < span.front → slice_index_or after place line ≡ slice_index_or before place line
+  pub front : (place : ℕ) (line : KeptLine) → place < span.front
+      → slice_index_or after place line ≡ slice_index_or before place line
   pub back : (place : ℕ) (line : KeptLine) → place < span.back
-      → slice_index_or after (length after - 1 - place) line ≡ slice_index_or before (length before - 1 - place) line
+      → slice_index_or after (length after - 1 - place) line
+      ≡ slice_index_or before (length before - 1 - place) line
 
 -- the addresses between which bytes move stand in order, in memory
 pub record MayMove (old new : List Placement) (span : Span) : Type 0 where
@@ -68,16 +74,19 @@ pub record MayMove (old new : List Placement) (span : Span) : Type 0 where
   pub from_high : start_at old (length old - span.back) ≤ MEMORY_BYTES
   pub to_high : start_at new (length new - span.back) ≤ MEMORY_BYTES
 
--- a byte of the image where what stands from one address on was moved to another one, and zeros stand before it from a first address on
+-- a byte of the image where what stands from one address on was moved to another one, and zeros
+-- stand before it from a first address on
 abbrev pub byte_behind : (first from to : ℕ) → List ℕ → ℕ → ℕ
 byte_behind first from to image k =
     if nat_lt k (first - IMAGE_START) then slice_index image k
-    else (if nat_lt k (to - IMAGE_START) then 0 else slice_index image (k - (to - IMAGE_START) + (from - IMAGE_START)))
+    else (if nat_lt k (to - IMAGE_START) then 0
+    else slice_index image (k - (to - IMAGE_START) + (from - IMAGE_START)))
 
 -- a byte of the image once the last lines have moved: none stands between the first lines and them
 abbrev pub moved_byte : (old new : List Placement) → Span → List ℕ → ℕ → ℕ
 moved_byte old new span image k =
-    byte_behind (end_before old span.front) (start_at old (length old - span.back)) (start_at new (length new - span.back)) image k
+    byte_behind (end_before old span.front) (start_at old (length old - span.back))
+    (start_at new (length new - span.back)) image k
 
 -- the span that an edit of so many lines leaves between two layouts, with the same names in both
 pub record IsSpanOf (old new : Layout) (count : ℕ) (edit : Edit) (span : Span) : Type 0 where

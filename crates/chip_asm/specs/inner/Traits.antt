@@ -1,4 +1,5 @@
--- What is kept of a line apart from it, so that steps over all lines needn't look into most of them (own).
+-- What is kept of a line apart from it, so that steps over all lines needn't look into most of them
+-- (own).
 use Rattle.std.specs.Prelude.{Bool, false, not, ◌&&◌, is_some, slice_get}
 use Rattle.chip_lang.specs.Line.{Body, Reading, bad, read}
 use Rattle.chip_lang.specs.Uses.{names_used, name_defined}
@@ -25,4 +26,12 @@ abbrev pub is_steady : Body → Bool
 is_steady body = not (is_if_body body) && not (is_end_body body) && not (is_align_body body)
 
 abbrev pub traits_of : Reading → Traits
-traits_of line = record { is_bare = is_bare_line line; is_plain = is_plain_line line; gives_name = gives_name line; is_coded = has_code (body_of line); has_names = uses_name line; is_steady = is_steady (body_of line) }
+traits_of line =
+    record {
+      is_bare = is_bare_line line;
+      is_plain = is_plain_line line;
+      gives_name = gives_name line;
+      is_coded = has_code (body_of line);
+      has_names = uses_name line;
+      is_steady = is_steady (body_of line);
+    }

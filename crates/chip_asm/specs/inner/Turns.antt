@@ -5,7 +5,9 @@ use Rattle.chip_asm.specs.declared.block.Block.{Block}
 
 -- the other side of a block, once
 abbrev pub turned : Block → Block
-turned b = if b.has_else then b else record { number = b.number; live = b.live; holds = not b.holds; has_else = true }
+turned b =
+    if b.has_else then b
+    else record { number = b.number; live = b.live; holds = not b.holds; has_else = true }
 
 abbrev pub turn_first : List Block → List Block
 turn_first [] = []

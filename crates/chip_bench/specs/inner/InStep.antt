@@ -12,17 +12,25 @@ use Rattle.chip_bench.specs.declared.refusal.Refusal.{Refusal}
 -- a kept run of these parts
 abbrev pub kept_run : SessionSettings → History State → List ℕ → KeptRun
 kept_run settings replay last =
-    record { settings = settings; keys = replay.keys; last_image = last; reach = replay.reach; ran = replay.ran }
+    record {
+      settings = settings;
+      keys = replay.keys;
+      last_image = last;
+      reach = replay.reach;
+      ran = replay.ran;
+    }
 
 -- the replay starts from the last image, and has the session's rate and spacing
-pub record Replays (settings : SessionSettings) (last : List ℕ) (replay : History State) : Type 0 where
+pub record Replays (settings : SessionSettings) (last : List ℕ)
+    (replay : History State) : Type 0 where
   pub start : replay.start ≡ start_of last settings.tape settings.profile
   pub rate : replay.rate ≡ settings.rate
   pub spacing : replay.spacing ≡ settings.spacing
   pub fits : length last ≤ IMAGE_BYTES
 
 -- the replay runs the last image, and there is room for any
-pub record IsInStep (settings : SessionSettings) (replay : History State) (last : List ℕ) (room : ℕ) : Type 0 where
+pub record IsInStep (settings : SessionSettings) (replay : History State) (last : List ℕ)
+    (room : ℕ) : Type 0 where
   pub replays : Replays settings last replay
   pub roomy : IMAGE_BYTES ≤ room
 
@@ -40,7 +48,8 @@ pub record RunsOnly (old new : KeptRun) : Type 0 where
   pub last_image : new.last_image ≡ old.last_image
 
 -- what a question does to a run: it goes on, only as far as it has to
-pub record GoesOn {A : Type 0} (step : Option ℕ) (result : Result A Refusal) (old new : KeptRun) : Type 0 where
+pub record GoesOn {A : Type 0} (step : Option ℕ) (result : Result A Refusal)
+    (old new : KeptRun) : Type 0 where
   pub only : RunsOnly old new
   pub reuses : Reuses step result old new
   pub refused : StaysIfRefused result old new

@@ -30,12 +30,14 @@ failures_after (Err TooMuchInput) failures = failures
 -- A text was written to a writer whole, up to the writer's failure, or not at all.
 abbrev pub Says : Result Unit Stop → Option (List ℕ) → Option (List ℕ) → List ℕ → Type 0
 Says (Ok _) held holds text = Appends held holds text
-Says (Err WriterFailed) held holds text = (front : List ℕ) × BeginsWith text front × Appends held holds front
+Says (Err WriterFailed) held holds text =
+    (front : List ℕ) × BeginsWith text front × Appends held holds front
 Says (Err OutOfMemory) held holds text = Keeps held holds
 Says (Err TooMuchInput) held holds text = ⊥
 
 -- After the bytes `given` of a script that began at `start`, where the writer held `before`.
-pub record Reached (start : Session) (before given : List ℕ) (c : Conversation) (holds : Option (List ℕ)) : Type 0 where
+pub record Reached (start : Session) (before given : List ℕ) (c : Conversation)
+    (holds : Option (List ℕ)) : Type 0 where
   pub session : c.bench.session ≡ session_after start (complete_lines given)
   pub line : c.line.items ≡ take KEPT_LEN (unfinished_line given)
   pub complete : c.complete ≡ length (complete_lines given)
@@ -45,29 +47,41 @@ pub record Reached (start : Session) (before given : List ℕ) (c : Conversation
 
 -- Where the script was given up: after the bytes `done`, with `more` at hand.
 abbrev pub StoppedAt : Stop → Session → List ℕ → List ℕ → List ℕ → Option (List ℕ) → Type 0
-StoppedAt WriterFailed start before done more holds = (front : List ℕ) × BeginsWith (transcript_of start (complete_lines done)) front × (holds ≡ Some (before ++ front))
-StoppedAt OutOfMemory start before done more holds = holds ≡ Some (before ++ transcript_of start (complete_lines done))
-StoppedAt TooMuchInput start before done more holds = WithinBounds done × ((length done ≡ SCRIPT_BYTES) ⊎ (length (complete_lines done) ≡ SCRIPT_LINES)) × (0 < length more)
+StoppedAt WriterFailed start before done more holds =
+    (front : List ℕ) × BeginsWith (transcript_of start (complete_lines done)) front
+    × (holds ≡ Some (before ++ front))
+StoppedAt OutOfMemory start before done more holds =
+    holds ≡ Some (before ++ transcript_of start (complete_lines done))
+StoppedAt TooMuchInput start before done more holds =
+    WithinBounds done × ((length done ≡ SCRIPT_BYTES)
+    ⊎ (length (complete_lines done) ≡ SCRIPT_LINES)) × (0 < length more)
     × (holds ≡ Some (before ++ transcript_of start (complete_lines done)))
 
-pub record Stopped (e : Stop) (start : Session) (before given : List ℕ) (holds : Option (List ℕ)) : Type 0 where
+pub record Stopped (e : Stop) (start : Session) (before given : List ℕ)
+    (holds : Option (List ℕ)) : Type 0 where
   pub done : List ℕ
   pub more : List ℕ
   pub split : given ≡ done ++ more
   pub stopped : StoppedAt e start before done more holds
 
-abbrev pub Went : Result Unit Stop → Session → List ℕ → List ℕ → Conversation → Option (List ℕ) → Type 0
+abbrev pub Went : Result Unit Stop → Session → List ℕ → List ℕ → Conversation → Option (List ℕ)
+    → Type 0
 Went (Ok _) start before given c holds = Reached start before given c holds
 Went (Err e) start before given c holds = Stopped e start before given holds
 
 -- From wherever a conversation had come to, these bytes take it on.
-abbrev pub Carries : Conversation → Option (List ℕ) → List ℕ → Result Unit Stop → Conversation → Option (List ℕ) → Type 0
+abbrev pub Carries : Conversation → Option (List ℕ) → List ℕ → Result Unit Stop → Conversation
+    → Option (List ℕ) → Type 0
 Carries old held bytes result new holds =
-    (start : Session) (before given : List ℕ) → Reached start before given old held → Went result start before (given ++ bytes) new holds
+    (start : Session) (before given : List ℕ) → Reached start before given old held
+    → Went result start before (given ++ bytes) new holds
 
 -- The reader has ended after `given`.
 abbrev pub Ended : Result Unit Stop → Session → List ℕ → List ℕ → Option (List ℕ) → Type 0
 Ended (Ok _) start before given holds = holds ≡ Some (before ++ transcript_of start (lines given))
-Ended (Err WriterFailed) start before given holds = (front : List ℕ) × BeginsWith (transcript_of start (lines given)) front × (holds ≡ Some (before ++ front))
-Ended (Err OutOfMemory) start before given holds = holds ≡ Some (before ++ transcript_of start (complete_lines given))
+Ended (Err WriterFailed) start before given holds =
+    (front : List ℕ) × BeginsWith (transcript_of start (lines given)) front
+    × (holds ≡ Some (before ++ front))
+Ended (Err OutOfMemory) start before given holds =
+    holds ≡ Some (before ++ transcript_of start (complete_lines given))
 Ended (Err TooMuchInput) start before given holds = ⊥

@@ -1,4 +1,5 @@
--- What the words of the command line ask for as it was read, and what hindered it, for the private contracts behind the commands (own).
+-- What the words of the command line ask for as it was read, and what hindered it, for the private
+-- contracts behind the commands (own).
 use Rattle.std.specs.Prelude.{◌≡◌, ◌⊎◌, ℕ, List, Option, Some, None, Result, Ok, Err}
 use Rattle.std.specs.Borrow.{Bor}
 use Rattle.std.specs.Str.Lines.{lines}
@@ -28,12 +29,14 @@ module _ {R : Type 0} (remaining : R → Option (List ℕ)) (in_old in_new : Tal
   abbrev pub IsAsked : RunWords → Asked → Type 0
   IsAsked words asked =
       WithAsked remaining in_old in_new (Unit {0}) words (λ settings keys source ended.
-      (settings ≡ asked.settings) × (keys ≡ asked.keys.bytes.items) × (source ≡ asked.source.items)) (Ok Done)
+      (settings ≡ asked.settings) × (keys ≡ asked.keys.bytes.items)
+      × (source ≡ asked.source.items)) (Ok Done)
       × (settings_asked words.settings ≡ Some asked.settings)
 
   -- it couldn't be read
   abbrev pub IsUnasked : RunWords → Failure → Type 0
-  IsUnasked words why = WithAsked remaining in_old in_new (Unit {0}) words (λ settings keys source ended. ⊥) (Err why)
+  IsUnasked words why =
+      WithAsked remaining in_old in_new (Unit {0}) words (λ settings keys source ended. ⊥) (Err why)
 
 module _ {W : Type 0} (contents : W → Option (List ℕ)) (out_old out_new : Tally W) where
   -- the image of a source, or its faults, which are printed
@@ -41,11 +44,13 @@ module _ {W : Type 0} (contents : W → Option (List ℕ)) (out_old out_new : Ta
   IsImageOrFaults source (Some image) = (image_in source ≡ Some image) × (out_new ≡ out_old)
   IsImageOrFaults source None =
       (image_in source ≡ None)
-      × Prints contents out_old out_new (printed_of (open_fault source) (faults_of_lines (lines source))) (Ok Faulty)
+      × Prints contents out_old out_new
+      (printed_of (open_fault source) (faults_of_lines (lines source))) (Ok Faulty)
 
   -- there was no memory, or the faults couldn't be printed
   abbrev pub IsImageHindered : List ℕ → Failure → Type 0
   IsImageHindered source why =
       (IsShort why × (out_new ≡ out_old))
       ⊎ ((image_in source ≡ None)
-      × Prints contents out_old out_new (printed_of (open_fault source) (faults_of_lines (lines source))) (Err why))
+      × Prints contents out_old out_new
+      (printed_of (open_fault source) (faults_of_lines (lines source))) (Err why))

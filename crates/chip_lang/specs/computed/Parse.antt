@@ -1,4 +1,5 @@
--- The expression that tokens begin with, computed within a number of steps (own). It is the grammar's, as a law says.
+-- The expression that tokens begin with, computed within a number of steps (own). It is the
+-- grammar's, as a law says.
 use Rattle.std.specs.Prelude.{ℕ, zero, suc, ◌+◌, ◌*◌, ◌==◌, if◌then◌else◌, pos, List, [], ◌∷◌, length, Option, Some, None}
 use Rattle.chip_lang.specs.declared.lexeme.Lexeme.{Lexeme}
 use Rattle.chip_lang.specs.declared.lexeme.Lexeme.TheVariants.{Word, Number, Text, Sign, Bad}
@@ -90,12 +91,15 @@ atom inner (Sign c ∷ ts) = if c == 40 then on_found (inner ts) closed else Non
 -- a sign before what operand finds, or what plain finds
 abbrev pub prefixed : (operand plain : List Lexeme → Parsed) → Option Prefix → List Lexeme → Parsed
 prefixed operand plain None ts = plain ts
-prefixed operand plain (Some sign) ts = on_found (operand (after ts)) (λ e rest. Some (unary sign e, rest))
+prefixed operand plain (Some sign) ts =
+    on_found (operand (after ts)) (λ e rest. Some (unary sign e, rest))
 
 -- after a left side an operator and what right finds, and so on; or nothing more
-abbrev pub with_right : (List Lexeme → Parsed) → (Tree → List Lexeme → Parsed) → Option Operator → Tree → List Lexeme → Parsed
+abbrev pub with_right : (List Lexeme → Parsed) → (Tree → List Lexeme → Parsed) → Option Operator
+    → Tree → List Lexeme → Parsed
 with_right right more None left ts = Some (left, ts)
-with_right right more (Some sign) left ts = on_found (right (after ts)) (λ b rest. more (binary sign left b) rest)
+with_right right more (Some sign) left ts =
+    on_found (right (after ts)) (λ b rest. more (binary sign left b) rest)
 
 abbrev mutual
   -- an expression of a level
@@ -108,7 +112,8 @@ abbrev mutual
   -- the operators of a level, and their right sides, after a left side
   pub further : (steps level : ℕ) → Tree → List Lexeme → Parsed
   further zero l left ts = None
-  further (suc n) l left ts = with_right (parse n (below l)) (further n l) (front_operator ts l) left ts
+  further (suc n) l left ts =
+      with_right (parse n (below l)) (further n l) (front_operator ts l) left ts
 
 -- an expression and nothing after it
 abbrev pub whole : Parsed → Option Tree

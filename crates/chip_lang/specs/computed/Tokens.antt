@@ -1,4 +1,5 @@
--- The tokens of a line, found byte by byte (own). A law says that they are what Scan states, and that nothing else is.
+-- The tokens of a line, found byte by byte (own). A law says that they are what Scan states, and
+-- that nothing else is.
 use Rattle.std.specs.Prelude.{ℕ, zero, suc, ◌+◌, ◌-◌, ◌==◌, if◌then◌else◌, List, [], ◌∷◌}
 use Rattle.chip_lang.specs.declared.token.Token.{Token}
 use Rattle.chip_lang.specs.Token.{is_blank, token_at}

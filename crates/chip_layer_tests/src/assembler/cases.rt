@@ -1,9 +1,11 @@
 //! Sources with what is done to them and what they answer, in a text.
 //!
-//! A case begins with a line `== NAME`. Lines after `| ` are the source's, lines after `> ` are commands, and all others are the
-//! answers. `open` opens the lines, and `empty N` makes them so many empty ones; `ins N TEXT`, `rep N TEXT` and `del N` edit, where
-//! `FULL` is a text of 200 blanks, and `BLANKS` one of 201; `image`, `lines`, `fault N`, `faults`, `symbol NAME`, `symbols`, `list`,
-//! `parsed` (how many lines were read) and `work` (and encoded) ask; `encoded N` asks whether at most so many lines were encoded.
+//! A case begins with a line `== NAME`. Lines after `| ` are the source's, lines after `> ` are
+//! commands, and all others are the answers. `open` opens the lines, and `empty N` makes them so
+//! many empty ones; `ins N TEXT`, `rep N TEXT` and `del N` edit, where `FULL` is a text of 200
+//! blanks, and `BLANKS` one of 201; `image`, `lines`, `fault N`, `faults`, `symbol NAME`,
+//! `symbols`, `list`, `parsed` (how many lines were read) and `work` (and encoded) ask; `encoded N`
+//! asks whether at most so many lines were encoded.
 
 use crate::assembler::{
     delete, encoded, fault_text, faults_text, image_text, insert, lines, listed, opened, parsed,

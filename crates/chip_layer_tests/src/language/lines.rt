@@ -1,5 +1,6 @@
-//! Lines and what they say, as another program answers: the fault of the reading, or the name that the line defines (`-` for none),
-//! the kind of its statement, and its value, name or code under no names.
+//! Lines and what they say, as another program answers: the fault of the reading, or the name that
+//! the line defines (`-` for none), the kind of its statement, and its value, name or code under no
+//! names.
 
 /// One line in each row; after a tab its answer.
 pub(crate) const LINES: &str = "\

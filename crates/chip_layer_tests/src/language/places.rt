@@ -4,7 +4,8 @@ use chip_lang::{Fault, fault_span, mnemonic_of};
 use std::alloc::Global;
 use std::test::Fail;
 
-/// A line, a fault of it, and a picture of its place: spaces, and a `^` for each byte. A place without bytes has no `^`.
+/// A line, a fault of it, and a picture of its place: spaces, and a `^` for each byte. A place
+/// without bytes has no `^`.
 const PLACES: &[(&str, Fault, &str)] = &[
     ("DB 1, ?", Fault::BadCharacter, "      ^"),
     ("DB 'ab", Fault::UnfinishedString, "   ^^^"),

@@ -113,8 +113,8 @@ fn stops(rt: HostRuntime) -> Result<(), Fail> {
     check_all(&rt, STOPS, 9)
 }
 
-/// A digit that is drawn once and twice, a store over the next instruction, three random bytes, 16 calls and one more, a flag that is
-/// written last, and flags that are saved.
+/// A digit that is drawn once and twice, a store over the next instruction, three random bytes, 16
+/// calls and one more, a flag that is written last, and flags that are saved.
 const WORKED: &str = "\
 a digit; schip; 603c 6100 f229 d015; 4; 0; 3c 00 00 00 00 208 000 0
 a digit twice; schip; 603c 6100 f229 d015 d015; 5; 0; 3c 00 00 00 01 20a 000 0

@@ -92,7 +92,8 @@ fn sixteen_rows(rt: HostRuntime) -> Result<(), Fail> {
     check_all(&rt, PAST_THE_END, 2)
 }
 
-/// Whether the last of four steps touches so many addresses, and leaves this flag and these bits in two rows of the screen.
+/// Whether the last of four steps touches so many addresses, and leaves this flag and these bits in
+/// two rows of the screen.
 fn draws(
     alloc: Global,
     profile: Profile,
@@ -127,7 +128,8 @@ fn stop_of_copy(machine: &Machine) -> Result<u8, AllocError> {
     Ok(stop_number(&copy))
 }
 
-/// Whether the other profile starts with the same memory, and its copy stops at a word that it has not.
+/// Whether the other profile starts with the same memory, and its copy stops at a word that it has
+/// not.
 fn starts_alike(alloc: Global, schip: &Machine) -> Result<bool, Fail> {
     let vip = loaded_as(alloc, &[0x0700], Profile::Vip)?;
     Ok(is_same_memory(schip, &vip) && stop_of_copy(&vip)? == 2)

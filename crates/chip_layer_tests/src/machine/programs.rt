@@ -1,7 +1,8 @@
 //! Programs of a few words with the states that they lead to.
 //!
-//! A program is a row: its name, the profile, its words, how many steps are made, the keys that are down, and then V0 to V3, VF, pc,
-//! I and the number of the stop cause, or 0. All but the steps are hexadecimal.
+//! A program is a row: its name, the profile, its words, how many steps are made, the keys that are
+//! down, and then V0 to V3, VF, pc, I and the number of the stop cause, or 0. All but the steps are
+//! hexadecimal.
 
 use crate::machine::{loaded_as, reg, run, stop_number};
 use chip_machine::{Machine, Profile};

@@ -1,8 +1,9 @@
 //! Rows of questions and edits, each with its answer after a colon.
 //!
-//! `at STEP` asks a replay for the sum, `counts` for the steps made, the last step that is known and how many checkpoints are kept, and
-//! `held STEP` for the keys that are down. `insert`, `replace` and `delete` edit the event of a step and a key, and `fill` puts one at
-//! each step from 1 on.
+//! `at STEP` asks a replay for the sum, `counts` for the steps made, the last step that is known
+//! and how many checkpoints are kept, and `held STEP` for the keys that are down. `insert`,
+//! `replace` and `delete` edit the event of a step and a key, and `fill` puts one at each step from
+//! 1 on.
 
 use crate::replay::Toy;
 use chip_replay::{AtError, KeyFault, Keys, Replay};

@@ -14,14 +14,38 @@ numbers = coded_list coded_ℕ
 
 -- the parts of a core in the order of its fields
 abbrev Parts : Type 0
-Parts = List ℕ × (ℕ × (ℕ × (List ℕ × (ℕ × (ℕ × (List ℕ × (List ℕ × (ℕ × (Points × (Bool × (Option Stop × (Profile))))))))))))
+Parts =
+    List ℕ
+    × (ℕ × (ℕ × (List ℕ
+    × (ℕ × (ℕ × (List ℕ × (List ℕ × (ℕ × (Points × (Bool × (Option Stop × (Profile))))))))))))
 
 abbrev parts_code : Coded Parts
 parts_code =
-    coded× numbers (coded× coded_ℕ (coded× coded_ℕ (coded× numbers (coded× coded_ℕ (coded× coded_ℕ (coded× numbers (coded× numbers (coded× coded_ℕ (coded× points_code (coded× coded_bool (coded× (coded_option stops.the_row.coded) (profiles.the_row.coded))))))))))))
+    coded× numbers (coded× coded_ℕ
+    (coded× coded_ℕ (coded× numbers
+    (coded× coded_ℕ (coded× coded_ℕ
+    (coded× numbers (coded× numbers
+    (coded× coded_ℕ (coded× points_code
+    (coded× coded_bool
+    (coded× (coded_option stops.the_row.coded) (profiles.the_row.coded))))))))))))
 
 abbrev parts : Core → Parts
-parts c = (c.registers, (c.index, (c.pc, (c.frames, (c.delay, (c.sound, (c.flags, (c.tape, (c.draws, (c.lit, (c.high, (c.stopped, c.profile))))))))))))
+parts c = (
+  c.registers,
+  (
+    c.index,
+    (
+      c.pc,
+      (
+        c.frames,
+        (
+          c.delay,
+          (c.sound, (c.flags, (c.tape, (c.draws, (c.lit, (c.high, (c.stopped, c.profile))))))),
+        ),
+      ),
+    ),
+  ),
+)
 
 abbrev core_of : Parts → Core
 core_of p =
@@ -46,4 +70,5 @@ core_code = code_by Parts parts_code parts core_of (λ _. refl)
 
 abbrev pub state_code : Coded State
 state_code =
-    code_by (Core × List ℕ) (coded× core_code numbers) (λ s. (s.core, s.memory)) (λ p. record { core = p.0; memory = p.1 }) (λ _. refl)
+    code_by (Core × List ℕ) (coded× core_code numbers) (λ s. (s.core, s.memory))
+    (λ p. record { core = p.0; memory = p.1 }) (λ _. refl)

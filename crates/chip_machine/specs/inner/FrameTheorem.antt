@@ -1,5 +1,5 @@
--- Proofs, which a reader may skip: the frame law holds, by what the instruction needs of the memory (nothing, bytes that it reads,
--- or bytes that it writes), and a step keeps a state proper.
+-- Proofs, which a reader may skip: the frame law holds, by what the instruction needs of the memory
+-- (nothing, bytes that it reads, or bytes that it writes), and a step keeps a state proper.
 -- Source: own.
 use Rattle.std.proofs.Common.{◌≡◌, ℕ, ◌+◌, ◌-◌, ◌<◌, ◌≤◌, Bool, true, false, IsFalse, List, [], ◌∷◌, length, take, drop, get_or, refl, sym, ap, ◌∙◌, arith, Some, suc, subst, Result, Ok, Err, nat_lt, is_some, ⊎_elim, if◌then◌else◌}
 use Rattle.std.specs.List.{range_with_len}
@@ -21,138 +21,221 @@ use Rattle.chip_machine.specs.inner.Overwritten.{get_or-overwrite_within, get_or
 -- two outcomes are alike, and each kept its bytes in the set
 abbrev AreAlike : (ℕ → Bool) → List ℕ → List ℕ → Result State Stop → Result State Stop → Type 0
 AreAlike set m n (Ok x) (Ok y) =
-    (x.core ≡ y.core) × SameOff set x.memory y.memory × SameOn set x.memory m × SameOn set y.memory n
+    (x.core ≡ y.core) × SameOff set x.memory y.memory × SameOn set x.memory m
+    × SameOn set y.memory n
 AreAlike set m n (Err v) (Err w) = v ≡ w
 AreAlike set m n (Ok x) (Err w) = ⊥
 AreAlike set m n (Err v) (Ok y) = ⊥
 
 -- an address of a span that misses the set
-missed : (set : ℕ → Bool) (i count at : ℕ) → Misses set (range_with_len i count) → i ≤ at → at < i + count → IsFalse (set at)
+missed : (set : ℕ → Bool) (i count at : ℕ) → Misses set (range_with_len i count) → i ≤ at
+    → at < i + count → IsFalse (set at)
 missed set i count at misses low high =
-    let e : get_or (range_with_len i count) (at - i) 0 ≡ at = grind (arith, get_or-range_with_len) in
+    let e : get_or (range_with_len i count) (at - i) 0 ≡ at
+    = grind (arith, get_or-range_with_len) in
     rw e at (misses (at - i) 0 (rw length-range_with_len (omega arith)))
 
 -- the bytes that are read are the same
-same_part : (set : ℕ → Bool) (m n : List ℕ) (i count : ℕ) → length m ≡ MEMORY_BYTES → length n ≡ MEMORY_BYTES → SameOff set m n → Misses set (range_with_len i count) → take count (drop i m) ≡ take count (drop i n)
+same_part : (set : ℕ → Bool) (m n : List ℕ) (i count : ℕ) → length m ≡ MEMORY_BYTES
+    → length n ≡ MEMORY_BYTES → SameOff set m n → Misses set (range_with_len i count)
+    → take count (drop i m) ≡ take count (drop i n)
 same_part set m n i count lm ln same misses =
-    same_number_lists _ _ (grind (arith, places)) (λ k h. let inside : k < count = grind (arith, places) in let e = same (i + k) (missed set i count (i + k) misses (omega arith) (omega arith)) in grind (arith, places))
+    same_number_lists _ _ (grind (arith, places))
+    (λ k h. let inside : k < count = grind (arith, places) in
+    let e = same (i + k) (missed set i count (i + k) misses (omega arith) (omega arith)) in
+    grind (arith, places))
 
 -- what is written is the same, and what is not written stays
-writes_alike : (set : ℕ → Bool) (m n : List ℕ) (i : ℕ) (bytes : List ℕ) → i + length bytes ≤ MEMORY_BYTES → length m ≡ MEMORY_BYTES → length n ≡ MEMORY_BYTES → SameOff set m n → SameOff set (overwrite m i bytes) (overwrite n i bytes)
+writes_alike : (set : ℕ → Bool) (m n : List ℕ) (i : ℕ) (bytes : List ℕ)
+    → i + length bytes ≤ MEMORY_BYTES → length m ≡ MEMORY_BYTES → length n ≡ MEMORY_BYTES
+    → SameOff set m n → SameOff set (overwrite m i bytes) (overwrite n i bytes)
 writes_alike set m n i bytes fits lm ln same at off =
     let e = same at off in
     ⊎_elim
-    (λ (low : at < i). get_or-overwrite_before m i bytes at (omega arith) low ∙ e ∙ sym (get_or-overwrite_before n i bytes at (omega arith) low))
+    (λ (low : at < i). get_or-overwrite_before m i bytes at (omega arith) low ∙ e
+    ∙ sym (get_or-overwrite_before n i bytes at (omega arith) low))
     (λ (low : i ≤ at).
     ⊎_elim
-    (λ (high : at < i + length bytes). get_or-overwrite_within m i bytes at (omega arith) low high ∙ sym (get_or-overwrite_within n i bytes at (omega arith) low high))
-    (λ (high : i + length bytes ≤ at). get_or-overwrite_past m i bytes at (omega arith) high ∙ e ∙ sym (get_or-overwrite_past n i bytes at (omega arith) high))
+    (λ (high : at < i + length bytes). get_or-overwrite_within m i bytes at (omega arith) low high
+    ∙ sym (get_or-overwrite_within n i bytes at (omega arith) low high))
+    (λ (high : i + length bytes ≤ at). get_or-overwrite_past m i bytes at (omega arith) high ∙ e
+    ∙ sym (get_or-overwrite_past n i bytes at (omega arith) high))
     (cases_lt at (i + length bytes)))
     (cases_lt at i)
 
-writes_keep : (set : ℕ → Bool) (m : List ℕ) (i : ℕ) (bytes : List ℕ) → i + length bytes ≤ MEMORY_BYTES → length m ≡ MEMORY_BYTES → Misses set (range_with_len i (length bytes)) → SameOn set (overwrite m i bytes) m
+writes_keep : (set : ℕ → Bool) (m : List ℕ) (i : ℕ) (bytes : List ℕ)
+    → i + length bytes ≤ MEMORY_BYTES → length m ≡ MEMORY_BYTES
+    → Misses set (range_with_len i (length bytes)) → SameOn set (overwrite m i bytes) m
 writes_keep set m i bytes fits lm misses at on =
     ⊎_elim
     (λ (low : at < i). get_or-overwrite_before m i bytes at (omega arith) low)
     (λ (low : i ≤ at).
     ⊎_elim
-    (λ (high : at < i + length bytes). let off = missed set i (length bytes) at misses low high in cc)
+    (λ (high : at < i + length bytes). let off = missed set i (length bytes) at misses low high in
+    cc)
     (λ (high : i + length bytes ≤ at). get_or-overwrite_past m i bytes at (omega arith) high)
     (cases_lt at (i + length bytes)))
     (cases_lt at i)
 
-load_alike : (set : ℕ → Bool) (c : Core) (m n : List ℕ) (count : ℕ) (core_by : List ℕ → Core) → length m ≡ MEMORY_BYTES → length n ≡ MEMORY_BYTES → SameOff set m n → (past : Bool) → Misses set (if past then [] else range_with_len c.index count) → AreAlike set m n (if past then Err cause.AddressOutOfRange else Ok (record { core = core_by (take count (drop c.index m)); memory = m })) (if past then Err cause.AddressOutOfRange else Ok (record { core = core_by (take count (drop c.index n)); memory = n }))
+load_alike : (set : ℕ → Bool) (c : Core) (m n : List ℕ) (count : ℕ) (core_by : List ℕ → Core)
+    → length m ≡ MEMORY_BYTES → length n ≡ MEMORY_BYTES → SameOff set m n → (past : Bool)
+    → Misses set (if past then [] else range_with_len c.index count)
+    → AreAlike set m n (if past then Err cause.AddressOutOfRange
+    else Ok (record { core = core_by (take count (drop c.index m)); memory = m })) (if past
+    then Err cause.AddressOutOfRange
+    else Ok (record { core = core_by (take count (drop c.index n)); memory = n }))
 load_alike set c m n count core_by lm ln same true misses = refl
 load_alike set c m n count core_by lm ln same false misses =
     (ap core_by (same_part set m n c.index count lm ln same misses), same, λ _ _. refl, λ _ _. refl)
 
-store_alike : (set : ℕ → Bool) (i : ℕ) (core : Core) (m n : List ℕ) (bytes : List ℕ) → length m ≡ MEMORY_BYTES → length n ≡ MEMORY_BYTES → SameOff set m n → (past : Bool) → is_past i (length bytes) ≡ past → Misses set (if past then [] else range_with_len i (length bytes)) → AreAlike set m n (if past then Err cause.AddressOutOfRange else Ok (record { core = core; memory = overwrite m i bytes })) (if past then Err cause.AddressOutOfRange else Ok (record { core = core; memory = overwrite n i bytes }))
+store_alike : (set : ℕ → Bool) (i : ℕ) (core : Core) (m n : List ℕ) (bytes : List ℕ)
+    → length m ≡ MEMORY_BYTES → length n ≡ MEMORY_BYTES → SameOff set m n → (past : Bool)
+    → is_past i (length bytes) ≡ past
+    → Misses set (if past then [] else range_with_len i (length bytes))
+    → AreAlike set m n (if past then Err cause.AddressOutOfRange
+    else Ok (record { core = core; memory = overwrite m i bytes })) (if past
+    then Err cause.AddressOutOfRange
+    else Ok (record { core = core; memory = overwrite n i bytes }))
 store_alike set i core m n bytes lm ln same true e misses = refl
 store_alike set i core m n bytes lm ln same false e misses =
-    let fits : i + length bytes ≤ MEMORY_BYTES = grind (arith, nat_tests) in
-    (refl, writes_alike set m n i bytes fits lm ln same, writes_keep set m i bytes fits lm misses, writes_keep set n i bytes fits ln misses)
+    let fits : i + length bytes ≤ MEMORY_BYTES = grind (arith, nat_tests) in (
+      refl,
+      writes_alike set m n i bytes fits lm ln same,
+      writes_keep set m i bytes fits lm misses,
+      writes_keep set n i bytes fits ln misses,
+    )
 
 -- the same effect on two memories
-perform_alike : (set : ℕ → Bool) (keys : ℕ) (c : Core) (m n : List ℕ) (effect : Effect) → length m ≡ MEMORY_BYTES → length n ≡ MEMORY_BYTES → SameOff set m n → Misses set (accessed c.index effect) → AreAlike set m n (perform keys (record { core = c; memory = m }) effect) (perform keys (record { core = c; memory = n }) effect)
+perform_alike : (set : ℕ → Bool) (keys : ℕ) (c : Core) (m n : List ℕ) (effect : Effect)
+    → length m ≡ MEMORY_BYTES → length n ≡ MEMORY_BYTES → SameOff set m n
+    → Misses set (accessed c.index effect)
+    → AreAlike set m n (perform keys (record { core = c; memory = m }) effect)
+    (perform keys (record { core = c; memory = n }) effect)
 perform_alike set keys c m n (Stops why) lm ln same misses = refl
-perform_alike set keys c m n (Changes core) lm ln same misses = (refl, same, λ _ _. refl, λ _ _. refl)
-perform_alike set keys c m n (Keyed core_by) lm ln same misses = (refl, same, λ _ _. refl, λ _ _. refl)
+perform_alike set keys c m n (Changes core) lm ln same misses =
+    (refl, same, λ _ _. refl, λ _ _. refl)
+perform_alike set keys c m n (Keyed core_by) lm ln same misses =
+    (refl, same, λ _ _. refl, λ _ _. refl)
 perform_alike set keys c m n (Loads count core_by) lm ln same misses =
     load_alike set c m n count core_by lm ln same (is_past c.index count) misses
 perform_alike set keys c m n (Stores bytes core) lm ln same misses =
     store_alike set c.index core m n bytes lm ln same (is_past c.index (length bytes)) refl misses
 
 -- the end of two steps
-settle_alike : (set : ℕ → Bool) (tick : Bool) (c : Core) (m n : List ℕ) (r s : Result State Stop) → SameOff set m n → AreAlike set m n r s → (AgreeOff set (settle tick (record { core = c; memory = m }) r) (settle tick (record { core = c; memory = n }) s)) × SameOn set (settle tick (record { core = c; memory = m }) r).memory m × SameOn set (settle tick (record { core = c; memory = n }) s).memory n
-settle_alike set tick c m n (Ok x) (Ok y) same h =
-    (record { core = ap (λ (core : Core). if tick then ticked core else core) h.0; memory = h.1 }, h.2, h.3)
-settle_alike set tick c m n (Err v) (Err w) same h =
-    (record { core = ap (λ (why : Stop). record c { stopped = Some why }) h; memory = same }, λ _ _. refl, λ _ _. refl)
+settle_alike : (set : ℕ → Bool) (tick : Bool) (c : Core) (m n : List ℕ) (r s : Result State Stop)
+    → SameOff set m n → AreAlike set m n r s
+    → (AgreeOff set (settle tick (record { core = c; memory = m }) r)
+    (settle tick (record { core = c; memory = n }) s))
+    × SameOn set (settle tick (record { core = c; memory = m }) r).memory m
+    × SameOn set (settle tick (record { core = c; memory = n }) s).memory n
+settle_alike set tick c m n (Ok x) (Ok y) same h = (
+  record { core = ap (λ (core : Core). if tick then ticked core else core) h.0; memory = h.1 },
+  h.2,
+  h.3,
+)
+settle_alike set tick c m n (Err v) (Err w) same h = (
+  record { core = ap (λ (why : Stop). record c { stopped = Some why }) h; memory = same },
+  λ _ _. refl,
+  λ _ _. refl,
+)
 settle_alike set tick c m n (Ok x) (Err w) same h = absurd h
 settle_alike set tick c m n (Err v) (Ok y) same h = absurd h
 
 -- what stands at pc is the same, and so is its effect
-effect_alike : (set : ℕ → Bool) (c : Core) (m n : List ℕ) (rest : List ℕ) (past : Bool) → SameOff set m n → nat_lt LAST_WORD c.pc ≡ past → Misses set (if past then [] else (c.pc ∷ (c.pc + 1) ∷ rest)) → effect_at (record { core = c; memory = m }) ≡ effect_at (record { core = c; memory = n })
+effect_alike : (set : ℕ → Bool) (c : Core) (m n : List ℕ) (rest : List ℕ) (past : Bool)
+    → SameOff set m n → nat_lt LAST_WORD c.pc ≡ past
+    → Misses set (if past then [] else (c.pc ∷ (c.pc + 1) ∷ rest))
+    → effect_at (record { core = c; memory = m }) ≡ effect_at (record { core = c; memory = n })
 effect_alike set c m n rest true same e misses = rw e refl
 effect_alike set c m n rest false same e misses =
     let high = same c.pc (misses 0 0 (omega arith)) in
     let low = same (c.pc + 1) (misses 1 0 (omega arith)) in
     let word : word_at m c.pc ≡ word_at n c.pc = cc in
-    ap (λ (w : ℕ). if nat_lt LAST_WORD c.pc then Stops cause.PcOutOfRange else effect_of_word (decode_of w) c) word
+    ap (λ (w : ℕ). if nat_lt LAST_WORD c.pc then Stops cause.PcOutOfRange
+    else effect_of_word (decode_of w) c) word
 
 -- the touches and the step, where the two tests that come first are given
 abbrev touched_by : Bool → Bool → Core → List ℕ → List ℕ
 touched_by stopped past c m =
-    if stopped then [] else (if past then [] else (c.pc ∷ (c.pc + 1) ∷ accessed c.index (effect_at (record { core = c; memory = m }))))
+    if stopped then []
+    else (if past then []
+    else (c.pc ∷ (c.pc + 1) ∷ accessed c.index (effect_at (record { core = c; memory = m }))))
 
 abbrev stepped_by : Bool → ℕ → Bool → Core → List ℕ → State
 stepped_by stopped keys tick c m =
-    let s : State = record { core = c; memory = m } in if stopped then s else settle tick s (perform keys s (effect_at s))
+    let s : State = record { core = c; memory = m } in
+    if stopped then s else settle tick s (perform keys s (effect_at s))
 
 -- no byte at I that is accessed is in the set
-access_misses : (set : ℕ → Bool) (c : Core) (m : List ℕ) (past : Bool) → nat_lt LAST_WORD c.pc ≡ past → Misses set (touched_by false past c m) → Misses set (accessed c.index (effect_at (record { core = c; memory = m })))
+access_misses : (set : ℕ → Bool) (c : Core) (m : List ℕ) (past : Bool)
+    → nat_lt LAST_WORD c.pc ≡ past → Misses set (touched_by false past c m)
+    → Misses set (accessed c.index (effect_at (record { core = c; memory = m })))
 access_misses set c m true e misses = rw e (λ k d h. absurd (omega arith))
 access_misses set c m false e misses = λ k d h. misses (suc (suc k)) d (omega arith)
 
 -- the touches and the step of two states, by the two tests that come first
-step_alike : (set : ℕ → Bool) (keys : ℕ) (tick : Bool) (c : Core) (m n : List ℕ) → length m ≡ MEMORY_BYTES → length n ≡ MEMORY_BYTES → SameOff set m n → (stopped past : Bool) → nat_lt LAST_WORD c.pc ≡ past → Misses set (touched_by stopped past c m) → (touched_by stopped past c n ≡ touched_by stopped past c m) × (AgreeOff set (stepped_by stopped keys tick c m) (stepped_by stopped keys tick c n)) × SameOn set (stepped_by stopped keys tick c m).memory m × SameOn set (stepped_by stopped keys tick c n).memory n
+step_alike : (set : ℕ → Bool) (keys : ℕ) (tick : Bool) (c : Core) (m n : List ℕ)
+    → length m ≡ MEMORY_BYTES → length n ≡ MEMORY_BYTES → SameOff set m n → (stopped past : Bool)
+    → nat_lt LAST_WORD c.pc ≡ past → Misses set (touched_by stopped past c m)
+    → (touched_by stopped past c n ≡ touched_by stopped past c m)
+    × (AgreeOff set (stepped_by stopped keys tick c m) (stepped_by stopped keys tick c n))
+    × SameOn set (stepped_by stopped keys tick c m).memory m
+    × SameOn set (stepped_by stopped keys tick c n).memory n
 step_alike set keys tick c m n lm ln same true past e misses =
     (refl, record { core = refl; memory = same }, λ _ _. refl, λ _ _. refl)
 step_alike set keys tick c m n lm ln same false past e misses =
     let alike = effect_alike set c m n _ past same e misses in
-    let outcomes = perform_alike set keys c m n (effect_at (record { core = c; memory = m })) lm ln same (access_misses set c m past e misses) in
-    let both = subst (λ (x : Effect). AreAlike set m n (perform keys (record { core = c; memory = m }) (effect_at (record { core = c; memory = m }))) (perform keys (record { core = c; memory = n }) x)) alike outcomes in
+    let outcomes = perform_alike set keys c m n
+    (effect_at (record { core = c; memory = m })) lm ln same
+    (access_misses set c m past e misses) in
+    let both = subst (λ (x : Effect). AreAlike set m n
+    (perform keys (record { core = c; memory = m }) (effect_at (record { core = c; memory = m })))
+    (perform keys (record { core = c; memory = n }) x)) alike outcomes in
     let ends = settle_alike set tick c m n _ _ same both in
-    let touched = ap (λ (x : Effect). if past then [] else (c.pc ∷ (c.pc + 1) ∷ accessed c.index x)) (sym alike) in
+    let touched = ap (λ (x : Effect). if past then [] else (c.pc ∷ (c.pc + 1) ∷ accessed c.index x))
+    (sym alike) in
     (touched, ends.0, ends.1, ends.2)
 
-frame_core : (set : ℕ → Bool) (keys : ℕ) (tick : Bool) (c : Core) (m n : List ℕ) → length m ≡ MEMORY_BYTES → length n ≡ MEMORY_BYTES → SameOff set m n → Misses set (touches (record { core = c; memory = m })) → IsFramed set keys tick (record { core = c; memory = m }) (record { core = c; memory = n })
+frame_core : (set : ℕ → Bool) (keys : ℕ) (tick : Bool) (c : Core) (m n : List ℕ)
+    → length m ≡ MEMORY_BYTES → length n ≡ MEMORY_BYTES → SameOff set m n
+    → Misses set (touches (record { core = c; memory = m }))
+    → IsFramed set keys tick (record { core = c; memory = m }) (record { core = c; memory = n })
 unfolding touches step_of
 frame_core set keys tick c m n lm ln same misses =
-    let t = step_alike set keys tick c m n lm ln same (is_some c.stopped) (nat_lt LAST_WORD c.pc) refl misses in
+    let t = step_alike set keys tick c m n lm ln same (is_some c.stopped)
+    (nat_lt LAST_WORD c.pc) refl misses in
     record { same_touches = t.0; still_agree = t.1; first_keeps = t.2; second_keeps = t.3 }
 
 pub frame_law : FrameLaw
 frame_law set keys tick a b proper_a proper_b agree misses =
-    let P : Core → Type 0 = λ c. IsFramed set keys tick a (record { core = c; memory = b.memory }) in
-    subst P agree.core (frame_core set keys tick a.core a.memory b.memory proper_a.memory_size proper_b.memory_size agree.memory misses)
+    let P : Core → Type 0
+    = λ c. IsFramed set keys tick a (record { core = c; memory = b.memory }) in
+    subst P agree.core
+    (frame_core set keys tick a.core a.memory b.memory proper_a.memory_size proper_b.memory_size
+    agree.memory misses)
 
 -- the memory of an outcome has its size
 abbrev HasSize : Result State Stop → Type 0
 HasSize (Ok s) = length s.memory ≡ MEMORY_BYTES
 HasSize (Err why) = Unit {0}
 
-load_size : (core : Core) (m : List ℕ) (past : Bool) → length m ≡ MEMORY_BYTES → HasSize (if past then Err cause.AddressOutOfRange else Ok (record { core = core; memory = m }))
+load_size : (core : Core) (m : List ℕ) (past : Bool) → length m ≡ MEMORY_BYTES
+    → HasSize
+    (if past then Err cause.AddressOutOfRange else Ok (record { core = core; memory = m }))
 load_size core m true lm = tt
 load_size core m false lm = lm
 
-store_size : (core : Core) (m : List ℕ) (i : ℕ) (bytes : List ℕ) (past : Bool) → is_past i (length bytes) ≡ past → length m ≡ MEMORY_BYTES → HasSize (if past then Err cause.AddressOutOfRange else Ok (record { core = core; memory = overwrite m i bytes }))
+store_size : (core : Core) (m : List ℕ) (i : ℕ) (bytes : List ℕ) (past : Bool)
+    → is_past i (length bytes) ≡ past → length m ≡ MEMORY_BYTES
+    → HasSize (if past then Err cause.AddressOutOfRange
+    else Ok (record { core = core; memory = overwrite m i bytes }))
 store_size core m i bytes true e lm = tt
 store_size core m i bytes false e lm =
     let fits : i + length bytes ≤ MEMORY_BYTES = grind (arith, nat_tests) in
     length-overwrite m i bytes (omega arith) ∙ lm
 
-perform_size : (keys : ℕ) (c : Core) (m : List ℕ) (effect : Effect) → length m ≡ MEMORY_BYTES → HasSize (perform keys (record { core = c; memory = m }) effect)
+perform_size : (keys : ℕ) (c : Core) (m : List ℕ) (effect : Effect) → length m ≡ MEMORY_BYTES
+    → HasSize (perform keys (record { core = c; memory = m }) effect)
 perform_size keys c m (Stops why) lm = tt
 perform_size keys c m (Changes core) lm = lm
 perform_size keys c m (Keyed core_by) lm = lm
@@ -161,15 +244,20 @@ perform_size keys c m (Loads count core_by) lm =
 perform_size keys c m (Stores bytes core) lm =
     store_size core m c.index bytes (is_past c.index (length bytes)) refl lm
 
-settle_size : (tick : Bool) (s : State) (r : Result State Stop) → length s.memory ≡ MEMORY_BYTES → HasSize r → length (settle tick s r).memory ≡ MEMORY_BYTES
+settle_size : (tick : Bool) (s : State) (r : Result State Stop) → length s.memory ≡ MEMORY_BYTES
+    → HasSize r → length (settle tick s r).memory ≡ MEMORY_BYTES
 settle_size tick s (Ok after) lm h = h
 settle_size tick s (Err why) lm h = lm
 
-size_by : (stopped : Bool) (keys : ℕ) (tick : Bool) (s : State) → length s.memory ≡ MEMORY_BYTES → length (if stopped then s else settle tick s (perform keys s (effect_at s))).memory ≡ MEMORY_BYTES
+size_by : (stopped : Bool) (keys : ℕ) (tick : Bool) (s : State) → length s.memory ≡ MEMORY_BYTES
+    → length (if stopped then s else settle tick s (perform keys s (effect_at s))).memory
+    ≡ MEMORY_BYTES
 size_by true keys tick s lm = lm
-size_by false keys tick s lm = settle_size tick s _ lm (perform_size keys s.core s.memory (effect_at s) lm)
+size_by false keys tick s lm =
+    settle_size tick s _ lm (perform_size keys s.core s.memory (effect_at s) lm)
 
 -- a step keeps a state proper
 pub step_keeps_proper : StepKeepsProper
 unfolding step_of
-step_keeps_proper s keys tick proper = record { memory_size = size_by (is_some s.core.stopped) keys tick s proper.memory_size }
+step_keeps_proper s keys tick proper =
+    record { memory_size = size_by (is_some s.core.stopped) keys tick s proper.memory_size }

@@ -30,14 +30,16 @@ rank e = e.step * 16 + e.key
 
 -- by their steps, and in a step by their keys
 pub record IsInOrder (events : List Event) : Type 0 where
-  pub rising : (i j : ℕ) (d : Event) → i < j → j < length events → rank (slice_index_or events i d) < rank (slice_index_or events j d)
+  pub rising : (i j : ℕ) (d : Event) → i < j → j < length events
+      → rank (slice_index_or events i d) < rank (slice_index_or events j d)
   pub keys : (i : ℕ) (d : Event) → i < length events → (slice_index_or events i d).key < 16
 
 -- the events below a place are those of the steps before one
 pub record IsFirstFrom (events : List Event) (step place : ℕ) : Type 0 where
   pub at_most : place ≤ length events
   pub before : (i : ℕ) (d : Event) → i < place → (slice_index_or events i d).step < step
-  pub after : (i : ℕ) (d : Event) → place ≤ i → i < length events → step ≤ (slice_index_or events i d).step
+  pub after : (i : ℕ) (d : Event) → place ≤ i → i < length events
+      → step ≤ (slice_index_or events i d).step
 
 -- one page after another
 abbrev pub all_events : List (Vec Event) → List Event
@@ -53,7 +55,9 @@ abbrev pub IsPage : Vec Event → Type 0
 IsPage page = (0 < length page.items) × (length page.items ≤ PAGE_EVENTS)
 
 abbrev pub IsPlace : List (Vec Event) → Place → Type 0
-IsPlace pages place = (d : Vec Event) → place.page < length pages → place.index < length (slice_index_or pages place.page d).items
+IsPlace pages place =
+    (d : Vec Event) → place.page < length pages
+    → place.index < length (slice_index_or pages place.page d).items
 
 abbrev pub HasRoom : List (Vec Event) → Place → Type 0
 HasRoom pages place = (place.page < length pages)
@@ -69,24 +73,27 @@ after_events down (e ∷ es) (suc n) = after_events (slice_set down e.key e.down
 -- what the first event of the key's at the step says, if there is one
 abbrev pub change_at : List Event → ℕ → ℕ → Option Bool
 change_at [] step key = None
-change_at (e ∷ es) step key = if step == e.step && key == e.key then Some e.down else change_at es step key
+change_at (e ∷ es) step key =
+    if step == e.step && key == e.key then Some e.down else change_at es step key
 
 abbrev pub was_down : Events → ℕ → ℕ → Bool
 was_down events key zero = false
 was_down events key (suc step) = is_down events key step
 
--- which keys were down before the events of the steps from this one up to another, or of the other alone where it is
--- no later, and their mask
+-- which keys were down before the events of the steps from this one up to another, or of the other
+-- alone where it is no later, and their mask
 pub record KnowsKeys (events : Events) (step : ℕ) (h : Holding) : Type 0 where
   pub size : length h.down ≡ 16
   pub as_mask : h.keys ≡ mask (λ k. slice_index_or h.down k false) 16
-  pub before : (s k : ℕ) → min step h.until ≤ s → s ≤ h.until → k < 16 → was_down events k s ≡ slice_index_or h.down k false
+  pub before : (s k : ℕ) → min step h.until ≤ s → s ≤ h.until → k < 16
+      → was_down events k s ≡ slice_index_or h.down k false
 
 pub record HoldsKeys (events : Events) (step : ℕ) (h : Holding) : Type 0 where
   pub within : step < h.until
   pub size : length h.down ≡ 16
   pub as_mask : h.keys ≡ mask (λ k. slice_index_or h.down k false) 16
-  pub stays : (s k : ℕ) → step ≤ s → s < h.until → k < 16 → is_down events k s ≡ slice_index_or h.down k false
+  pub stays : (s k : ℕ) → step ≤ s → s < h.until → k < 16
+      → is_down events k s ≡ slice_index_or h.down k false
 
 -- the events by key and those in order say the same of each key at each step
 abbrev pub SaysTheSame : Events → List Event → Type 0

@@ -6,7 +6,8 @@ use Rattle.chip_replay.specs.Keys.{Events}
 use Rattle.chip_replay.specs.declared.keys.Holding.{Holding}
 
 -- what is known when a step begins is known when a later one begins
-pub knows_later : (events : Events) (s t : ℕ) (h : Holding) → KnowsKeys events s h → s ≤ t → KnowsKeys events t h
+pub knows_later : (events : Events) (s t : ℕ) (h : Holding) → KnowsKeys events s h → s ≤ t
+    → KnowsKeys events t h
 knows_later events s t h knows l =
     record {
       size = knows.size;

@@ -19,14 +19,18 @@ pub record IsFirst (p : ℕ → Bool) (n v : ℕ) : Type 0 where
 
 -- a table has for each address the least step below n that touches it, or no step if none does
 abbrev pub AreFirst : {M : Type 0} → (M → ℕ → Bool) → (ℕ → M) → ℕ → List ℕ → Type 0
-AreFirst touched state n first_touch = (at : ℕ) → at < memory_size → IsFirst (λ s. touched (state s) at) n (slice_index first_touch at)
+AreFirst touched state n first_touch =
+    (at : ℕ) → at < memory_size → IsFirst (λ s. touched (state s) at) n (slice_index first_touch at)
 
--- the checkpoints, one each p steps, and the step that first touched each address, of the steps of a run below reach
-pub record IsSound {M : Type 0} (p : ℕ) (proper : M → Type 0) (touched : M → ℕ → Bool) (state : ℕ → M) (checkpoints : List M) (first_touch : List ℕ) (reach : ℕ) : Type 0 where
+-- the checkpoints, one each p steps, and the step that first touched each address, of the steps of
+-- a run below reach
+pub record IsSound {M : Type 0} (p : ℕ) (proper : M → Type 0) (touched : M → ℕ → Bool)
+    (state : ℕ → M) (checkpoints : List M) (first_touch : List ℕ) (reach : ℕ) : Type 0 where
   pub proper_start : proper (state 0)
   pub in_range : reach ≤ last_step
   pub each_spacing : length checkpoints ≡ reach / p
-  pub checkpoint : (i : ℕ) (d : M) → i < length checkpoints → slice_index_or checkpoints i d ≡ state ((i + 1) * p)
+  pub checkpoint : (i : ℕ) (d : M) → i < length checkpoints
+      → slice_index_or checkpoints i d ≡ state ((i + 1) * p)
   pub each_address : length first_touch ≡ memory_size
   pub first : AreFirst touched state reach first_touch
 
@@ -34,7 +38,8 @@ pub record IsSound {M : Type 0} (p : ℕ) (proper : M → Type 0) (touched : M �
 abbrev pub IsLent : {M : Type 0} → (ℕ → M) → ℕ → M → Option ℕ → Type 0
 IsLent state reach lent step = IfSome step (λ t. (t ≤ reach) × (lent ≡ state t))
 
--- a step, if there still is one, stays, and is no later than the steps that are still known where fewer are
+-- a step, if there still is one, stays, and is no later than the steps that are still known where
+-- fewer are
 abbrev pub IsCutBack : ℕ → ℕ → Option ℕ → Option ℕ → Type 0
 IsCutBack reach later step kept = IfSome kept (λ t. (step ≡ Some t) × (t ≤ reach → t ≤ later))
 

@@ -13,19 +13,26 @@ use Rattle.chip_replay.specs.Frame.{AgreeOff, IsFramed}
 abbrev pub memory_of : State → List ℕ
 memory_of s = s.memory
 
-pub machine_framed : (set : ℕ → Bool) (keys : ℕ) (tick : Bool) (a b : State) → IsProper a → IsProper b → AgreeOff memory_of with_memory set a b → All (λ at. IsFalse (set at)) (touches a) → IsFramed memory_of with_memory (λ s. step_of s keys tick) touches set a b
+pub machine_framed : (set : ℕ → Bool) (keys : ℕ) (tick : Bool) (a b : State) → IsProper a
+    → IsProper b → AgreeOff memory_of with_memory set a b → All (λ at. IsFalse (set at)) (touches a)
+    → IsFramed memory_of with_memory (λ s. step_of s keys tick) touches set a b
 machine_framed set keys tick a b proper_a proper_b agree misses =
     let core : a.core ≡ b.core = ap (λ (s : State). s.core) agree.rest in
-    let framed = frame_law set keys tick a b proper_a proper_b (record { core = core; memory = agree.bytes }) misses in
+    let framed = frame_law set keys tick a b proper_a proper_b
+    (record { core = core; memory = agree.bytes }) misses in
     record {
       same_touches = framed.same_touches;
       still_agree = record {
-        rest = ap (λ (c : Core). with_memory (record { core = c; memory = memory_of (step_of a keys tick) }) (memory_of (step_of b keys tick))) framed.still_agree.core;
+        rest =
+            ap (λ (c : Core). with_memory
+            (record { core = c; memory = memory_of (step_of a keys tick) })
+            (memory_of (step_of b keys tick))) framed.still_agree.core;
         bytes = framed.still_agree.memory;
       };
       first_keeps = framed.first_keeps;
       second_keeps = framed.second_keeps;
     }
 
-pub machine_step_keeps : (s : State) (keys : ℕ) (tick : Bool) → IsProper s → IsProper (step_of s keys tick)
+pub machine_step_keeps : (s : State) (keys : ℕ) (tick : Bool) → IsProper s
+    → IsProper (step_of s keys tick)
 machine_step_keeps = step_keeps_proper

@@ -1,4 +1,5 @@
-//! The pictures of a screen with one digit, and checksums, against what other programs make of them.
+//! The pictures of a screen with one digit, and checksums, against what other programs make of
+//! them.
 
 use crate::checksum::{adler_of, crc_of};
 use crate::{screen_pbm, screen_png};
