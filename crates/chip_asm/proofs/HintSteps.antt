@@ -8,6 +8,7 @@ use Rattle.std.specs.Ordering.{int_eq}
 use Rattle.std.specs.Str.{bytes_eq}
 use Rattle.std.proofs.lemmas.Bool.Decides.{nat_tests, Decides-int_eq}
 use Rattle.std.proofs.lemmas.List.{length-map}
+use Rattle.std.proofs.lemmas.Slice.Eq.{bytes_eq-Decides}
 use Rattle.std.proofs.lemmas.Option.{slice_get-map}
 use Rattle.chip_lang.specs.Line.{Reading}
 use Rattle.chip_lang.specs.Uses.{names_used, has_same_value, agree_on}
@@ -230,6 +231,44 @@ agree-at old new line i a b same names hint before after equal other = by (names
         let new_value : value_of_name (values_of new) name ≡ Some b.1.value = value-in new name b h after in
         rw (old_value, new_value) (int-same a.1.value b.1.value same equal other)
     by (name ∷ second ∷ others) h = absurd (omega arith)
+
+-- the name at a number
+named-numbered : (names : List (Name × Symbol)) (name : Name) (i : ℕ) (e : Name × Symbol) → number_of (names_in names) name ≡ i + 1 → slice_get names i ≡ Some e → name ≡ e.0
+named-numbered [] name i e h at = absurd (omega arith)
+named-numbered (first ∷ others) name i e h at = by (λ j. named-numbered others name j e) (bytes_eq name first.0) i refl h at
+  where
+    by : ((j : ℕ) → number_of (names_in others) name ≡ j + 1 → slice_get others j ≡ Some e → name ≡ e.0)
+        → (b : Bool) (i : ℕ) → bytes_eq name first.0 ≡ b → cond b 1 (cond (nat_eq (number_of (names_in others) name) 0) 0 (number_of (names_in others) name + 1)) ≡ i + 1 → slice_get (first ∷ others) i ≡ Some e
+        → name ≡ e.0
+    by more true zero k h at = let same : first ≡ e = cc in (bytes_eq-Decides name first.0).0 k ∙ ap (λ (x : Name × Symbol). x.0) same
+    by more true (suc i) k h at = absurd (omega arith)
+    by more false zero k h at = let l = later-found others name first (number_of (names_in others) name) 0 refl h in absurd (omega (arith, l.0, l.1))
+    by more false (suc i) k h at = let l = later-found others name e (number_of (names_in others) name) (suc i) refl h in more i (omega (arith, l.0)) at
+
+-- tables agree on a line with one name where the name at its number has its value in the other one
+pub agree-by : (old new : List (Name × Symbol)) (line : Reading) (i : ℕ) (a : Name × Symbol) → hint_in (names_in old) line ≡ i + 2 → slice_get old i ≡ Some a
+    → value_of_name (values_of new) a.0 ≡ Some a.1.value → agree_on (values_of old) (values_of new) line ≡ true
+unfolding hint_in
+agree-by old new line i a hint at value = by (names_used line) hint
+  where
+    by : (used : List Name) → hint_for (names_in old) used ≡ i + 2 → list_all (has_same_value (values_of old) (values_of new)) used ≡ true
+    by [] h = absurd (omega arith)
+    by (name ∷ []) hinted =
+        let h : number_of (names_in old) name ≡ i + 1 = as-hint-some (number_of (names_in old) name) i hinted in
+        let old_value : value_of_name (values_of old) name ≡ Some a.1.value = value-of-name old name ∙ ap (option_map (λ (s : Symbol). s.value)) (found-numbered old name i a h at) in
+        let new_value : value_of_name (values_of new) name ≡ Some a.1.value = ap (value_of_name (values_of new)) (named-numbered old name i a h at) ∙ value in
+        rw (old_value, new_value) (ap (λ b. b && true) ((Decides-int_eq a.1.value a.1.value).1 refl))
+    by (name ∷ second ∷ others) h = absurd (omega arith)
+
+-- they agree on a line without names
+pub agree-none : (old new : List (Name × Symbol)) (line : Reading) → hint_in (names_in old) line ≡ 0 → agree_on (values_of old) (values_of new) line ≡ true
+unfolding hint_in
+agree-none old new line hint = by (names_used line) hint
+  where
+    by : (used : List Name) → hint_for (names_in old) used ≡ 0 → list_all (has_same_value (values_of old) (values_of new)) used ≡ true
+    by [] h = refl
+    by (name ∷ []) h = absurd (omega (arith, h, as-hint-more (number_of (names_in old) name)))
+    by (name ∷ second ∷ others) h = absurd (omega (arith, h))
 
 -- edits
 

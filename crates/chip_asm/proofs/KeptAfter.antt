@@ -14,7 +14,7 @@ use Rattle.chip_asm.specs.inner.Records.{reading_in, readings_in, lines_after, p
 use Rattle.chip_asm.specs.declared.edit.Edit.{Edit}
 use Rattle.chip_asm.specs.inner.Recode.{has_code, is_placed_at, is_encoded_again, code_among, new_code, new_codes}
 use Rattle.chip_asm.specs.inner.Kept.{AreCurrent, IsMerged}
-use Rattle.chip_asm.proofs.Edited.{length-lines_after}
+use Rattle.chip_asm.proofs.LinesAfter.{length-lines_after}
 use Rattle.chip_asm.proofs.RecodeSteps.{code-among}
 use Rattle.chip_asm.proofs.StayedCodes.{Stayed, Stood, stood, stayed, fresh-at, codes-within, SameCode}
 

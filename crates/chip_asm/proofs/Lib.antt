@@ -7,7 +7,7 @@ pub mod NextLine
 pub mod BareLines
 pub mod LayoutSteps
 pub mod MarkSteps
-pub mod Edited
+pub mod LinesAfter
 pub mod TableSteps
 pub mod RecodeSteps
 pub mod HintSteps

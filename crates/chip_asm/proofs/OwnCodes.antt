@@ -19,7 +19,7 @@ use Rattle.chip_asm.specs.inner.Records.{reading_in, readings_in, IsPlaceWithin,
 use Rattle.chip_asm.specs.inner.Resume.{first_changed}
 use Rattle.chip_asm.specs.inner.Span.{KeepsEnds, later_lines}
 use Rattle.chip_asm.specs.inner.Stood.{AreOwn}
-use Rattle.chip_asm.proofs.Edited.{length-lines_after}
+use Rattle.chip_asm.proofs.LinesAfter.{length-lines_after}
 use Rattle.chip_asm.proofs.KeptAfter.{within-codes}
 use Rattle.chip_asm.proofs.StayedCodes.{stood, fresh-at}
 

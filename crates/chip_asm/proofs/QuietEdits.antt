@@ -28,7 +28,7 @@ use Rattle.chip_asm.specs.declared.traits.Traits.{Traits}
 use Rattle.chip_asm.specs.inner.Records.{IsPlaceWithin, count_after, lines_after, reading_in, readings_in}
 use Rattle.chip_asm.specs.inner.Traits.{traits_of}
 use Rattle.chip_asm.proofs.Bounds.{end-high}
-use Rattle.chip_asm.proofs.Edited.{length-readings_after}
+use Rattle.chip_asm.proofs.LinesAfter.{length-readings_after}
 use Rattle.chip_asm.specs.inner.Resume.{first_changed, names_up_to}
 use Rattle.chip_asm.specs.inner.Shift.{IsQuiet, added_by, is_keep, is_nameless_at, moved_name, name_past, old_place, takes_nameless}
 use Rattle.chip_asm.proofs.BareLines.{bare-fault, bare-size, live-elsewhere, no-if, no-value}

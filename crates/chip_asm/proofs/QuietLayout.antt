@@ -18,7 +18,7 @@ use Rattle.chip_asm.specs.inner.Records.{IsPlaceWithin, count_after, lines_after
 use Rattle.chip_asm.specs.inner.Resume.{first_changed, names_up_to}
 use Rattle.chip_asm.specs.inner.Shift.{IsQuiet, added_by, moved_address, moved_placement, name_past, old_place, removed_by}
 use Rattle.chip_asm.specs.inner.Traits.{traits_of}
-use Rattle.chip_asm.proofs.Edited.{length-readings_after}
+use Rattle.chip_asm.proofs.LinesAfter.{length-readings_after}
 use Rattle.chip_asm.proofs.QuietEdits.{names-past, next-inside}
 use Rattle.chip_asm.proofs.Resumed.{first-before, length-laid, steady-by}
 use Rattle.chip_asm.proofs.ShiftedLayout.{IsMade, StandsBefore, drop-seam}

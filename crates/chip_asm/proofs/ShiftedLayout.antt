@@ -32,7 +32,7 @@ use Rattle.chip_asm.specs.inner.Resume.{first_changed, names_up_to}
 use Rattle.chip_asm.specs.inner.Shift.{moved_address, moved_placement, moved_name, added_by, removed_by, is_keep, is_steady_at, takes_steady, old_place, IsShift}
 use Rattle.chip_asm.specs.inner.Traits.{is_steady, traits_of}
 use Rattle.chip_asm.proofs.Bounds.{end-high}
-use Rattle.chip_asm.proofs.Edited.{length-readings_after}
+use Rattle.chip_asm.proofs.LinesAfter.{length-readings_after}
 use Rattle.chip_asm.proofs.NeedsSteps.{length-numbered}
 use Rattle.chip_asm.proofs.EditTexts.{map-insert, map-remove}
 use Rattle.chip_asm.proofs.Placing.{onto, fold-append, length-placed}

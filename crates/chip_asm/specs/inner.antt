@@ -1,8 +1,9 @@
 -- What the functions inside say: of the first pass in Turns, Follows, Bare, Placements, Marks,
--- Layouts, Resume and Shift; of kept lines and their codes in HeldText, HeldLine, Records, Traits,
--- Hints, Moves, Remaking, Recode, Effect, Kept and KeptCodes; of the image after an edit in Span,
--- Stood and Writing.
+-- Layouts, Resume, Shift and Edited; of kept lines and their codes in HeldText, HeldLine, Records,
+-- Traits, Hints, Moves, Remaking, Recode, Effect, Kept and KeptCodes; of the image after an edit in
+-- Span, Stood and Writing.
 pub mod Bare
+pub mod Edited
 pub mod Effect
 pub mod Follows
 pub mod HeldLine

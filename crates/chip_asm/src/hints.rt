@@ -4,6 +4,7 @@ ghost use Rattle.std.specs.Prelude.{◌≡◌, ◌≤◌, true, if◌then◌else
 ghost use Rattle.chip_asm.specs.Names.{values_of};
 ghost use Rattle.chip_asm.specs.inner.Hints.{names_in, as_hint, hint_in};
 ghost use Rattle.chip_asm.specs.inner.Records.{IsPlaceWithin, lines_after, readings_in};
+ghost use Rattle.chip_lang.specs.Uses.{agree_on};
 ghost use Rattle.chip_lang.specs.SeenLine.{seen_line};
 ghost use Rattle.chip_asm.specs.inner.Traits.{traits_of};
 ghost use Rattle.chip_asm.specs.declared.kept_line.KeptLine.{KeptLine};
@@ -13,7 +14,7 @@ use crate::kept_line::BoxedLine;
 use crate::limits::MOST_LINES;
 use crate::table::Table;
 use crate::traits::Traits;
-use chip_lang::{Line, Names, uses};
+use chip_lang::{Line, Names, agree_on, uses};
 use std::alloc::{AllocError, Global};
 
 /// One more than such a number of a name, in 16 bits; 1 for a greater one, or for 0.
@@ -39,6 +40,19 @@ pub(crate) fn hint_of(names: &Table, line: &Line) -> u16
         return 1;
     }
     as_hint(names.number_of(name))
+}
+
+/// Whether two tables agree on the names of a line, of which the hint by the first one is known.
+pub(crate) fn keeps_names(old: &Table, new: &Table, hint: u16, line: &Line) -> bool
+    requires { hint ≡ hint_in (names_in old.now) (seen_line line.now) }
+    ensures { result ≡ true
+        → agree_on (values_of old.now) (values_of new.now) (seen_line line.now) ≡ true }
+{
+    match hint {
+        0 => true,
+        1 => agree_on(line, old, new),
+        _ => old.keeps_value_at(new, hint as usize - 2),
+    }
 }
 
 /// The same, where the traits of the line are known.

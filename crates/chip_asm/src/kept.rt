@@ -22,6 +22,7 @@ ghost use Rattle.chip_asm.specs.inner.Stood.{AreOwn, MakesCurrent, StoodBefore};
 
 use crate::changed::Changed;
 use crate::edit::{Edit, make_edit, replace_line};
+use crate::edited::Edited;
 use crate::effect::has_same_effect;
 use crate::hints::{hint_of, hints_after, no_hints};
 use crate::image::{count_of, fill_up, kept_bytes, kept_fault, write_line};
@@ -377,7 +378,14 @@ impl Kept {
         fill_up(&mut self.image)?;
         let spare = mem::replace(&mut self.spare, Layout::new(alloc));
         let traits = traits_after(alloc, &self.traits, edit)?;
-        let (layout, span) = Layout::after(alloc, spare, &self.layout, &self.lines, &traits, edit)?;
+        let edited = Edited {
+            lines: &self.lines,
+            old: &self.layout,
+            hints: &self.hints,
+            edit,
+            traits: &traits,
+        };
+        let (layout, span) = edited.layout(alloc, spare)?;
         let same_names = span.is_some() || self.layout.names.has_same_names(&layout.names);
         let hints = hints_after(
             alloc,

@@ -5,6 +5,7 @@ mod block;
 mod changed;
 mod cut;
 mod edit;
+mod edited;
 mod effect;
 mod hints;
 mod image;

@@ -1,6 +1,7 @@
 //! Edits by which no name comes or goes, and of which the first pass asks only the size.
 ghost use Rattle.std.specs.Prelude.{◌≡◌, ℕ, ◌+◌, ◌<◌, ◌≤◌, ◌++◌, false, true, IfOk, IfSome, OnOk, drop, length, map, option_to_list, slice_index_or, take, vec_len};
 ghost use Rattle.std.specs.List.{list_all};
+ghost use Rattle.chip_asm.specs.inner.Layouts.{IsLayoutOf};
 ghost use Rattle.chip_asm.specs.inner.Hints.{names_in};
 ghost use Rattle.chip_asm.specs.inner.Span.{IsSpanOf};
 ghost use Rattle.chip_asm.specs.inner.Records.{IsPlaceWithin, lines_after, readings_in};
@@ -9,9 +10,9 @@ ghost use Rattle.chip_asm.specs.inner.Shift.{IsQuiet, IsShift, added_by, is_keep
 ghost use Rattle.chip_asm.specs.inner.Traits.{traits_of};
 
 use crate::edit::{Edit, first_changed};
+use crate::edited::Edited;
 use crate::kept_line::BoxedLine;
 use crate::layout::Layout;
-use crate::limits::MOST_LINES;
 use crate::placement::Placement;
 use crate::shift::{Shift, add_moved, added_by, removed_by};
 use crate::span::Span;
@@ -34,81 +35,6 @@ fn takes_nameless(lines: &[BoxedLine], edit: &Edit) -> bool
 }
 
 impl Layout {
-    ghost use Rattle.chip_asm.specs.inner.Layouts.{IsLayoutOf};
-
-    /// What the first pass finds of the line that an edit brings, if it brings one, and the address
-    /// after it. None where a name comes or goes, where more is asked of the line than its size, or
-    /// where it doesn't fit.
-    fn found_quietly(
-        &self,
-        lines: &[BoxedLine],
-        traits: &[Traits],
-        edit: &Edit,
-        next: usize,
-    ) -> Option<(Option<Placement>, usize)>
-        requires within { IsPlaceWithin (length lines.now) edit.now }
-        requires few { length lines.now ≤ MOST_LINES }
-        requires traits { traits.now
-            ≡ map traits_of (readings_in (lines_after lines.now edit.now)) }
-        requires before { is_keep edit.now ≡ false → IsLayoutOf self.now (readings_in lines.now) }
-        requires next { next ≡ first_changed edit.now + added_by edit.now }
-        requires steady { (index : ℕ) (other : Traits) → index < next
-            → (slice_index_or traits.now index other).is_steady ≡ true }
-        ensures { IfSome result (λ found. IsQuiet found.0 found.1 self.now (readings_in lines.now)
-            (readings_in (lines_after lines.now edit.now)) edit.now next) }
-    {
-        if !takes_nameless(lines, edit) {
-            return None;
-        }
-        let place = first_changed(edit);
-        let here = self.address_at(place);
-        if added_by(edit) == 0 {
-            return Some((None, here));
-        }
-        let size = traits[place].bare_size()?;
-        if traits[place].gives_name || here + size > MEMORY_BYTES {
-            return None;
-        }
-        let found = Placement {
-            value: 0,
-            number: place as u16 + 1,
-            here: here as u16,
-            size: size as u16,
-            fault: None,
-            live: true,
-            is_if: false,
-        };
-        Some((Some(found), here + size))
-    }
-
-    /// The same with how far the later lines move, which are plain. None also where they do more
-    /// than move.
-    pub(crate) fn quiet_shift(
-        &self,
-        lines: &[BoxedLine],
-        traits: &[Traits],
-        edit: &Edit,
-        next: usize,
-    ) -> Option<(Option<Placement>, Shift)>
-        requires within { IsPlaceWithin (length lines.now) edit.now }
-        requires few { length lines.now ≤ MOST_LINES }
-        requires traits { traits.now
-            ≡ map traits_of (readings_in (lines_after lines.now edit.now)) }
-        requires before { is_keep edit.now ≡ false → IsLayoutOf self.now (readings_in lines.now) }
-        requires next { next ≡ first_changed edit.now + added_by edit.now }
-        requires steady { (index : ℕ) (other : Traits) → index < next
-            → (slice_index_or traits.now index other).is_steady ≡ true }
-        ensures quiet { IfSome result
-            (λ q. IsQuiet q.0 q.1.new_address self.now (readings_in lines.now)
-            (readings_in (lines_after lines.now edit.now)) edit.now next) }
-        ensures shift { IfSome result
-            (λ q. IsShift q.1 self.now (readings_in lines.now) edit.now next q.1.new_address) }
-    {
-        let (found, here) = self.found_quietly(lines, traits, edit, next)?;
-        let shift = self.shift(lines, edit, next, here)?;
-        Some((found, shift))
-    }
-
     /// What is found of the lines before a place, of a line that comes there, and of those from
     /// another place on, which move.
     fn moved_placements(
@@ -133,42 +59,96 @@ impl Layout {
         add_moved(&mut placements, &self.placements[from..], shift)?;
         Ok(placements)
     }
+}
+
+impl<'a> Edited<'a> {
+    ghost use Rattle.chip_asm.specs.inner.Edited.{IsEdited, lines_before, lines_then};
+
+    /// What the first pass finds of the line that the edit brings, if it brings one, and the
+    /// address after it. None where a name comes or goes, where more is asked of the line than its
+    /// size, or where it doesn't fit.
+    fn found_quietly(&self, next: usize) -> Option<(Option<Placement>, usize)>
+        requires edited { IsEdited self.now }
+        requires next { next ≡ first_changed self.now.edit.now + added_by self.now.edit.now }
+        requires steady { (index : ℕ) (other : Traits) → index < next
+            → (slice_index_or self.now.traits.now index other).is_steady ≡ true }
+        ensures { IfSome result (λ found. IsQuiet found.0 found.1 self.now.old.now
+            (lines_before self.now) (lines_then self.now) self.now.edit.now next) }
+    {
+        if !takes_nameless(self.lines, self.edit) {
+            return None;
+        }
+        let place = first_changed(self.edit);
+        let here = self.old.address_at(place);
+        if added_by(self.edit) == 0 {
+            return Some((None, here));
+        }
+        let size = self.traits[place].bare_size()?;
+        if self.traits[place].gives_name || here + size > MEMORY_BYTES {
+            return None;
+        }
+        let found = Placement {
+            value: 0,
+            number: place as u16 + 1,
+            here: here as u16,
+            size: size as u16,
+            fault: None,
+            live: true,
+            is_if: false,
+        };
+        Some((Some(found), here + size))
+    }
+
+    /// The same with how far the later lines move, which are plain. None also where they do more
+    /// than move.
+    pub(crate) fn quiet_shift(&self, next: usize) -> Option<(Option<Placement>, Shift)>
+        requires edited { IsEdited self.now }
+        requires next { next ≡ first_changed self.now.edit.now + added_by self.now.edit.now }
+        requires steady { (index : ℕ) (other : Traits) → index < next
+            → (slice_index_or self.now.traits.now index other).is_steady ≡ true }
+        ensures quiet { IfSome result
+            (λ q. IsQuiet q.0 q.1.new_address self.now.old.now
+            (lines_before self.now) (lines_then self.now) self.now.edit.now next) }
+        ensures shift { IfSome result
+            (λ q. IsShift q.1 self.now.old.now (lines_before self.now)
+            self.now.edit.now next q.1.new_address) }
+    {
+        let (found, here) = self.found_quietly(next)?;
+        let shift = self.shift(next, here)?;
+        Some((found, shift))
+    }
 
     /// The layout after such an edit, in the room of one with the same names, and which lines stand
     /// where they stood or moved as one.
     pub(crate) fn moved(
         &self,
         spare: Layout,
-        lines: &[BoxedLine],
-        traits: &[Traits],
-        edit: &Edit,
         quiet: (Option<Placement>, Shift),
     ) -> Result<(Layout, Option<Span>), AllocError>
-        requires within { IsPlaceWithin (length lines.now) edit.now }
-        requires few { length lines.now ≤ MOST_LINES }
-        requires traits { traits.now
-            ≡ map traits_of (readings_in (lines_after lines.now edit.now)) }
-        requires before { is_keep edit.now ≡ false → IsLayoutOf self.now (readings_in lines.now) }
+        requires edited { IsEdited self.now }
         requires steady { (index : ℕ) (other : Traits)
-            → index < first_changed edit.now + added_by edit.now
-            → (slice_index_or traits.now index other).is_steady ≡ true }
+            → index < first_changed self.now.edit.now + added_by self.now.edit.now
+            → (slice_index_or self.now.traits.now index other).is_steady ≡ true }
         requires plain { list_all (λ t. t.is_plain)
-            (drop (first_changed edit.now + added_by edit.now) traits.now) ≡ true }
-        requires names { names_in spare.names ≡ names_in self.now.names }
-        requires quiet { IsQuiet quiet.0 quiet.1.new_address self.now (readings_in lines.now)
-            (readings_in (lines_after lines.now edit.now)) edit.now
-            (first_changed edit.now + added_by edit.now) }
-        requires shift { IsShift quiet.1 self.now (readings_in lines.now) edit.now
-            (first_changed edit.now + added_by edit.now) quiet.1.new_address }
-        ensures layout { IfOk result
-            (λ made. IsLayoutOf made.0 (readings_in (lines_after lines.now edit.now))) }
+            (drop (first_changed self.now.edit.now + added_by self.now.edit.now)
+            self.now.traits.now) ≡ true }
+        requires names { names_in spare.names ≡ names_in self.now.old.now.names }
+        requires quiet { IsQuiet quiet.0 quiet.1.new_address self.now.old.now
+            (lines_before self.now) (lines_then self.now) self.now.edit.now
+            (first_changed self.now.edit.now + added_by self.now.edit.now) }
+        requires shift { IsShift quiet.1 self.now.old.now (lines_before self.now)
+            self.now.edit.now (first_changed self.now.edit.now + added_by self.now.edit.now)
+            quiet.1.new_address }
+        ensures layout { IfOk result (λ made. IsLayoutOf made.0 (lines_then self.now)) }
         ensures span { IfOk result
             (λ made. IfSome made.1
-            (λ span. IsSpanOf self.now made.0 (length lines.now) edit.now span)) }
+            (λ span. IsSpanOf self.now.old.now made.0
+            (length self.now.lines.now) self.now.edit.now span)) }
     {
         let (found, shift) = quiet;
-        let place = first_changed(edit);
-        let from = place + removed_by(edit);
+        let old = self.old;
+        let place = first_changed(self.edit);
+        let from = place + removed_by(self.edit);
         let Layout {
             placements,
             mut names,
@@ -176,17 +156,17 @@ impl Layout {
             all_accepted: _,
             way: _,
         } = spare;
-        let placements = self.moved_placements(placements, found, shift, place, from)?;
-        names.move_from(&self.names, place, shift);
+        let placements = old.moved_placements(placements, found, shift, place, from)?;
+        names.move_from(&old.names, place, shift);
         let span = Span {
-            front: self.clean_lines(place),
-            back: lines.len() - from,
+            front: old.clean_lines(place),
+            back: self.lines.len() - from,
         };
         let layout = Layout {
             placements,
             names,
-            end: shift.address(self.end as u16) as usize,
-            all_accepted: self.all_accepted,
+            end: shift.address(old.end as u16) as usize,
+            all_accepted: old.all_accepted,
             way: Way::Moved,
         };
         Ok((layout, Some(span)))

@@ -289,6 +289,19 @@ impl Table {
         }
     }
 
+    /// Whether the name at an index has the same value in another table, where it may stand at the
+    /// same index.
+    pub(crate) fn keeps_value_at(&self, other: &Table, index: usize) -> bool
+        requires { index < length self.now }
+        ensures { (mine : Name × Symbol) → slice_get self.now index ≡ Some mine → result ≡ true
+            → value_of_name (values_of other.now) mine.0 ≡ Some mine.1.value }
+    {
+        match self.symbols.get_index(index) {
+            Some((name, symbol)) => other.value_near(index, name) == Some(symbol.value),
+            None => unreachable!(),
+        }
+    }
+
     /// The value and the line of a name in either case.
     pub(crate) fn symbol_in_any_case(&self, name: &[u8]) -> Option<Symbol>
         ensures { result ≡ lookup_name self.now (map upper name.now) }

@@ -2,7 +2,7 @@ use Rattle.std.proofs.Common.{◌≡◌, ◌≤◌, ◌+◌, ◌-◌, sym, ◌�
 use Rattle.std.proofs.lemmas.List.{get_or-set_same, get_or-set_other}
 use Rattle.std.proofs.lemmas.List.Edits.{get_or-insert_below, get_or-insert_at, get_or-insert_above, get_or-remove_below, get_or-remove_above}
 use Rattle.chip_asm.specs.inner.Records.{lines_after}
-use Rattle.chip_asm.proofs.Edited.{after-at}
+use Rattle.chip_asm.proofs.LinesAfter.{after-at}
 use Rattle.chip_asm.proofs.edit.kept_after.Goals as goal
 
 pub returns-then-place-at : goal.returns-then-place-at

@@ -5,7 +5,7 @@ use Rattle.chip_lang.specs.SeenLine.{seen_line}
 use Rattle.chip_asm.specs.inner.Hints.{names_in, hint_in}
 use Rattle.chip_asm.specs.inner.Records.{lines_after, readings_in}
 use Rattle.chip_asm.specs.inner.Traits.{traits_of}
-use Rattle.chip_asm.proofs.Edited.{length-readings_after, mapped-at}
+use Rattle.chip_asm.proofs.LinesAfter.{length-readings_after, mapped-at}
 use Rattle.chip_asm.proofs.LayoutSteps.{take-next}
 use Rattle.chip_asm.proofs.hints.hints_of_all.Goals as goal
 

@@ -9,21 +9,21 @@ use Rattle.chip_asm.proofs.kept.Kept.prepare.Goals as goal
 
 pub returns-in_err-codes-clause-encoded : goal.returns-in_err-codes-clause-encoded
 returns-in_err-codes-clause-encoded c = λ before laid.
-    let seen : c.deref-7.result.now ≡ c.args.self.now.lines.items = c.deref-7.ensures.value ∙ c.reserve.ensures.items in
+    let seen : c.deref-8.result.now ≡ c.args.self.now.lines.items = c.deref-8.ensures.value ∙ c.reserve.ensures.items in
     let e : c.codes.new.meter.encoded ≤ c.args.meter.now.encoded + count_again before (readings_in (lines_after c.args.self.now.lines.items c.args.edit.now)) (place_before c.args.edit.now)
     = rw (← seen) (c.codes.ensures.encoded before laid) in
     omega (arith, e, count-needed before (readings_in (lines_after c.args.self.now.lines.items c.args.edit.now)) (place_before c.args.edit.now))
 
 pub returns-clause-encoded : goal.returns-clause-encoded
 returns-clause-encoded c = λ before laid.
-    let seen : c.deref-7.result.now ≡ c.args.self.now.lines.items = c.deref-7.ensures.value ∙ c.reserve.ensures.items in
+    let seen : c.deref-8.result.now ≡ c.args.self.now.lines.items = c.deref-8.ensures.value ∙ c.reserve.ensures.items in
     let e : c.codes.new.meter.encoded ≤ c.args.meter.now.encoded + count_again before (readings_in (lines_after c.args.self.now.lines.items c.args.edit.now)) (place_before c.args.edit.now)
     = rw (← seen) (c.codes.ensures.encoded before laid) in
     omega (arith, e, count-needed before (readings_in (lines_after c.args.self.now.lines.items c.args.edit.now)) (place_before c.args.edit.now))
 
 pub returns-clause-codes : goal.returns-clause-codes
 returns-clause-codes c = λ before laid.
-    let seen : c.deref-7.result.now ≡ c.args.self.now.lines.items = c.deref-7.ensures.value ∙ c.reserve.ensures.items in
+    let seen : c.deref-8.result.now ≡ c.args.self.now.lines.items = c.deref-8.ensures.value ∙ c.reserve.ensures.items in
     rw (← seen) (c.in_ok-codes.ensures.codes before laid)
 
 pub returns-in_err-traits-clause-spare : goal.returns-in_err-traits-clause-spare

@@ -6,7 +6,7 @@ use Rattle.chip_asm.specs.declared.span.Span.{Span}
 use Rattle.chip_asm.specs.inner.Layouts.{IsLayoutOf}
 use Rattle.chip_asm.specs.inner.Resume.{first_changed}
 use Rattle.chip_asm.specs.inner.Span.{IsSpanOf, KeepsEnds, later_lines}
-use Rattle.chip_asm.proofs.Edited.{length-lines_after}
+use Rattle.chip_asm.proofs.LinesAfter.{length-lines_after}
 use Rattle.chip_asm.proofs.ImageWhole.{length-kept}
 use Rattle.chip_asm.specs.inner.Records.{readings_in, lines_after, place_before, count_after, IsPlaceWithin}
 use Rattle.chip_asm.proofs.Resumed.{continues-edited}

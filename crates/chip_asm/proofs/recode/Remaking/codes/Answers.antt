@@ -6,7 +6,7 @@ use Rattle.chip_lang.specs.Line.{Reading}
 use Rattle.chip_asm.specs.inner.Records.{place_before}
 use Rattle.chip_asm.specs.inner.Remaking.{lines_then}
 use Rattle.chip_asm.specs.inner.Recode.{new_code, codes_placed}
-use Rattle.chip_asm.proofs.Edited.{length-readings_after}
+use Rattle.chip_asm.proofs.LinesAfter.{length-readings_after}
 use Rattle.chip_asm.proofs.recode.Remaking.codes.Goals as goal
 
 pub returns-clause-codes : goal.returns-clause-codes

@@ -5,7 +5,7 @@ use Rattle.chip_lang.specs.declared.fault.Fault.TheVariants.{UnclosedIf}
 use Rattle.chip_asm.specs.declared.recode.Moved.TheVariants.{No}
 use Rattle.chip_asm.specs.inner.Hints.{names_in, hint_in}
 use Rattle.chip_asm.specs.inner.Remaking.{lines_then}
-use Rattle.chip_asm.proofs.Edited.{mapped-at}
+use Rattle.chip_asm.proofs.LinesAfter.{mapped-at}
 use Rattle.chip_asm.proofs.HintSteps.{hint-few, length-names}
 use Rattle.chip_asm.proofs.RecodeSteps.{said-unmoved}
 use Rattle.chip_asm.proofs.recode.Remaking.is_unmoved.Goals as goal

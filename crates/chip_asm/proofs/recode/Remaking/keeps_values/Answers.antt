@@ -5,7 +5,7 @@ use Rattle.chip_lang.specs.declared.fault.Fault.TheVariants.{UnclosedIf}
 use Rattle.chip_asm.specs.declared.recode.Moved.TheVariants.{No}
 use Rattle.chip_asm.specs.inner.Hints.{names_in, hint_in}
 use Rattle.chip_asm.specs.inner.Remaking.{lines_then}
-use Rattle.chip_asm.proofs.Edited.{length-readings_after, mapped-at}
+use Rattle.chip_asm.proofs.LinesAfter.{length-readings_after, mapped-at}
 use Rattle.chip_asm.proofs.HintSteps.{hint-few, length-names}
 use Rattle.chip_asm.proofs.RecodeSteps.{said, yes-named, yes-unknown}
 use Rattle.chip_asm.proofs.recode.Remaking.keeps_values.Goals as goal

@@ -12,7 +12,7 @@ use Rattle.chip_asm.specs.inner.Layouts.{placements_of}
 use Rattle.chip_asm.specs.inner.Records.{place_before}
 use Rattle.chip_asm.specs.inner.Recode.{is_placed_at}
 use Rattle.chip_asm.specs.inner.Remaking.{lines_then}
-use Rattle.chip_asm.proofs.Edited.{mapped-at}
+use Rattle.chip_asm.proofs.LinesAfter.{mapped-at}
 use Rattle.chip_asm.proofs.HintSteps.{hint-few, length-names}
 use Rattle.chip_asm.proofs.RecodeSteps.{not-again, one-still, said, said-unmoved, yes-named, yes-unknown}
 use Rattle.chip_asm.proofs.recode.Remaking.push_code_of_stood.Goals as goal

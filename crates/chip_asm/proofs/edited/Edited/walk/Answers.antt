@@ -5,14 +5,14 @@ use Rattle.chip_lang.specs.Line.{Reading, bad}
 use Rattle.chip_lang.specs.declared.fault.Fault.TheVariants.{UnclosedIf}
 use Rattle.chip_asm.specs.inner.Records.{lines_after, readings_in}
 use Rattle.chip_asm.specs.inner.Traits.{traits_of}
-use Rattle.chip_asm.proofs.Edited.{length-readings_after, mapped-at}
+use Rattle.chip_asm.proofs.LinesAfter.{length-readings_after, mapped-at}
 use Rattle.chip_asm.proofs.LayoutSteps.{placements-push, take-next}
-use Rattle.chip_asm.proofs.layout.walk.Goals as goal
+use Rattle.chip_asm.proofs.edited.Edited.walk.Goals as goal
 
 pub loop-next-preserved : goal.loop-next-preserved
 loop-next-preserved c =
-    let all : List Reading = readings_in (lines_after c.args.lines.now c.args.edit.now) in
-    let inside : c.loop-next.next < length all = omega (arith, length-readings_after c.args.lines.now c.args.edit.now c.requires.within, c.requires.end) in
+    let all : List Reading = readings_in (lines_after c.args.self.now.lines.now c.args.self.now.edit.now) in
+    let inside : c.loop-next.next < length all = omega (arith, length-readings_after c.args.self.now.lines.now c.args.self.now.edit.now c.requires.edited.within, c.requires.end) in
     let done : List Reading = take c.loop-next.next all in
     let counted_up : c.loop-next.next ≡ length done = omega (arith, length-take c.loop-next.next all) in
     let line : Reading = get_or all c.loop-next.next (bad UnclosedIf) in
@@ -22,12 +22,3 @@ loop-next-preserved c =
       placements = rw (more, placements-push) (c.in_ok-push.ensures.items ∙ (rw (c.loop-next.invariant.placements, c.in_ok-placement.ensures.found done line at c.loop-next.invariant.follows counted_up) refl));
       follows = rw more (c.in_ok-placement.ensures.follows done line at c.loop-next.invariant.follows counted_up);
     }
-
-pub bounds-traits-next : goal.bounds-traits-next
-bounds-traits-next c =
-    let all : List Reading = readings_in (lines_after c.args.lines.now c.args.edit.now) in
-    omega (arith, length-readings_after c.args.lines.now c.args.edit.now c.requires.within, c.requires.end, ap length c.requires.traits, length-map all traits_of)
-
-pub step_at-requires-clause-traits : goal.step_at-requires-clause-traits
-step_at-requires-clause-traits c = λ line at.
-    mapped-at traits_of (readings_in (lines_after c.args.lines.now c.args.edit.now)) c.args.traits.now c.loop-next.next line _ c.requires.traits at

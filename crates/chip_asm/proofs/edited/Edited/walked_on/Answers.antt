@@ -7,14 +7,14 @@ use Rattle.chip_asm.specs.inner.Records.{lines_after, readings_in}
 use Rattle.chip_asm.specs.inner.Shift.{IsWalked}
 use Rattle.chip_asm.specs.computed.Walk.{placed}
 use Rattle.chip_asm.specs.inner.Follows.{Follows}
-use Rattle.chip_asm.proofs.Edited.{length-readings_after}
+use Rattle.chip_asm.proofs.LinesAfter.{length-readings_after}
 use Rattle.chip_asm.proofs.MarkSteps.{marked-placements}
-use Rattle.chip_asm.proofs.layout.Layout.walked_on.Goals as goal
+use Rattle.chip_asm.proofs.edited.Edited.walked_on.Goals as goal
 
 pub returns : goal.returns
 returns c =
-    let all : List Reading = readings_in (lines_after c.args.lines.now c.args.edit.now) in
-    let whole : take c.count_after-count.result all ≡ all = take_all c.count_after-count.result all (omega (arith, length-readings_after c.args.lines.now c.args.edit.now c.requires.within, c.count_after-count.ensures)) in
+    let all : List Reading = readings_in (lines_after c.args.self.now.lines.now c.args.self.now.edit.now) in
+    let whole : take c.count_after-count.result all ≡ all = take_all c.count_after-count.result all (omega (arith, length-readings_after c.args.self.now.lines.now c.args.self.now.edit.now c.requires.edited.within, c.count_after-count.ensures)) in
     let w : IsWalked (c.in_ok-placements.placements, c.in_ok-placements.pass) all c.count_after-count.result = c.in_ok-placements.ensures in
     let follows : Follows c.in_ok-placements.pass (placed all) = subst (λ (xs : List Reading). Follows c.in_ok-placements.pass (placed xs)) whole w.follows in
     record {
