@@ -1,5 +1,5 @@
 //! Bytes cut into lines.
-ghost use Rattle.std.specs.Prelude.{◌≡◌, ◌+◌, ◌<◌, ◌≤◌, ◌==◌, ◌++◌, ◌∷◌, [], ◌⊎◌, IfOk, IfErr, OnOk, length, None, Some, map, drop};
+ghost use Rattle.std.specs.Prelude.{◌≡◌, ◌+◌, ◌<◌, ◌≤◌, ◌==◌, ◌++◌, ◌∷◌, [], ◌⊎◌, IfOk, IfErr, OnOk, length, None, Some, map};
 ghost use Rattle.std.specs.List.{position_or_len, after_first};
 ghost use Rattle.std.specs.Str.Lines.{strip_carriage_return};
 ghost use Rattle.chip_lang.specs.Line.{reading_of};

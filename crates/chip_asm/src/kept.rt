@@ -1,8 +1,7 @@
 //! What is kept of a source, and the one way in which an edit changes it.
-ghost use Rattle.std.specs.Prelude.{◌≡◌, ◌+◌, ◌<◌, ◌≤◌, ℕ, List, All, [], false, true, Some, slice_set, OnOk, OnErr, IfOk, IfSome, length, vec_len, vec_capacity, map, slice_index};
+ghost use Rattle.std.specs.Prelude.{◌≡◌, ◌+◌, ◌<◌, ◌≤◌, List, All, [], true, Some, slice_set, OnOk, OnErr, IfOk, IfSome, length, vec_len, vec_capacity, map};
 ghost use Rattle.std.specs.Option.{option_copied};
 ghost use Rattle.chip_lang.specs.Line.{Reading, reading_of};
-ghost use Rattle.chip_asm.specs.declared.kept_line.KeptLine.{KeptLine};
 ghost use Rattle.chip_lang.specs.SeenLine.{seen_line};
 ghost use Rattle.chip_asm.specs.Changes.{ChangesWithin};
 ghost use Rattle.chip_asm.specs.Edits.{before_replace};
@@ -12,11 +11,11 @@ ghost use Rattle.chip_asm.specs.inner.Records.{IsPlaceWithin, count_after, lines
 ghost use Rattle.chip_asm.specs.Work.{needs_count};
 ghost use Rattle.chip_asm.specs.inner.Recode.{new_codes};
 ghost use Rattle.chip_asm.specs.inner.Layouts.{IsLayoutOf, IsSpareFor};
-ghost use Rattle.chip_asm.specs.inner.Resume.{Continues, first_changed};
-ghost use Rattle.chip_asm.specs.inner.Shift.{is_keep};
+ghost use Rattle.chip_asm.specs.inner.Resume.{first_changed};
 ghost use Rattle.chip_asm.specs.inner.Hints.{names_in, hint_in};
 ghost use Rattle.chip_asm.specs.inner.Traits.{traits_of};
 ghost use Rattle.chip_asm.specs.inner.Kept.{HasCodeAt, IsKept};
+ghost use Rattle.chip_asm.specs.inner.Prepared.{IsAsKept, IsPrepared, IsReady};
 ghost use Rattle.chip_asm.specs.inner.Span.{IsSpan, IsSpanOf, later_lines};
 ghost use Rattle.chip_asm.specs.inner.Stood.{AreOwn, MakesCurrent, StoodBefore};
 
@@ -326,45 +325,15 @@ impl Kept {
         meter: &mut Meter,
         edit: &Edit,
     ) -> Result<Prepared, AllocError>
-        requires within { IsPlaceWithin (vec_len self.old.lines) edit.now }
-        requires few { vec_len self.old.lines ≤ MOST_LINES }
-        requires short { vec_len self.old.image ≤ IMAGE_BYTES }
-        requires traits { self.old.traits.items ≡ map traits_of (readings_in self.old.lines.items) }
-        requires continues { Continues self.old.layout
-            (readings_in (lines_after self.old.lines.items edit.now)) (first_changed edit.now) }
-        requires before { is_keep edit.now ≡ false
-            → IsLayoutOf self.old.layout (readings_in self.old.lines.items) }
-        requires hints { self.old.hints.items
-            ≡ map (hint_in (names_in self.old.layout.names)) (readings_in self.old.lines.items) }
-        requires spare { IsSpareFor self.old.layout self.old.spare }
-        ensures spare { IsSpareFor self.new.layout self.new.spare }
-        ensures same_names { IfOk result (λ prepared. prepared.same_names ≡ true
-            → names_in self.old.layout.names ≡ names_in prepared.layout.names) }
-        ensures traits { self.new.traits ≡ self.old.traits }
-        ensures hints { self.new.hints ≡ self.old.hints }
-        ensures hints_after { IfOk result (λ prepared. prepared.hints.items
-            ≡ map (hint_in (names_in prepared.layout.names))
-            (readings_in (lines_after self.old.lines.items edit.now))) }
-        ensures traits_after { IfOk result (λ prepared. prepared.traits.items
-            ≡ map traits_of (readings_in (lines_after self.old.lines.items edit.now))) }
-        ensures lines { self.new.lines.items ≡ self.old.lines.items }
-        ensures layout { self.new.layout ≡ self.old.layout }
-        ensures faults { self.new.faults ≡ self.old.faults }
-        ensures image { (index : ℕ)
-            → slice_index self.new.image.items index ≡ slice_index self.old.image.items index }
-        ensures short { vec_len self.new.image ≤ IMAGE_BYTES }
-        ensures long { vec_len self.old.image ≡ IMAGE_BYTES → vec_len self.new.image ≡ IMAGE_BYTES }
+        requires ready { IsReady self.old edit.now }
+        ensures same { IsAsKept self.old self.new }
+        ensures prepared { IfOk result (λ made. IsPrepared self.old edit.now made) }
+        ensures same_names { IfOk result (λ made. made.same_names ≡ true
+            → names_in self.old.layout.names ≡ names_in made.layout.names) }
         ensures room { OnOk result ((vec_len self.new.lines < vec_capacity self.new.lines)
             × (vec_len self.new.image ≡ IMAGE_BYTES)) }
-        ensures after { IfOk result
-            (λ prepared. IsLayoutOf prepared.layout
-            (readings_in (lines_after self.old.lines.items edit.now))) }
-        ensures span { IfOk result
-            (λ prepared. IfSome prepared.span
-            (λ span. IsSpanOf self.old.layout prepared.layout
-            (vec_len self.old.lines) edit.now span)) }
         ensures codes { (before : List Reading) → IsLayoutOf self.old.layout before
-            → IfOk result (λ prepared. prepared.codes.items
+            → IfOk result (λ made. made.codes.items
             ≡ new_codes before (readings_in (lines_after self.old.lines.items edit.now))
             (place_before edit.now)) }
         ensures encoded { (before : List Reading) → IsLayoutOf self.old.layout before

@@ -1,10 +1,10 @@
 //! The first pass: one line after another.
-ghost use Rattle.std.specs.Prelude.{◌≡◌, ℕ, ◌+◌, ◌-◌, ◌≤◌, ◌<◌, ◌^◌, List, [], ◌∷◌, ◌++◌, OnOk, IfOk, IfSome, length, reverse, is_some, is_none, unsigned_abs, int_lt, pos, nat_lt, Option, None, Some, Ok, true, false, not, ◌&&◌, ◌||◌, if◌then◌else◌, option_to_list};
+ghost use Rattle.std.specs.Prelude.{◌≡◌, ◌+◌, ◌-◌, ◌≤◌, ◌<◌, ◌^◌, List, [], ◌∷◌, ◌++◌, OnOk, IfOk, IfSome, length, is_some, is_none, unsigned_abs, pos, Option, None, Some, Ok, true, false, not, ◌&&◌, ◌||◌, if◌then◌else◌, option_to_list};
 ghost use Rattle.std.specs.List.{list_all};
 ghost use Rattle.chip_asm.specs.inner.Bare.{IsBare, fault_of_bare};
 ghost use Rattle.chip_asm.specs.inner.HeldLine.{IsKnownUnder};
 ghost use Rattle.chip_asm.specs.Names.{Name};
-ghost use Rattle.chip_asm.specs.Layout.{value_at, own_size, is_padded, full_size, is_negative_space, is_backwards, is_past_end, is_redefinition, is_if_body, body_of, value_or_zero, condition_of, is_org_body, is_end_body, symbol_given};
+ghost use Rattle.chip_asm.specs.Layout.{value_at, own_size, is_padded, full_size, is_backwards, is_past_end, is_redefinition, is_if_body, body_of, value_or_zero, condition_of, is_end_body, symbol_given};
 ghost use Rattle.chip_asm.specs.computed.Walk.{fault_of_value};
 ghost use Rattle.chip_lang.specs.SeenLine.{seen_line, seen_body};
 ghost use Rattle.chip_lang.specs.Line.{Reading, empty as empty_body};

@@ -4,10 +4,9 @@ ghost use Rattle.std.specs.List.{list_all};
 ghost use Rattle.chip_asm.specs.inner.Layouts.{IsLayoutOf};
 ghost use Rattle.chip_asm.specs.inner.Hints.{names_in};
 ghost use Rattle.chip_asm.specs.inner.Span.{IsSpanOf};
-ghost use Rattle.chip_asm.specs.inner.Records.{IsPlaceWithin, lines_after, readings_in};
+ghost use Rattle.chip_asm.specs.inner.Records.{IsPlaceWithin, readings_in};
 ghost use Rattle.chip_asm.specs.inner.Resume.{first_changed};
-ghost use Rattle.chip_asm.specs.inner.Shift.{IsQuiet, IsShift, added_by, is_keep, moved_placement, takes_nameless};
-ghost use Rattle.chip_asm.specs.inner.Traits.{traits_of};
+ghost use Rattle.chip_asm.specs.inner.Shift.{IsQuiet, IsShift, added_by, moved_placement, takes_nameless};
 
 use crate::edit::{Edit, first_changed};
 use crate::edited::Edited;
