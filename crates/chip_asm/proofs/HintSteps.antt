@@ -212,6 +212,10 @@ int-same x y false h k = by (int_eq x y) refl
     by true e = absurd (k refl ((Decides-int_eq x y).0 e))
     by false e = refl
 
+-- the value of the name of a number
+value-in : (names : List (Name × Symbol)) (name : Name) (i : ℕ) (e : Name × Symbol) → number_of (names_in names) name ≡ i + 1 → slice_get names i ≡ Some e → value_of_name (values_of names) name ≡ Some e.1.value
+value-in names name i e h at = value-of-name names name ∙ ap (option_map (λ (s : Symbol). s.value)) (found-numbered names name i e h at)
+
 -- two tables with the same names agree on a line with one name where the values at its number are
 -- the same
 pub agree-at : (old new : List (Name × Symbol)) (line : Reading) (i : ℕ) (a b : Name × Symbol) (same : Bool) → names_in old ≡ names_in new → hint_in (names_in new) line ≡ i + 2
@@ -220,15 +224,12 @@ pub agree-at : (old new : List (Name × Symbol)) (line : Reading) (i : ℕ) (a b
 unfolding hint_in
 agree-at old new line i a b same names hint before after equal other = by (names_used line) hint
   where
-    value-in : (table : List (Name × Symbol)) (name : Name) (e : Name × Symbol) → number_of (names_in table) name ≡ i + 1 → slice_get table i ≡ Some e → value_of_name (values_of table) name ≡ Some e.1.value
-    value-in table name e h at = value-of-name table name ∙ ap (option_map (λ (s : Symbol). s.value)) (found-numbered table name i e h at)
-
     by : (used : List Name) → hint_for (names_in new) used ≡ i + 2 → same ≡ list_all (has_same_value (values_of old) (values_of new)) used
     by [] h = absurd (omega arith)
     by (name ∷ []) hinted =
         let h : number_of (names_in new) name ≡ i + 1 = as-hint-some (number_of (names_in new) name) i hinted in
-        let old_value : value_of_name (values_of old) name ≡ Some a.1.value = value-in old name a (ap (λ ns. number_of ns name) names ∙ h) before in
-        let new_value : value_of_name (values_of new) name ≡ Some b.1.value = value-in new name b h after in
+        let old_value : value_of_name (values_of old) name ≡ Some a.1.value = value-in old name i a (ap (λ ns. number_of ns name) names ∙ h) before in
+        let new_value : value_of_name (values_of new) name ≡ Some b.1.value = value-in new name i b h after in
         rw (old_value, new_value) (int-same a.1.value b.1.value same equal other)
     by (name ∷ second ∷ others) h = absurd (omega arith)
 
@@ -255,20 +256,10 @@ agree-by old new line i a hint at value = by (names_used line) hint
     by [] h = absurd (omega arith)
     by (name ∷ []) hinted =
         let h : number_of (names_in old) name ≡ i + 1 = as-hint-some (number_of (names_in old) name) i hinted in
-        let old_value : value_of_name (values_of old) name ≡ Some a.1.value = value-of-name old name ∙ ap (option_map (λ (s : Symbol). s.value)) (found-numbered old name i a h at) in
+        let old_value : value_of_name (values_of old) name ≡ Some a.1.value = value-in old name i a h at in
         let new_value : value_of_name (values_of new) name ≡ Some a.1.value = ap (value_of_name (values_of new)) (named-numbered old name i a h at) ∙ value in
         rw (old_value, new_value) (ap (λ b. b && true) ((Decides-int_eq a.1.value a.1.value).1 refl))
     by (name ∷ second ∷ others) h = absurd (omega arith)
-
--- they agree on a line without names
-pub agree-none : (old new : List (Name × Symbol)) (line : Reading) → hint_in (names_in old) line ≡ 0 → agree_on (values_of old) (values_of new) line ≡ true
-unfolding hint_in
-agree-none old new line hint = by (names_used line) hint
-  where
-    by : (used : List Name) → hint_for (names_in old) used ≡ 0 → list_all (has_same_value (values_of old) (values_of new)) used ≡ true
-    by [] h = refl
-    by (name ∷ []) h = absurd (omega (arith, h, as-hint-more (number_of (names_in old) name)))
-    by (name ∷ second ∷ others) h = absurd (omega (arith, h))
 
 -- edits
 

@@ -5,7 +5,7 @@ use Rattle.std.specs.Str.{bytes_eq}
 use Rattle.std.proofs.lemmas.List.{get_or-map}
 use Rattle.std.proofs.lemmas.Option.{slice_get-get_or, slice_get-map, slice_get_within, get_or_from_slice_get}
 use Rattle.chip_lang.specs.declared.fault.Fault.{Fault}
-use Rattle.chip_lang.specs.declared.fault.Fault.TheVariants.{UnclosedIf, StrayBranch, DefinedTwice}
+use Rattle.chip_lang.specs.declared.fault.Fault.TheVariants.{UnclosedIf}
 use Rattle.chip_lang.specs.Tree.{Tree}
 use Rattle.chip_lang.specs.Line.{Body, equ, org, ds, Reading, bad, read}
 use Rattle.chip_lang.specs.Value.{Symbols, value, value_of_name}
@@ -22,6 +22,7 @@ use Rattle.chip_asm.specs.computed.Walk.{address, first_fault, fault_of_value, i
 use Rattle.chip_asm.specs.inner.Layouts.{IsLayoutOf, final_placement, placements_of}
 use Rattle.chip_asm.specs.inner.Placements.{is_placed}
 use Rattle.chip_asm.specs.inner.Records.{IsPlaceWithin, count_after, lines_after, place_before, reading_in, readings_in}
+use Rattle.chip_asm.proofs.Bounds.{no_fault}
 use Rattle.chip_asm.proofs.NeedsSteps.{length-numbered}
 use Rattle.chip_asm.proofs.NextLine.{none_from}
 use Rattle.chip_asm.proofs.Resumed.{NamesSplit, names-split, next-placed}
@@ -47,14 +48,10 @@ no-other : (before : List Placed) (line : Reading) → first_fault before line �
     → value_at (symbols before) (body_of line) ≡ Ok (value_or_zero (value_at (symbols before) (body_of line)))
 unfolding first_fault
 no-other before (bad fault) h = cc
-no-other before (read label body) h = by (is_misplaced before body) (is_redefinition (symbols before) label) h
-  where
-    by : (misplaced twice : Bool)
-        → (if misplaced then Some StrayBranch else (if twice then Some DefinedTwice else fault_of_value (is_aligning before) (address before) body (value_at (symbols before) body))) ≡ None
-        → value_at (symbols before) body ≡ Ok (value_or_zero (value_at (symbols before) body))
-    by true twice h = cc
-    by false true h = cc
-    by false false h = has-value (is_aligning before) (address before) body (value_at (symbols before) body) h
+no-other before (read label body) h =
+    let placed_well = no_fault (is_misplaced before body) _ _ h in
+    let new = no_fault (is_redefinition (symbols before) label) _ _ placed_well.1 in
+    has-value (is_aligning before) (address before) body (value_at (symbols before) body) new.1
 
 accepted-value : (all before : List Placed) (line : Reading) → is_placed (final_placement all (place before line)) ≡ true
     → value_at (symbols before) (body_of line) ≡ Ok (place before line).value

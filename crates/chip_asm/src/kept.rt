@@ -327,6 +327,7 @@ impl Kept {
     ) -> Result<Prepared, AllocError>
         requires ready { IsReady self.old edit.now }
         ensures same { IsAsKept self.old self.new }
+        ensures spare { IsSpareFor self.new.layout self.new.spare }
         ensures prepared { IfOk result (λ made. IsPrepared self.old edit.now made) }
         ensures same_names { IfOk result (λ made. made.same_names ≡ true
             → names_in self.old.layout.names ≡ names_in made.layout.names) }

@@ -14,6 +14,7 @@ use Rattle.chip_lang.specs.Value.{◌>>=◌, Symbols, value}
 use Rattle.chip_lang.specs.Encoding.{number_below, signed_below, field_of, fields_of, word_of_form}
 use Rattle.chip_lang.specs.Decoding.{part_in, parts_in, gives}
 use Rattle.chip_lang.specs.inner.ByDigits.{digit, takes_top, takes_x, takes_y, takes_n, has_digit}
+use Rattle.chip_lang.proofs.Outcomes.{first-value}
 use Rattle.chip_lang.proofs.Sound.{equal}
 
 digit_or : (bits a b : ℕ) → digit bits (bit_or a b) ≡ bit_or (digit bits a) (digit bits b)
@@ -84,10 +85,6 @@ byte_is (negsuc n) f h =
     let t = if_ok (ltb n 128) (256 - (n + 1)) f _ h in
     omega (arith, t.1)
 
-found_is : {A : Type 0} (r : Result ℤ Fault) (go : ℤ → Result A Fault) (f : A) → (r >>= go) ≡ Ok f → (z : ℤ) × (go z ≡ Ok f)
-found_is (Ok z) go f h = (z, h)
-found_is (Err fault) go f h = cc
-
 no_part : (p : Pattern) → part_in p 0 ≡ 0
 no_part Vx = refl
 no_part Vy = refl
@@ -101,14 +98,14 @@ unfolding field_of
 in_place Vx (register x) symbols f h m = let e : 256 * x ≡ f = cc in omega (arith, e, under x 16 m)
 in_place Vy (register y) symbols f h m = let e : 16 * y ≡ f = cc in omega (arith, e, under y 16 m)
 in_place Nibble (expression e) symbols f h m =
-    let t = found_is (value e symbols) (number_below 16) f h in
-    omega (arith, number_is 16 t.0 f t.1)
+    let t = first-value (value e symbols) (number_below 16) f h in
+    omega (arith, number_is 16 t.first f t.then)
 in_place Byte (expression e) symbols f h m =
-    let t = found_is (value e symbols) (signed_below 256) f h in
-    omega (arith, byte_is t.0 f t.1)
+    let t = first-value (value e symbols) (signed_below 256) f h in
+    omega (arith, byte_is t.first f t.then)
 in_place Address (expression e) symbols f h m =
-    let t = found_is (value e symbols) (number_below 4096) f h in
-    omega (arith, number_is 4096 t.0 f t.1)
+    let t = first-value (value e symbols) (number_below 4096) f h in
+    omega (arith, number_is 4096 t.first f t.then)
 in_place p o symbols f h m = no_field p f (cc)
 
 fields_are : (r s : Result ℕ Fault) (f : ℕ) → (r >>= λ a. s >>= λ b. Ok (bit_or a b)) ≡ Ok f →
@@ -274,19 +271,16 @@ gives_small r w proper h =
     let bound : bit_or r.base (parts_in r.patterns w) < 65536 = or_of_16 r.base (parts_in r.patterns w) (under r.base 65536 (and_parts _ _ proper).0) (parts_bound r.patterns w) in
     omega (arith, word, bound)
 
-word_is : (r : Result ℕ Fault) (base w : ℕ) → (r >>= λ f. Ok (bit_or base f)) ≡ Ok w → (f : ℕ) × (r ≡ Ok f) × (bit_or base f ≡ w)
-word_is (Ok f) base w h = (f, refl, cc)
-word_is (Err fault) base w h = cc
-
 -- the word of a form and operands has 16 bits, and the form's digits
 pub word_digits : (r : Row) (os : List Operand) (symbols : Symbols) (w : ℕ) → is_proper r ≡ true → list_all is_of_machine os ≡ true → word_of_form r os symbols ≡ Ok w →
     (w < 65536) × HasDigits r w
 word_digits r os symbols w proper m h =
-    let t = word_is (fields_of r.patterns os symbols) r.base w h in
-    let f = t.0 in
-    let bound : bit_or r.base f < 65536 = or_of_16 r.base f (under r.base 65536 (and_parts _ _ proper).0) (fields_bound r.patterns os symbols f t.1 m) in
+    let t = first-value (fields_of r.patterns os symbols) (λ f. Ok (bit_or r.base f)) w h in
+    let f = t.first in
+    let is_word : bit_or r.base f ≡ w = (let same = t.then in cc) in
+    let bound : bit_or r.base f < 65536 = or_of_16 r.base f (under r.base 65536 (and_parts _ _ proper).0) (fields_bound r.patterns os symbols f t.had m) in
     let digits : HasDigits r (bit_or r.base f) =
     four (has_digit takes_top 12 r (digit 12 (bit_or r.base f))) (has_digit takes_x 8 r (digit 8 (bit_or r.base f))) (has_digit takes_y 4 r (digit 4 (bit_or r.base f))) (has_digit takes_n 0 r (digit 0 (bit_or r.base f)))
-    (said takes_top 12 own_top refl r os symbols f t.1 m) (said takes_x 8 own_x refl r os symbols f t.1 m)
-    (said takes_y 4 own_y refl r os symbols f t.1 m) (said takes_n 0 own_n refl r os symbols f t.1 m) in
-    (omega (arith, t.2, bound), subst (HasDigits r) t.2 digits)
+    (said takes_top 12 own_top refl r os symbols f t.had m) (said takes_x 8 own_x refl r os symbols f t.had m)
+    (said takes_y 4 own_y refl r os symbols f t.had m) (said takes_n 0 own_n refl r os symbols f t.had m) in
+    (omega (arith, is_word, bound), subst (HasDigits r) is_word digits)

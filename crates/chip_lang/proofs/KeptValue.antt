@@ -1,19 +1,9 @@
 -- What has a value keeps it when names are added.
-use Rattle.std.proofs.Common.{◌≡◌, ℕ, ℤ, Option, Some, None, List, Result, Ok, Err, refl, sym, ap}
-use Rattle.chip_lang.specs.declared.fault.Fault.{Fault}
+use Rattle.std.proofs.Common.{◌≡◌, ℕ, ℤ, Option, Some, None, List, Ok, refl}
 use Rattle.chip_lang.specs.declared.fault.Fault.TheVariants.{UndefinedName}
+use Rattle.chip_lang.proofs.Outcomes.{first-value}
 use Rattle.chip_lang.specs.Tree.{Tree, number, name, unary, binary}
 use Rattle.chip_lang.specs.Value.{Symbols, value, value_of_name, or_fault, ◌>>=◌, apply_prefix, apply}
-
--- an outcome was had, and a value comes of it
-record Comes (r : Result ℤ Fault) (go : ℤ → Result ℤ Fault) (v : ℤ) : Type 0 where
-  first : ℤ
-  had : r ≡ Ok first
-  then : go first ≡ Ok v
-
-first-value : (r : Result ℤ Fault) (go : ℤ → Result ℤ Fault) (v : ℤ) → (r >>= go) ≡ Ok v → Comes r go v
-first-value (Ok x) go v h = record { first = x; had = refl; then = h }
-first-value (Err f) go v h = cc
 
 kept-name : (S T : Option ℤ) (v : ℤ) → ((w : ℤ) → S ≡ Some w → T ≡ Some w) → or_fault S UndefinedName ≡ Ok v → or_fault T UndefinedName ≡ Ok v
 kept-name (Some x) T v more h = rw (more x refl) h

@@ -12,6 +12,7 @@ pub mod OneToken
 pub mod Pieces
 pub mod SameCode
 pub mod KeptValue
+pub mod Outcomes
 pub mod Scan
 pub mod SaidForm
 pub mod Shown

@@ -37,7 +37,6 @@ pub record IsAsKept (old new : Kept) : Type 0 where
   pub image : (index : ℕ) → slice_index new.image.items index ≡ slice_index old.image.items index
   pub short : vec_len new.image ≤ IMAGE_BYTES
   pub long : vec_len old.image ≡ IMAGE_BYTES → vec_len new.image ≡ IMAGE_BYTES
-  pub spare : IsSpareFor new.layout new.spare
 
 -- what was made is right for the lines after the edit
 pub record IsPrepared (old : Kept) (edit : Edit) (made : Prepared) : Type 0 where

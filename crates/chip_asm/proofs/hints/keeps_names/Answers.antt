@@ -1,10 +1,11 @@
 use Rattle.std.proofs.Common.{◌≡◌, ◌+◌, ◌-◌, ◌<◌, [], Some, arith, length, get_or, pos, slice_get}
 use Rattle.std.proofs.lemmas.Option.{slice_get-get_or}
 use Rattle.chip_lang.specs.SeenLine.{seen_line}
-use Rattle.chip_asm.specs.Names.{Name}
+use Rattle.chip_asm.specs.Names.{Name, values_of}
 use Rattle.chip_asm.specs.declared.table.Symbol.{Symbol}
 use Rattle.chip_asm.specs.inner.Hints.{hint_in, names_in}
-use Rattle.chip_asm.proofs.HintSteps.{agree-by, agree-none, hint-few, length-names}
+use Rattle.chip_asm.proofs.HintSteps.{agree-by, hint-few, length-names, nameless-by}
+use Rattle.chip_asm.proofs.RecodeSteps.{agree-nameless}
 use Rattle.chip_asm.proofs.hints.keeps_names.Goals as goal
 
 pub keeps_value_at-requires : goal.keeps_value_at-requires
@@ -12,7 +13,8 @@ keeps_value_at-requires c =
     omega (arith, c.requires, c.in_default, hint-few (names_in c.args.old.now) (seen_line c.args.line.now), length-names c.args.old.now)
 
 pub returns-in-0 : goal.returns-in-0
-returns-in-0 c = λ yes. agree-none c.args.old.now c.args.new.now (seen_line c.args.line.now) (omega (arith, c.requires, c.in-0.is))
+returns-in-0 c = λ yes.
+    agree-nameless (values_of c.args.old.now) (values_of c.args.new.now) (seen_line c.args.line.now) (nameless-by (names_in c.args.old.now) (seen_line c.args.line.now) (omega (arith, c.requires, c.in-0.is)))
 
 pub returns-in_default : goal.returns-in_default
 returns-in_default c = λ yes.

@@ -30,83 +30,23 @@ returns-clause-codes c = λ before laid.
     let seen : c.deref-8.result.now ≡ c.args.self.now.lines.items = c.deref-8.ensures.value ∙ c.reserve.ensures.items in
     rw (← seen) (c.in_ok-codes.ensures.codes before laid)
 
-pub returns-in_err-traits-clause-same : goal.returns-in_err-traits-clause-same
-returns-in_err-traits-clause-same c = record {
-  lines = search;
-  layout = search;
-  traits = search;
-  hints = search;
-  faults = search;
-  image = search;
-  short = search;
-  long = search;
-  spare = spare-none c.args.self.now.layout c.replace-spare.new.dest (ap (λ (l : Layout). l.names) c.replace-spare.ensures.after ∙ c.new.ensures.names ∙ no-names);
-}
+pub returns-in_err-traits-clause-spare : goal.returns-in_err-traits-clause-spare
+returns-in_err-traits-clause-spare c = spare-none c.args.self.now.layout c.replace-spare.new.dest (ap (λ (l : Layout). l.names) c.replace-spare.ensures.after ∙ c.new.ensures.names ∙ no-names)
 
-pub returns-in_err-layout-clause-same : goal.returns-in_err-layout-clause-same
-returns-in_err-layout-clause-same c = record {
-  lines = search;
-  layout = search;
-  traits = search;
-  hints = search;
-  faults = search;
-  image = search;
-  short = search;
-  long = search;
-  spare = spare-none c.args.self.now.layout c.replace-spare.new.dest (ap (λ (l : Layout). l.names) c.replace-spare.ensures.after ∙ c.new.ensures.names ∙ no-names);
-}
+pub returns-in_err-layout-clause-spare : goal.returns-in_err-layout-clause-spare
+returns-in_err-layout-clause-spare c = spare-none c.args.self.now.layout c.replace-spare.new.dest (ap (λ (l : Layout). l.names) c.replace-spare.ensures.after ∙ c.new.ensures.names ∙ no-names)
 
-pub returns-in_err-hints-clause-same : goal.returns-in_err-hints-clause-same
-returns-in_err-hints-clause-same c = record {
-  lines = search;
-  layout = search;
-  traits = search;
-  hints = search;
-  faults = search;
-  image = search;
-  short = search;
-  long = search;
-  spare = spare-none c.args.self.now.layout c.replace-spare.new.dest (ap (λ (l : Layout). l.names) c.replace-spare.ensures.after ∙ c.new.ensures.names ∙ no-names);
-}
+pub returns-in_err-hints-clause-spare : goal.returns-in_err-hints-clause-spare
+returns-in_err-hints-clause-spare c = spare-none c.args.self.now.layout c.replace-spare.new.dest (ap (λ (l : Layout). l.names) c.replace-spare.ensures.after ∙ c.new.ensures.names ∙ no-names)
 
-pub returns-in_err-moves-clause-same : goal.returns-in_err-moves-clause-same
-returns-in_err-moves-clause-same c = record {
-  lines = search;
-  layout = search;
-  traits = search;
-  hints = search;
-  faults = search;
-  image = search;
-  short = search;
-  long = search;
-  spare = spare-none c.args.self.now.layout c.replace-spare.new.dest (ap (λ (l : Layout). l.names) c.replace-spare.ensures.after ∙ c.new.ensures.names ∙ no-names);
-}
+pub returns-in_err-moves-clause-spare : goal.returns-in_err-moves-clause-spare
+returns-in_err-moves-clause-spare c = spare-none c.args.self.now.layout c.replace-spare.new.dest (ap (λ (l : Layout). l.names) c.replace-spare.ensures.after ∙ c.new.ensures.names ∙ no-names)
 
-pub returns-in_err-codes-clause-same : goal.returns-in_err-codes-clause-same
-returns-in_err-codes-clause-same c = record {
-  lines = search;
-  layout = search;
-  traits = search;
-  hints = search;
-  faults = search;
-  image = search;
-  short = search;
-  long = search;
-  spare = spare-none c.args.self.now.layout c.replace-spare.new.dest (ap (λ (l : Layout). l.names) c.replace-spare.ensures.after ∙ c.new.ensures.names ∙ no-names);
-}
+pub returns-in_err-codes-clause-spare : goal.returns-in_err-codes-clause-spare
+returns-in_err-codes-clause-spare c = spare-none c.args.self.now.layout c.replace-spare.new.dest (ap (λ (l : Layout). l.names) c.replace-spare.ensures.after ∙ c.new.ensures.names ∙ no-names)
 
-pub returns-clause-same : goal.returns-clause-same
-returns-clause-same c = record {
-  lines = search;
-  layout = search;
-  traits = search;
-  hints = search;
-  faults = search;
-  image = search;
-  short = search;
-  long = search;
-  spare = spare-none c.args.self.now.layout c.replace-spare.new.dest (ap (λ (l : Layout). l.names) c.replace-spare.ensures.after ∙ c.new.ensures.names ∙ no-names);
-}
+pub returns-clause-spare : goal.returns-clause-spare
+returns-clause-spare c = spare-none c.args.self.now.layout c.replace-spare.new.dest (ap (λ (l : Layout). l.names) c.replace-spare.ensures.after ∙ c.new.ensures.names ∙ no-names)
 
 pub returns-clause-prepared : goal.returns-clause-prepared
 returns-clause-prepared c =

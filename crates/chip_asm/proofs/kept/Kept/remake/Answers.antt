@@ -93,7 +93,7 @@ settle-requires-clause-stood c =
 pub returns-in_err-prepared-clause-kept : goal.returns-in_err-prepared-clause-kept
 returns-in_err-prepared-clause-kept c =
     kept-same c.args.self.now c.prepare.new.self c.requires.kept c.prepare.ensures.same.lines c.prepare.ensures.same.layout c.prepare.ensures.same.faults c.prepare.ensures.same.image c.prepare.ensures.same.short c.prepare.ensures.same.long c.prepare.ensures.same.traits c.prepare.ensures.same.hints
-    c.prepare.ensures.same.spare
+    c.prepare.ensures.spare
 
 pub returns-clause-changed : goal.returns-clause-changed
 returns-clause-changed c = all-places (readings_in c.args.self.now.lines.items) (readings_in c.settle.new.self.lines.items)
