@@ -261,6 +261,19 @@ agree-by old new line i a hint at value = by (names_used line) hint
         rw (old_value, new_value) (ap (λ b. b && true) ((Decides-int_eq a.1.value a.1.value).1 refl))
     by (name ∷ second ∷ others) h = absurd (omega arith)
 
+-- the hint of a line with one name comes by other names from that name's number among them
+pub hint-moved : (old new : List (Name × Symbol)) (line : Reading) (i : ℕ) (a : Name × Symbol) → hint_in (names_in old) line ≡ i + 2 → slice_get old i ≡ Some a
+    → as_hint (number_of (names_in new) a.0) ≡ hint_in (names_in new) line
+unfolding hint_in
+hint-moved old new line i a hint at = by (names_used line) hint
+  where
+    by : (used : List Name) → hint_for (names_in old) used ≡ i + 2 → as_hint (number_of (names_in new) a.0) ≡ hint_for (names_in new) used
+    by [] h = absurd (omega arith)
+    by (name ∷ []) hinted =
+        let h : number_of (names_in old) name ≡ i + 1 = as-hint-some (number_of (names_in old) name) i hinted in
+        ap (λ n. as_hint (number_of (names_in new) n)) (sym (named-numbered old name i a h at))
+    by (name ∷ second ∷ others) h = absurd (omega arith)
+
 -- edits
 
 pub mapped-insert : (f : Reading → ℕ) (lines : List KeptLine) (at : ℕ) (kept : KeptLine) → map f (readings_in (insert lines at kept)) ≡ insert (map f (readings_in lines)) at (f (reading_in kept))

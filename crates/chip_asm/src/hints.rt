@@ -1,17 +1,15 @@
 //! Where the one name that a line uses stands in the table of names, so that steps over all lines
 //! needn't look for it.
-ghost use Rattle.std.specs.Prelude.{◌≡◌, ◌≤◌, true, if◌then◌else◌, List, IfOk, length, map};
+ghost use Rattle.std.specs.Prelude.{◌≡◌, ◌<◌, true, if◌then◌else◌, List, IfOk, Some, length, map, slice_get};
 ghost use Rattle.chip_asm.specs.Names.{values_of};
 ghost use Rattle.chip_asm.specs.inner.Hints.{names_in, as_hint, hint_in};
 ghost use Rattle.chip_asm.specs.inner.Records.{IsPlaceWithin, lines_after, readings_in};
 ghost use Rattle.chip_lang.specs.Uses.{agree_on};
 ghost use Rattle.chip_lang.specs.SeenLine.{seen_line};
-ghost use Rattle.chip_asm.specs.inner.Traits.{traits_of};
 ghost use Rattle.chip_asm.specs.declared.kept_line.KeptLine.{KeptLine};
 
-use crate::edit::{Edit, count_after, line_after, with_item, without_item};
-use crate::kept_line::BoxedLine;
-use crate::limits::MOST_LINES;
+use crate::edit::{Edit, count_after, line_after, place_before, with_item, without_item};
+use crate::edited::Edited;
 use crate::table::Table;
 use crate::traits::Traits;
 use chip_lang::{Line, Names, agree_on, uses};
@@ -55,15 +53,16 @@ pub(crate) fn keeps_names(old: &Table, new: &Table, hint: u16, line: &Line) -> b
     }
 }
 
-/// The same, where the traits of the line are known.
-fn hint_by(names: &Table, traits: Traits, line: &Line) -> u16
-    requires { traits ≡ traits_of (seen_line line.now) }
+/// The hint of a line by some names, from that by other ones: its one name is known by its number
+/// among those.
+fn hint_from(old: &Table, names: &Table, hint: u16, line: &Line) -> u16
+    requires { hint ≡ hint_in (names_in old.now) (seen_line line.now) }
     ensures { result ≡ hint_in (names_in names.now) (seen_line line.now) }
 {
-    if traits.has_names {
-        hint_of(names, line)
-    } else {
-        0
+    match hint {
+        0 => 0,
+        1 => hint_of(names, line),
+        _ => as_hint(names.number_in(old, hint as usize - 2)),
     }
 }
 
@@ -75,29 +74,6 @@ pub(crate) fn no_hints(alloc: Global, traits: &[Traits]) -> Result<Vec<u16>, All
     let mut hints = Vec::with_capacity(alloc, traits.len())?;
     for place in 0..traits.len() {
         hints.push(u16::from(traits[place].has_names))?;
-    }
-    Ok(hints)
-}
-
-/// The hints of all lines after an edit.
-fn hints_of_all(
-    alloc: Global,
-    names: &Table,
-    lines: &[BoxedLine],
-    traits: &[Traits],
-    edit: &Edit,
-) -> Result<Vec<u16>, AllocError>
-    requires within { IsPlaceWithin (length lines.now) edit.now }
-    requires few { length lines.now ≤ MOST_LINES }
-    requires traits { traits.now ≡ map traits_of (readings_in (lines_after lines.now edit.now)) }
-    ensures { IfOk result (λ hints. hints.items
-        ≡ map (hint_in (names_in names.now)) (readings_in (lines_after lines.now edit.now))) }
-{
-    let count = count_after(lines.len(), edit);
-    let mut hints = Vec::with_capacity(alloc, count)?;
-    for place in 0..count {
-        let line = line_after(&*lines, &*edit, place);
-        hints.push(hint_by(names, traits[place], line))?;
     }
     Ok(hints)
 }
@@ -128,30 +104,57 @@ fn edited_hints(
     }
 }
 
-/// The hints of the lines after an edit. Those before it serve where all names stand where they
-/// stood.
-pub(crate) fn hints_after(
-    alloc: Global,
-    same_names: bool,
-    names: &Table,
-    hints: &[u16],
-    lines: &[BoxedLine],
-    traits: &[Traits],
-    edit: &Edit,
-) -> Result<Vec<u16>, AllocError>
-    requires within { IsPlaceWithin (length lines.now) edit.now }
-    requires few { length lines.now ≤ MOST_LINES }
-    requires traits { traits.now ≡ map traits_of (readings_in (lines_after lines.now edit.now)) }
-    requires long { length hints.now ≡ length lines.now }
-    requires hints { same_names ≡ true
-        → hints.now ≡ map (hint_in (names_in names.now)) (readings_in lines.now) }
-    ensures { IfOk result (λ after. after.items
-        ≡ map (hint_in (names_in names.now)) (readings_in (lines_after lines.now edit.now))) }
-{
-    if same_names {
-        edited_hints(alloc, names, hints, edit)
-    } else {
-        hints_of_all(alloc, names, lines, traits, edit)
+impl<'a> Edited<'a> {
+    ghost use Rattle.chip_lang.specs.Line.{Reading};
+    ghost use Rattle.chip_asm.specs.inner.Edited.{IsEdited, lines_then, count_then};
+
+    /// The hint of the line at a place after the edit, by some names.
+    fn hint_at(&self, names: &Table, place: usize) -> u16
+        requires edited { IsEdited self.now }
+        requires place { place < count_then self.now }
+        ensures { (line : Reading) → slice_get (lines_then self.now) place ≡ Some line
+            → result ≡ hint_in (names_in names.now) line }
+    {
+        let line = line_after(self.lines, self.edit, place);
+        match place_before(self.edit, place) {
+            Some(before) => hint_from(&self.old.names, names, self.hints[before], line),
+            None => hint_of(names, line),
+        }
+    }
+
+    /// The hints of all lines after the edit, by names that may stand elsewhere than before it.
+    fn hints_anew(&self, alloc: Global, names: &Table) -> Result<Vec<u16>, AllocError>
+        requires { IsEdited self.now }
+        ensures { IfOk result (λ hints. hints.items
+            ≡ map (hint_in (names_in names.now)) (lines_then self.now)) }
+    {
+        let count = count_after(self.lines.len(), self.edit);
+        let mut hints = Vec::with_capacity(alloc, count)?;
+        for place in 0..count {
+            hints.push(self.hint_at(names, place))?;
+        }
+        Ok(hints)
+    }
+
+    /// The hints of the lines after the edit. Those before it serve where all names stand where
+    /// they stood.
+    pub(crate) fn hints_after(
+        &self,
+        alloc: Global,
+        same_names: bool,
+        names: &Table,
+    ) -> Result<Vec<u16>, AllocError>
+        requires edited { IsEdited self.now }
+        requires same { same_names ≡ true
+            → names_in self.now.old.now.names ≡ names_in names.now }
+        ensures { IfOk result (λ hints. hints.items
+            ≡ map (hint_in (names_in names.now)) (lines_then self.now)) }
+    {
+        if same_names {
+            edited_hints(alloc, names, self.hints, self.edit)
+        } else {
+            self.hints_anew(alloc, names)
+        }
     }
 }
 

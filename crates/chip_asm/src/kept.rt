@@ -23,7 +23,7 @@ use crate::changed::Changed;
 use crate::edit::{Edit, make_edit, replace_line};
 use crate::edited::Edited;
 use crate::effect::has_same_effect;
-use crate::hints::{hint_of, hints_after, no_hints};
+use crate::hints::{hint_of, no_hints};
 use crate::image::{count_of, fill_up, kept_bytes, kept_fault, write_line};
 use crate::kept_line::{BoxedLine, with_code};
 use crate::layout::Layout;
@@ -356,16 +356,8 @@ impl Kept {
             traits: &traits,
         };
         let (layout, span) = edited.layout(alloc, spare)?;
-        let same_names = span.is_some() || self.layout.names.has_same_names(&layout.names);
-        let hints = hints_after(
-            alloc,
-            same_names,
-            &layout.names,
-            &self.hints,
-            &self.lines,
-            &traits,
-            edit,
-        )?;
+        let same_names = span.is_some() || edited.old.names.has_same_names(&layout.names);
+        let hints = edited.hints_after(alloc, same_names, &layout.names)?;
         let moves = moves_by_hint(alloc, same_names, &self.layout.names, &layout.names)?;
         let remaking = Remaking {
             lines: &self.lines,

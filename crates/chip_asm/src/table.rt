@@ -238,6 +238,19 @@ impl Table {
         }
     }
 
+    /// The number of the name that stands at an index of another table, counted from 1; 0 where it
+    /// isn't there.
+    pub(crate) fn number_in(&self, other: &Table, index: usize) -> usize
+        requires { index < length other.now }
+        ensures { (others : Name × Symbol) → slice_get other.now index ≡ Some others
+            → result ≡ number_of (names_in self.now) others.0 }
+    {
+        match other.symbols.get_index(index) {
+            Some((name, _)) => self.number_of(name),
+            None => unreachable!(),
+        }
+    }
+
     /// Whether both tables have the same names, in the same order.
     pub(crate) fn has_same_names(&self, other: &Table) -> bool
         ensures { result ≡ true → names_in self.now ≡ names_in other.now }

@@ -13,21 +13,21 @@ use Rattle.chip_asm.proofs.kept.Kept.prepare.Goals as goal
 
 pub returns-in_err-codes-clause-encoded : goal.returns-in_err-codes-clause-encoded
 returns-in_err-codes-clause-encoded c = λ before laid.
-    let seen : c.deref-8.result.now ≡ c.args.self.now.lines.items = c.deref-8.ensures.value ∙ c.reserve.ensures.items in
+    let seen : c.deref-5.result.now ≡ c.args.self.now.lines.items = c.deref-5.ensures.value ∙ c.reserve.ensures.items in
     let e : c.codes.new.meter.encoded ≤ c.args.meter.now.encoded + count_again before (readings_in (lines_after c.args.self.now.lines.items c.args.edit.now)) (place_before c.args.edit.now)
     = rw (← seen) (c.codes.ensures.encoded before laid) in
     omega (arith, e, count-needed before (readings_in (lines_after c.args.self.now.lines.items c.args.edit.now)) (place_before c.args.edit.now))
 
 pub returns-clause-encoded : goal.returns-clause-encoded
 returns-clause-encoded c = λ before laid.
-    let seen : c.deref-8.result.now ≡ c.args.self.now.lines.items = c.deref-8.ensures.value ∙ c.reserve.ensures.items in
+    let seen : c.deref-5.result.now ≡ c.args.self.now.lines.items = c.deref-5.ensures.value ∙ c.reserve.ensures.items in
     let e : c.codes.new.meter.encoded ≤ c.args.meter.now.encoded + count_again before (readings_in (lines_after c.args.self.now.lines.items c.args.edit.now)) (place_before c.args.edit.now)
     = rw (← seen) (c.codes.ensures.encoded before laid) in
     omega (arith, e, count-needed before (readings_in (lines_after c.args.self.now.lines.items c.args.edit.now)) (place_before c.args.edit.now))
 
 pub returns-clause-codes : goal.returns-clause-codes
 returns-clause-codes c = λ before laid.
-    let seen : c.deref-8.result.now ≡ c.args.self.now.lines.items = c.deref-8.ensures.value ∙ c.reserve.ensures.items in
+    let seen : c.deref-5.result.now ≡ c.args.self.now.lines.items = c.deref-5.ensures.value ∙ c.reserve.ensures.items in
     rw (← seen) (c.in_ok-codes.ensures.codes before laid)
 
 pub returns-in_err-traits-clause-spare : goal.returns-in_err-traits-clause-spare
@@ -52,10 +52,9 @@ pub returns-clause-prepared : goal.returns-clause-prepared
 returns-clause-prepared c =
     let k = c.args.self.now in
     let read : c.deref-2.result.now ≡ c.args.self.now.lines.items = c.deref-2.ensures.value ∙ c.reserve.ensures.items in
-    let read_again : c.deref-6.result.now ≡ c.args.self.now.lines.items = c.deref-6.ensures.value ∙ c.reserve.ensures.items in
     record {
       laid_out = subst (λ (lines : List KeptLine). IsLayoutOf c.in_ok-layout.layout (readings_in (lines_after lines c.args.edit.now))) read c.in_ok-layout.ensures.layout;
       traits = c.in_ok-traits.ensures c.args.self.now.lines.items (c.deref.ensures.value ∙ c.requires.ready.traits);
-      hints = c.in_ok-hints.ensures ∙ ap (λ lines. map (hint_in (names_in c.in_ok-layout.layout.names)) (readings_in (lines_after lines c.args.edit.now))) read_again;
+      hints = c.in_ok-hints.ensures ∙ ap (λ lines. map (hint_in (names_in c.in_ok-layout.layout.names)) (readings_in (lines_after lines c.args.edit.now))) read;
       span = subst (λ (n : ℕ). IfSome c.in_ok-layout.span (λ span. IsSpanOf k.layout c.in_ok-layout.layout n c.args.edit.now span)) (ap length read ∙ sym c.args.self.now.lines.ok.0) c.in_ok-layout.ensures.span;
     }
