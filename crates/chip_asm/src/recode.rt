@@ -197,10 +197,10 @@ impl<'a> Remaking<'a> {
             → result ≡ is_encoded_again before (lines_then self.now)
             (place_before self.now.edit.now) (place, line) }
     {
-        if stood(&self.old.placements, self.edit, place) && self.keeps_values(place) {
+        if !self.is_coded_at(place) {
             return false;
         }
-        self.is_coded_at(place)
+        !stood(&self.old.placements, self.edit, place) || !self.keeps_values(place)
     }
 
     /// Appends the code of the line at a place with the place, where it is wanted. The line's names
