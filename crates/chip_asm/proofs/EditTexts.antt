@@ -1,8 +1,13 @@
 -- An edit of the kept lines is the edit of their texts.
-use Rattle.std.proofs.Common.{◌≡◌, ℕ, suc, List, [], ◌∷◌, ◌++◌, map, length, take, drop, set, insert, remove, refl, ap, sym, ◌∙◌}
+use Rattle.std.proofs.Common.{◌≡◌, ◌<◌, ℕ, Bool, true, false, cond, not, Option, Some, None, arith, nat_le, nat_lt, ◌+◌, suc, List, [], ◌∷◌, ◌++◌, map, length, take, drop, set, insert, remove, refl, ap, sym, ◌∙◌}
+use Rattle.std.proofs.lemmas.Bool.Decides.{nat_tests}
 use Rattle.std.proofs.lemmas.List.{map-append, take-map, drop-map, map-set, length-map}
 use Rattle.chip_lang.specs.Line.{reading_of}
+use Rattle.chip_asm.specs.Edits.{has_line_break, insert_refusal, is_number_to}
+use Rattle.chip_asm.specs.Lines.{is_long}
 use Rattle.chip_asm.specs.declared.kept_line.KeptLine.{KeptLine}
+use Rattle.chip_asm.specs.declared.limits.TheConstants.{MOST_LINES}
+use Rattle.chip_asm.specs.declared.refusal.Refusal.TheVariants.{LineBreak, NoSuchLine, TextTooLong, TooManyLines}
 use Rattle.chip_asm.specs.inner.Records.{reading_in, readings_in, texts_in}
 use Rattle.chip_asm.specs.inner.Traits.{traits_of}
 
@@ -54,3 +59,15 @@ traits-remove lines at = ap (map traits_of) (map-remove reading_in lines at) ∙
 pub traits-all : (lines : List KeptLine) → map (λ (kept : KeptLine). traits_of (reading_in kept)) lines ≡ map traits_of (readings_in lines)
 traits-all [] = refl
 traits-all (kept ∷ lines) = ap (λ ts. traits_of (reading_in kept) ∷ ts) (traits-all lines)
+
+-- an insertion that isn't refused has room
+by-rows : (a b c d : Bool) → cond (not a) (Some NoSuchLine) (cond b (Some TextTooLong) (cond c (Some TooManyLines) (cond d (Some LineBreak) None))) ≡ None → c ≡ false
+by-rows false b c d h = cc
+by-rows true true c d h = cc
+by-rows true false true d h = cc
+by-rows true false false d h = refl
+
+pub has-room : (count number : ℕ) (text : List ℕ) → insert_refusal count number text ≡ None → count < MOST_LINES
+has-room count number text h =
+    let few : nat_le MOST_LINES count ≡ false = by-rows (is_number_to (count + 1) number) (is_long text) (nat_le MOST_LINES count) (has_line_break text) h in
+    grind (arith, nat_tests, few)

@@ -1,7 +1,7 @@
 -- What the functions inside say: of the first pass in Turns, Follows, Bare, Placements, Marks,
 -- Layouts, Resume, Shift and Edited; of kept lines and their codes in HeldText, HeldLine, Records,
--- Traits, Hints, Moves, Remaking, Recode, Effect, Kept, Prepared and KeptCodes; of the image after
--- an edit in Span, Stood and Writing.
+-- Traits, Hints, Moves, Remaking, Recode, Effect, Kept, KeptEdits, Prepared and KeptCodes; of the
+-- image after an edit in Span, Stood and Writing.
 pub mod Bare
 pub mod Edited
 pub mod Effect
@@ -11,6 +11,7 @@ pub mod HeldText
 pub mod Hints
 pub mod Kept
 pub mod KeptCodes
+pub mod KeptEdits
 pub mod Layouts
 pub mod Marks
 pub mod Moves

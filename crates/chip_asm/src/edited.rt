@@ -7,8 +7,7 @@ ghost use Rattle.chip_asm.specs.inner.Resume.{Continues, first_changed as first_
 ghost use Rattle.chip_asm.specs.inner.Follows.{Follows, placement_of};
 ghost use Rattle.chip_asm.specs.inner.HeldLine.{IsKnownUnder};
 ghost use Rattle.chip_asm.specs.inner.Layouts.{IsLayoutOf, IsSpareFor};
-ghost use Rattle.chip_asm.specs.inner.Shift.{IsShift, IsWalked, added_by};
-ghost use Rattle.chip_asm.specs.inner.Span.{IsSpanOf};
+ghost use Rattle.chip_asm.specs.inner.Shift.{IsWalked};
 
 use crate::edit::{Edit, count_after, first_changed, kept_after, line_after, place_before};
 use crate::kept_line::BoxedLine;
@@ -54,7 +53,7 @@ fn steady_lines(traits: &[Traits], place: usize) -> usize
 }
 
 impl<'a> Edited<'a> {
-    ghost use Rattle.chip_asm.specs.inner.Edited.{IsEdited, lines_before, lines_then, count_then};
+    ghost use Rattle.chip_asm.specs.inner.Edited.{IsEdited, LeavesSpan, Moves, count_then, lines_then, next_of};
 
     /// The value of the expression of the line at a place after the edit, where it is known: no
     /// name has a say in it, or the line was accepted before and its names keep their values.
@@ -158,11 +157,10 @@ impl<'a> Edited<'a> {
     /// stands before them at an address, and each line before them is steady.
     pub(crate) fn shift(&self, next: usize, here: usize) -> Option<Shift>
         requires edited { IsEdited self.now }
-        requires next { first_changed_by self.now.edit.now + added_by self.now.edit.now ≤ next }
+        requires next { next_of self.now ≤ next }
         requires end { next ≤ count_then self.now }
         requires low { here ≤ MEMORY_BYTES }
-        ensures { IfSome result (λ shift. IsShift shift self.now.old.now (lines_before self.now)
-            self.now.edit.now next here) }
+        ensures { IfSome result (λ shift. Moves self.now shift next here) }
     {
         if !takes_steady(self.lines, self.edit) {
             return None;
@@ -201,10 +199,7 @@ impl<'a> Edited<'a> {
         requires continues { Continues self.now.old.now (lines_then self.now)
             (first_changed_by self.now.edit.now) }
         ensures layout { IfOk result (λ made. IsLayoutOf made.0 (lines_then self.now)) }
-        ensures span { IfOk result
-            (λ made. IfSome made.1
-            (λ span. IsSpanOf self.now.old.now made.0
-            (length self.now.lines.now) self.now.edit.now span)) }
+        ensures span { IfOk result (λ made. LeavesSpan self.now made) }
     {
         let old = self.old;
         let count = count_after(self.lines.len(), self.edit);

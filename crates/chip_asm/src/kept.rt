@@ -3,13 +3,11 @@ ghost use Rattle.std.specs.Prelude.{◌≡◌, ◌+◌, ◌<◌, ◌≤◌, List
 ghost use Rattle.std.specs.Option.{option_copied};
 ghost use Rattle.chip_lang.specs.Line.{Reading, reading_of};
 ghost use Rattle.chip_lang.specs.SeenLine.{seen_line};
-ghost use Rattle.chip_asm.specs.Changes.{ChangesWithin};
 ghost use Rattle.chip_asm.specs.Edits.{before_replace};
 ghost use Rattle.chip_asm.specs.inner.Effect.{HasSameEffectAt};
 ghost use Rattle.chip_asm.specs.Program.{image_of_lines};
 ghost use Rattle.chip_asm.specs.inner.Records.{IsPlaceWithin, count_after, lines_after, reading_in, readings_in, texts_in, place_before};
 ghost use Rattle.chip_asm.specs.Work.{needs_count};
-ghost use Rattle.chip_asm.specs.inner.Recode.{new_codes};
 ghost use Rattle.chip_asm.specs.inner.Layouts.{IsLayoutOf, IsSpareFor};
 ghost use Rattle.chip_asm.specs.inner.Resume.{first_changed};
 ghost use Rattle.chip_asm.specs.inner.Hints.{names_in, hint_in};
@@ -106,6 +104,8 @@ impl Prepared {
 }
 
 impl Kept {
+    ghost use Rattle.chip_asm.specs.inner.KeptEdits.{MayEdit, ChangesAsTold, codes_since, lines_kept, needed_by, needed_since, texts_kept};
+
     /// No lines.
     pub(crate) fn new(alloc: Global) -> Self
         ensures kept { IsKept result }
@@ -168,22 +168,13 @@ impl Kept {
         meter: &mut Meter,
         edit: Edit,
     ) -> Result<Changed, AllocError>
-        requires kept { IsKept self.old }
-        requires within { IsPlaceWithin (vec_len self.old.lines) edit }
-        requires few { length (lines_after self.old.lines.items edit) ≤ MOST_LINES }
-        requires are_read { readings_in (lines_after self.old.lines.items edit)
-            ≡ map reading_of (texts_in (lines_after self.old.lines.items edit)) }
-        ensures ok { OnOk result (texts_in self.new.lines.items
+        requires { MayEdit self.old edit }
+        ensures ok { OnOk result (texts_kept self.new
             ≡ texts_in (lines_after self.old.lines.items edit)) }
-        ensures err { OnErr result (texts_in self.new.lines.items ≡ texts_in self.old.lines.items) }
+        ensures err { OnErr result (texts_kept self.new ≡ texts_kept self.old) }
         ensures kept { IsKept self.new }
-        ensures changed { IfOk result
-            (λ changed. ChangesWithin changed.first changed.end
-            (image_of_lines (readings_in self.old.lines.items))
-            (image_of_lines (readings_in self.new.lines.items))) }
-        ensures encoded { meter.new.encoded
-            ≤ meter.old.encoded + needs_count (readings_in self.old.lines.items)
-            (readings_in (lines_after self.old.lines.items edit)) (place_before edit) }
+        ensures changed { IfOk result (λ changed. ChangesAsTold self.old self.new changed) }
+        ensures encoded { meter.new.encoded ≤ meter.old.encoded + needed_by self.old edit }
         ensures not_lowered { meter.old.encoded ≤ meter.new.encoded }
         ensures parsed { meter.new.parsed ≡ meter.old.parsed }
     {
@@ -221,19 +212,15 @@ impl Kept {
         requires kept { IsKept self.old }
         requires inside { at < vec_len self.old.lines }
         requires is_read { reading_in added ≡ reading_of added.text }
-        requires same { HasSameEffectAt (readings_in self.old.lines.items) at (reading_in added) }
-        ensures ok { OnOk result (texts_in self.new.lines.items
-            ≡ slice_set (texts_in self.old.lines.items) at added.text) }
-        ensures err { OnErr result (texts_in self.new.lines.items ≡ texts_in self.old.lines.items) }
+        requires same { HasSameEffectAt (lines_kept self.old) at (reading_in added) }
+        ensures ok { OnOk result (texts_kept self.new
+            ≡ slice_set (texts_kept self.old) at added.text) }
+        ensures err { OnErr result (texts_kept self.new ≡ texts_kept self.old) }
         ensures kept { IsKept self.new }
-        ensures changed { IfOk result
-            (λ changed. ChangesWithin changed.first changed.end
-            (image_of_lines (readings_in self.old.lines.items))
-            (image_of_lines (readings_in self.new.lines.items))) }
-        ensures encoded { meter.new.encoded
-            ≤ meter.old.encoded + needs_count (readings_in self.old.lines.items)
-            (slice_set (readings_in self.old.lines.items) at (reading_in added))
-            (before_replace at) }
+        ensures changed { IfOk result (λ changed. ChangesAsTold self.old self.new changed) }
+        ensures encoded { meter.new.encoded ≤ meter.old.encoded
+            + needs_count (lines_kept self.old)
+            (slice_set (lines_kept self.old) at (reading_in added)) (before_replace at) }
         ensures not_lowered { meter.old.encoded ≤ meter.new.encoded }
         ensures parsed { meter.new.parsed ≡ meter.old.parsed }
     {
@@ -248,14 +235,11 @@ impl Kept {
         requires kept { IsKept self.old }
         requires inside { at < vec_len self.old.lines }
         requires is_read { reading_in added ≡ reading_of added.text }
-        requires same { HasSameEffectAt (readings_in self.old.lines.items) at (reading_in added) }
-        requires coded { HasCodeAt (readings_in self.old.lines.items) at added }
-        ensures text { texts_in self.new.lines.items
-            ≡ slice_set (texts_in self.old.lines.items) at added.text }
+        requires same { HasSameEffectAt (lines_kept self.old) at (reading_in added) }
+        requires coded { HasCodeAt (lines_kept self.old) at added }
+        ensures text { texts_kept self.new ≡ slice_set (texts_kept self.old) at added.text }
         ensures kept { IsKept self.new }
-        ensures changed { ChangesWithin result.first result.end
-            (image_of_lines (readings_in self.old.lines.items))
-            (image_of_lines (readings_in self.new.lines.items)) }
+        ensures changed { ChangesAsTold self.old self.new result }
     {
         let placement = self.layout.placements[at];
         let was = count_of(kept_fault(&placement, &self.lines[at]));
@@ -286,22 +270,13 @@ impl Kept {
         meter: &mut Meter,
         edit: Edit,
     ) -> Result<Changed, AllocError>
-        requires kept { IsKept self.old }
-        requires within { IsPlaceWithin (vec_len self.old.lines) edit }
-        requires few { length (lines_after self.old.lines.items edit) ≤ MOST_LINES }
-        requires are_read { readings_in (lines_after self.old.lines.items edit)
-            ≡ map reading_of (texts_in (lines_after self.old.lines.items edit)) }
-        ensures ok { OnOk result (texts_in self.new.lines.items
+        requires { MayEdit self.old edit }
+        ensures ok { OnOk result (texts_kept self.new
             ≡ texts_in (lines_after self.old.lines.items edit)) }
-        ensures err { OnErr result (texts_in self.new.lines.items ≡ texts_in self.old.lines.items) }
+        ensures err { OnErr result (texts_kept self.new ≡ texts_kept self.old) }
         ensures kept { IsKept self.new }
-        ensures changed { IfOk result
-            (λ changed. ChangesWithin changed.first changed.end
-            (image_of_lines (readings_in self.old.lines.items))
-            (image_of_lines (readings_in self.new.lines.items))) }
-        ensures encoded { meter.new.encoded
-            ≤ meter.old.encoded + needs_count (readings_in self.old.lines.items)
-            (readings_in (lines_after self.old.lines.items edit)) (place_before edit) }
+        ensures changed { IfOk result (λ changed. ChangesAsTold self.old self.new changed) }
+        ensures encoded { meter.new.encoded ≤ meter.old.encoded + needed_by self.old edit }
         ensures not_lowered { meter.old.encoded ≤ meter.new.encoded }
         ensures parsed { meter.new.parsed ≡ meter.old.parsed }
     {
@@ -334,13 +309,9 @@ impl Kept {
         ensures room { OnOk result ((vec_len self.new.lines < vec_capacity self.new.lines)
             × (vec_len self.new.image ≡ IMAGE_BYTES)) }
         ensures codes { (before : List Reading) → IsLayoutOf self.old.layout before
-            → IfOk result (λ made. made.codes.items
-            ≡ new_codes before (readings_in (lines_after self.old.lines.items edit.now))
-            (place_before edit.now)) }
+            → IfOk result (λ made. made.codes.items ≡ codes_since before self.old edit.now) }
         ensures encoded { (before : List Reading) → IsLayoutOf self.old.layout before
-            → meter.new.encoded ≤ meter.old.encoded
-            + needs_count before (readings_in (lines_after self.old.lines.items edit.now))
-            (place_before edit.now) }
+            → meter.new.encoded ≤ meter.old.encoded + needed_since before self.old edit.now }
         ensures not_lowered { meter.old.encoded ≤ meter.new.encoded }
         ensures parsed { meter.new.parsed ≡ meter.old.parsed }
     {

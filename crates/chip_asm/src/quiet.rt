@@ -3,10 +3,8 @@ ghost use Rattle.std.specs.Prelude.{◌≡◌, ℕ, ◌+◌, ◌<◌, ◌≤◌,
 ghost use Rattle.std.specs.List.{list_all};
 ghost use Rattle.chip_asm.specs.inner.Layouts.{IsLayoutOf};
 ghost use Rattle.chip_asm.specs.inner.Hints.{names_in};
-ghost use Rattle.chip_asm.specs.inner.Span.{IsSpanOf};
 ghost use Rattle.chip_asm.specs.inner.Records.{IsPlaceWithin, readings_in};
-ghost use Rattle.chip_asm.specs.inner.Resume.{first_changed};
-ghost use Rattle.chip_asm.specs.inner.Shift.{IsQuiet, IsShift, added_by, moved_placement, takes_nameless};
+ghost use Rattle.chip_asm.specs.inner.Shift.{moved_placement, takes_nameless};
 
 use crate::edit::{Edit, first_changed};
 use crate::edited::Edited;
@@ -61,18 +59,16 @@ impl Layout {
 }
 
 impl<'a> Edited<'a> {
-    ghost use Rattle.chip_asm.specs.inner.Edited.{IsEdited, lines_before, lines_then};
+    ghost use Rattle.chip_asm.specs.inner.Edited.{IsEdited, AreSteady, FindsQuietly, LeavesSpan, Moves, lines_then, next_of};
 
     /// What the first pass finds of the line that the edit brings, if it brings one, and the
     /// address after it. None where a name comes or goes, where more is asked of the line than its
     /// size, or where it doesn't fit.
     fn found_quietly(&self, next: usize) -> Option<(Option<Placement>, usize)>
         requires edited { IsEdited self.now }
-        requires next { next ≡ first_changed self.now.edit.now + added_by self.now.edit.now }
-        requires steady { (index : ℕ) (other : Traits) → index < next
-            → (slice_index_or self.now.traits.now index other).is_steady ≡ true }
-        ensures { IfSome result (λ found. IsQuiet found.0 found.1 self.now.old.now
-            (lines_before self.now) (lines_then self.now) self.now.edit.now next) }
+        requires next { next ≡ next_of self.now }
+        requires steady { AreSteady self.now next }
+        ensures { IfSome result (λ found. FindsQuietly self.now found.0 found.1 next) }
     {
         if !takes_nameless(self.lines, self.edit) {
             return None;
@@ -102,15 +98,10 @@ impl<'a> Edited<'a> {
     /// than move.
     pub(crate) fn quiet_shift(&self, next: usize) -> Option<(Option<Placement>, Shift)>
         requires edited { IsEdited self.now }
-        requires next { next ≡ first_changed self.now.edit.now + added_by self.now.edit.now }
-        requires steady { (index : ℕ) (other : Traits) → index < next
-            → (slice_index_or self.now.traits.now index other).is_steady ≡ true }
-        ensures quiet { IfSome result
-            (λ q. IsQuiet q.0 q.1.new_address self.now.old.now
-            (lines_before self.now) (lines_then self.now) self.now.edit.now next) }
-        ensures shift { IfSome result
-            (λ q. IsShift q.1 self.now.old.now (lines_before self.now)
-            self.now.edit.now next q.1.new_address) }
+        requires next { next ≡ next_of self.now }
+        requires steady { AreSteady self.now next }
+        ensures quiet { IfSome result (λ q. FindsQuietly self.now q.0 q.1.new_address next) }
+        ensures shift { IfSome result (λ q. Moves self.now q.1 next q.1.new_address) }
     {
         let (found, here) = self.found_quietly(next)?;
         let shift = self.shift(next, here)?;
@@ -125,24 +116,14 @@ impl<'a> Edited<'a> {
         quiet: (Option<Placement>, Shift),
     ) -> Result<(Layout, Option<Span>), AllocError>
         requires edited { IsEdited self.now }
-        requires steady { (index : ℕ) (other : Traits)
-            → index < first_changed self.now.edit.now + added_by self.now.edit.now
-            → (slice_index_or self.now.traits.now index other).is_steady ≡ true }
+        requires steady { AreSteady self.now (next_of self.now) }
         requires plain { list_all (λ t. t.is_plain)
-            (drop (first_changed self.now.edit.now + added_by self.now.edit.now)
-            self.now.traits.now) ≡ true }
+            (drop (next_of self.now) self.now.traits.now) ≡ true }
         requires names { names_in spare.names ≡ names_in self.now.old.now.names }
-        requires quiet { IsQuiet quiet.0 quiet.1.new_address self.now.old.now
-            (lines_before self.now) (lines_then self.now) self.now.edit.now
-            (first_changed self.now.edit.now + added_by self.now.edit.now) }
-        requires shift { IsShift quiet.1 self.now.old.now (lines_before self.now)
-            self.now.edit.now (first_changed self.now.edit.now + added_by self.now.edit.now)
-            quiet.1.new_address }
+        requires quiet { FindsQuietly self.now quiet.0 quiet.1.new_address (next_of self.now) }
+        requires shift { Moves self.now quiet.1 (next_of self.now) quiet.1.new_address }
         ensures layout { IfOk result (λ made. IsLayoutOf made.0 (lines_then self.now)) }
-        ensures span { IfOk result
-            (λ made. IfSome made.1
-            (λ span. IsSpanOf self.now.old.now made.0
-            (length self.now.lines.now) self.now.edit.now span)) }
+        ensures span { IfOk result (λ made. LeavesSpan self.now made) }
     {
         let (found, shift) = quiet;
         let old = self.old;

@@ -130,7 +130,7 @@ fn stood(placements: &[Placement], edit: &Edit, place: usize) -> bool
 }
 
 impl<'a> Remaking<'a> {
-    ghost use Rattle.chip_asm.specs.inner.Remaking.{IsRemaking, lines_then};
+    ghost use Rattle.chip_asm.specs.inner.Remaking.{IsRemaking, lines_then, was_accepted, Makes, Counts};
 
     /// Whether what is known of the names says that those of the line at a place keep their values,
     /// which is so of most lines.
@@ -274,16 +274,8 @@ impl<'a> Remaking<'a> {
         requires known { IsRemaking self.now }
         requires order { from ≤ to }
         requires within { to ≤ length (lines_then self.now) }
-        ensures codes { (before : List Reading) → IsLayoutOf self.now.old.now before
-            → codes.old.items
-            ≡ codes_up_to before (lines_then self.now) (place_before self.now.edit.now) from
-            → OnOk result (codes.new.items
-            ≡ codes_up_to before (lines_then self.now) (place_before self.now.edit.now) to) }
-        ensures encoded { (before : List Reading) → IsLayoutOf self.now.old.now before
-            → meter.new.encoded + count_up_to before (lines_then self.now)
-            (place_before self.now.edit.now) from
-            ≤ meter.old.encoded
-            + count_up_to before (lines_then self.now) (place_before self.now.edit.now) to }
+        ensures codes { Makes self.now from to codes.old.items codes.new.items result }
+        ensures encoded { Counts self.now from to meter.old meter.new }
         ensures not_lowered { meter.old.encoded ≤ meter.new.encoded }
         ensures parsed { meter.new.parsed ≡ meter.old.parsed }
     {
@@ -310,17 +302,8 @@ impl<'a> Remaking<'a> {
         requires moved { (line : Reading) → slice_get (lines_then self.now) place ≡ Some line
             → agree_on (values_of self.now.old.now.names) (values_of self.now.new.now.names) line
             ≡ false }
-        ensures codes { (before : List Reading) → IsLayoutOf self.now.old.now before
-            → codes.old.items
-            ≡ codes_up_to before (lines_then self.now) (place_before self.now.edit.now) place
-            → OnOk result (codes.new.items
-            ≡ codes_up_to before (lines_then self.now) (place_before self.now.edit.now)
-            (place + 1)) }
-        ensures encoded { (before : List Reading) → IsLayoutOf self.now.old.now before
-            → meter.new.encoded + count_up_to before (lines_then self.now)
-            (place_before self.now.edit.now) place
-            ≤ meter.old.encoded + count_up_to before (lines_then self.now)
-            (place_before self.now.edit.now) (place + 1) }
+        ensures codes { Makes self.now place (place + 1) codes.old.items codes.new.items result }
+        ensures encoded { Counts self.now place (place + 1) meter.old meter.new }
         ensures not_lowered { meter.old.encoded ≤ meter.new.encoded }
         ensures parsed { meter.new.parsed ≡ meter.old.parsed }
     {
@@ -339,19 +322,9 @@ impl<'a> Remaking<'a> {
     ) -> Result<(), AllocError>
         requires known { IsRemaking self.now }
         requires place { place < length (lines_then self.now) }
-        requires stood { option_map_or (is_placed_at self.now.old.now.placements.items)
-            (place_before self.now.edit.now place) false ≡ true }
-        ensures codes { (before : List Reading) → IsLayoutOf self.now.old.now before
-            → codes.old.items
-            ≡ codes_up_to before (lines_then self.now) (place_before self.now.edit.now) place
-            → OnOk result (codes.new.items
-            ≡ codes_up_to before (lines_then self.now) (place_before self.now.edit.now)
-            (place + 1)) }
-        ensures encoded { (before : List Reading) → IsLayoutOf self.now.old.now before
-            → meter.new.encoded + count_up_to before (lines_then self.now)
-            (place_before self.now.edit.now) place
-            ≤ meter.old.encoded + count_up_to before (lines_then self.now)
-            (place_before self.now.edit.now) (place + 1) }
+        requires stood { was_accepted self.now place ≡ true }
+        ensures codes { Makes self.now place (place + 1) codes.old.items codes.new.items result }
+        ensures encoded { Counts self.now place (place + 1) meter.old meter.new }
         ensures not_lowered { meter.old.encoded ≤ meter.new.encoded }
         ensures parsed { meter.new.parsed ≡ meter.old.parsed }
     {
@@ -373,19 +346,9 @@ impl<'a> Remaking<'a> {
         requires known { IsRemaking self.now }
         requires place { place + 4 ≤ length (lines_then self.now) }
         requires stood { (index : ℕ) → index < 4
-            → option_map_or (is_placed_at self.now.old.now.placements.items)
-            (place_before self.now.edit.now (place + index)) false ≡ true }
-        ensures codes { (before : List Reading) → IsLayoutOf self.now.old.now before
-            → codes.old.items
-            ≡ codes_up_to before (lines_then self.now) (place_before self.now.edit.now) place
-            → OnOk result (codes.new.items
-            ≡ codes_up_to before (lines_then self.now) (place_before self.now.edit.now)
-            (place + 4)) }
-        ensures encoded { (before : List Reading) → IsLayoutOf self.now.old.now before
-            → meter.new.encoded + count_up_to before (lines_then self.now)
-            (place_before self.now.edit.now) place
-            ≤ meter.old.encoded + count_up_to before (lines_then self.now)
-            (place_before self.now.edit.now) (place + 4) }
+            → was_accepted self.now (place + index) ≡ true }
+        ensures codes { Makes self.now place (place + 4) codes.old.items codes.new.items result }
+        ensures encoded { Counts self.now place (place + 4) meter.old meter.new }
         ensures not_lowered { meter.old.encoded ≤ meter.new.encoded }
         ensures parsed { meter.new.parsed ≡ meter.old.parsed }
     {
@@ -419,17 +382,8 @@ impl<'a> Remaking<'a> {
         requires placements { was + 4 ≤ vec_len self.now.old.now.placements }
         requires stood { (index : ℕ) → index < 4
             → place_before self.now.edit.now (place + index) ≡ Some (was + index) }
-        ensures codes { (before : List Reading) → IsLayoutOf self.now.old.now before
-            → codes.old.items
-            ≡ codes_up_to before (lines_then self.now) (place_before self.now.edit.now) place
-            → OnOk result (codes.new.items
-            ≡ codes_up_to before (lines_then self.now) (place_before self.now.edit.now)
-            (place + 4)) }
-        ensures encoded { (before : List Reading) → IsLayoutOf self.now.old.now before
-            → meter.new.encoded + count_up_to before (lines_then self.now)
-            (place_before self.now.edit.now) place
-            ≤ meter.old.encoded + count_up_to before (lines_then self.now)
-            (place_before self.now.edit.now) (place + 4) }
+        ensures codes { Makes self.now place (place + 4) codes.old.items codes.new.items result }
+        ensures encoded { Counts self.now place (place + 4) meter.old meter.new }
         ensures not_lowered { meter.old.encoded ≤ meter.new.encoded }
         ensures parsed { meter.new.parsed ≡ meter.old.parsed }
     {
@@ -457,17 +411,8 @@ impl<'a> Remaking<'a> {
         requires placements { was + many ≤ vec_len self.now.old.now.placements }
         requires stood { (index : ℕ) → index < many
             → place_before self.now.edit.now (place + index) ≡ Some (was + index) }
-        ensures codes { (before : List Reading) → IsLayoutOf self.now.old.now before
-            → codes.old.items
-            ≡ codes_up_to before (lines_then self.now) (place_before self.now.edit.now) place
-            → OnOk result (codes.new.items
-            ≡ codes_up_to before (lines_then self.now) (place_before self.now.edit.now)
-            (place + many)) }
-        ensures encoded { (before : List Reading) → IsLayoutOf self.now.old.now before
-            → meter.new.encoded + count_up_to before (lines_then self.now)
-            (place_before self.now.edit.now) place
-            ≤ meter.old.encoded + count_up_to before (lines_then self.now)
-            (place_before self.now.edit.now) (place + many) }
+        ensures codes { Makes self.now place (place + many) codes.old.items codes.new.items result }
+        ensures encoded { Counts self.now place (place + many) meter.old meter.new }
         ensures not_lowered { meter.old.encoded ≤ meter.new.encoded }
         ensures parsed { meter.new.parsed ≡ meter.old.parsed }
     {

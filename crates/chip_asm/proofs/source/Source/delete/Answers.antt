@@ -1,4 +1,5 @@
-use Rattle.std.proofs.Common.{◌≡◌, ◌∙◌, ◌-◌, ap, sym, arith, length, remove, map}
+use Rattle.std.proofs.Common.{◌≡◌, rules, ◌<◌, vec_len, ◌∙◌, ◌-◌, ap, sym, arith, length, remove, map}
+use Rattle.std.proofs.lemmas.List.Edits.{length-remove}
 use Rattle.chip_lang.specs.Line.{reading_of}
 use Rattle.chip_asm.specs.Edits.{delete_refusal, before_delete}
 use Rattle.chip_asm.specs.inner.Records.{readings_in, texts_in}
@@ -6,8 +7,16 @@ use Rattle.chip_asm.proofs.EditTexts.{texts-remove, read-remove, count-texts}
 use Rattle.chip_asm.proofs.Views.{needs-view, changes-view}
 use Rattle.chip_asm.proofs.source.Source.delete.Goals as goal
 
-pub edit-requires-clause-are_read : goal.edit-requires-clause-are_read
-edit-requires-clause-are_read c = read-remove c.self.inside.kept.lines.items (c.args.number - 1) c.self.invariant.are_read
+pub edit-requires : goal.edit-requires
+edit-requires c =
+    let kept = c.self.inside.kept in
+    let within : c.args.number - 1 < vec_len c.self.inside.kept.lines = search rules in
+    record {
+      kept = c.self.invariant;
+      within = within;
+      few = omega (arith, c.self.invariant.few, length-remove kept.lines.items (c.args.number - 1) (omega (arith, within, kept.lines.ok.0)));
+      are_read = read-remove c.self.inside.kept.lines.items (c.args.number - 1) c.self.invariant.are_read;
+    }
 
 pub returns-clause-ok : goal.returns-clause-ok
 returns-clause-ok c =

@@ -1,4 +1,7 @@
-use Rattle.std.proofs.Common.{◌≡◌, ◌∙◌, ◌-◌, ap, sym, arith, length, insert, map}
+use Rattle.std.proofs.Common.{◌≡◌, rules, ◌<◌, ◌≤◌, vec_len, ◌∙◌, ◌-◌, ap, sym, arith, length, insert, map}
+use Rattle.std.proofs.lemmas.List.Edits.{length-insert}
+use Rattle.chip_asm.specs.declared.limits.TheConstants.{MOST_LINES}
+use Rattle.chip_asm.proofs.EditTexts.{has-room}
 use Rattle.chip_lang.specs.Line.{reading_of}
 use Rattle.chip_asm.specs.Edits.{insert_refusal, before_insert}
 use Rattle.chip_asm.specs.inner.Records.{readings_in, texts_in}
@@ -6,9 +9,17 @@ use Rattle.chip_asm.proofs.EditTexts.{texts-insert, read-insert, count-texts}
 use Rattle.chip_asm.proofs.Views.{needs-view, changes-view}
 use Rattle.chip_asm.proofs.source.Source.insert.Goals as goal
 
-pub edit-requires-clause-are_read : goal.edit-requires-clause-are_read
-edit-requires-clause-are_read c =
-    read-insert c.self.inside.kept.lines.items (c.args.number - 1) c.in_ok-added.added c.self.invariant.are_read (c.in_ok-added.ensures.reading ∙ ap reading_of (sym c.in_ok-added.ensures.text))
+pub edit-requires : goal.edit-requires
+edit-requires c =
+    let kept = c.self.inside.kept in
+    let within : c.args.number - 1 ≤ vec_len c.self.inside.kept.lines = search rules in
+    let room : c.len.result < MOST_LINES = has-room c.len.result c.args.number c.args.text.now (sym c.insert_refusal.ensures ∙ c.in_default.is) in
+    record {
+      kept = c.self.invariant;
+      within = within;
+      few = omega (arith, room, c.len.ensures, kept.lines.ok.0, length-insert kept.lines.items (c.args.number - 1) c.in_ok-added.added (omega (arith, within, kept.lines.ok.0)));
+      are_read = read-insert c.self.inside.kept.lines.items (c.args.number - 1) c.in_ok-added.added c.self.invariant.are_read (c.in_ok-added.ensures.reading ∙ ap reading_of (sym c.in_ok-added.ensures.text));
+    }
 
 pub returns-clause-ok : goal.returns-clause-ok
 returns-clause-ok c =

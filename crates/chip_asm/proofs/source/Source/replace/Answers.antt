@@ -1,4 +1,5 @@
-use Rattle.std.proofs.Common.{◌≡◌, ◌∙◌, ◌-◌, ap, sym, arith, length, set, map}
+use Rattle.std.proofs.Common.{◌≡◌, rules, ◌<◌, vec_len, ◌∙◌, ◌-◌, ap, sym, arith, length, set, map}
+use Rattle.std.proofs.lemmas.List.{length-set}
 use Rattle.chip_lang.specs.Line.{reading_of}
 use Rattle.chip_asm.specs.Edits.{replace_refusal, before_replace}
 use Rattle.chip_asm.specs.inner.Records.{readings_in, texts_in}
@@ -6,9 +7,16 @@ use Rattle.chip_asm.proofs.EditTexts.{texts-set, read-set, count-texts}
 use Rattle.chip_asm.proofs.Views.{needs-view, changes-view}
 use Rattle.chip_asm.proofs.source.Source.replace.Goals as goal
 
-pub edit-requires-clause-are_read : goal.edit-requires-clause-are_read
-edit-requires-clause-are_read c =
-    read-set c.self.inside.kept.lines.items (c.args.number - 1) c.in_ok-added.added c.self.invariant.are_read (c.in_ok-added.ensures.reading ∙ ap reading_of (sym c.in_ok-added.ensures.text))
+pub edit-requires : goal.edit-requires
+edit-requires c =
+    let kept = c.self.inside.kept in
+    let within : c.args.number - 1 < vec_len c.self.inside.kept.lines = search rules in
+    record {
+      kept = c.self.invariant;
+      within = within;
+      few = omega (arith, c.self.invariant.few, length-set kept.lines.items (c.args.number - 1) c.in_ok-added.added);
+      are_read = read-set c.self.inside.kept.lines.items (c.args.number - 1) c.in_ok-added.added c.self.invariant.are_read (c.in_ok-added.ensures.reading ∙ ap reading_of (sym c.in_ok-added.ensures.text));
+    }
 
 pub returns-clause-ok : goal.returns-clause-ok
 returns-clause-ok c =
