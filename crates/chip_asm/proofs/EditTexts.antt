@@ -1,5 +1,5 @@
 -- An edit of the kept lines is the edit of their texts.
-use Rattle.std.proofs.Common.{◌≡◌, ◌<◌, ℕ, Bool, true, false, cond, not, Option, Some, None, arith, nat_le, nat_lt, ◌+◌, suc, List, [], ◌∷◌, ◌++◌, map, length, take, drop, set, insert, remove, refl, ap, sym, ◌∙◌}
+use Rattle.std.proofs.Common.{◌≡◌, ◌<◌, ℕ, Bool, true, false, cond, not, Some, None, arith, nat_le, ◌+◌, suc, List, [], ◌∷◌, ◌++◌, map, length, take, drop, set, insert, remove, refl, ap, sym, ◌∙◌}
 use Rattle.std.proofs.lemmas.Bool.Decides.{nat_tests}
 use Rattle.std.proofs.lemmas.List.{map-append, take-map, drop-map, map-set, length-map}
 use Rattle.chip_lang.specs.Line.{reading_of}

@@ -36,7 +36,8 @@ ChangesAsTold old new changed =
     ChangesWithin changed.first changed.end
     (image_of_lines (lines_kept old)) (image_of_lines (lines_kept new))
 
--- how many lines an edit makes encode, of lines that may not have been encoded yet, or that are kept
+-- how many lines an edit makes encode, after lines that may not have been encoded yet, or after
+-- those that are kept
 abbrev pub needed_since : List Reading → Kept → Edit → ℕ
 needed_since before kept edit = needs_count before (lines_then kept edit) (place_before edit)
 

@@ -1,4 +1,4 @@
-use Rattle.std.proofs.Common.{◌≡◌, ◌∙◌, ◌+◌, ◌-◌, ◌<◌, [], Some, ap, arith, get_or, length, pos, slice_get, sym}
+use Rattle.std.proofs.Common.{◌≡◌, ◌∙◌, ◌+◌, ◌-◌, ◌<◌, [], Some, ap, arith, get_or, length, pos, slice_get}
 use Rattle.std.proofs.lemmas.Option.{slice_get-get_or}
 use Rattle.chip_lang.specs.SeenLine.{seen_line}
 use Rattle.chip_asm.specs.Names.{Name}

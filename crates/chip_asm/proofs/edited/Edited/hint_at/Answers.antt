@@ -1,4 +1,4 @@
-use Rattle.std.proofs.Common.{◌≡◌, ◌∙◌, ap, sym, Some, unwrap_or}
+use Rattle.std.proofs.Common.{◌∙◌, ap, sym, unwrap_or}
 use Rattle.chip_lang.specs.Line.{Reading}
 use Rattle.chip_lang.specs.SeenLine.{seen_line}
 use Rattle.chip_asm.specs.inner.Edited.{lines_before}

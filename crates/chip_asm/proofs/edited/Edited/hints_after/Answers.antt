@@ -10,7 +10,7 @@ edited_hints-requires c =
     let e = c.args.self.now in
     let long : length e.lines.now ≡ length e.hints.now
     = sym (ap length c.requires.edited.hints ∙ length-map (lines_before e) (hint_in (names_in e.old.now.names)) ∙ length-map e.lines.now reading_in) in
-    record { within = subst (λ (n : ℕ). IsPlaceWithin n e.edit.now) long c.requires.edited.within; }
+    record { within = subst (λ (n : ℕ). IsPlaceWithin n e.edit.now) long c.requires.edited.within }
 
 pub returns-then-same_names : goal.returns-then-same_names
 returns-then-same_names c =
