@@ -6,8 +6,7 @@ ghost use Rattle.chip_machine.specs.Touched.{touched};
 ghost use Rattle.chip_replay.specs.Run.{run};
 ghost use Rattle.chip_replay.specs.Keys.{Events, held};
 ghost use Rattle.chip_replay.specs.inner.Changes.{KnowsKeys};
-ghost use Rattle.chip_replay.specs.Image.{differs, AgreeOutside};
-ghost use Rattle.chip_replay.specs.inner.Patch.{patched};
+ghost use Rattle.chip_replay.specs.Image.{differs, AgreeOutside, patched};
 ghost use Rattle.chip_replay.specs.inner.Kept.{AreFirst, IsSound, IsLent, IsCutBack, IsHolding, IsRight};
 
 use crate::keys::{Cursor, Holding, Keys};
