@@ -8,12 +8,11 @@ use Rattle.chip_replay.specs.Image.{AgreeOutside}
 use Rattle.std.proofs.lemmas.List.{take-append-drop}
 use Rattle.chip_lang.specs.declared.limits.TheConstants.{IMAGE_BYTES, IMAGE_START}
 use Rattle.chip_machine.specs.declared.profile.Profile.{Profile}
-use Rattle.chip_machine.specs.State.{State, with_memory}
+use Rattle.chip_machine.specs.State.{State, with_memory, memory_of}
 use Rattle.chip_machine.specs.Start.{start_of, start_core, start_memory}
 use Rattle.chip_machine.specs.ImageLaw.{ImageAndZeros, SameBelowTheImage}
 use Rattle.chip_replay.specs.History.{History}
 use Rattle.chip_replay.specs.Image.{with_image, padded}
-use Rattle.chip_replay.specs.inner.MachineFrame.{memory_of}
 use Rattle.chip_bench.specs.Settings.{SessionSettings}
 use Rattle.chip_bench.specs.inner.InStep.{Replays}
 

@@ -5,8 +5,7 @@ use Rattle.std.proofs.lemmas.List.{get_or_append_left, get_or-append_right, get_
 use Rattle.std.proofs.lemmas.Bool.{cases_lt, cases_eq}
 use Rattle.chip_machine.specs.State.{exchanged}
 use Rattle.chip_machine.specs.inner.Exchanged.{chosen, chosen-new, chosen-same, is_exchanged}
-use Rattle.chip_replay.specs.Image.{padded, with_image}
-use Rattle.chip_replay.specs.inner.Patch.{patched}
+use Rattle.chip_replay.specs.Image.{padded, with_image, patched}
 use Rattle.chip_replay.specs.Limits.{image_room, image_start, memory_size}
 
 length-padded : (image : List ℕ) → length image ≤ image_room → length (padded image) ≡ image_room

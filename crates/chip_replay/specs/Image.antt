@@ -2,6 +2,7 @@
 -- Source: COSMAC VIP manual for the address; own for the rest.
 --     padded         an image, and zeros up to the end of the memory
 --     with_image     a state with the image, and zeros after it, in its memory
+--     patched        a state with the bytes of one image in the place of those of another
 --     differs        whether two images, zeros after each, differ at a place
 --     AgreeOutside   two images, zeros after each, agree outside some places
 --     affected       the first step below f that touches a byte at which two images differ, or f
@@ -9,6 +10,7 @@ use Rattle.std.specs.Prelude.{◌≡◌, ℕ, ◌<◌, ◌≤◌, ◌+◌, ◌-�
 use Rattle.std.specs.List.{list_any, range_with_len}
 use Rattle.chip_replay.specs.Limits.{image_start, image_room}
 use Rattle.chip_replay.specs.Run.{run, first_below}
+use Rattle.chip_machine.specs.State.{exchanged}
 use Rattle.chip_machine.specs.Touched.{touched}
 
 -- an image, and zeros up to the end of the memory
@@ -18,6 +20,11 @@ padded image = image ++ replicate (image_room - length image) 0
 -- the memory from the address of programs on is the image and zeros, and nothing else is changed
 abbrev pub with_image : {S : Type 0} → (S → List ℕ) → (S → List ℕ → S) → List ℕ → S → S
 with_image memory with_memory image s = with_memory s (take image_start (memory s) ++ padded image)
+
+-- at each place where two images, zeros after each, differ there is the byte of the new one, and
+-- all other bytes are as they were
+unfoldable pub patched : {S : Type 0} → (S → List ℕ) → (S → List ℕ → S) → List ℕ → List ℕ → S → S
+patched memory with_memory old new s = with_memory s (exchanged (memory s) image_start old new)
 
 -- whether two images, zeros after each, differ at a place
 abbrev pub differs : List ℕ → List ℕ → ℕ → Bool

@@ -1,8 +1,7 @@
 -- What is kept of a run (Kept) and of the key events in the order of their steps (Changes), the
--- exchange of one image for another (Patch), the frame law of the machine in the form of the trait
--- (MachineFrame), and that keys known in a step are known in later ones (Cursor).
+-- frame law of the machine in the form of the trait (MachineFrame), and that keys known in a step
+-- are known in later ones (Cursor).
 pub mod Changes
 pub mod Cursor
 pub mod Kept
 pub mod MachineFrame
-pub mod Patch

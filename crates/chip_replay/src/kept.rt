@@ -6,9 +6,8 @@ ghost use Rattle.chip_machine.specs.Touched.{touched};
 ghost use Rattle.chip_replay.specs.Run.{run};
 ghost use Rattle.chip_replay.specs.Keys.{Events, held};
 ghost use Rattle.chip_replay.specs.inner.Changes.{KnowsKeys};
-ghost use Rattle.chip_replay.specs.Image.{differs, AgreeOutside};
-ghost use Rattle.chip_replay.specs.inner.Patch.{patched};
-ghost use Rattle.chip_replay.specs.inner.Kept.{AreFirst, IsSound, IsLent, IsCutBack, IsHolding};
+ghost use Rattle.chip_replay.specs.Image.{differs, AgreeOutside, patched};
+ghost use Rattle.chip_replay.specs.inner.Kept.{AreFirst, IsSound, IsLent, IsCutBack, IsHolding, IsRight};
 
 use crate::keys::{Cursor, Holding, Keys};
 use crate::limits::{IMAGE_START, LAST_STEP, MEMORY_BYTES, NEVER};
@@ -77,26 +76,15 @@ impl<M: Traced> Kept<M> {
         requires rate { 0 < rate }
         requires spaced { 0 < self.old.spacing }
         requires in_range { step ≤ LAST_STEP }
-        requires sound { IsSound self.old.spacing M.is_proper (touched M.touches)
-            (run M.step_of rate (held keys.now) start.now) self.old.checkpoints.items
-            self.old.first_touch.items self.old.reach }
-        requires lent { IsLent (run M.step_of rate (held keys.now) start.now) self.old.reach
-            self.old.lent self.old.lent_step }
-        requires holding { IsHolding keys.now self.old.lent_step self.old.holding }
+        requires right { IsRight M.is_proper M.touches M.step_of rate start.now keys.now self.old }
         ensures spacing { self.new.spacing ≡ self.old.spacing }
-        ensures sound { IsSound self.new.spacing M.is_proper (touched M.touches)
-            (run M.step_of rate (held keys.now) start.now) self.new.checkpoints.items
-            self.new.first_touch.items self.new.reach }
-        ensures lent { IsLent (run M.step_of rate (held keys.now) start.now) self.new.reach
-            self.new.lent self.new.lent_step }
-        ensures holding { IsHolding keys.now self.new.lent_step self.new.holding }
+        ensures right { IsRight M.is_proper M.touches M.step_of rate start.now keys.now self.new }
         ensures state { OnOk result (self.new.lent
             ≡ run M.step_of rate (held keys.now) start.now step) }
         ensures reached { OnOk result (step ≤ self.new.reach) }
         ensures reach_kept { self.old.reach ≤ self.new.reach }
         ensures ran_kept { self.old.ran ≤ self.new.ran }
-        ensures steps { OnOk result (self.new.ran
-            ≤ self.old.ran
+        ensures steps { OnOk result (self.new.ran ≤ self.old.ran
             + (step - self.old.spacing * (min self.old.reach step / self.old.spacing))) }
     {
         let mut at = self.set_out(start, keys, step)?;

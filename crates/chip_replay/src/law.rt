@@ -4,8 +4,7 @@ ghost use Rattle.std.specs.Prelude.{◌≡◌, ℕ, ◌<◌, ◌≤◌, ◌+◌,
 ghost use Rattle.chip_replay.specs.Limits.{image_start, image_room};
 ghost use Rattle.chip_replay.specs.Run.{run};
 ghost use Rattle.chip_machine.specs.Touched.{touched};
-ghost use Rattle.chip_replay.specs.Image.{differs, padded, with_image};
-ghost use Rattle.chip_replay.specs.inner.Patch.{patched};
+ghost use Rattle.chip_replay.specs.Image.{differs, padded, with_image, patched};
 
 use crate::traced::Traced;
 

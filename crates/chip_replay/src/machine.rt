@@ -8,9 +8,9 @@ use std::alloc::AllocError;
 
 impl Traced for Machine {
     ghost use Rattle.std.specs.Prelude.{refl};
-    ghost use Rattle.chip_machine.specs.State.{IsProper, with_memory as machine_with_memory};
+    ghost use Rattle.chip_machine.specs.State.{IsProper, memory_of, with_memory as machine_with_memory};
     ghost use Rattle.chip_machine.specs.Step.{step_of as machine_step, touches as machine_touches};
-    ghost use Rattle.chip_replay.specs.inner.MachineFrame.{memory_of, machine_framed, machine_step_keeps};
+    ghost use Rattle.chip_replay.specs.inner.MachineFrame.{machine_framed, machine_step_keeps};
 
     ghost step_of = { machine_step };
 

@@ -33,12 +33,9 @@ pub struct Replay<M: Traced> {
 
 impl<M: Traced> Model for Replay<M> {
     ghost use Rattle.std.specs.Prelude.{◌+◌, ◌<◌, length};
-    ghost use Rattle.chip_replay.specs.Run.{run};
-    ghost use Rattle.chip_replay.specs.Keys.{held};
     ghost use Rattle.chip_replay.specs.Limits.{IsSpacing};
-    ghost use Rattle.chip_machine.specs.Touched.{touched};
     ghost use Rattle.chip_replay.specs.History.{History, history_code};
-    ghost use Rattle.chip_replay.specs.inner.Kept.{IsSound, IsLent, IsHolding};
+    ghost use Rattle.chip_replay.specs.inner.Kept.{IsRight};
 
     ghost Value = { History M };
 
@@ -56,12 +53,7 @@ impl<M: Traced> Model for Replay<M> {
 
     ghost invariant = { λ a. (0 < a.rate)
         × IsSpacing a.kept.spacing
-        × IsSound a.kept.spacing M.is_proper (touched M.touches)
-        (run M.step_of a.rate (held a.keys) a.start) a.kept.checkpoints.items
-        a.kept.first_touch.items a.kept.reach
-        × IsLent
-        (run M.step_of a.rate (held a.keys) a.start) a.kept.reach a.kept.lent a.kept.lent_step
-        × IsHolding a.keys a.kept.lent_step a.kept.holding };
+        × IsRight M.is_proper M.touches M.step_of a.rate a.start a.keys a.kept };
 }
 
 impl<M: Traced> Replay<M> {

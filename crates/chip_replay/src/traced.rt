@@ -1,7 +1,7 @@
 //! What a replay asks of a machine.
 
-ghost use Rattle.std.specs.Prelude.{◌≡◌, ℕ, ◌+◌, ◌^◌, ◌<◌, ◌≤◌, ◌↔◌, Bool, List, All, Contains, IfOk, OnOk, OnErr, IsFalse, length, slice_index, slice_set};
-ghost use Rattle.chip_machine.specs.Block.{block, first_noted};
+ghost use Rattle.std.specs.Prelude.{◌≡◌, ℕ, ◌+◌, ◌^◌, ◌<◌, ◌≤◌, ◌↔◌, Bool, List, All, Contains, IfOk, OnOk, OnErr, IsFalse, length, slice_set};
+ghost use Rattle.chip_machine.specs.Block.{block, IsBlockNoted};
 ghost use Rattle.chip_replay.specs.Frame.{AgreeOff, IsFramed};
 ghost use Rattle.chip_replay.specs.Limits.{memory_size};
 ghost use Rattle.chip_machine.specs.State.{exchanged};
@@ -52,9 +52,8 @@ pub trait Traced: Drop + Sized {
         requires ready { K.is_ready keys.old from }
         ensures state { self.new ≡ block step_of rate (K.held keys.old) from self.old count }
         ensures size { length first_touch.new ≡ memory_size }
-        ensures noted { (at : ℕ) → at < memory_size → slice_index first_touch.new at
-            ≡ first_noted step_of rate (K.held keys.old) from self.old (touched touches) at
-            (slice_index first_touch.old at) count }
+        ensures noted { IsBlockNoted step_of rate (K.held keys.old) from self.old (touched touches)
+            first_touch.old first_touch.new count }
         ensures keys { K.held keys.new ≡ K.held keys.old }
         ensures ready { K.is_ready keys.new (from + count) }
     {

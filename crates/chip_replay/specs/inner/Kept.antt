@@ -6,11 +6,15 @@
 --     IsLent           the state that was lent is that of its step
 --     IsCutBack        a step stays if it is no later than the steps that are still known
 --     IsHolding        the keys that are known of its step are held
+--     IsRight          what is kept is that of the run from a start state under the events
 use Rattle.std.specs.Prelude.{◌≡◌, ℕ, ◌+◌, ◌*◌, ◌/◌, ◌<◌, ◌≤◌, Bool, true, List, length, slice_index, slice_index_or, Option, Some, IfSome}
+use Rattle.chip_machine.specs.Touched.{touched}
 use Rattle.chip_replay.specs.Limits.{last_step, memory_size, never}
-use Rattle.chip_replay.specs.Keys.{Events}
+use Rattle.chip_replay.specs.Run.{run}
+use Rattle.chip_replay.specs.Keys.{Events, held}
 use Rattle.chip_replay.specs.inner.Changes.{KnowsKeys}
 use Rattle.chip_replay.specs.declared.keys.Holding.{Holding}
+use Rattle.chip_replay.specs.declared.kept.Kept.{Kept}
 
 -- v is the least step below n that passes, or no step if none does
 pub record IsFirst (p : ℕ → Bool) (n v : ℕ) : Type 0 where
@@ -46,3 +50,13 @@ IsCutBack reach later step kept = IfSome kept (λ t. (step ≡ Some t) × (t ≤
 -- what is known of the keys is known of the lent state's step, if it has one
 abbrev pub IsHolding : Events → Option ℕ → Holding → Type 0
 IsHolding events step h = IfSome step (λ t. KnowsKeys events t h)
+
+-- the checkpoints, the first touches, the lent state and the keys that are known of its step are
+-- those of the run from a start state under the events
+pub record IsRight {M : Type 0} (proper : M → Type 0) (touches : M → List ℕ)
+    (step_of : M → ℕ → Bool → M) (rate : ℕ) (start : M) (events : Events)
+    (kept : Kept M) : Type 0 where
+  pub sound : IsSound kept.spacing proper (touched touches) (run step_of rate (held events) start)
+      kept.checkpoints.items kept.first_touch.items kept.reach
+  pub lent : IsLent (run step_of rate (held events) start) kept.reach kept.lent kept.lent_step
+  pub holding : IsHolding events kept.lent_step kept.holding

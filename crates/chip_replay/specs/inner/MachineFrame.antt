@@ -1,17 +1,13 @@
 -- The machine's frame law in the form of the trait.
 -- Source: own.
---     memory_of               a state's memory
 --     machine_framed          the frame law
 --     machine_step_keeps      a step keeps a state proper
-use Rattle.std.specs.Prelude.{◌≡◌, ℕ, Bool, List, All, IsFalse}
+use Rattle.std.specs.Prelude.{◌≡◌, ℕ, Bool, All, IsFalse}
 use Rattle.std.proofs.Common.{ap}
-use Rattle.chip_machine.specs.State.{Core, State, IsProper, with_memory}
+use Rattle.chip_machine.specs.State.{Core, State, IsProper, memory_of, with_memory}
 use Rattle.chip_machine.specs.Step.{step_of, touches}
 use Rattle.chip_machine.specs.inner.FrameTheorem.{frame_law, step_keeps_proper}
 use Rattle.chip_replay.specs.Frame.{AgreeOff, IsFramed}
-
-abbrev pub memory_of : State → List ℕ
-memory_of s = s.memory
 
 pub machine_framed : (set : ℕ → Bool) (keys : ℕ) (tick : Bool) (a b : State) → IsProper a
     → IsProper b → AgreeOff memory_of with_memory set a b → All (λ at. IsFalse (set at)) (touches a)

@@ -3,8 +3,7 @@ use Rattle.std.proofs.lemmas.Bool.{cases_lt}
 use Rattle.chip_machine.specs.State.{exchanged}
 use Rattle.chip_machine.specs.inner.Exchanged.{chosen, chosen-new, chosen-same, get_or-take_past, length-exchanged, get_or-exchanged_before, get_or-exchanged_at, is_exchanged, exchanged_skip, exchanged_more, exchanged_rest}
 use Rattle.chip_replay.specs.Limits.{image_start}
-use Rattle.chip_replay.specs.Image.{AgreeOutside}
-use Rattle.chip_replay.specs.inner.Patch.{patched}
+use Rattle.chip_replay.specs.Image.{AgreeOutside, patched}
 use Rattle.chip_replay.proofs.TracedLaws.{IsMemory}
 use Rattle.chip_replay.proofs.Places.{alike_past, get_or-part}
 use Rattle.chip_replay.proofs.kept.patch.Goals as goal

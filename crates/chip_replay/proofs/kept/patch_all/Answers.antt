@@ -1,6 +1,6 @@
 use Rattle.std.proofs.Common.{sym, ap, ◌∙◌, set}
 use Rattle.std.proofs.lemmas.List.Edits.{map_over_more}
-use Rattle.chip_replay.specs.inner.Patch.{patched}
+use Rattle.chip_replay.specs.Image.{patched}
 use Rattle.chip_replay.proofs.kept.patch_all.Goals as goal
 
 pub loop-state-preserved : goal.loop-state-preserved

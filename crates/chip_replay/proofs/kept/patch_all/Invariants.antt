@@ -1,5 +1,5 @@
 use Rattle.std.proofs.Common.{◌≡◌, ◌++◌, take, drop, map}
-use Rattle.chip_replay.specs.inner.Patch.{patched}
+use Rattle.chip_replay.specs.Image.{patched}
 use Rattle.chip_replay.proofs.kept.patch_all.Given as goal
 
 abbrev pub invariant-loop-state : goal.invariant-loop-state

@@ -67,8 +67,8 @@ loop-at-preserved g c =
       steps = omega (arith, ran, c.from.ensures, before.steps, before.from);
     })
 
-pub returns-in_err-extend-clause-sound : goal.returns-in_err-extend-clause-sound
-returns-in_err-extend-clause-sound g c =
+pub returns-in_err-extend-clause-right : goal.returns-in_err-extend-clause-right
+returns-in_err-extend-clause-right g c =
     let m = g.M.Traced in
     let now = c.loop-at.self in
     let at = c.loop-at.at in
@@ -81,11 +81,21 @@ returns-in_err-extend-clause-sound g c =
     let stay : c.extend.new.self.checkpoints.items ≡ now.checkpoints.items = rw c.go_on.ensures.others at c.in_err-extend.ensures.checkpoints_stay in
     let reach : c.go_on.new.self.reach ≡ now.reach = rw c.go_on.ensures.others refl in
     let cut = subst (λ n. c.extend.new.self.first_touch.items ≡ map (λ v. cond (ltb v n) v never) table) reach c.in_err-extend.ensures.table_cut in
-    rw (c.in_err-extend.ensures.others_stay, c.go_on.ensures.others)
-    (subst (λ xs. IsSound now.spacing m.is_proper (touched m.touches) state xs c.extend.new.self.first_touch.items now.reach) (sym stay)
-    (sound_cut_back now.spacing above m.is_proper (touched m.touches) state now.checkpoints.items now.first_touch.items now.reach before.sound table c.extend.new.self.first_touch.items (at + count) c.go_on.ensures.table first cut))
+    rw (c.in_err-extend.ensures.others_stay, c.go_on.ensures.others, before.void) (record {
+      sound = subst (λ xs. IsSound now.spacing m.is_proper (touched m.touches) state xs c.extend.new.self.first_touch.items now.reach) (sym stay)
+          (sound_cut_back now.spacing above m.is_proper (touched m.touches) state now.checkpoints.items now.first_touch.items now.reach before.sound table c.extend.new.self.first_touch.items (at + count) c.go_on.ensures.table first cut);
+      lent = tt;
+      holding = tt;
+    })
 
-pub returns-clause-holding : goal.returns-clause-holding
-returns-clause-holding g c =
-    let all : c.loop-at.at ≡ c.args.step = omega (arith, c.loop-at.invariant.within) in
-    subst (λ t. KnowsKeys c.args.keys.now t c.loop-at.self.holding) all c.loop-at.invariant.holding
+pub returns-clause-right : goal.returns-clause-right
+returns-clause-right g c =
+    let m = g.M.Traced in
+    let state = run m.step_of c.args.rate (held c.args.keys.now) c.args.start.now in
+    let before = c.loop-at.invariant in
+    let all : c.loop-at.at ≡ c.args.step = omega (arith, before.within) in
+    record {
+      sound = before.sound;
+      lent = (omega (arith, before.reached), subst (λ t. c.loop-at.self.lent ≡ state t) all before.state);
+      holding = subst (λ t. KnowsKeys c.args.keys.now t c.loop-at.self.holding) all before.holding;
+    }

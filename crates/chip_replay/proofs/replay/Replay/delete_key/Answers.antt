@@ -16,13 +16,15 @@ invariant_of-self-2 g c =
     let before = λ (s : ℕ) (l : s < c.args.step). ap (λ (e : Events). held e s) c.in_ok-delete.ensures.ok ∙ held-remove was.keys c.args.step c.args.key s l in
     let same = λ (s : ℕ) (l : s < reach). before s (omega arith) in
     let run_before = run m.step_of was.rate (held was.keys) was.start in
-    let sound = subst (λ n. IsSound was.kept.spacing m.is_proper (touched m.touches) run_before c.forget.new.self.checkpoints.items c.forget.new.self.first_touch.items n) c.forget.ensures.reach (c.forget.ensures.sound run_before c.self.invariant.2) in
+    let sound = subst (λ n. IsSound was.kept.spacing m.is_proper (touched m.touches) run_before c.forget.new.self.checkpoints.items c.forget.new.self.first_touch.items n) c.forget.ensures.reach (c.forget.ensures.sound run_before c.self.invariant.2.sound) in
     let cut_back = subst (λ n. IsCutBack was.kept.reach n was.kept.lent_step c.forget.new.self.lent_step) c.forget.ensures.reach c.forget.ensures.lent_step in
-    let kept = step_kept run_before was.kept.reach reach was.kept.lent was.kept.lent_step c.forget.new.self.lent_step c.self.invariant.3 cut_back in
+    let kept = step_kept run_before was.kept.reach reach was.kept.lent was.kept.lent_step c.forget.new.self.lent_step c.self.invariant.2.lent cut_back in
     rw (c.forget.ensures.others, c.forget.ensures.reach, c.forget.ensures.holding) (
       c.self.invariant.0,
       c.self.invariant.1,
-      sound_keys m.step_of was.rate (held was.keys) (held c.delete.new.self) was.start reach same was.kept.spacing m.is_proper (touched m.touches) c.forget.new.self.checkpoints.items c.forget.new.self.first_touch.items sound,
-      lent_keys m.step_of was.rate (held was.keys) (held c.delete.new.self) was.start reach same was.kept.reach was.kept.lent was.kept.lent_step _ c.self.invariant.3 kept,
-      holding_cut was.keys c.delete.new.self reach c.args.step was.kept.holding was.kept.lent_step _ (omega arith) c.self.invariant.4 (λ s l k. ap (λ (e : Events). is_down e k s) c.in_ok-delete.ensures.ok ∙ is_down-remove was.keys c.args.step c.args.key s l k) kept,
+      record {
+        sound = sound_keys m.step_of was.rate (held was.keys) (held c.delete.new.self) was.start reach same was.kept.spacing m.is_proper (touched m.touches) c.forget.new.self.checkpoints.items c.forget.new.self.first_touch.items sound;
+        lent = lent_keys m.step_of was.rate (held was.keys) (held c.delete.new.self) was.start reach same was.kept.reach was.kept.lent was.kept.lent_step _ c.self.invariant.2.lent kept;
+        holding = holding_cut was.keys c.delete.new.self reach c.args.step was.kept.holding was.kept.lent_step _ (omega arith) c.self.invariant.2.holding (λ s l k. ap (λ (e : Events). is_down e k s) c.in_ok-delete.ensures.ok ∙ is_down-remove was.keys c.args.step c.args.key s l k) kept;
+      },
     )

@@ -36,16 +36,18 @@ invariant_of-self g c =
     let run_before = run m.step_of was.rate (held was.keys) was.start in
     let cs = c.forget.new.self.checkpoints.items in
     let table = c.forget.new.self.first_touch.items in
-    let sound = subst (λ n. IsSound was.kept.spacing m.is_proper (touched m.touches) run_before cs table n) c.forget.ensures.reach (c.forget.ensures.sound run_before c.self.invariant.2) in
+    let sound = subst (λ n. IsSound was.kept.spacing m.is_proper (touched m.touches) run_before cs table n) c.forget.ensures.reach (c.forget.ensures.sound run_before c.self.invariant.2.sound) in
     let cut_back = subst (λ n. IsCutBack was.kept.reach n was.kept.lent_step c.forget.new.self.lent_step) c.forget.ensures.reach c.forget.ensures.lent_step in
-    let kept = step_kept run_before was.kept.reach reach was.kept.lent was.kept.lent_step c.forget.new.self.lent_step c.self.invariant.3 cut_back in
-    let untouched = λ (s : ℕ) (l : s < reach) (i : ℕ) (li : i < image_room) (d : differs old new i ≡ true). not_touched was.kept.spacing m.is_proper (touched m.touches) run_before was.kept.checkpoints.items was.kept.first_touch.items was.kept.reach reach c.self.invariant.2 within (image_start + i) (omega arith) (least i li d) s l in
-    rw (c.patch.ensures, c.patch-2.ensures.others, c.patch-2.ensures.checkpoints, c.patch-2.ensures.lent, c.forget.ensures.others, c.forget.ensures.reach, c.forget.ensures.holding) (
+    let kept = step_kept run_before was.kept.reach reach was.kept.lent was.kept.lent_step c.forget.new.self.lent_step c.self.invariant.2.lent cut_back in
+    let untouched = λ (s : ℕ) (l : s < reach) (i : ℕ) (li : i < image_room) (d : differs old new i ≡ true). not_touched was.kept.spacing m.is_proper (touched m.touches) run_before was.kept.checkpoints.items was.kept.first_touch.items was.kept.reach reach c.self.invariant.2.sound within (image_start + i) (omega arith) (least i li d) s l in
+    rw (c.patch.ensures, c.patch-2.ensures.others, c.patch-2.ensures.lent, c.forget.ensures.others, c.forget.ensures.reach, c.forget.ensures.holding) (
       c.self.invariant.0,
       c.self.invariant.1,
-      sound_patched was.kept.spacing m.memory m.with_memory m.is_proper m.touches m.step_of laws was.rate (held was.keys) was.start cs table reach sound old new untouched,
-      lent_patched was.kept.spacing m.memory m.with_memory m.is_proper m.touches m.step_of laws was.rate (held was.keys) was.start cs table reach sound old new untouched was.kept.reach was.kept.lent was.kept.lent_step _ c.self.invariant.3 kept,
-      holding_cut was.keys was.keys reach first was.kept.holding was.kept.lent_step _ (omega arith) c.self.invariant.4 (λ s l k. refl) kept,
+      record {
+        sound = rw c.patch-2.ensures.checkpoints (sound_patched was.kept.spacing m.memory m.with_memory m.is_proper m.touches m.step_of laws was.rate (held was.keys) was.start cs table reach sound old new untouched);
+        lent = lent_patched was.kept.spacing m.memory m.with_memory m.is_proper m.touches m.step_of laws was.rate (held was.keys) was.start cs table reach sound old new untouched was.kept.reach was.kept.lent was.kept.lent_step _ c.self.invariant.2.lent kept;
+        holding = holding_cut was.keys was.keys reach first was.kept.holding was.kept.lent_step _ (omega arith) c.self.invariant.2.holding (λ s l k. refl) kept;
+      },
     )
 
 pub returns-clause-start : goal.returns-clause-start
@@ -74,7 +76,7 @@ returns-clause-reach g c =
     let first = c.least_touch-affected.result in
     let attained = subst (λ xs. (first ≡ was.kept.reach) ⊎ ((i : ℕ) × (i < image_room) × (differs old new i ≡ true) × (first ≡ slice_index xs (image_start + i)))) c.deref.ensures.value c.least_touch-affected.ensures.attained in
     let bound : affected m.touches m.step_of was.rate (held was.keys) old new was.start was.kept.reach ≤ first =
-    affected_le was.kept.spacing m.memory m.with_memory m.is_proper m.touches m.step_of laws was.rate (held was.keys) was.start was.kept.checkpoints.items was.kept.first_touch.items was.kept.reach c.self.invariant.2 old new first c.least_touch-affected.ensures.within attained in
+    affected_le was.kept.spacing m.memory m.with_memory m.is_proper m.touches m.step_of laws was.rate (held was.keys) was.start was.kept.checkpoints.items was.kept.first_touch.items was.kept.reach c.self.invariant.2.sound old new first c.least_touch-affected.ensures.within attained in
     let left : c.patch-2.new.self.reach ≡ min was.kept.reach first = rw c.patch-2.ensures.others c.forget.ensures.reach in
     let within : affected m.touches m.step_of was.rate (held was.keys) old new was.start was.kept.reach ≤ c.patch-2.new.self.reach = omega (arith, bound, left, c.least_touch-affected.ensures.within) in
     subst (λ (h : History g.row.M.Denot). affected m.touches m.step_of h.rate (held h.keys) old new h.start h.reach ≤ c.patch-2.new.self.reach) c.self.view_is within

@@ -10,7 +10,9 @@ invariant_of-result g c =
     rw (kept.counts.0, kept.counts.1, kept.lent.1) (
       c.requires.rate,
       c.requires.spacing,
-      sound_start c.args.spacing (omega (arith, c.requires.spacing.0)) m.is_proper (touched m.touches) _ c.in_ok-kept.kept.checkpoints.items c.in_ok-kept.kept.first_touch.items c.copy_of.ensures.proper kept.checkpoints kept.table kept.never,
-      (omega arith, kept.lent.0 ∙ c.in_ok-copy_of.ensures.same),
-      kept.holding c.new-2.result,
+      record {
+        sound = sound_start c.args.spacing (omega (arith, c.requires.spacing.0)) m.is_proper (touched m.touches) _ c.in_ok-kept.kept.checkpoints.items c.in_ok-kept.kept.first_touch.items c.copy_of.ensures.proper kept.checkpoints kept.table kept.never;
+        lent = (omega arith, kept.lent.0 ∙ c.in_ok-copy_of.ensures.same);
+        holding = kept.holding c.new-2.result;
+      },
     )
