@@ -5,8 +5,7 @@ use Rattle.std.proofs.lemmas.Nat.Bits.{bit_at-lt}
 use Rattle.std.proofs.lemmas.Nat.{shr-shr}
 use Rattle.std.proofs.lemmas.List.{take_more_set}
 use Rattle.std.proofs.lemmas.List.FromFn.{map-range_with_len_more}
-use Rattle.chip_machine.specs.Points.{Points, is_lit}
-use Rattle.chip_machine.specs.inner.Stored.{lights}
+use Rattle.chip_machine.specs.Points.{Points, is_lit, lights}
 use Rattle.chip_bench.specs.MachineAnswers.{bit, from_on, point, row_byte}
 
 -- a bit, by whether it is 1

@@ -7,7 +7,8 @@ use Rattle.std.proofs.Math.Nat.{mul_assoc}
 use Rattle.std.proofs.lemmas.Nat.Bits.{bit_at_and, bit_at_xor, bit_at-zero, bit_at-lt, bit_at_above, bit_at_cat_low, bit_at_cat_high, same_from_bits_below}
 use Rattle.std.proofs.lemmas.Bool.{false≢true, cases_lt, cases_Bool, eqb-true, eqb-false, eq-eqb, ne_eqb, not-false, cases_eq, and_left, lt-leb, le-leb}
 use Rattle.chip_machine.specs.declared.doubled.TheConstants.{DOUBLED}
-use Rattle.chip_machine.specs.inner.Stored.{lights, differ, any_below}
+use Rattle.chip_machine.specs.inner.Stored.{differ, any_below}
+use Rattle.chip_machine.specs.Points.{lights}
 use Rattle.chip_machine.proofs.PointLemmas.{any_below-false, any_below_none, any_below_same}
 
 -- ---- each bit of a byte twice

@@ -6,8 +6,8 @@ use Rattle.std.proofs.lemmas.Bool.{cases_lt, and_left, lt-leb, le-leb, cond_both
 use Rattle.std.proofs.lemmas.Nat.{shl_whole, or_shifted, pow_pos}
 use Rattle.std.proofs.lemmas.Nat.Bits.{bit_at-zero, bit_at_cat_low, bit_at_cat_high}
 use Rattle.chip_machine.specs.Scroll.{scrolled_down, scrolled_right, scrolled_left}
-use Rattle.chip_machine.specs.Points.{points_where, symmetric_difference, meets}
-use Rattle.chip_machine.specs.inner.Stored.{in_rows, lights, differ, any_below}
+use Rattle.chip_machine.specs.Points.{points_where, symmetric_difference, meets, lights}
+use Rattle.chip_machine.specs.inner.Stored.{in_rows, differ, any_below}
 use Rattle.chip_machine.specs.Sprite.{is_set, scale}
 use Rattle.chip_machine.specs.inner.SpriteBytes.{covers_by_length, row_bytes_by_length}
 use Rattle.chip_machine.proofs.PointLemmas.{toggled_where, meets_where, any_below-false, any_below_none, scrolled_down_where, scrolled_right_where, scrolled_left_where}

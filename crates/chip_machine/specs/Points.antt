@@ -1,6 +1,7 @@
 -- The screen of 128 columns and 64 rows, as the set of its lit points.
 -- Source: SUPER-CHIP 1.1 documentation for the 128 by 64 points; own: the low size shares them.
-use Rattle.std.specs.Prelude.{◌≡◌, ℕ, ◌<◌, Bool, true, not, nat_eq, map}
+use Rattle.std.specs.Prelude.{◌≡◌, ℕ, ◌-◌, ◌<◌, ◌==◌, Bool, true, not, nat_eq, map}
+use Rattle.std.specs.Int.{bit_at}
 use Rattle.std.specs.List.{flat_map, range_with_len}
 use Rattle.std.specs.Ordering.{nat_cmp, ordering_then}
 use Rattle.std.specs.declared.cmp.Ordering.{Ordering}
@@ -26,6 +27,10 @@ points_code = set.code (coded× coded_ℕ coded_ℕ)
 -- whether the point in this column and row is one of these
 abbrev pub is_lit : Points → ℕ → ℕ → Bool
 is_lit lit column row = set.contains lit (column, row)
+
+-- whether the column of a row of 128 bits is lit, the leftmost column the highest bit
+abbrev pub lights : ℕ → ℕ → Bool
+lights bits column = bit_at bits (127 - column) == 1
 
 -- every point of a rectangle, row by row
 unfoldable pub rectangle : ℕ → ℕ → Points

@@ -3,9 +3,8 @@
 ghost use Rattle.std.specs.Prelude.{◌≡◌, ◌+◌, ◌*◌, ◌/◌, ◌-◌, ◌<◌, ◌≤◌, ◌^◌, ◌%◌, length, slice_index, OnOk, OnErr, IfOk, IfErr, IsOk, ◌↔◌, ◌==◌, false, ℕ};
 ghost use Rattle.chip_machine.specs.Step.{reg, with_reg, with_flag, go_to, skip_if, next, call, return, with_index, random_byte, drawn, store_flags, load_flags, load_registers, past_registers, ticked, with_size, with_lit, with_sprite, Effect, Stops, schip_only};
 ghost use Rattle.chip_machine.specs.Profile.{by_profile};
-ghost use Rattle.chip_machine.specs.Points.{is_lit, IsOnScreen};
+ghost use Rattle.chip_machine.specs.Points.{is_lit, IsOnScreen, lights};
 ghost use Rattle.chip_machine.specs.Sprite.{sprite_bytes};
-ghost use Rattle.chip_machine.specs.inner.Stored.{lights};
 ghost use Rattle.chip_machine.specs.Scroll.{scrolled_down, scrolled_right, scrolled_left};
 ghost use Rattle.std.specs.FinSet as set;
 ghost use Rattle.chip_machine.specs.Start.{IsTape, start_core};

@@ -2,7 +2,7 @@
 
 ghost use Rattle.std.specs.Prelude.{◌≡◌, ℕ, ◌+◌, ◌-◌, ◌*◌, ◌/◌, ◌%◌, ◌<◌, ◌≤◌, false, ◌==◌, slice_index, ◌^◌, length};
 ghost use Rattle.std.specs.Int.{bit_at};
-ghost use Rattle.chip_machine.specs.inner.Stored.{lights};
+ghost use Rattle.chip_machine.specs.Points.{lights};
 ghost use Rattle.chip_machine.specs.Sprite.{covers, is_set, scale, sprite_bytes};
 ghost use Rattle.chip_machine.specs.inner.SpriteBytes.{LiesIn, first_column, covers_by_length, row_bytes_by_length};
 

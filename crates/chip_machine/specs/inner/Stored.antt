@@ -1,12 +1,7 @@
 -- Which points 64 rows of 128 bits light.
 -- Source: own.
-use Rattle.std.specs.Prelude.{ℕ, zero, suc, ◌-◌, ◌==◌, ◌||◌, Bool, true, false, not, List, slice_index}
-use Rattle.std.specs.Int.{bit_at}
-use Rattle.chip_machine.specs.Points.{Points, points_where}
-
--- whether the column of a row of 128 bits is lit, the leftmost column the highest bit
-abbrev pub lights : ℕ → ℕ → Bool
-lights bits column = bit_at bits (127 - column) == 1
+use Rattle.std.specs.Prelude.{ℕ, zero, suc, ◌||◌, Bool, true, false, not, List, slice_index}
+use Rattle.chip_machine.specs.Points.{Points, points_where, lights}
 
 -- the points that 64 rows of bits light
 abbrev pub in_rows : List ℕ → Points

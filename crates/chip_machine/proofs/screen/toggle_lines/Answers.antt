@@ -1,6 +1,7 @@
 use Rattle.std.proofs.Common.{◌≡◌, ℕ, Bool, ◌+◌, ◌*◌, ◌<◌, ◌≤◌, ◌&&◌, ◌||◌, true, false, arith, refl, sym, ap, subst, ◌∙◌}
 use Rattle.std.proofs.lemmas.Bool.{and_right}
-use Rattle.chip_machine.specs.inner.Stored.{lights, differ, any_below}
+use Rattle.chip_machine.specs.inner.Stored.{differ, any_below}
+use Rattle.chip_machine.specs.Points.{lights}
 use Rattle.chip_machine.specs.inner.SpriteBytes.{covers_by_length}
 use Rattle.chip_machine.proofs.PointLemmas.{any_below_longer, any_below_none, any_below_same}
 use Rattle.chip_machine.proofs.SpriteLemmas.{scale_step}

@@ -1,5 +1,6 @@
 use Rattle.std.proofs.Common.{◌≡◌, ℕ, ◌*◌, ◌<◌, ◌≤◌, ◌&&◌, get_or}
-use Rattle.chip_machine.specs.inner.Stored.{differ, lights, any_below}
+use Rattle.chip_machine.specs.inner.Stored.{differ, any_below}
+use Rattle.chip_machine.specs.Points.{lights}
 use Rattle.chip_machine.specs.inner.SpriteBytes.{covers_by_length}
 use Rattle.chip_machine.proofs.screen.toggle_lines.Given as goal
 

@@ -1,5 +1,6 @@
 use Rattle.std.proofs.Common.{◌≡◌, ◌≤◌, Bool, true, false, not, ◌&&◌, ◌||◌, nat_eq, bit_and, arith, refl, sym, ap, ◌∙◌, get_or, get_or-set_other}
-use Rattle.chip_machine.specs.inner.Stored.{lights, any_below}
+use Rattle.chip_machine.specs.inner.Stored.{any_below}
+use Rattle.chip_machine.specs.Points.{lights}
 use Rattle.chip_machine.proofs.PointLemmas.{any_below_more}
 use Rattle.chip_machine.proofs.BitLemmas.{common_column}
 use Rattle.chip_machine.proofs.RowLemmas.{turned_more}

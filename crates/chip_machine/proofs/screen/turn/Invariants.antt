@@ -1,5 +1,6 @@
 use Rattle.std.proofs.Common.{◌≡◌, ℕ, Bool, ◌<◌, ◌≤◌, ◌&&◌, ◌||◌, get_or}
-use Rattle.chip_machine.specs.inner.Stored.{differ, lights, any_below}
+use Rattle.chip_machine.specs.inner.Stored.{differ, any_below}
+use Rattle.chip_machine.specs.Points.{lights}
 use Rattle.chip_machine.proofs.screen.turn.Given as goal
 
 abbrev pub invariant-loop-row : goal.invariant-loop-row

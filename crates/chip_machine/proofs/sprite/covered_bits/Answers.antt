@@ -1,5 +1,5 @@
 use Rattle.std.proofs.Common.{◌≡◌, ◌≤◌, ◌-◌, ◌/◌, ◌%◌, ap, sym, subst, ◌∙◌}
-use Rattle.chip_machine.specs.inner.Stored.{lights}
+use Rattle.chip_machine.specs.Points.{lights}
 use Rattle.chip_machine.proofs.SpriteLemmas.{line_of}
 use Rattle.chip_machine.proofs.RowLemmas.{IsPattern, lights_covered}
 use Rattle.chip_machine.proofs.sprite.covered_bits.Goals as goal

@@ -1,7 +1,8 @@
 use Rattle.std.proofs.Common.{◌-◌, ◌==◌, arith, ap, ◌∙◌}
 use Rattle.std.proofs.lemmas.List.{with_items_is}
 use Rattle.std.proofs.lemmas.Nat.Bits.{bit_at-zero}
-use Rattle.chip_machine.specs.inner.Stored.{in_rows, lights}
+use Rattle.chip_machine.specs.inner.Stored.{in_rows}
+use Rattle.chip_machine.specs.Points.{lights}
 use Rattle.chip_machine.proofs.PointLemmas.{nothing_lit}
 use Rattle.chip_machine.proofs.screen.Screen.clear.Goals as goal
 

@@ -1,8 +1,7 @@
 use Rattle.std.proofs.Common.{◌-◌, ◌<◌, ◌==◌, length, arith, sym, ap, subst, ◌∙◌, ⊎_elim}
 use Rattle.std.proofs.lemmas.List.{get_or_default}
 use Rattle.std.proofs.lemmas.Nat.Bits.{shr_and_one}
-use Rattle.chip_machine.specs.Points.{IsOnScreen, is_lit}
-use Rattle.chip_machine.specs.inner.Stored.{lights}
+use Rattle.chip_machine.specs.Points.{IsOnScreen, is_lit, lights}
 use Rattle.chip_machine.proofs.PointLemmas.{is_lit-points_where, dark_outside, on_screen-points_where}
 use Rattle.chip_machine.proofs.screen.Screen.lit.Goals as goal
 

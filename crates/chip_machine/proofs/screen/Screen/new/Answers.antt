@@ -1,7 +1,7 @@
 use Rattle.std.proofs.Common.{ℕ, ◌-◌, ◌==◌, List, get_or, ap, ◌∙◌}
 use Rattle.std.proofs.lemmas.List.{get_or-replicate}
 use Rattle.std.proofs.lemmas.Nat.Bits.{bit_at-zero}
-use Rattle.chip_machine.specs.inner.Stored.{lights}
+use Rattle.chip_machine.specs.Points.{lights}
 use Rattle.chip_machine.proofs.PointLemmas.{nothing_lit}
 use Rattle.chip_machine.proofs.screen.Screen.new.Goals as goal
 

@@ -1,8 +1,7 @@
 use Rattle.std.proofs.Common.{◌≡◌, ℕ, ◌-◌, ◌<◌, ◌^◌, ◌==◌, ◌↔◌, false, length, arith, rules, sym, ap, ◌∙◌}
 use Rattle.std.proofs.lemmas.List.{get_or_default}
 use Rattle.std.proofs.lemmas.Nat.Bits.{bit_at-zero}
-use Rattle.chip_machine.specs.Points.{Points, is_lit}
-use Rattle.chip_machine.specs.inner.Stored.{lights}
+use Rattle.chip_machine.specs.Points.{Points, is_lit, lights}
 use Rattle.chip_machine.proofs.BitLemmas.{dark_row}
 use Rattle.chip_machine.proofs.PointLemmas.{is_lit-points_where, dark_outside}
 use Rattle.chip_machine.proofs.screen.Screen.row.Goals as goal
