@@ -68,35 +68,19 @@ Exchanges had left held holds P =
 
 -- how many failures of the reader are counted after a call that ended so
 abbrev pub reader_failures : Result Unit ServeError → ℕ → ℕ
-reader_failures (Ok _) failures = failures
 reader_failures (Err fault.ReaderFailed) failures = one_more failures
-reader_failures (Err fault.WriterFailed) failures = failures
-reader_failures (Err (fault.Source e)) failures = failures
-reader_failures (Err fault.OutOfMemory) failures = failures
-reader_failures (Err fault.TooMuchInput) failures = failures
+reader_failures _ failures = failures
 
 abbrev pub writer_failures : Result Unit ServeError → ℕ → ℕ
-writer_failures (Ok _) failures = failures
 writer_failures (Err fault.WriterFailed) failures = one_more failures
-writer_failures (Err fault.ReaderFailed) failures = failures
-writer_failures (Err (fault.Source e)) failures = failures
-writer_failures (Err fault.OutOfMemory) failures = failures
-writer_failures (Err fault.TooMuchInput) failures = failures
+writer_failures _ failures = failures
 
 -- a source fault is the source's own, or want of memory; anything else comes of a source that opens
 abbrev pub Opens : Option OpenError → Result Unit ServeError → Type 0
 Opens found (Err (fault.Source e)) = (e ≡ memory) ⊎ (found ≡ Some e)
-Opens found (Ok _) = found ≡ None
-Opens found (Err fault.ReaderFailed) = found ≡ None
-Opens found (Err fault.WriterFailed) = found ≡ None
-Opens found (Err fault.OutOfMemory) = found ≡ None
-Opens found (Err fault.TooMuchInput) = found ≡ None
+Opens found _ = found ≡ None
 
 -- at a source that doesn't open, these facts hold
 abbrev pub UnlessOpened : Result Unit ServeError → Type 0 → Type 0
 UnlessOpened (Err (fault.Source e)) P = P
-UnlessOpened (Ok _) P = Unit {0}
-UnlessOpened (Err fault.ReaderFailed) P = Unit {0}
-UnlessOpened (Err fault.WriterFailed) P = Unit {0}
-UnlessOpened (Err fault.OutOfMemory) P = Unit {0}
-UnlessOpened (Err fault.TooMuchInput) P = Unit {0}
+UnlessOpened _ P = Unit {0}
