@@ -3,9 +3,8 @@ use Rattle.std.proofs.Common.{◌≡◌, ◌⊎◌, inl, inr, ℕ, List, [], ◌
 use Rattle.std.specs.Prelude.{IsErrAnd}
 use Rattle.std.specs.Borrow.{Bor}
 use Rattle.std.specs.Global.{Vec}
-use Rattle.std.specs.Str.Lines.{lines}
 use Rattle.std.specs.declared.io.Error.{Error as IoError}
-use Rattle.chip_asm.specs.Lines.{open_fault}
+use Rattle.chip_asm.specs.Lines.{lines_of, open_fault}
 use Rattle.chip_lang.specs.declared.limits.TheConstants.{IMAGE_BYTES}
 use Rattle.chip_views.specs.Dis.{source_of_image}
 use Rattle.chip_bench.specs.Doing.{Assembles, AssemblesBy, Checks, Debugs, Declined, Disassembles, DisassemblesBytes, Does, Explains, FromKeys, FromSource, GivesSource, IfSettled, IsFileWritten, IsShort, IsSourceUnread, IsUnsettled, Lists, Outcome, Pictures, PicturesBy, PrintsPicture, Runs, WithAsked, image_in}
@@ -222,13 +221,13 @@ module _ {R W : Type 0} (remaining : R → Option (List ℕ)) (contents : W → 
       Lists remaining contents in_old in_new output output source ended
   lists_not source ended why e w =
       source_unread remaining in_old in_new (output ≡ output) refl source
-      (λ bytes. Prints contents output output (printed_of (open_fault bytes) (listing_of_lines (lines bytes)))) ended why e w
+      (λ bytes. Prints contents output output (printed_of (open_fault bytes) (listing_of_lines (lines_of bytes)))) ended why e w
 
   pub checks_not : (source : Bor (List ℕ)) (ended : Outcome) (why : Failure) → ended ≡ Err why → IsSourceUnread source why →
       Checks remaining contents in_old in_new output output source ended
   checks_not source ended why e w =
       source_unread remaining in_old in_new (output ≡ output) refl source
-      (λ bytes. Prints contents output output (printed_of (open_fault bytes) (check_of_lines source.now (lines bytes)))) ended why e w
+      (λ bytes. Prints contents output output (printed_of (open_fault bytes) (check_of_lines source.now (lines_of bytes)))) ended why e w
 
   pub disassembles_not : (image : Bor (List ℕ)) (ended : Outcome) (why : Failure) → ended ≡ Err why → IsSourceUnread image why →
       Disassembles remaining contents in_old in_new output output image ended
@@ -257,16 +256,16 @@ module _ {R W : Type 0} (remaining : R → Option (List ℕ)) (contents : W → 
 
 module _ {R W : Type 0} (remaining : R → Option (List ℕ)) (contents : W → Option (List ℕ)) (in_old in_new : Tally R) (old new : Tally W) where
   pub lists : (source : Bor (List ℕ)) (bytes text : List ℕ) (ended : Outcome) → text ≡ bytes → GivesSource remaining in_old in_new source.now bytes →
-      Prints contents old new (printed_of (open_fault text) (listing_of_lines (lines text))) ended →
+      Prints contents old new (printed_of (open_fault text) (listing_of_lines (lines_of text))) ended →
       Lists remaining contents in_old in_new old new source ended
   lists source bytes text ended same gives did =
-      inl (bytes, gives, subst (λ (t : List ℕ). Prints contents old new (printed_of (open_fault t) (listing_of_lines (lines t))) ended) same did)
+      inl (bytes, gives, subst (λ (t : List ℕ). Prints contents old new (printed_of (open_fault t) (listing_of_lines (lines_of t))) ended) same did)
 
   pub checks : (source : Bor (List ℕ)) (bytes text : List ℕ) (ended : Outcome) → text ≡ bytes → GivesSource remaining in_old in_new source.now bytes →
-      Prints contents old new (printed_of (open_fault text) (check_of_lines source.now (lines text))) ended →
+      Prints contents old new (printed_of (open_fault text) (check_of_lines source.now (lines_of text))) ended →
       Checks remaining contents in_old in_new old new source ended
   checks source bytes text ended same gives did =
-      inl (bytes, gives, subst (λ (t : List ℕ). Prints contents old new (printed_of (open_fault t) (check_of_lines source.now (lines t))) ended) same did)
+      inl (bytes, gives, subst (λ (t : List ℕ). Prints contents old new (printed_of (open_fault t) (check_of_lines source.now (lines_of t))) ended) same did)
 
   pub disassembles : (image : Bor (List ℕ)) (bytes text : List ℕ) (ended : Outcome) → text ≡ bytes → length bytes ≤ IMAGE_BYTES →
       GivesSource remaining in_old in_new image.now bytes → Prints contents old new (printed (source_of_image text) Done) ended →

@@ -10,7 +10,7 @@ use Rattle.std.proofs.lemmas.Bool.{cases_lt, eqb-true, false_from_ne_true}
 use Rattle.memchr.specs.Find.{IsFirstByte, is_byte}
 use Rattle.chip_bench.specs.declared.limits.TheConstants.{SCRIPT_BYTES, SCRIPT_LINES}
 use Rattle.chip_bench.specs.declared.server.TheConstants.{KEPT_LEN}
-use Rattle.chip_bench.specs.Lines.{lines, complete_lines, unfinished_line}
+use Rattle.chip_bench.specs.Lines.{complete_lines, unfinished_line}
 use Rattle.chip_bench.specs.Session.{Session}
 use Rattle.chip_bench.specs.Transcript.{reply, after, transcript_of, session_after}
 use Rattle.chip_bench.specs.Serving.{WithinBounds, BeginsWith}
@@ -21,16 +21,16 @@ use Rattle.chip_bench.specs.declared.server.Stop.TheVariants as stop
 use Rattle.chip_bench.proofs.LineLemmas.{complete_part, unfinished_part, none_before, complete_newline, unfinished_newline, last_line, last_filled, lines_is, complete_none, unfinished_none}
 use Rattle.chip_bench.proofs.ScriptLemmas.{transcript_push, session_after_push, reply_stripped, after_stripped, reply_kept}
 use Rattle.chip_bench.proofs.WriteLemmas.{appends_known, keeps_known}
-use Rattle.chip_asm.specs.Lines.{is_newline}
+use Rattle.chip_asm.specs.Lines.{is_newline, lines_of}
 
 length_chosen : (t : Bool) (x : List ℕ) → length (cond t [] (x ∷ [])) ≤ 1
 length_chosen true x = omega arith
 length_chosen false x = omega arith
 
-lines_length : (xs : List ℕ) → length (lines xs) ≤ length (complete_lines xs) + 1
+lines_length : (xs : List ℕ) → length (lines_of xs) ≤ length (complete_lines xs) + 1
 lines_length xs = rw (lines_is xs, length-append) (omega (arith, length_chosen (length (unfinished_line xs) == 0) (unfinished_line xs)))
 
-lines_newline : (xs : List ℕ) → length (lines (xs ++ 10 ∷ [])) ≡ length (complete_lines xs) + 1
+lines_newline : (xs : List ℕ) → length (lines_of (xs ++ 10 ∷ [])) ≡ length (complete_lines xs) + 1
 lines_newline xs =
     ap length (lines_is (xs ++ 10 ∷ []) ∙ ap (λ u. complete_lines (xs ++ 10 ∷ []) ++ last_line u) (unfinished_newline xs) ∙ append-nil (complete_lines (xs ++ 10 ∷ [])) ∙ complete_newline xs)
     ∙ length-append (complete_lines xs) (strip_carriage_return (unfinished_line xs) ∷ [])
@@ -159,7 +159,7 @@ went_newline {given = given} {held = held} new holds (Err stop.OutOfMemory) p fe
     record { done = given; more = 10 ∷ []; split = refl; stopped = keeps_known held holds _ p.told said }
 went_newline new holds (Err stop.TooMuchInput) p few h said next_session next_line next_complete next_taken = absurd said
 
-pub complete_within : (xs : List ℕ) → length (complete_lines xs) ≤ length (lines xs)
+pub complete_within : (xs : List ℕ) → length (complete_lines xs) ≤ length (lines_of xs)
 complete_within xs = omega (arith, ap length (lines_is xs), length-append (complete_lines xs) (last_line (unfinished_line xs)))
 
 at_bound : {start : Session} {before given : List ℕ} {old : Conversation} {held : Option (List ℕ)} → Reached start before given old held →
@@ -209,12 +209,12 @@ none_kept (x ∷ xs) h = absurd (omega (arith, h, length-take KEPT_LEN (x ∷ xs
 
 -- the end, with no line unfinished
 pub ended_empty : {start : Session} {before given : List ℕ} {old : Conversation} {held : Option (List ℕ)} → Reached start before given old held → length old.line.items ≡ 0 →
-    held ≡ Some (before ++ transcript_of start (lines given))
+    held ≡ Some (before ++ transcript_of start (lines_of given))
 ended_empty {start} {before} {given} {old} {held} r h = r.told ∙ ap (λ l. Some (before ++ transcript_of start l))
     (sym (lines_is given ∙ ap (λ l. complete_lines given ++ l) (none_kept (unfinished_line given) (sym (ap length r.line) ∙ h)) ∙ append-nil (complete_lines given)))
 
 transcript_end : {start : Session} {before given : List ℕ} {old : Conversation} {held : Option (List ℕ)} → Reached start before given old held → 0 < length old.line.items →
-    transcript_of start (lines given) ≡ transcript_of start (complete_lines given) ++ reply old.bench.session old.line.items
+    transcript_of start (lines_of given) ≡ transcript_of start (complete_lines given) ++ reply old.bench.session old.line.items
 transcript_end {start} {before} {given} {old} {held} r h =
     ap (transcript_of start) (lines_is given ∙ ap (λ l. complete_lines given ++ l) (last_kept (unfinished_line given) (subst (λ l. 0 < length l) r.line h)))
     ∙ transcript_push start (complete_lines given) (unfinished_line given)

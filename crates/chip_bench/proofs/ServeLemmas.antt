@@ -4,7 +4,8 @@ use Rattle.std.specs.Io.KnownBytes.{Keeps, Consumes, IsAtEnd}
 use Rattle.std.proofs.lemmas.List.{append-nil, length-append, take_all, take_at}
 use Rattle.std.proofs.Math.Seq.{take-append-add}
 use Rattle.chip_bench.specs.declared.limits.TheConstants.{SCRIPT_BYTES, SCRIPT_LINES}
-use Rattle.chip_bench.specs.Lines.{lines, complete_lines}
+use Rattle.chip_asm.specs.Lines.{lines_of}
+use Rattle.chip_bench.specs.Lines.{complete_lines}
 use Rattle.chip_bench.specs.Session.{Session}
 use Rattle.chip_bench.specs.Transcript.{transcript_of, session_after}
 use Rattle.chip_bench.specs.Serving.{WithinBounds, PassesBound, lines_in_bounds, BeginsWith, Served, Exchanged, Exchanges, Opens, UnlessOpened, reader_failures, writer_failures}
@@ -70,13 +71,13 @@ reader_failed {left = left} {start = start} new u k = record {
 pub served_ok : (all given : List ℕ) (left : Option (List ℕ)) (start : Session) (before : List ℕ) (holds : Option (List ℕ)) →
     all ≡ given → left ≡ Some [] → WithinBounds given → Ended (Ok tt) start before given holds → Exchanged all left before holds (Served (Ok tt) start)
 served_ok all given left start before holds e l w h =
-    record { given = given; rest = []; written = transcript_of start (lines given); read = e ∙ sym (append-nil given); left_is = l; wrote = h; outcome = (refl, w, refl) }
+    record { given = given; rest = []; written = transcript_of start (lines_of given); read = e ∙ sym (append-nil given); left_is = l; wrote = h; outcome = (refl, w, refl) }
 
 -- the reader has ended, and the last line was given up
 pub served_end : (e : Stop) (all given : List ℕ) (left : Option (List ℕ)) (start : Session) (before : List ℕ) (holds : Option (List ℕ)) →
     all ≡ given → left ≡ Some [] → Ended (Err e) start before given holds → Exchanged all left before holds (Served (Err (fault_of e)) start)
 served_end stop.WriterFailed all given left start before holds e l (front, begins, h) =
-    record { given = given; rest = []; written = front; read = e ∙ sym (append-nil given); left_is = l; wrote = h; outcome = subst (λ x. BeginsWith (transcript_of start (lines x)) front) (sym (append-nil given)) begins }
+    record { given = given; rest = []; written = front; read = e ∙ sym (append-nil given); left_is = l; wrote = h; outcome = subst (λ x. BeginsWith (transcript_of start (lines_of x)) front) (sym (append-nil given)) begins }
 served_end stop.OutOfMemory all given left start before holds e l h =
     record {
       given = given;
@@ -123,7 +124,7 @@ served_stop stop.WriterFailed all given rest left start before holds a l s =
       wrote = s.stopped.2;
       outcome = (
         begins.0 ++ transcript_of (session_after start (complete_lines s.done)) goes.back,
-        ap (transcript_of start) (ap lines (ap (λ x. x ++ rest) s.split ∙ append_assoc s.done s.more rest) ∙ goes.is)
+        ap (transcript_of start) (ap lines_of (ap (λ x. x ++ rest) s.split ∙ append_assoc s.done s.more rest) ∙ goes.is)
             ∙ transcript-append start (complete_lines s.done) goes.back
             ∙ ap (λ t. t ++ transcript_of (session_after start (complete_lines s.done)) goes.back) begins.1
             ∙ append_assoc front begins.0 (transcript_of (session_after start (complete_lines s.done)) goes.back),

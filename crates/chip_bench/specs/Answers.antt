@@ -69,18 +69,13 @@ step_asked (Memory step at count) = Some step
 step_asked (Screen step) = Some step
 step_asked (Disassembly step at count) = Some step
 step_asked (Picture step form) = Some step
-step_asked Image = None
-step_asked Symbols = None
-step_asked Listing = None
-step_asked Faults = None
+step_asked _ = None
 
 -- the bytes asked for pass the end of the memory
 abbrev pub is_past_end : StateQuestion → Bool
 is_past_end (state.Memory at count) = nat_lt MEMORY_BYTES (at + count)
 is_past_end (state.Disassembly at count) = nat_lt MEMORY_BYTES (at + 2 * count)
-is_past_end state.Registers = false
-is_past_end state.Screen = false
-is_past_end (state.Picture form) = false
+is_past_end _ = false
 
 -- the picture of a state's screen
 unfoldable pub picture_by : PictureForm → State → List ℕ

@@ -14,9 +14,8 @@
 use Rattle.std.specs.Prelude.{◌≡◌, ◌≢◌, ◌⊎◌, ℕ, ◌<◌, ◌≤◌, Bool, List, [], codes, length, take, Option, Some, None, IfSome, Result, Ok, Err, IsErrAnd}
 use Rattle.std.specs.Borrow.{Bor}
 use Rattle.std.specs.Io.KnownBytes.{Keeps}
-use Rattle.std.specs.Str.Lines.{lines}
 use Rattle.std.specs.declared.io.Error.{Error as IoError}
-use Rattle.chip_asm.specs.Lines.{open_fault}
+use Rattle.chip_asm.specs.Lines.{lines_of, open_fault}
 use Rattle.chip_asm.specs.Program.{image_of}
 use Rattle.chip_asm.specs.declared.refusal.OpenError.{OpenError}
 use Rattle.chip_lang.specs.declared.limits.TheConstants.{IMAGE_BYTES}
@@ -76,7 +75,7 @@ image_if_opened (Some fault) image = None
 image_if_opened None image = image
 
 abbrev pub image_in : List ℕ → Option (List ℕ)
-image_in source = image_if_opened (open_fault source) (image_of (lines source))
+image_in source = image_if_opened (open_fault source) (image_of (lines_of source))
 
 module _ {R : Type 0} (remaining : R → Option (List ℕ)) (in_old in_new : Tally R) where
   -- The bytes of a source: where its name is `-`, those of standard input, up to a number from
@@ -133,7 +132,7 @@ module _ {W : Type 0} (contents : W → Option (List ℕ)) (out_old out_new : Ta
   AssemblesBy (Some image) source name ended = IsFileWritten name ended × (out_new ≡ out_old)
   AssemblesBy None source name ended =
       Prints contents out_old out_new
-      (printed_of (open_fault source) (faults_of_lines (lines source))) ended
+      (printed_of (open_fault source) (faults_of_lines (lines_of source))) ended
 
   -- `dis`: of an image that isn't too long, a source of it
   pub record DisassemblesBytes (name : Bor (List ℕ)) (image : List ℕ)
@@ -220,14 +219,14 @@ module _ {R W : Type 0} (remaining : R → Option (List ℕ)) (contents : W → 
   Lists source ended =
       FromSource remaining in_old in_new (out_new ≡ out_old) source (λ bytes.
       Prints contents out_old out_new
-      (printed_of (open_fault bytes) (listing_of_lines (lines bytes)))) ended
+      (printed_of (open_fault bytes) (listing_of_lines (lines_of bytes)))) ended
 
   -- `check`
   abbrev pub Checks : Bor (List ℕ) → Outcome → Type 0
   Checks source ended =
       FromSource remaining in_old in_new (out_new ≡ out_old) source (λ bytes.
       Prints contents out_old out_new
-      (printed_of (open_fault bytes) (check_of_lines source.now (lines bytes)))) ended
+      (printed_of (open_fault bytes) (check_of_lines source.now (lines_of bytes)))) ended
 
   abbrev pub Disassembles : Bor (List ℕ) → Outcome → Type 0
   Disassembles image ended =

@@ -1,6 +1,6 @@
 -- What the contracts of chip_bench speak of (own).
 --     Tally        a reader or a writer with the number of its failures
---     Lines        the lines of a script, and which of them a newline has ended
+--     Lines        which lines of a script a newline has ended
 --     Settings     the settings of a session
 --     Session      a session: its lines, key events and settings; an edit of it, and the first
 --                  refusal that applies

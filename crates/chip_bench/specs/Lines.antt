@@ -1,13 +1,8 @@
--- The lines of a script, and which of them a newline has ended (own).
+-- Which lines of a script a newline has ended (own). A script's lines are cut as a source's.
 use Rattle.std.specs.Prelude.{ℕ, List, [], ◌∷◌, map}
 use Rattle.std.specs.List.{slice_split}
-use Rattle.std.specs.Str.Lines.{lines as text_lines, strip_carriage_return}
+use Rattle.std.specs.Str.Lines.{strip_carriage_return}
 use Rattle.chip_asm.specs.Lines.{is_newline}
-
--- the lines, as `str::lines` cuts them: a newline ends a line, a carriage return directly before it
--- is dropped, and what stands after the last newline is a line if it isn't empty
-abbrev pub lines : List ℕ → List (List ℕ)
-lines bytes = text_lines bytes
 
 -- all parts but the last
 abbrev pub all_but_last : List (List ℕ) → List (List ℕ)

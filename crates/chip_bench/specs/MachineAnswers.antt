@@ -10,11 +10,8 @@ use Rattle.chip_machine.specs.Numbers.{stop_number}
 use Rattle.chip_machine.specs.Points.{Points, is_lit}
 use Rattle.chip_machine.specs.State.{Core, State}
 use Rattle.chip_machine.specs.Step.{word_at}
+use Rattle.chip_views.specs.Bitmap.{eight_bits}
 use Rattle.chip_bench.specs.Text.{hex_byte, hex_word, spaced}
-
--- the numbers from a first one on, so many
-abbrev pub from_on : ℕ → ℕ → List ℕ
-from_on first count = range_with_len first count
 
 -- ---- regs
 
@@ -75,32 +72,21 @@ word_line s at =
 -- so many words from an address
 unfoldable pub disassembly_of : State → ℕ → ℕ → List ℕ
 disassembly_of s at count =
-    flat_map (λ place. word_line s (at + 2 * place)) (from_on 0 count) ++ codes "." ++ 10 ∷ []
+    flat_map (λ place. word_line s (at + 2 * place)) (range_with_len 0 count) ++ codes "."
+    ++ 10 ∷ []
 
 -- ---- screen
 
-abbrev pub bit : Bool → ℕ
-bit lit = if lit then 1 else 0
-
--- 1 for a lit point, else 0
-abbrev pub point : Points → ℕ → ℕ → ℕ
-point lit row column = bit (is_lit lit column row)
-
 -- eight points of a row as a byte, the leftmost the highest bit
 unfoldable pub row_byte : Points → ℕ → ℕ → ℕ
-row_byte lit row place =
-    let left = 8 * place in
-    128 * point lit row left + 64 * point lit row (left + 1) + 32 * point lit row (left + 2)
-    + 16 * point lit row (left + 3)
-    + 8 * point lit row (left + 4) + 4 * point lit row (left + 5) + 2 * point lit row (left + 6)
-    + point lit row (left + 7)
+row_byte lit row place = eight_bits (λ index. is_lit lit (8 * place + index) row)
 
 -- the 128 points of a row as 16 bytes
 unfoldable pub row_bytes : Points → ℕ → List ℕ
-row_bytes lit row = map (row_byte lit row) (from_on 0 16)
+row_bytes lit row = map (row_byte lit row) (range_with_len 0 16)
 
 unfoldable pub has_lit : Points → ℕ → Bool
-has_lit lit row = list_any (λ column. is_lit lit column row) (from_on 0 128)
+has_lit lit row = list_any (λ column. is_lit lit column row) (range_with_len 0 128)
 
 -- a number below 100 in two decimal digits
 abbrev pub two_digits : ℕ → List ℕ
@@ -115,7 +101,7 @@ row_line lit row =
 
 -- the rows with a lit point, from the top
 unfoldable pub row_lines : Points → List ℕ
-row_lines lit = flat_map (row_line lit) (from_on 0 64)
+row_lines lit = flat_map (row_line lit) (range_with_len 0 64)
 
 unfoldable pub screen_of : State → List ℕ
 screen_of s = size_name s.core.high ++ 10 ∷ [] ++ row_lines s.core.lit ++ codes "." ++ 10 ∷ []

@@ -118,29 +118,14 @@ module _ {W : Type 0} (contents : W → Option (List ℕ)) (old new : Tally W) w
   Prints wanted (Ok ending) = (ending ≡ wanted.ending) × Writes wanted.text
   Prints wanted (Err failure.Output) = Breaks wanted.text
   Prints wanted (Err failure.OutOfMemory) = new ≡ old
-  Prints wanted (Err (failure.Usage error)) = ⊥
-  Prints wanted (Err failure.BadTape) = ⊥
-  Prints wanted (Err (failure.BadKeys name number code)) = ⊥
-  Prints wanted (Err (failure.NoPage code)) = ⊥
-  Prints wanted (Err (failure.CannotRead name why)) = ⊥
-  Prints wanted (Err (failure.CannotWrite name why)) = ⊥
-  Prints wanted (Err failure.Input) = ⊥
-  Prints wanted (Err failure.TooMuchInput) = ⊥
+  Prints wanted (Err _) = ⊥
 
   -- a refused line of a key file: nothing was printed, and the failure has its number and the code
   abbrev pub RefusesKeys : ℕ × List ℕ → Result Ending Failure → Type 0
   RefusesKeys line (Err (failure.BadKeys name number code)) =
       (line ≡ (number, code.0.now)) × (new ≡ old)
   RefusesKeys line (Err failure.OutOfMemory) = new ≡ old
-  RefusesKeys line (Err failure.Output) = ⊥
-  RefusesKeys line (Err (failure.Usage error)) = ⊥
-  RefusesKeys line (Err failure.BadTape) = ⊥
-  RefusesKeys line (Err (failure.NoPage code)) = ⊥
-  RefusesKeys line (Err (failure.CannotRead name why)) = ⊥
-  RefusesKeys line (Err (failure.CannotWrite name why)) = ⊥
-  RefusesKeys line (Err failure.Input) = ⊥
-  RefusesKeys line (Err failure.TooMuchInput) = ⊥
-  RefusesKeys line (Ok ending) = ⊥
+  RefusesKeys line _ = ⊥
 
   abbrev pub PrintsUnless : Option (ℕ × List ℕ) → Printed → Result Ending Failure → Type 0
   PrintsUnless None wanted result = Prints wanted result
@@ -159,7 +144,4 @@ module _ {W : Type 0} (contents : W → Option (List ℕ)) (old new : Tally W) w
   -- a source that doesn't open is refused
   abbrev pub Refuses : OpenError → Result Ending Failure → Type 0
   Refuses unopened.OutOfMemory result = (result ≡ Err failure.OutOfMemory) × (new ≡ old)
-  Refuses unopened.TooManyLines result =
-      Prints (printed (unopened_text unopened.TooManyLines) Faulty) result
-  Refuses (unopened.LineTooLong number) result =
-      Prints (printed (unopened_text (unopened.LineTooLong number)) Faulty) result
+  Refuses fault result = Prints (printed (unopened_text fault) Faulty) result

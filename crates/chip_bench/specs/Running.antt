@@ -68,15 +68,7 @@ module _ {R W : Type 0} (remaining : R → Option (List ℕ)) (contents : W → 
   -- what the program did with a script on a source, where the session ended so
   abbrev pub AnswersAs : Result Ending Failure → Result Unit ServeError → Type 0
   AnswersAs result (Err (fault.Source e)) = Declines e result
-  AnswersAs result (Ok _) = (result ≡ result_after (Ok tt)) × Converses (Ok tt)
-  AnswersAs result (Err fault.ReaderFailed) =
-      (result ≡ result_after (Err fault.ReaderFailed)) × Converses (Err fault.ReaderFailed)
-  AnswersAs result (Err fault.WriterFailed) =
-      (result ≡ result_after (Err fault.WriterFailed)) × Converses (Err fault.WriterFailed)
-  AnswersAs result (Err fault.OutOfMemory) =
-      (result ≡ result_after (Err fault.OutOfMemory)) × Converses (Err fault.OutOfMemory)
-  AnswersAs result (Err fault.TooMuchInput) =
-      (result ≡ result_after (Err fault.TooMuchInput)) × Converses (Err fault.TooMuchInput)
+  AnswersAs result served = (result ≡ result_after served) × Converses served
 
   abbrev pub AnswersScript : Result Ending Failure → Type 0
   AnswersScript result = (served : Result Unit ServeError) × AnswersAs result served

@@ -1,7 +1,8 @@
 -- What a call of `serve` reads and writes, for each way in which it ends (own).
 use Rattle.std.specs.Prelude.{◌≡◌, ◌⊎◌, ℕ, ◌<◌, ◌≤◌, List, [], ◌++◌, length, take, Option, Some, None, IfSome, Result, Ok, Err}
 use Rattle.chip_bench.specs.declared.limits.TheConstants.{SCRIPT_BYTES, SCRIPT_LINES}
-use Rattle.chip_bench.specs.Lines.{lines, complete_lines}
+use Rattle.chip_asm.specs.Lines.{lines_of}
+use Rattle.chip_bench.specs.Lines.{complete_lines}
 use Rattle.chip_bench.specs.Session.{Session}
 use Rattle.chip_bench.specs.Transcript.{transcript_of}
 use Rattle.chip_asm.specs.declared.refusal.OpenError.{OpenError}
@@ -13,11 +14,11 @@ use Rattle.chip_lang.specs.Meter.{one_more}
 -- a script within the bounds of its bytes and its lines
 pub record WithinBounds (script : List ℕ) : Type 0 where
   pub bytes : length script ≤ SCRIPT_BYTES
-  pub line_count : length (lines script) ≤ SCRIPT_LINES
+  pub line_count : length (lines_of script) ≤ SCRIPT_LINES
 
 -- a script past a bound
 abbrev pub PassesBound : List ℕ → Type 0
-PassesBound script = (SCRIPT_BYTES < length script) ⊎ (SCRIPT_LINES < length (lines script))
+PassesBound script = (SCRIPT_BYTES < length script) ⊎ (SCRIPT_LINES < length (lines_of script))
 
 -- the complete lines among the first bytes, as many of both as a script has at most
 abbrev pub lines_in_bounds : List ℕ → List (List ℕ)
@@ -31,7 +32,7 @@ BeginsWith text front = (back : List ℕ) × (text ≡ front ++ back)
 abbrev pub Served : Result Unit ServeError → Session → List ℕ → List ℕ → List ℕ → Type 0
 -- the reader has ended within the bounds: the whole transcript
 Served (Ok _) start given rest written =
-    (rest ≡ []) × WithinBounds given × (written ≡ transcript_of start (lines given))
+    (rest ≡ []) × WithinBounds given × (written ≡ transcript_of start (lines_of given))
 -- the source doesn't open: nothing, and nothing was read
 Served (Err (fault.Source e)) start given rest written = (given ≡ []) × (written ≡ [])
 -- the reader failed: the answers to all complete lines that were read
@@ -39,7 +40,7 @@ Served (Err fault.ReaderFailed) start given rest written =
     WithinBounds given × (written ≡ transcript_of start (complete_lines given))
 -- the writer failed: some front of the transcript
 Served (Err fault.WriterFailed) start given rest written =
-    BeginsWith (transcript_of start (lines (given ++ rest))) written
+    BeginsWith (transcript_of start (lines_of (given ++ rest))) written
 -- want of memory: the answers to a number of first complete lines
 Served (Err fault.OutOfMemory) start given rest written =
     (n : ℕ) × (written ≡ transcript_of start (take n (complete_lines given)))
@@ -67,35 +68,19 @@ Exchanges had left held holds P =
 
 -- how many failures of the reader are counted after a call that ended so
 abbrev pub reader_failures : Result Unit ServeError → ℕ → ℕ
-reader_failures (Ok _) failures = failures
 reader_failures (Err fault.ReaderFailed) failures = one_more failures
-reader_failures (Err fault.WriterFailed) failures = failures
-reader_failures (Err (fault.Source e)) failures = failures
-reader_failures (Err fault.OutOfMemory) failures = failures
-reader_failures (Err fault.TooMuchInput) failures = failures
+reader_failures _ failures = failures
 
 abbrev pub writer_failures : Result Unit ServeError → ℕ → ℕ
-writer_failures (Ok _) failures = failures
 writer_failures (Err fault.WriterFailed) failures = one_more failures
-writer_failures (Err fault.ReaderFailed) failures = failures
-writer_failures (Err (fault.Source e)) failures = failures
-writer_failures (Err fault.OutOfMemory) failures = failures
-writer_failures (Err fault.TooMuchInput) failures = failures
+writer_failures _ failures = failures
 
 -- a source fault is the source's own, or want of memory; anything else comes of a source that opens
 abbrev pub Opens : Option OpenError → Result Unit ServeError → Type 0
 Opens found (Err (fault.Source e)) = (e ≡ memory) ⊎ (found ≡ Some e)
-Opens found (Ok _) = found ≡ None
-Opens found (Err fault.ReaderFailed) = found ≡ None
-Opens found (Err fault.WriterFailed) = found ≡ None
-Opens found (Err fault.OutOfMemory) = found ≡ None
-Opens found (Err fault.TooMuchInput) = found ≡ None
+Opens found _ = found ≡ None
 
 -- at a source that doesn't open, these facts hold
 abbrev pub UnlessOpened : Result Unit ServeError → Type 0 → Type 0
 UnlessOpened (Err (fault.Source e)) P = P
-UnlessOpened (Ok _) P = Unit {0}
-UnlessOpened (Err fault.ReaderFailed) P = Unit {0}
-UnlessOpened (Err fault.WriterFailed) P = Unit {0}
-UnlessOpened (Err fault.OutOfMemory) P = Unit {0}
-UnlessOpened (Err fault.TooMuchInput) P = Unit {0}
+UnlessOpened _ P = Unit {0}

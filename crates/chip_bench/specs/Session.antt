@@ -1,8 +1,8 @@
 -- A session: the lines of the source and the key events as edited so far, and the settings (own).
 use Rattle.std.specs.Prelude.{◌≡◌, ◌⊎◌, IsOk, ℕ, ◌-◌, Bool, List, length, insert, remove, slice_set, Option, Some, None, Result, Ok, Err}
-use Rattle.std.specs.Str.Lines.{lines}
 use Rattle.std.specs.FinMap as map
 use Rattle.chip_asm.specs.Edits.{insert_refusal, replace_refusal, delete_refusal}
+use Rattle.chip_asm.specs.Lines.{lines_of}
 use Rattle.chip_asm.specs.declared.refusal.Refusal.{Refusal as SourceRefusal}
 use Rattle.chip_replay.specs.declared.keys.KeyFault.{KeyFault}
 use Rattle.chip_replay.specs.declared.keys.Moment.{Moment}
@@ -25,7 +25,7 @@ session_with lines keys settings = record { lines = lines; keys = keys; settings
 
 -- the session on a source that opens, without key events
 abbrev pub session_of : SessionSettings → List ℕ → Session
-session_of settings bytes = record { lines = lines bytes; keys = map.empty; settings = settings }
+session_of settings bytes = record { lines = lines_of bytes; keys = map.empty; settings = settings }
 
 -- a change of one line, by the line's number from 1, or of one key event, by its step and key
 pub data Change : Type 0 where

@@ -3,7 +3,7 @@
 ghost use Rattle.std.specs.Prelude.{◌≡◌, ◌+◌, ◌*◌, ◌<◌, ◌≤◌, ◌^◌, ◌++◌, ◌∷◌, [], ℕ, List, false, IfOk, OnOk, slice_index};
 ghost use Rattle.chip_machine.specs.Step.{word_at};
 ghost use Rattle.chip_bench.specs.Answers.{is_past_end, picture_by, state_answer};
-ghost use Rattle.chip_bench.specs.MachineAnswers.{from_on, size_name, state_name, register_line, place_part, timer_part, condition_part, state_line, flag_line, registers_of, bytes_at, memory_of, word_line, disassembly_of, row_bytes, has_lit, row_line, row_lines, two_digits, screen_of};
+ghost use Rattle.chip_bench.specs.MachineAnswers.{size_name, state_name, register_line, place_part, timer_part, condition_part, state_line, flag_line, registers_of, bytes_at, memory_of, word_line, disassembly_of, row_bytes, has_lit, row_line, row_lines, two_digits, screen_of};
 
 use crate::question::{PictureForm, StateQuestion};
 use crate::text::{

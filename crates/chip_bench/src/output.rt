@@ -1,7 +1,6 @@
 //! What each command reads and prints, from the bytes of a source.
 ghost use Rattle.std.specs.Prelude.{◌≡◌, ◌≤◌, Ok, Err, Some, None, length, IfOk, MatchResult, option_map};
-ghost use Rattle.std.specs.Str.Lines.{lines};
-ghost use Rattle.chip_asm.specs.Lines.{open_fault};
+ghost use Rattle.chip_asm.specs.Lines.{lines_of, open_fault};
 ghost use Rattle.chip_asm.specs.Program.{image_of};
 ghost use Rattle.chip_views.specs.Dis.{source_of_image};
 ghost use Rattle.chip_bench.specs.Transcript.{refused};
@@ -91,7 +90,7 @@ pub(crate) fn list_source<'a, O: Write>(
     output: &mut Counted<O>,
 ) -> Result<Ending, Failure<'a>>
     ensures { Prints O.contents output.old output.new
-        (printed_of (open_fault source.items) (listing_of_lines (lines source.items))) result }
+        (printed_of (open_fault source.items) (listing_of_lines (lines_of source.items))) result }
 {
     match Source::open_bytes(alloc, source) {
         Ok(opened) => {
@@ -112,7 +111,8 @@ pub(crate) fn check_source<'a, O: Write>(
     output: &mut Counted<O>,
 ) -> Result<Ending, Failure<'a>>
     ensures { Prints O.contents output.old output.new
-        (printed_of (open_fault source.now) (check_of_lines name.now (lines source.now))) result }
+        (printed_of (open_fault source.now)
+        (check_of_lines name.now (lines_of source.now))) result }
 {
     match Source::open(alloc, source) {
         Ok(opened) => print_check(alloc, name, source, &opened, output),
@@ -130,7 +130,7 @@ pub(crate) fn print_source<'a, O: Write>(
     ensures printed { Prints O.contents output.old output.new
         (printed (source_of_image image.now) Ending.Done) result }
     ensures opens { IfOk result (λ _. open_fault (source_of_image image.now) ≡ None) }
-    ensures image { IfOk result (λ _. image_of (lines (source_of_image image.now))
+    ensures image { IfOk result (λ _. image_of (lines_of (source_of_image image.now))
         ≡ Some image.now) }
 {
     let text = source_of_image(alloc, image)?;
@@ -347,7 +347,7 @@ fn print_check<'a, O: Write>(
     source: &Source,
     output: &mut Counted<O>,
 ) -> Result<Ending, Failure<'a>>
-    requires { source.now.lines ≡ lines bytes.now }
+    requires { source.now.lines ≡ lines_of bytes.now }
     ensures { Prints O.contents output.old output.new
         (check_of_lines name.now source.now.lines) result }
 {

@@ -9,6 +9,7 @@ use Rattle.chip_lang.specs.declared.fault_place.Place.{Place}
 use Rattle.chip_lang.specs.declared.fault_place.Span.{Span}
 use Rattle.chip_lang.specs.declared.lexeme.Lexeme.{Lexeme}
 use Rattle.chip_lang.specs.declared.lexeme.Lexeme.TheVariants.{Word, Bad}
+use Rattle.chip_lang.specs.declared.limits.TheConstants.{OPEN_PARENTHESES}
 use Rattle.chip_lang.specs.declared.token.Token.{Token}
 use Rattle.chip_lang.specs.Keyword.{directive_of}
 use Rattle.chip_lang.specs.Line.{Shape, definition, statement, shape_of, is_sign_of, is_bad_name, takes_label, pieces, operand_of_tokens, lexeme_of, lexemes_of}
@@ -36,13 +37,14 @@ is_bad t = false
 abbrev pub leftmost_bad : List Lexeme → ℕ
 leftmost_bad ts = prefix_len (λ t. not (is_bad t)) ts
 
--- the parenthesis with which those opened and not closed go beyond 16
+-- the parenthesis with which those opened and not closed go beyond OPEN_PARENTHESES
 abbrev pub deepest : (opened closed : ℕ) → List Lexeme → ℕ
 deepest opened closed [] = 0
 deepest opened closed (t ∷ ts) =
     let opened_now = if is_sign_of 40 t then opened + 1 else opened in
     let closed_now = if is_sign_of 41 t then closed + 1 else closed in
-    if nat_lt (closed_now + 16) opened_now then 0 else deepest opened_now closed_now ts + 1
+    if nat_lt (closed_now + OPEN_PARENTHESES) opened_now then 0
+    else deepest opened_now closed_now ts + 1
 
 -- the first token of the statement, after a label and its colon; of a definition the name. `count`
 -- is how many tokens the line has

@@ -15,6 +15,7 @@ use crate::form::is_mnemonic;
 use crate::front::is_reserved;
 use crate::keyword::directive_of;
 use crate::lexeme::{Lexeme, is_sign_of, lexeme_of, lexemes};
+use crate::limits::OPEN_PARENTHESES;
 use crate::operands::{first_piece, operand_of};
 use crate::parse::parse_expression;
 use crate::shape::{Shape, is_bad_name, shape_of};
@@ -184,7 +185,7 @@ fn leftmost_bad(tokens: &[Lexeme]) -> usize
 }
 
 /// How many tokens stand before the parenthesis with which those opened and not closed go beyond
-/// 16.
+/// `OPEN_PARENTHESES`.
 fn deepest(tokens: &[Lexeme]) -> usize
     ensures { result ≡ deepest 0 0 tokens.now }
 {
@@ -197,7 +198,7 @@ fn deepest(tokens: &[Lexeme]) -> usize
         if is_sign_of(b')', token) {
             closed += 1;
         }
-        if opened > closed && opened - closed > 16 {
+        if opened > closed && opened - closed > OPEN_PARENTHESES {
             return index;
         }
     }

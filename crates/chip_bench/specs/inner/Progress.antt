@@ -3,7 +3,8 @@ use Rattle.std.specs.Prelude.{◌≡◌, ◌⊎◌, ℕ, ◌<◌, List, ◌++◌
 use Rattle.std.specs.Io.KnownBytes.{Keeps, Appends}
 use Rattle.chip_bench.specs.declared.limits.TheConstants.{SCRIPT_BYTES, SCRIPT_LINES}
 use Rattle.chip_bench.specs.declared.server.TheConstants.{KEPT_LEN}
-use Rattle.chip_bench.specs.Lines.{lines, complete_lines, unfinished_line}
+use Rattle.chip_asm.specs.Lines.{lines_of}
+use Rattle.chip_bench.specs.Lines.{complete_lines, unfinished_line}
 use Rattle.chip_bench.specs.Session.{Session}
 use Rattle.chip_bench.specs.Transcript.{transcript_of, session_after}
 use Rattle.chip_bench.specs.Serving.{WithinBounds, BeginsWith}
@@ -78,9 +79,10 @@ Carries old held bytes result new holds =
 
 -- The reader has ended after `given`.
 abbrev pub Ended : Result Unit Stop → Session → List ℕ → List ℕ → Option (List ℕ) → Type 0
-Ended (Ok _) start before given holds = holds ≡ Some (before ++ transcript_of start (lines given))
+Ended (Ok _) start before given holds =
+    holds ≡ Some (before ++ transcript_of start (lines_of given))
 Ended (Err WriterFailed) start before given holds =
-    (front : List ℕ) × BeginsWith (transcript_of start (lines given)) front
+    (front : List ℕ) × BeginsWith (transcript_of start (lines_of given)) front
     × (holds ≡ Some (before ++ front))
 Ended (Err OutOfMemory) start before given holds =
     holds ≡ Some (before ++ transcript_of start (complete_lines given))

@@ -1,6 +1,7 @@
 use Rattle.std.proofs.Common.{◌≡◌, ◌∙◌, ap, sym, arith, map, take}
+use Rattle.std.specs.List.{range_with_len}
 use Rattle.std.proofs.lemmas.List.{take_all, length-set}
-use Rattle.chip_bench.specs.MachineAnswers.{from_on, row_byte, row_bytes}
+use Rattle.chip_bench.specs.MachineAnswers.{row_byte, row_bytes}
 use Rattle.chip_bench.proofs.RowBytes.{filled_more, row_byte_is}
 use Rattle.chip_bench.proofs.machine_answer.row_bytes.Goals as goal
 
@@ -20,4 +21,4 @@ returns c =
     sym (take_all 16 c.loop-place.bytes (omega (arith, c.loop-place.invariant.room)))
     ∙ ap (λ n. take n c.loop-place.bytes) (sym whole)
     ∙ c.loop-place.invariant.made
-    ∙ ap (λ n. map (row_byte c.args.machine.now.core.lit c.args.row) (from_on 0 n)) whole
+    ∙ ap (λ n. map (row_byte c.args.machine.now.core.lit c.args.row) (range_with_len 0 n)) whole
