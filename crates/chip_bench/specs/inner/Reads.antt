@@ -1,6 +1,6 @@
 -- What the words of the command line ask for as it was read, and what hindered it, for the private
 -- contracts behind the commands (own).
-use Rattle.std.specs.Prelude.{◌≡◌, ◌⊎◌, ℕ, List, Option, Some, None, Result, Ok, Err}
+use Rattle.std.specs.Prelude.{◌≡◌, ◌⊎◌, ℕ, List, Option, Some, None, Ok, Err}
 use Rattle.std.specs.Borrow.{Bor}
 use Rattle.chip_asm.specs.Lines.{lines_of, open_fault}
 use Rattle.chip_bench.specs.Doing.{IsShort, Outcome, WithAsked, image_in}
