@@ -10,7 +10,7 @@ use Rattle.chip_views.specs.Dis.{source_of_image}
 use Rattle.chip_bench.specs.Doing.{Assembles, AssemblesBy, Checks, Debugs, Declined, Disassembles, DisassemblesBytes, Does, Explains, FromKeys, FromSource, GivesSource, IfSettled, IsFileWritten, IsShort, IsSourceUnread, IsUnsettled, Lists, Outcome, Pictures, PicturesBy, PrintsPicture, Runs, WithAsked, image_in}
 use Rattle.chip_bench.specs.inner.Reads.{IsAsked, IsImageHindered, IsImageOrFaults, IsKeysUnread, IsUnasked}
 use Rattle.chip_bench.specs.Pages.{IsPageText}
-use Rattle.chip_bench.specs.Printing.{Prints, PrintsUnder, check_of_lines, listing_of_lines, picture_at, printed, printed_of, run_of}
+use Rattle.chip_bench.specs.Printing.{Prints, PrintsUnder, printed_check, printed_listing, printed_picture, printed, printed_of, printed_run}
 use Rattle.chip_bench.specs.declared.command_line.PictureWords.{PictureWords}
 use Rattle.chip_bench.specs.declared.question.PictureForm.{PictureForm}
 use Rattle.chip_bench.specs.Running.{AnswersScript, IsUnread}
@@ -221,13 +221,13 @@ module _ {R W : Type 0} (remaining : R → Option (List ℕ)) (contents : W → 
       Lists remaining contents in_old in_new output output source ended
   lists_not source ended why e w =
       source_unread remaining in_old in_new (output ≡ output) refl source
-      (λ bytes. Prints contents output output (printed_of (open_fault bytes) (listing_of_lines (lines_of bytes)))) ended why e w
+      (λ bytes. Prints contents output output (printed_of (open_fault bytes) (printed_listing (lines_of bytes)))) ended why e w
 
   pub checks_not : (source : Bor (List ℕ)) (ended : Outcome) (why : Failure) → ended ≡ Err why → IsSourceUnread source why →
       Checks remaining contents in_old in_new output output source ended
   checks_not source ended why e w =
       source_unread remaining in_old in_new (output ≡ output) refl source
-      (λ bytes. Prints contents output output (printed_of (open_fault bytes) (check_of_lines source.now (lines_of bytes)))) ended why e w
+      (λ bytes. Prints contents output output (printed_of (open_fault bytes) (printed_check source.now (lines_of bytes)))) ended why e w
 
   pub disassembles_not : (image : Bor (List ℕ)) (ended : Outcome) (why : Failure) → ended ≡ Err why → IsSourceUnread image why →
       Disassembles remaining contents in_old in_new output output image ended
@@ -252,20 +252,20 @@ module _ {R W : Type 0} (remaining : R → Option (List ℕ)) (contents : W → 
       Runs remaining contents in_old in_new output output words ended
   runs_not words ended why e is =
       asked_not remaining in_old in_new (output ≡ output) words
-      (λ settings keys source. PrintsUnder contents output output settings source keys (λ session. run_of session words.steps)) ended refl why e is
+      (λ settings keys source. PrintsUnder contents output output settings source keys (λ session. printed_run session words.steps)) ended refl why e is
 
 module _ {R W : Type 0} (remaining : R → Option (List ℕ)) (contents : W → Option (List ℕ)) (in_old in_new : Tally R) (old new : Tally W) where
   pub lists : (source : Bor (List ℕ)) (bytes text : List ℕ) (ended : Outcome) → text ≡ bytes → GivesSource remaining in_old in_new source.now bytes →
-      Prints contents old new (printed_of (open_fault text) (listing_of_lines (lines_of text))) ended →
+      Prints contents old new (printed_of (open_fault text) (printed_listing (lines_of text))) ended →
       Lists remaining contents in_old in_new old new source ended
   lists source bytes text ended same gives did =
-      inl (bytes, gives, subst (λ (t : List ℕ). Prints contents old new (printed_of (open_fault t) (listing_of_lines (lines_of t))) ended) same did)
+      inl (bytes, gives, subst (λ (t : List ℕ). Prints contents old new (printed_of (open_fault t) (printed_listing (lines_of t))) ended) same did)
 
   pub checks : (source : Bor (List ℕ)) (bytes text : List ℕ) (ended : Outcome) → text ≡ bytes → GivesSource remaining in_old in_new source.now bytes →
-      Prints contents old new (printed_of (open_fault text) (check_of_lines source.now (lines_of text))) ended →
+      Prints contents old new (printed_of (open_fault text) (printed_check source.now (lines_of text))) ended →
       Checks remaining contents in_old in_new old new source ended
   checks source bytes text ended same gives did =
-      inl (bytes, gives, subst (λ (t : List ℕ). Prints contents old new (printed_of (open_fault t) (check_of_lines source.now (lines_of t))) ended) same did)
+      inl (bytes, gives, subst (λ (t : List ℕ). Prints contents old new (printed_of (open_fault t) (printed_check source.now (lines_of t))) ended) same did)
 
   pub disassembles : (image : Bor (List ℕ)) (bytes text : List ℕ) (ended : Outcome) → text ≡ bytes → length bytes ≤ IMAGE_BYTES →
       GivesSource remaining in_old in_new image.now bytes → Prints contents old new (printed (source_of_image text) Done) ended →
@@ -282,11 +282,11 @@ module _ {R W : Type 0} (remaining : R → Option (List ℕ)) (contents : W → 
 
   pub runs : (words : RunWords) (asked : Asked) (settings : SessionSettings) (keys source : List ℕ) (ended : Outcome) →
       IsAsked remaining in_old in_new words asked → settings ≡ asked.settings → keys ≡ asked.keys.bytes.items → source ≡ asked.source.items →
-      PrintsUnder contents old new settings source keys (λ session. run_of session words.steps) ended →
+      PrintsUnder contents old new settings source keys (λ session. printed_run session words.steps) ended →
       Runs remaining contents in_old in_new old new words ended
   runs words asked settings keys source ended is s k t did =
       asked_then remaining in_old in_new (new ≡ old) words
-      (λ settings keys source. PrintsUnder contents old new settings source keys (λ session. run_of session words.steps)) ended asked is
+      (λ settings keys source. PrintsUnder contents old new settings source keys (λ session. printed_run session words.steps)) ended asked is
       (rw (sym s, sym k, sym t) did)
 
 module _ {R : Type 0} (remaining : R → Option (List ℕ)) (in_old in_new : Tally R) (words : RunWords) where
@@ -332,7 +332,7 @@ module _ {W : Type 0} (contents : W → Option (List ℕ)) (old new : Tally W) w
 
   pub picture_printed : (asked : Option SessionSettings) (settings : SessionSettings) (source keys text events : List ℕ) (step : ℕ) (form : PictureForm)
       (ended : Outcome) → asked ≡ Some settings → text ≡ source → events ≡ keys →
-      PrintsUnder contents old new settings text events (λ session. picture_at session step form) ended →
+      PrintsUnder contents old new settings text events (λ session. printed_picture session step form) ended →
       PrintsPicture contents old new asked source keys step form ended
   picture_printed asked settings source keys text events step form ended a s k did = rw (a, sym s, sym k) (inl did)
 

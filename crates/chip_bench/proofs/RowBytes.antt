@@ -8,7 +8,7 @@ use Rattle.std.proofs.lemmas.List.{take_more_set}
 use Rattle.std.proofs.lemmas.List.FromFn.{map-range_with_len_more}
 use Rattle.chip_machine.specs.Points.{Points, is_lit, lights}
 use Rattle.chip_views.specs.Bitmap.{bit}
-use Rattle.chip_bench.specs.MachineAnswers.{row_byte}
+use Rattle.chip_bench.specs.MachineAnswers.{stored_byte}
 
 -- a bit, by whether it is 1
 as_bit : (n : ℕ) → n < 2 → bit (n == 1) ≡ n
@@ -32,8 +32,8 @@ module _ (lit : Points) (row bits : ℕ) (points : (column : ℕ) → column < 1
       let here : 120 - 8 * place + m ≡ 127 - column = omega arith in
       ap (λ n. n % 2) (shr-shr bits (120 - 8 * place) m) ∙ ap (bit_at bits) here ∙ point_is column (omega arith)
 
-  pub row_byte_is : (place : ℕ) → place < 16 → bits / 2 ^ (120 - 8 * place) % 256 ≡ row_byte lit row place
-  unfolding row_byte
+  pub row_byte_is : (place : ℕ) → place < 16 → bits / 2 ^ (120 - 8 * place) % 256 ≡ stored_byte lit row place
+  unfolding stored_byte
   row_byte_is place lt =
       let n : ℕ = bits / 2 ^ (120 - 8 * place) in
       let b₇ : n / 128 % 2 ≡ bit (is_lit lit (8 * place + 0) row) = shifted place (8 * place + 0) 7 lt (omega arith) (omega arith) in

@@ -18,7 +18,7 @@ use Rattle.chip_machine.specs.Profile.{profile_name}
 use Rattle.chip_machine.specs.declared.profile.Profile.{Profile}
 use Rattle.chip_machine.specs.declared.profile.Profile.TheVariants as profile
 use Rattle.chip_bench.specs.CommandLine.{chipbench}
-use Rattle.chip_bench.specs.CommandWords.{Asks, AsksBy, AsksFor, Reads, faults_below, faults_of, needed, profile_fault}
+use Rattle.chip_bench.specs.CommandWords.{Asks, AsksBy, AsksFor, ReadsNumber, faults_below, word_faults, needed, profile_fault}
 use Rattle.chip_bench.specs.SettingWords.{default_words}
 use Rattle.chip_bench.specs.declared.command_line.CommandLine.{CommandLine}
 use Rattle.chip_bench.specs.declared.command_line.CommandLine.TheVariants as line
@@ -26,16 +26,16 @@ use Rattle.chip_bench.specs.declared.command_line.CommandLine.TheVariants as lin
 -- a number that `parse` reads
 reads_text : {E : Type 0} (gives : List ℕ → Result ℕ E → Type 0) (bits : ℕ) (text : Option (List ℕ)) (number : Option ℕ) →
     ((t : List ℕ) (x : Result ℕ E) → gives t x → ParsesUnsigned bits 10 t x) → (text ≡ None → number ≡ None) →
-    ((t : List ℕ) → text ≡ Some t → ReadsOne gives t number) → Reads bits text number
+    ((t : List ℕ) → text ≡ Some t → ReadsOne gives t number) → ReadsNumber bits text number
 reads_text gives bits None number parses none value = none refl
 reads_text gives bits (Some t) None parses none value = let failed = value t refl in parses t (Err failed.0) failed.1
 reads_text gives bits (Some t) (Some n) parses none value = parses t (Ok n) (value t refl)
 
 pub reads : {E : Type 0} (gives : List ℕ → Result ℕ E → Type 0) (bits : ℕ) (found : Found) (id : List ℕ) (number : Option ℕ) →
     ((t : List ℕ) (x : Result ℕ E) → gives t x → ParsesUnsigned bits 10 t x) → (one_text found id ≡ None → number ≡ None) →
-    ((t : List ℕ) → one_text found id ≡ Some t → ReadsOne gives t number) → Reads bits (one_of id (rows_of found)) number
+    ((t : List ℕ) → one_text found id ≡ Some t → ReadsOne gives t number) → ReadsNumber bits (one_of id (rows_of found)) number
 reads gives bits found id number parses none value =
-    subst (λ (text : Option (List ℕ)). Reads bits text number) (one_text-rows found id)
+    subst (λ (text : Option (List ℕ)). ReadsNumber bits text number) (one_text-rows found id)
     (reads_text gives bits (one_text found id) number parses none value)
 
 pub needed_is : (found : Found) (id text : List ℕ) → text ≡ unwrap_or (first_value found id) [] → text ≡ needed id (rows_of found)
@@ -71,26 +71,26 @@ still_fails kinds next e (inr h) = inr (still_among (kind_of e) kinds next h)
 module _ {T : Type 0} where
   -- what `clap` refuses is refused
   pub fails_by_clap : (words : List (List ℕ)) (result : Result T Error) (e : Error) → result ≡ Err e →
-      FailsBy (fault_of chipbench words) result → FailsBy (faults_of words) result
-  unfolding faults_of
+      FailsBy (fault_of chipbench words) result → FailsBy (word_faults words) result
+  unfolding word_faults
   fails_by_clap words (Ok x) e h f = cc
   fails_by_clap words (Err x) e h f = still_fails (fault_of chipbench words) (faults_below (subcommand_of chipbench words)) x f
 
 -- what `clap` takes is judged by the profile
 judged_by : (words : List (List ℕ)) (command : Option (List ℕ × List Row)) → fault_of chipbench words ≡ [] →
-    subcommand_of chipbench words ≡ command → faults_of words ≡ faults_below command
-unfolding faults_of
+    subcommand_of chipbench words ≡ command → word_faults words ≡ faults_below command
+unfolding word_faults
 judged_by words command none named =
     ap (λ (kinds : Kinds). or_else kinds (faults_below (subcommand_of chipbench words))) none
     ∙ ap (λ (c : Option (List ℕ × List Row)). faults_below c) named
 
 pub judged : {T : Type 0} (words : List (List ℕ)) (name : List ℕ) (rows : List Row) (result : Result T Error) →
     fault_of chipbench words ≡ [] → subcommand_of chipbench words ≡ Some (name, rows) →
-    FailsBy (profile_fault (first_of (codes "profile") rows)) result → FailsBy (faults_of words) result
+    FailsBy (profile_fault (first_of (codes "profile") rows)) result → FailsBy (word_faults words) result
 judged words name rows result none named f =
     subst (λ (kinds : Kinds). FailsBy kinds result) (sym (judged_by words (Some (name, rows)) none named)) f
 
-pub without_command : (words : List (List ℕ)) → fault_of chipbench words ≡ [] → subcommand_of chipbench words ≡ None → faults_of words ≡ []
+pub without_command : (words : List (List ℕ)) → fault_of chipbench words ≡ [] → subcommand_of chipbench words ≡ None → word_faults words ≡ []
 without_command words none named = judged_by words None none named
 
 asked_by : (words : List (List ℕ)) (command : Option (List ℕ × List Row)) (line : CommandLine) →

@@ -20,7 +20,7 @@ use Rattle.chip_views.specs.Bitmap.{pbm_of}
 use Rattle.chip_views.specs.Picture.{picture_of}
 use Rattle.chip_views.specs.Png.{png_of}
 use Rattle.chip_bench.specs.Session.{Session}
-use Rattle.chip_bench.specs.MachineAnswers.{registers_of, memory_of, screen_of, disassembly_of}
+use Rattle.chip_bench.specs.MachineAnswers.{registers_of, memory_line, screen_of, disassembly_of}
 use Rattle.chip_bench.specs.declared.refusal.Refusal.{Refusal}
 use Rattle.chip_bench.specs.declared.refusal.Refusal.TheVariants.{NoImage, StepPastLast, AddressPastEnd}
 use Rattle.chip_bench.specs.declared.question.Question.{Question}
@@ -72,10 +72,10 @@ step_asked (Picture step form) = Some step
 step_asked _ = None
 
 -- the bytes asked for pass the end of the memory
-abbrev pub is_past_end : StateQuestion → Bool
-is_past_end (state.Memory at count) = nat_lt MEMORY_BYTES (at + count)
-is_past_end (state.Disassembly at count) = nat_lt MEMORY_BYTES (at + 2 * count)
-is_past_end _ = false
+abbrev pub asks_past_end : StateQuestion → Bool
+asks_past_end (state.Memory at count) = nat_lt MEMORY_BYTES (at + count)
+asks_past_end (state.Disassembly at count) = nat_lt MEMORY_BYTES (at + 2 * count)
+asks_past_end _ = false
 
 -- the picture of a state's screen
 unfoldable pub picture_by : PictureForm → State → List ℕ
@@ -86,7 +86,7 @@ picture_by form.Png s = png_of s
 -- what is asked of a state
 abbrev pub state_answer : StateQuestion → State → List ℕ
 state_answer state.Registers s = registers_of s
-state_answer (state.Memory at count) s = memory_of s at count
+state_answer (state.Memory at count) s = memory_line s at count
 state_answer state.Screen s = screen_of s
 state_answer (state.Disassembly at count) s = disassembly_of s at count
 state_answer (state.Picture form) s = picture_by form s
@@ -102,7 +102,7 @@ machine_at session image step =
 abbrev pub step_refusal : StateQuestion → ℕ → Option Refusal
 step_refusal asked step =
     if nat_lt last_step step then Some StepPastLast
-    else if is_past_end asked then Some AddressPastEnd
+    else if asks_past_end asked then Some AddressPastEnd
     else None
 
 abbrev pub unless_refused : Option Refusal → List ℕ → Result (List ℕ) Refusal

@@ -32,8 +32,9 @@ faults_below None = []
 faults_below (Some command) = profile_fault (first_of (codes "profile") command.1)
 
 -- the kinds of fault of the words: those that `clap` finds, and else a profile that there is not
-unfoldable pub faults_of : List (List ℕ) → Kinds
-faults_of words = or_else (fault_of chipbench words) (faults_below (subcommand_of chipbench words))
+unfoldable pub word_faults : List (List ℕ) → Kinds
+word_faults words =
+    or_else (fault_of chipbench words) (faults_below (subcommand_of chipbench words))
 
 -- a text of decimal digits, which a plus may stand before, and which fits in so many bits
 abbrev pub IsNumber : ℕ → List ℕ → Type 0
@@ -42,16 +43,16 @@ IsNumber bits text =
     × (digits_value 10 (without_leading_plus text) < 2 ^ bits)
 
 -- the number that a text stands for, where there is a text and it is a number
-abbrev pub Reads : ℕ → Option (List ℕ) → Option ℕ → Type 0
-Reads bits None number = number ≡ None
-Reads bits (Some text) None = IsNumber bits text → ⊥
-Reads bits (Some text) (Some number) =
+abbrev pub ReadsNumber : ℕ → Option (List ℕ) → Option ℕ → Type 0
+ReadsNumber bits None number = number ≡ None
+ReadsNumber bits (Some text) None = IsNumber bits text → ⊥
+ReadsNumber bits (Some text) (Some number) =
     IsNumber bits text × (number ≡ digits_value 10 (without_leading_plus text))
 
 -- the same, with a number in its place
 pub record ReadsOr (bits : ℕ) (text : Option (List ℕ)) (default number : ℕ) : Type 0 where
   pub read : Option ℕ
-  pub reads : Reads bits text read
+  pub reads : ReadsNumber bits text read
   pub number_is : number ≡ unwrap_or read default
 
 -- the profile of a name; without one it is SUPER-CHIP
@@ -63,7 +64,7 @@ IsProfile (Some name) profile = name ≡ profile_name profile
 pub record AsksSettings (rows : List Row) (words : SettingWords) : Type 0 where
   pub rate : ReadsOr 32 (one_of (codes "rate") rows) 10 words.rate
   pub tape : option_copied words.tape ≡ first_of (codes "tape") rows
-  pub seed : Reads 64 (one_of (codes "seed") rows) words.seed
+  pub seed : ReadsNumber 64 (one_of (codes "seed") rows) words.seed
   pub profile : IsProfile (first_of (codes "profile") rows) words.profile
   pub spacing : ReadsOr 32 (one_of (codes "every") rows) LEAST_SPACING words.spacing
 

@@ -31,9 +31,9 @@ numeral base most digits =
     else None
 
 -- a number: 1 to 9 decimal digits, or `#` and 1 to 7 hexadecimal ones of either case
-abbrev pub number_of : Text → Option ℕ
-number_of [] = None
-number_of (byte ∷ word) = if byte == 35 then numeral 16 7 word else numeral 10 9 (byte ∷ word)
+abbrev pub number_spelled : Text → Option ℕ
+number_spelled [] = None
+number_spelled (byte ∷ word) = if byte == 35 then numeral 16 7 word else numeral 10 9 (byte ∷ word)
 
 -- the first word of what is left, and what follows the spaces after it
 abbrev pub first_word : Text → Text
@@ -47,7 +47,7 @@ is_empty text = length text == 0
 
 -- the number at the front
 abbrev pub front_number : Text → Option ℕ
-front_number operands = number_of (first_word operands)
+front_number operands = number_spelled (first_word operands)
 
 -- a number, and nothing after it
 unfoldable pub one_number : Text → Option ℕ
@@ -86,18 +86,18 @@ made command None = Err Unknown
 made command (Some x) = Ok (command x)
 
 -- What stands after the word of a command, and the command that it makes.
-pub data Shape : Type 0 where
-  nothing : Question → Shape
-  one : (ℕ → Command) → Shape
-  two : (ℕ → ℕ → Command) → Shape
-  three : (ℕ → ℕ → ℕ → Command) → Shape
+pub data Syntax : Type 0 where
+  nothing : Question → Syntax
+  one : (ℕ → Command) → Syntax
+  two : (ℕ → ℕ → Command) → Syntax
+  three : (ℕ → ℕ → ℕ → Command) → Syntax
   -- a step, a key and its state
-  event : (ℕ → ℕ → Bool → Command) → Shape
+  event : (ℕ → ℕ → Bool → Command) → Syntax
   -- a number, one space, and all that follows it
-  line_text : (ℕ → Text → Command) → Shape
+  line_text : (ℕ → Text → Command) → Syntax
 
 -- the command that a shape makes of what follows the spaces after the word
-abbrev pub read_by : Shape → Text → Result Command CommandFault
+abbrev pub read_by : Syntax → Text → Result Command CommandFault
 read_by (nothing question) operands = if is_empty operands then Ok (ask question) else Err Unknown
 read_by (one command) operands = made command (one_number operands)
 read_by (two command) operands = made (λ n. command n.0 n.1) (two_numbers operands)
@@ -107,24 +107,24 @@ read_by (line_text command) operands =
     made (λ n. command n (after_first is_space operands)) (front_number operands)
 
 -- a row for each command: its word, and what stands after it
-abbrev pub Row : Type 0
-Row = Text × Shape
+abbrev pub CommandRow : Type 0
+CommandRow = Text × Syntax
 
-unfoldable pub line_edits : List Row
+unfoldable pub line_edits : List CommandRow
 line_edits =
     (codes "ins", line_text (λ n text. change (insert_line n text)))
     ∷ (codes "rep", line_text (λ n text. change (replace_line n text)))
     ∷ (codes "del", one (λ n. change (delete_line n)))
     ∷ []
 
-unfoldable pub key_edits : List Row
+unfoldable pub key_edits : List CommandRow
 key_edits =
     (codes "kins", event (λ step key down. change (insert_event step key down)))
     ∷ (codes "krep", event (λ step key down. change (replace_event step key down)))
     ∷ (codes "kdel", two (λ step key. change (delete_event step key)))
     ∷ []
 
-unfoldable pub source_questions : List Row
+unfoldable pub source_questions : List CommandRow
 source_questions =
     (codes "image", nothing Image)
     ∷ (codes "syms", nothing Symbols)
@@ -132,7 +132,7 @@ source_questions =
     ∷ (codes "faults", nothing Faults)
     ∷ []
 
-unfoldable pub machine_questions : List Row
+unfoldable pub machine_questions : List CommandRow
 machine_questions =
     (codes "regs", one (λ step. ask (Registers step)))
     ∷ (codes "mem", three (λ step at count. ask (Memory step at count)))
@@ -141,7 +141,7 @@ machine_questions =
     ∷ []
 
 -- the command of the first row that has the word
-abbrev pub command_in : List Row → Text → Text → Result Command CommandFault
+abbrev pub command_in : List CommandRow → Text → Text → Result Command CommandFault
 command_in [] word operands = Err Unknown
 command_in (row ∷ rows) word operands =
     if bytes_eq word row.0 then read_by row.1 operands else command_in rows word operands

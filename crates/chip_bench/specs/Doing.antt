@@ -24,7 +24,7 @@ use Rattle.chip_bench.specs.CommandWords.{AsksFor}
 use Rattle.chip_bench.specs.KeyFile.{key_fault, session_under}
 use Rattle.chip_bench.specs.Session.{session_of}
 use Rattle.chip_bench.specs.Pages.{IsContents, IsPageText, version_text}
-use Rattle.chip_bench.specs.Printing.{Printed, PrintsUnder, Prints, RefusesKeys, check_of_lines, fault_under, faults_of_lines, listing_of_lines, picture_at, printed, printed_of, run_of}
+use Rattle.chip_bench.specs.Printing.{Printed, PrintsUnder, Prints, RefusesKeys, printed_check, fault_under, printed_faults, printed_listing, printed_picture, printed, printed_of, printed_run}
 use Rattle.chip_bench.specs.Running.{AnswersIfAsked, AnswersScript, IsUnread, source_bytes_read, status_of}
 use Rattle.chip_bench.specs.SettingWords.{settings_asked}
 use Rattle.chip_bench.specs.Settings.{SessionSettings}
@@ -132,7 +132,7 @@ module _ {W : Type 0} (contents : W → Option (List ℕ)) (out_old out_new : Ta
   AssemblesBy (Some image) source name ended = IsFileWritten name ended × (out_new ≡ out_old)
   AssemblesBy None source name ended =
       Prints contents out_old out_new
-      (printed_of (open_fault source) (faults_of_lines (lines_of source))) ended
+      (printed_of (open_fault source) (printed_faults (lines_of source))) ended
 
   -- `dis`: of an image that isn't too long, a source of it
   pub record DisassemblesBytes (name : Bor (List ℕ)) (image : List ℕ)
@@ -147,7 +147,7 @@ module _ {W : Type 0} (contents : W → Option (List ℕ)) (out_old out_new : Ta
   PrintsPicture None source keys step form ended = Fails IsUnsettled ended
   PrintsPicture (Some settings) source keys step form ended =
       PrintsUnder contents out_old out_new settings source keys
-      (λ session. picture_at session step form) ended ⊎ Fails IsShort ended
+      (λ session. printed_picture session step form) ended ⊎ Fails IsShort ended
 
   -- with one: where there is a picture, its file was written, or couldn't be; else what there is in
   -- its place is printed
@@ -165,7 +165,7 @@ module _ {W : Type 0} (contents : W → Option (List ℕ)) (out_old out_new : Ta
   WritesPicture (Some settings) source keys step form name ended =
       WritesUnless (fault_under (open_fault source) (key_fault (session_of settings source) keys))
       (printed_of (open_fault source)
-      (picture_at (session_under (session_of settings source) keys) step form)) name ended
+      (printed_picture (session_under (session_of settings source) keys) step form)) name ended
       ⊎ Fails IsShort ended
 
   -- both: the second where the first was written
@@ -219,14 +219,14 @@ module _ {R W : Type 0} (remaining : R → Option (List ℕ)) (contents : W → 
   Lists source ended =
       FromSource remaining in_old in_new (out_new ≡ out_old) source (λ bytes.
       Prints contents out_old out_new
-      (printed_of (open_fault bytes) (listing_of_lines (lines_of bytes)))) ended
+      (printed_of (open_fault bytes) (printed_listing (lines_of bytes)))) ended
 
   -- `check`
   abbrev pub Checks : Bor (List ℕ) → Outcome → Type 0
   Checks source ended =
       FromSource remaining in_old in_new (out_new ≡ out_old) source (λ bytes.
       Prints contents out_old out_new
-      (printed_of (open_fault bytes) (check_of_lines source.now (lines_of bytes)))) ended
+      (printed_of (open_fault bytes) (printed_check source.now (lines_of bytes)))) ended
 
   abbrev pub Disassembles : Bor (List ℕ) → Outcome → Type 0
   Disassembles image ended =
@@ -238,7 +238,7 @@ module _ {R W : Type 0} (remaining : R → Option (List ℕ)) (contents : W → 
   Runs words ended =
       WithAsked remaining in_old in_new (out_new ≡ out_old) words (λ settings keys source.
       PrintsUnder contents out_old out_new settings source keys
-      (λ session. run_of session words.steps)) ended
+      (λ session. printed_run session words.steps)) ended
 
   -- `picture`
   abbrev pub Pictures : PictureWords → Outcome → Type 0

@@ -58,8 +58,8 @@ registers_of s = register_line s.core ++ state_line s.core ++ flag_line s.core
 abbrev pub bytes_at : State → ℕ → ℕ → List ℕ
 bytes_at s at count = slice_range s.memory at (at + count)
 
-unfoldable pub memory_of : State → ℕ → ℕ → List ℕ
-memory_of s at count = encode_lower (bytes_at s at count) ++ 10 ∷ []
+unfoldable pub memory_line : State → ℕ → ℕ → List ℕ
+memory_line s at count = encode_lower (bytes_at s at count) ++ 10 ∷ []
 
 -- ---- dis
 
@@ -78,12 +78,12 @@ disassembly_of s at count =
 -- ---- screen
 
 -- eight points of a row as a byte, the leftmost the highest bit
-unfoldable pub row_byte : Points → ℕ → ℕ → ℕ
-row_byte lit row place = eight_bits (λ index. is_lit lit (8 * place + index) row)
+unfoldable pub stored_byte : Points → ℕ → ℕ → ℕ
+stored_byte lit row place = eight_bits (λ index. is_lit lit (8 * place + index) row)
 
 -- the 128 points of a row as 16 bytes
-unfoldable pub row_bytes : Points → ℕ → List ℕ
-row_bytes lit row = map (row_byte lit row) (range_with_len 0 16)
+unfoldable pub stored_row : Points → ℕ → List ℕ
+stored_row lit row = map (stored_byte lit row) (range_with_len 0 16)
 
 unfoldable pub has_lit : Points → ℕ → Bool
 has_lit lit row = list_any (λ column. is_lit lit column row) (range_with_len 0 128)
@@ -96,7 +96,7 @@ two_digits n = if nat_lt n 10 then 48 ∷ decimal n else decimal n
 unfoldable pub row_line : Points → ℕ → List ℕ
 row_line lit row =
     if has_lit lit row
-    then two_digits row ++ codes " " ++ encode_lower (row_bytes lit row) ++ 10 ∷ []
+    then two_digits row ++ codes " " ++ encode_lower (stored_row lit row) ++ 10 ∷ []
     else []
 
 -- the rows with a lit point, from the top

@@ -47,8 +47,8 @@ abbrev pub printed_of : Option OpenError → Printed → Printed
 printed_of (Some fault) opened = printed (unopened_text fault) Faulty
 printed_of None opened = opened
 
-abbrev pub faults_of_lines : List (List ℕ) → Printed
-faults_of_lines lines = printed (faults_text (faults_of lines)) Faulty
+abbrev pub printed_faults : List (List ℕ) → Printed
+printed_faults lines = printed (faults_text (faults_of lines)) Faulty
 
 -- a source without an image is faulty
 abbrev pub ending_with : Option (List ℕ) → Ending
@@ -56,12 +56,12 @@ ending_with (Some image) = Done
 ending_with None = Faulty
 
 -- `list`
-abbrev pub listing_of_lines : List (List ℕ) → Printed
-listing_of_lines lines = printed (listing_text (listing_of lines)) (ending_with (image_of lines))
+abbrev pub printed_listing : List (List ℕ) → Printed
+printed_listing lines = printed (listing_text (listing_of lines)) (ending_with (image_of lines))
 
 -- `check`
-abbrev pub check_of_lines : List ℕ → List (List ℕ) → Printed
-check_of_lines name lines = printed (check_of name lines) (ending_with (image_of lines))
+abbrev pub printed_check : List ℕ → List (List ℕ) → Printed
+printed_check name lines = printed (check_of name lines) (ending_with (image_of lines))
 
 -- a question that isn't answered: the faults where there is no image, else the refusal's code
 abbrev pub unanswered : Refusal → Printed → Printed
@@ -79,15 +79,15 @@ both_answers (Ok registers) (Err why) = Err why
 both_answers (Err why) screen = Err why
 
 -- `run`: the answers to both questions, or why there are none
-abbrev pub run_of : Session → ℕ → Printed
-run_of session step =
+abbrev pub printed_run : Session → ℕ → Printed
+printed_run session step =
     answer_or_why (both_answers (answer_to session (Registers step))
-    (answer_to session (Screen step))) (faults_of_lines session.lines)
+    (answer_to session (Screen step))) (printed_faults session.lines)
 
 -- `picture`: the answer to the question, or why there is none
-abbrev pub picture_at : Session → ℕ → PictureForm → Printed
-picture_at session step form =
-    answer_or_why (answer_to session (Picture step form)) (faults_of_lines session.lines)
+abbrev pub printed_picture : Session → ℕ → PictureForm → Printed
+printed_picture session step form =
+    answer_or_why (answer_to session (Picture step form)) (printed_faults session.lines)
 
 -- the first refused line of a key file, where the source opens
 abbrev pub fault_under : Option OpenError → Option (ℕ × List ℕ) → Option (ℕ × List ℕ)

@@ -30,15 +30,15 @@ abbrev pub tape_asked : SettingWords → Option (List ℕ)
 tape_asked words = tape_by words.tape words.seed
 
 -- the settings, where nothing is wrong with them
-abbrev pub unless_faulty : Option SetError → SessionSettings → Option SessionSettings
-unless_faulty None settings = Some settings
-unless_faulty (Some why) settings = None
+abbrev pub if_faultless : Option SetError → SessionSettings → Option SessionSettings
+if_faultless None settings = Some settings
+if_faultless (Some why) settings = None
 
 -- the settings of a tape and of what else the words say
 abbrev pub settings_with : SettingWords → List ℕ → Option SessionSettings
 settings_with words tape =
-    option_and_then (unless_faulty (spacing_fault words.spacing))
-    (unless_faulty (settings_fault words.rate tape)
+    option_and_then (if_faultless (spacing_fault words.spacing))
+    (if_faultless (settings_fault words.rate tape)
     (record { rate = words.rate; tape = tape; profile = words.profile; spacing = words.spacing }))
 
 -- the settings that the words ask for, or none where their tape is bad

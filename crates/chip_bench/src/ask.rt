@@ -3,7 +3,7 @@ ghost use Rattle.std.specs.Prelude.{◌≡◌, ◌∷◌, [], ℕ, List, false, 
 ghost use Rattle.chip_asm.specs.Program.{image_of};
 ghost use Rattle.chip_bench.specs.Kept.{session_on, IsLastImage};
 ghost use Rattle.chip_bench.specs.inner.InStep.{GoesOn};
-ghost use Rattle.chip_bench.specs.Answers.{is_past_end, step_refusal, answer_at, image_answer, answer_to, step_asked};
+ghost use Rattle.chip_bench.specs.Answers.{asks_past_end, step_refusal, answer_at, image_answer, answer_to, step_asked};
 ghost use Rattle.chip_bench.specs.IsAnswer.{IsAnswer};
 
 use crate::answer::{faults_answer, listing_answer, push_hex_line, symbols_answer};
@@ -17,7 +17,7 @@ use std::alloc::{AllocError, Global};
 
 /// Whether the bytes asked for pass the end of the memory.
 fn is_past_end(asked: StateQuestion) -> bool
-    ensures { result ≡ is_past_end asked }
+    ensures { result ≡ asks_past_end asked }
 {
     match asked {
         StateQuestion::Memory { at, count } => u64::from(at) + u64::from(count)

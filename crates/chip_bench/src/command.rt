@@ -3,7 +3,7 @@ ghost use Rattle.std.specs.Prelude.{◌≡◌, ◌≤◌, ◌^◌, ◌++◌, len
 ghost use Rattle.std.specs.Char.{digit_value, is_digit};
 ghost use Rattle.std.specs.Str.Parse.{digits_value};
 ghost use Rattle.std.specs.List.{list_all, before_first, after_first, position_or_len};
-ghost use Rattle.chip_bench.specs.Commands.{command_of, is_space, skip_spaces, numeral, number_of, command_in, worded, key_edits, source_questions, machine_questions, read_by, nothing, front_number, next_words, one_number, two_numbers, three_numbers, key_state, key_event};
+ghost use Rattle.chip_bench.specs.Commands.{command_of, is_space, skip_spaces, numeral, number_spelled, command_in, worded, key_edits, source_questions, machine_questions, read_by, nothing, front_number, next_words, one_number, two_numbers, three_numbers, key_state, key_event};
 ghost use Rattle.chip_bench.specs.CommandView.{Reads};
 ghost use Rattle.chip_bench.specs.Transcript.{fault_code};
 
@@ -313,7 +313,7 @@ fn skip_spaces(text: &[u8]) -> &[u8]
 }
 
 fn number_of(word: &[u8]) -> Option<u32>
-    ensures { result ≡ number_of word.now }
+    ensures { result ≡ number_spelled word.now }
 {
     match word {
         [b'#', digits @ ..] => numeral(digits, 16, 7),

@@ -5,7 +5,7 @@ ghost use Rattle.clap.specs.Words.{FailsBy, app_of, first_of, kind_of, one_of, r
 ghost use Rattle.clap.specs.declared.builder.command.Command.TheViews.{out-Command as fields_of};
 ghost use Rattle.chip_bench.specs.CommandLine as line;
 ghost use Rattle.chip_bench.specs.SettingWords.{default_words};
-ghost use Rattle.chip_bench.specs.CommandWords.{Asks, AsksFor, AsksSettings, IsProfile, Reads, ReadsOr, AsksLetters, AsksPicture, AsksRun, faults_of, needed, profile_fault};
+ghost use Rattle.chip_bench.specs.CommandWords.{Asks, AsksFor, AsksSettings, IsProfile, ReadsNumber, ReadsOr, AsksLetters, AsksPicture, AsksRun, word_faults, needed, profile_fault};
 
 use crate::settings::MOST_RATE;
 use chip_machine::Profile;
@@ -147,7 +147,7 @@ impl<'a> SettingWords<'a> {
 ///
 /// A fault of the words, a request for help, or want of memory.
 pub fn parse_words<'a, S: AsStr>(alloc: Global, words: &'a [S]) -> Result<CommandLine<'a>, Error>
-    ensures fault { FailsBy (faults_of (map S.text words.entry.now)) result }
+    ensures fault { FailsBy (word_faults (map S.text words.entry.now)) result }
     ensures asked { IfOk result (AsksFor (map S.text words.entry.now)) }
     ensures none { words.entry.now ≡ [] → result ≡ Ok (CommandLine.Debug None default_words) }
 {
@@ -253,7 +253,7 @@ fn number(found: &ArgMatches<'_>, id: &str, default: u32) -> u32
 }
 
 fn seed_asked(found: &ArgMatches<'_>) -> Option<u64>
-    ensures { Reads 64 (one_of (codes "seed") (rows_of (found_of found.now))) result }
+    ensures { ReadsNumber 64 (one_of (codes "seed") (rows_of (found_of found.now))) result }
 {
     found.get_one("seed")
 }

@@ -9,7 +9,7 @@ ghost use Rattle.chip_bench.specs.SettingWords.{settings_asked, tape_asked};
 ghost use Rattle.chip_bench.specs.Running.{AnswersScript, RunsSession, status_of, failure_status, AreFaulty, IsWithoutWords, IsUnread, source_bytes_read};
 ghost use Rattle.chip_bench.specs.inner.Reads.{IsAsked, IsKeysUnread, IsUnasked, IsUsage};
 ghost use Rattle.chip_bench.specs.Doing.{Assembles, Checks, Debugs, Disassembles, Does, Ends, GivesSource, IsFileWritten, IsSourceUnread, Lists, Performs, Pictures, PicturesBy, PrintsPicture, Runs, ShowsVersion, WritesPicture};
-ghost use Rattle.chip_bench.specs.CommandWords.{faults_of};
+ghost use Rattle.chip_bench.specs.CommandWords.{word_faults};
 ghost use Rattle.std.specs.Io.KnownBytes.{Keeps};
 ghost use Rattle.std.specs.IoError.{error_kind};
 
@@ -63,16 +63,16 @@ pub fn program<F: Files, S: AsStr, I: Read, O: Write, E: Write>(
     ensures session { words.now ≡ [] → RunsSession I.remaining O.contents input.old input.new
         output.old output.new result }
     // Words with a fault are refused, and nothing is read or written.
-    ensures usage { AreFaulty (faults_of (map S.text words.now)) → ((result ≡ 2) ⊎ (result ≡ 4))
+    ensures usage { AreFaulty (word_faults (map S.text words.now)) → ((result ≡ 2) ⊎ (result ≡ 4))
         × (input.new ≡ input.old)
         × Keeps (O.contents output.old.inner) (O.contents output.new.inner) }
     // Words without a fault ask for something, and that is done.
-    ensures good { faults_of (map S.text words.now) ≡ [] → Ends O.contents (λ written ended.
+    ensures good { word_faults (map S.text words.now) ≡ [] → Ends O.contents (λ written ended.
         Performs I.remaining O.contents input.old input.new output.old written
         (map S.text words.now) ended)
         output.new result }
     // The version's word has the version printed.
-    ensures version { faults_of (map S.text words.now) ≡ ErrorKind.DisplayVersion ∷ []
+    ensures version { word_faults (map S.text words.now) ≡ ErrorKind.DisplayVersion ∷ []
         → Ends O.contents (λ written ended.
         ShowsVersion I.remaining O.contents input.old input.new output.old written ended)
         output.new result }
@@ -124,11 +124,11 @@ fn carry_out<'a, F: Files, S: AsStr, I: Read, O: Write>(
     ensures session { words.entry.now ≡ []
         → AnswersScript I.remaining O.contents default_settings []
         input.old input.new output.old output.new result }
-    ensures usage { AreFaulty (faults_of (map S.text words.entry.now)) → IsUsage result
+    ensures usage { AreFaulty (word_faults (map S.text words.entry.now)) → IsUsage result
         × (input.new ≡ input.old) × (output.new ≡ output.old) }
-    ensures good { faults_of (map S.text words.entry.now) ≡ [] → Performs I.remaining O.contents
+    ensures good { word_faults (map S.text words.entry.now) ≡ [] → Performs I.remaining O.contents
         input.old input.new output.old output.new (map S.text words.entry.now) result }
-    ensures version { faults_of (map S.text words.entry.now) ≡ ErrorKind.DisplayVersion ∷ []
+    ensures version { word_faults (map S.text words.entry.now) ≡ ErrorKind.DisplayVersion ∷ []
         → ShowsVersion I.remaining O.contents input.old input.new output.old output.new result }
 {
     match parse_words(alloc, words) {

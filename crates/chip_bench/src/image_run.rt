@@ -5,7 +5,7 @@ ghost use Rattle.std.specs.Option.{option_copied};
 ghost use Rattle.chip_replay.specs.Image.{AgreeOutside};
 ghost use Rattle.chip_replay.specs.Keys.{insert_fault, edit_fault};
 ghost use Rattle.chip_bench.specs.Session.{moment};
-ghost use Rattle.chip_bench.specs.Answers.{is_past_end, state_answer};
+ghost use Rattle.chip_bench.specs.Answers.{asks_past_end, state_answer};
 ghost use Rattle.chip_bench.specs.Kept.{empty_run, machine_after, FollowsImage, ReachesStep};
 ghost use Rattle.chip_bench.specs.inner.InStep.{TakesEvents, RunsOnly};
 
@@ -135,7 +135,7 @@ impl ImageRun {
         out: &mut Vec<u8>,
     ) -> Result<(), AllocError>
         requires step { step ≤ LAST_STEP }
-        requires inside { is_past_end asked ≡ false }
+        requires inside { asks_past_end asked ≡ false }
         requires empty { out.old.items ≡ [] }
         ensures answer { OnOk result (out.new.items
             ≡ state_answer asked (machine_after self.old step)) }

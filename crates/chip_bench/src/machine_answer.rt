@@ -2,8 +2,8 @@
 
 ghost use Rattle.std.specs.Prelude.{◌≡◌, ◌+◌, ◌*◌, ◌<◌, ◌≤◌, ◌^◌, ◌++◌, ◌∷◌, [], ℕ, List, false, IfOk, OnOk, slice_index};
 ghost use Rattle.chip_machine.specs.Step.{word_at};
-ghost use Rattle.chip_bench.specs.Answers.{is_past_end, picture_by, state_answer};
-ghost use Rattle.chip_bench.specs.MachineAnswers.{size_name, state_name, register_line, place_part, timer_part, condition_part, state_line, flag_line, registers_of, bytes_at, memory_of, word_line, disassembly_of, row_bytes, has_lit, row_line, row_lines, two_digits, screen_of};
+ghost use Rattle.chip_bench.specs.Answers.{asks_past_end, picture_by, state_answer};
+ghost use Rattle.chip_bench.specs.MachineAnswers.{size_name, state_name, register_line, place_part, timer_part, condition_part, state_line, flag_line, registers_of, bytes_at, memory_line, word_line, disassembly_of, stored_row, has_lit, row_line, row_lines, two_digits, screen_of};
 
 use crate::question::{PictureForm, StateQuestion};
 use crate::text::{
@@ -26,7 +26,7 @@ pub(crate) fn push_state(
     machine: &Machine,
     asked: StateQuestion,
 ) -> Result<(), AllocError>
-    requires inside { is_past_end asked ≡ false }
+    requires inside { asks_past_end asked ≡ false }
     requires empty { answer.old.items ≡ [] }
     ensures { OnOk result (answer.new.items ≡ state_answer asked machine.now) }
 {
@@ -149,7 +149,7 @@ fn push_state_name(answer: &mut Vec<u8>, stopped: Option<Stop>) -> Result<(), Al
 }
 
 /// Adds so many bytes from an address, in hexadecimal.
-#[tactic(auto, unfolding(crate::specs::MachineAnswers::memory_of))]
+#[tactic(auto, unfolding(crate::specs::MachineAnswers::memory_line))]
 pub(crate) fn push_memory(
     answer: &mut Vec<u8>,
     machine: &Machine,
@@ -157,7 +157,8 @@ pub(crate) fn push_memory(
     count: u16,
 ) -> Result<(), AllocError>
     requires { at + count ≤ MEMORY_BYTES }
-    ensures { OnOk result (answer.new.items ≡ answer.old.items ++ memory_of machine.now at count) }
+    ensures { OnOk result
+        (answer.new.items ≡ answer.old.items ++ memory_line machine.now at count) }
 {
     let start = usize::from(at);
     let end = start + usize::from(count);
@@ -273,9 +274,9 @@ fn has_lit(machine: &Machine, row: usize) -> bool
 }
 
 /// The points of a row, eight to a byte.
-#[tactic(auto, unfolding(crate::specs::MachineAnswers::row_bytes))]
+#[tactic(auto, unfolding(crate::specs::MachineAnswers::stored_row))]
 fn row_bytes(machine: &Machine, row: usize) -> [u8; 16]
-    ensures { result ≡ row_bytes machine.now.core.lit row }
+    ensures { result ≡ stored_row machine.now.core.lit row }
 {
     let points = machine.row(row);
     let mut bytes = [0; 16];

@@ -4,7 +4,7 @@ ghost use Rattle.chip_asm.specs.Lines.{lines_of, open_fault};
 ghost use Rattle.chip_asm.specs.Program.{image_of};
 ghost use Rattle.chip_views.specs.Dis.{source_of_image};
 ghost use Rattle.chip_bench.specs.Transcript.{refused};
-ghost use Rattle.chip_bench.specs.Printing.{Prints, Refuses, printed, printed_of, check_of_lines, faults_of_lines, listing_of_lines, run_of, picture_at, unanswered, keys_failure, PrintsUnder, PrintsUnless};
+ghost use Rattle.chip_bench.specs.Printing.{Prints, Refuses, printed, printed_of, printed_check, printed_faults, printed_listing, printed_run, printed_picture, unanswered, keys_failure, PrintsUnder, PrintsUnless};
 ghost use Rattle.chip_bench.specs.KeyFile.{key_fault, session_under};
 ghost use Rattle.chip_bench.specs.Running.{AnswersScript};
 ghost use Rattle.chip_bench.specs.Doing.{Explains};
@@ -90,7 +90,7 @@ pub(crate) fn list_source<'a, O: Write>(
     output: &mut Counted<O>,
 ) -> Result<Ending, Failure<'a>>
     ensures { Prints O.contents output.old output.new
-        (printed_of (open_fault source.items) (listing_of_lines (lines_of source.items))) result }
+        (printed_of (open_fault source.items) (printed_listing (lines_of source.items))) result }
 {
     match Source::open_bytes(alloc, source) {
         Ok(opened) => {
@@ -112,7 +112,7 @@ pub(crate) fn check_source<'a, O: Write>(
 ) -> Result<Ending, Failure<'a>>
     ensures { Prints O.contents output.old output.new
         (printed_of (open_fault source.now)
-        (check_of_lines name.now (lines_of source.now))) result }
+        (printed_check name.now (lines_of source.now))) result }
 {
     match Source::open(alloc, source) {
         Ok(opened) => print_check(alloc, name, source, &opened, output),
@@ -196,7 +196,7 @@ pub(crate) fn run_source<'a, O: Write>(
     output: &mut Counted<O>,
 ) -> Result<Ending, Failure<'a>>
     ensures { PrintsUnder O.contents output.old output.new settings source.now keys.now.bytes.items
-        (λ session. run_of session steps) result }
+        (λ session. printed_run session steps) result }
 {
     match Bench::open(alloc, source, settings) {
         Ok(mut bench) => print_run_under(alloc, &mut bench, keys, steps, output),
@@ -213,7 +213,7 @@ fn print_run_under<'a, O: Write>(
 ) -> Result<Ending, Failure<'a>>
     ensures { PrintsUnless O.contents output.old output.new
         (key_fault bench.old.session keys.now.bytes.items)
-        (run_of (session_under bench.old.session keys.now.bytes.items) steps) result }
+        (printed_run (session_under bench.old.session keys.now.bytes.items) steps) result }
 {
     match insert_keys(alloc, bench, &keys.bytes) {
         Ok(()) => print_run(alloc, bench, steps, output),
@@ -232,7 +232,7 @@ pub(crate) fn picture_source<'a, O: Write>(
     output: &mut Counted<O>,
 ) -> Result<Ending, Failure<'a>>
     ensures { PrintsUnder O.contents output.old output.new settings source.now keys.now.bytes.items
-        (λ session. picture_at session steps form) result }
+        (λ session. printed_picture session steps form) result }
 {
     match Bench::open(alloc, source, settings) {
         Ok(mut bench) => print_picture_under(alloc, &mut bench, keys, steps, form, output),
@@ -250,7 +250,7 @@ fn print_picture_under<'a, O: Write>(
 ) -> Result<Ending, Failure<'a>>
     ensures { PrintsUnless O.contents output.old output.new
         (key_fault bench.old.session keys.now.bytes.items)
-        (picture_at (session_under bench.old.session keys.now.bytes.items) steps form) result }
+        (printed_picture (session_under bench.old.session keys.now.bytes.items) steps form) result }
 {
     match insert_keys(alloc, bench, &keys.bytes) {
         Ok(()) => print_picture(alloc, bench, steps, form, output),
@@ -264,7 +264,7 @@ fn print_run<'a, O: Write>(
     steps: u32,
     output: &mut Counted<O>,
 ) -> Result<Ending, Failure<'a>>
-    ensures { Prints O.contents output.old output.new (run_of bench.old.session steps) result }
+    ensures { Prints O.contents output.old output.new (printed_run bench.old.session steps) result }
 {
     let mut answers = Vec::new(alloc);
     if let Err(why) = bench.ask(alloc, &Question::Registers { step: steps }, &mut answers) {
@@ -284,7 +284,7 @@ fn print_picture<'a, O: Write>(
     output: &mut Counted<O>,
 ) -> Result<Ending, Failure<'a>>
     ensures { Prints O.contents output.old output.new
-        (picture_at bench.old.session steps form) result }
+        (printed_picture bench.old.session steps form) result }
 {
     let mut picture = Vec::new(alloc);
     let question = Question::Picture { step: steps, form };
@@ -302,7 +302,7 @@ fn print_why<'a, O: Write>(
     output: &mut Counted<O>,
 ) -> Result<Ending, Failure<'a>>
     ensures why { Prints O.contents output.old output.new
-        (unanswered why (faults_of_lines bench.now.session.lines)) result }
+        (unanswered why (printed_faults bench.now.session.lines)) result }
     ensures memory { why ≡ Refusal.AnswerMemory
         → (result ≡ Err Failure.OutOfMemory) × (output.new ≡ output.old) }
 {
@@ -331,7 +331,7 @@ fn print_listing<'a, O: Write>(
     source: &Source,
     output: &mut Counted<O>,
 ) -> Result<Ending, Failure<'a>>
-    ensures { Prints O.contents output.old output.new (listing_of_lines source.now.lines) result }
+    ensures { Prints O.contents output.old output.new (printed_listing source.now.lines) result }
 {
     let listing = listing_answer(alloc, source)?;
     match source.image() {
@@ -349,7 +349,7 @@ fn print_check<'a, O: Write>(
 ) -> Result<Ending, Failure<'a>>
     requires { source.now.lines ≡ lines_of bytes.now }
     ensures { Prints O.contents output.old output.new
-        (check_of_lines name.now source.now.lines) result }
+        (printed_check name.now source.now.lines) result }
 {
     let text = check_text(alloc, name.as_bytes(), bytes, source)?;
     match source.image() {
@@ -363,7 +363,7 @@ fn print_faults<'a, O: Write>(
     source: &Source,
     output: &mut Counted<O>,
 ) -> Result<Ending, Failure<'a>>
-    ensures { Prints O.contents output.old output.new (faults_of_lines source.now.lines) result }
+    ensures { Prints O.contents output.old output.new (printed_faults source.now.lines) result }
 {
     let faults = faults_answer(alloc, source)?;
     print(&faults, Ending::Faulty, output)

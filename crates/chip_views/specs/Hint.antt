@@ -32,9 +32,9 @@ abbrev pub is_unprintable : List ℕ → Bool
 is_unprintable line = list_any (λ b. nat_lt b 9) line
 
 -- 0x or 0X at the front
-abbrev pub is_hexadecimal : List ℕ → Bool
-is_hexadecimal (a ∷ b ∷ bytes) = a == 48 && (b == 120 || b == 88)
-is_hexadecimal bytes = false
+abbrev pub begins_with_0x : List ℕ → Bool
+begins_with_0x (a ∷ b ∷ bytes) = a == 48 && (b == 120 || b == 88)
+begins_with_0x bytes = false
 
 abbrev pub is_kind_of_sign : ℕ → Kind → Bool
 is_kind_of_sign c (Sign d) = c == d
@@ -92,7 +92,7 @@ abbrev pub hint_of_character : (line rest : List ℕ) → Option Hint
 hint_of_character line rest =
     if is_marked line then Some ByteOrderMark
     else (if is_unprintable line then Some NotText
-    else (if is_hexadecimal rest then Some Hexadecimal else None))
+    else (if begins_with_0x rest then Some Hexadecimal else None))
 
 abbrev pub hint_by_fault : Fault → (line rest : List ℕ) → Option Hint
 hint_by_fault BadCharacter line rest = hint_of_character line rest

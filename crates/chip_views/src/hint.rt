@@ -5,7 +5,7 @@ ghost use Rattle.chip_lang.specs.Line.{reading_of};
 ghost use Rattle.chip_lang.specs.SeenLine.{seen_line};
 ghost use Rattle.chip_lang.specs.Scan.{AreTokens};
 ghost use Rattle.chip_lang.specs.computed.Tokens.{tokens_of};
-ghost use Rattle.chip_views.specs.Hint.{sentence_of_hint, is_marked, is_unprintable, is_hexadecimal, is_kind_of_sign, begins_with, has_twice, is_atom, is_text, is_long_text, hint_between, hint_of_operands, is_read, hint_of_word, hint_of_operators, hint_of_character, hint_by_fault, is_of_form, hint_of};
+ghost use Rattle.chip_views.specs.Hint.{sentence_of_hint, is_marked, is_unprintable, begins_with_0x, is_kind_of_sign, begins_with, has_twice, is_atom, is_text, is_long_text, hint_between, hint_of_operands, is_read, hint_of_word, hint_of_operators, hint_of_character, hint_by_fault, is_of_form, hint_of};
 
 use chip_lang::{Fault, Kind, Line, Meter, Token, read_line, tokens};
 use std::alloc::{AllocError, Global};
@@ -125,7 +125,7 @@ fn is_unprintable(line: &[u8]) -> bool
 }
 
 fn is_hexadecimal(bytes: &[u8]) -> bool
-    ensures { result ≡ is_hexadecimal bytes.now }
+    ensures { result ≡ begins_with_0x bytes.now }
 {
     match bytes {
         [a, b, ..] => *a == b'0' && (*b == b'x' || *b == b'X'),

@@ -4,7 +4,7 @@ use Rattle.std.specs.Prelude.{◌≡◌, ◌⊎◌, ℕ, List, Option, Some, Non
 use Rattle.std.specs.Borrow.{Bor}
 use Rattle.chip_asm.specs.Lines.{lines_of, open_fault}
 use Rattle.chip_bench.specs.Doing.{IsShort, Outcome, WithAsked, image_in}
-use Rattle.chip_bench.specs.Printing.{Prints, faults_of_lines, printed_of}
+use Rattle.chip_bench.specs.Printing.{Prints, printed_faults, printed_of}
 use Rattle.chip_bench.specs.Running.{IsUnread, failure_status}
 use Rattle.chip_bench.specs.SettingWords.{settings_asked}
 use Rattle.chip_bench.specs.Tally.{Tally}
@@ -44,7 +44,7 @@ module _ {W : Type 0} (contents : W → Option (List ℕ)) (out_old out_new : Ta
   IsImageOrFaults source None =
       (image_in source ≡ None)
       × Prints contents out_old out_new
-      (printed_of (open_fault source) (faults_of_lines (lines_of source))) (Ok Faulty)
+      (printed_of (open_fault source) (printed_faults (lines_of source))) (Ok Faulty)
 
   -- there was no memory, or the faults couldn't be printed
   abbrev pub IsImageHindered : List ℕ → Failure → Type 0
@@ -52,4 +52,4 @@ module _ {W : Type 0} (contents : W → Option (List ℕ)) (out_old out_new : Ta
       (IsShort why × (out_new ≡ out_old))
       ⊎ ((image_in source ≡ None)
       × Prints contents out_old out_new
-      (printed_of (open_fault source) (faults_of_lines (lines_of source))) (Err why))
+      (printed_of (open_fault source) (printed_faults (lines_of source))) (Err why))

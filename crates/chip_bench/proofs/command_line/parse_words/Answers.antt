@@ -3,7 +3,7 @@ use Rattle.std.proofs.lemmas.List.{nil_from_length}
 use Rattle.std.proofs.lemmas.Result.{err_from_is_err_and}
 use Rattle.clap.specs.Words.{App, FailsBy, app_of, fault_of, found_of, is_simple_and_free, rows_of}
 use Rattle.chip_bench.specs.CommandLine as line
-use Rattle.chip_bench.specs.CommandWords.{AsksFor, faults_of}
+use Rattle.chip_bench.specs.CommandWords.{AsksFor, word_faults}
 use Rattle.chip_bench.specs.SettingWords.{default_words}
 use Rattle.chip_bench.specs.declared.command_line.CommandLine.TheVariants.{Debug}
 use Rattle.chip_bench.proofs.CommandExamples.{is_exact, is_plain, no_words, no_words_no_command}
@@ -23,7 +23,7 @@ pub returns-then-is_empty-clause-fault : goal.returns-then-is_empty-clause-fault
 returns-then-is_empty-clause-fault g c =
     let none : c.args.words.now ≡ [] = nil_from_length c.args.words.now (grind (arith, c.is_empty.ensures, c.if-is_empty.true)) in
     let words_none : map g.S.AsStr.text c.args.words.now ≡ [] = ap (map g.S.AsStr.text) none in
-    subst (λ (words : List (List ℕ)). faults_of words ≡ []) (sym words_none) (without_command [] no_words no_words_no_command)
+    subst (λ (words : List (List ℕ)). word_faults words ≡ []) (sym words_none) (without_command [] no_words no_words_no_command)
 
 pub returns-then-is_empty-clause-asked : goal.returns-then-is_empty-clause-asked
 returns-then-is_empty-clause-asked g c =
