@@ -13,7 +13,7 @@ use Rattle.chip_lang.specs.declared.fault.Fault.TheVariants.{DefinedTwice, Stray
 use Rattle.chip_lang.specs.Line.{Body, else_line, endif, Reading, bad, read, fault_if, first_fault as first_fault_of}
 use Rattle.chip_asm.specs.Layout.{Placed, body_of, is_side_or_end, is_origin, is_align, is_align_off_body, first_of, has_else, has_ended, holds, is_redefinition, is_negative_space, is_backwards, is_past_end, value_at, value_or_zero, full_size}
 use Rattle.chip_asm.specs.computed.Walk.{place, placed, is_aligning, address, symbols, enclosing, is_live, is_misplaced, first_fault, fault_of_value}
-use Rattle.chip_asm.specs.Places.{Passes, IsLast, IsFromLast, Encloses, IsLive, sizes, fault_in_value, is_stray, faults_in_order, IsPlaced, ArePlaced}
+use Rattle.chip_asm.specs.Places.{Passes, IsLast, IsFromLast, Encloses, IsLive, sizes, fault_in_value, is_stray, first_pass_faults, IsPlaced, ArePlaced}
 use Rattle.chip_asm.proofs.BlockSteps.{reverse-cons}
 use Rattle.chip_asm.proofs.LastLine.{at-end, one-side, same-there, Search, found, nowhere, search-last, Opener, opener, closed, last-opener, all-enclosing, enclosing-all, any-turned}
 use Rattle.chip_asm.proofs.Placing.{onto}
@@ -212,7 +212,7 @@ with_parts number line block condition live here value fault size =
 
 -- of the parts of a line that its fault depends on
 abbrev looked_for : List Placed → Bool → Reading → Option ℕ → ℕ → ℤ → List (Option Fault)
-looked_for before aligning line block here value = faults_in_order before aligning (with_parts 0 line block false false here value None 0)
+looked_for before aligning line block here value = first_pass_faults before aligning (with_parts 0 line block false false here value None 0)
 
 fault-same : (r : List Placed) (line : Reading)
     → first_fault_of (looked_for (reverse r) (is_aligning r) line (block_in r) (address r) (value_or_zero (value_at (symbols r) (body_of line)))) ≡ first_fault r line

@@ -76,8 +76,8 @@ is_stray before (Some number) body =
     is_else_body body && list_any (λ q. is_else q && is_number number q.block) before
 
 -- those of a line, in the order in which they are looked for
-abbrev pub faults_in_order : List Placed → Bool → Placed → List (Option Fault)
-faults_in_order before aligning p =
+abbrev pub first_pass_faults : List Placed → Bool → Placed → List (Option Fault)
+first_pass_faults before aligning p =
     fault_of_reading p.line
     ∷ fault_if (is_stray before p.block (body_of p.line)) StrayBranch
     ∷ fault_if (is_redefinition (names_given before) (name_defined p.line)) DefinedTwice
@@ -104,7 +104,7 @@ pub record IsPlaced (before : List Placed) (line : Reading) (p : Placed) : Type 
   pub aligning : Bool
   pub is_aligning : IsFromLast (Passes is_align before)
       (λ j p. not (is_align_off_body (body_of p.line))) true aligning
-  pub fault : p.fault ≡ (if p.live then first_fault (faults_in_order before aligning p) else None)
+  pub fault : p.fault ≡ (if p.live then first_fault (first_pass_faults before aligning p) else None)
   pub size : p.size
       ≡ (if takes_effect p then full_size aligning p.here (body_of line) p.value else 0)
 

@@ -4,7 +4,6 @@ use Rattle.std.specs.Prelude.{ℕ, ◌+◌, ◌*◌, Bool, false, List, [], ◌�
 use Rattle.std.specs.List.{flat_map}
 use Rattle.std.specs.Fmt.{decimal, signed_decimal}
 use Rattle.chip_lang.specs.declared.limits.TheConstants.{MEMORY_BYTES}
-use Rattle.hex.specs.Hex.{encode_lower}
 use Rattle.chip_lang.specs.declared.fault.Fault.{Fault}
 use Rattle.chip_lang.specs.FaultNumber.{number_of_fault}
 use Rattle.chip_asm.specs.declared.table.Symbol.{Symbol}
@@ -21,6 +20,7 @@ use Rattle.chip_views.specs.Picture.{picture_of}
 use Rattle.chip_views.specs.Png.{png_of}
 use Rattle.chip_bench.specs.Session.{Session}
 use Rattle.chip_bench.specs.MachineAnswers.{registers_of, memory_line, screen_of, disassembly_of}
+use Rattle.chip_bench.specs.Text.{full_stop, hex_line}
 use Rattle.chip_bench.specs.declared.refusal.Refusal.{Refusal}
 use Rattle.chip_bench.specs.declared.refusal.Refusal.TheVariants.{NoImage, StepPastLast, AddressPastEnd}
 use Rattle.chip_bench.specs.declared.question.Question.{Question}
@@ -30,17 +30,9 @@ use Rattle.chip_bench.specs.declared.question.PictureForm.TheVariants as form
 use Rattle.chip_bench.specs.declared.question.StateQuestion.{StateQuestion}
 use Rattle.chip_bench.specs.declared.question.StateQuestion.TheVariants as state
 
--- a line of bytes in lower case hexadecimal
-abbrev pub hex_line : List ℕ → List ℕ
-hex_line bytes = encode_lower bytes ++ 10 ∷ []
-
 abbrev pub image_answer : Option (List ℕ) → Result (List ℕ) Refusal
 image_answer None = Err NoImage
 image_answer (Some bytes) = Ok (hex_line bytes)
-
--- the line that ends an answer of many lines
-abbrev pub full_stop : List ℕ
-full_stop = codes "." ++ 10 ∷ []
 
 -- a name, its value and its line
 abbrev pub symbol_line : List ℕ × Symbol → List ℕ

@@ -3,7 +3,6 @@
 use Rattle.std.specs.Prelude.{ℕ, ◌+◌, ◌*◌, Bool, List, [], ◌∷◌, ◌++◌, map, Option, Some, None, if◌then◌else◌, slice_range, codes, nat_lt}
 use Rattle.std.specs.List.{flat_map, list_any, range_with_len}
 use Rattle.std.specs.Fmt.{decimal}
-use Rattle.hex.specs.Hex.{encode_lower}
 use Rattle.chip_lang.specs.Show.{show_of}
 use Rattle.chip_machine.specs.declared.stop.Stop.{Stop}
 use Rattle.chip_machine.specs.Numbers.{stop_number}
@@ -11,7 +10,7 @@ use Rattle.chip_machine.specs.Points.{Points, is_lit}
 use Rattle.chip_machine.specs.State.{Core, State}
 use Rattle.chip_machine.specs.Step.{word_at}
 use Rattle.chip_views.specs.Bitmap.{eight_bits}
-use Rattle.chip_bench.specs.Text.{hex_byte, hex_word, spaced}
+use Rattle.chip_bench.specs.Text.{full_stop, hex_byte, hex_line, hex_word, spaced}
 
 -- ---- regs
 
@@ -59,7 +58,7 @@ abbrev pub bytes_at : State → ℕ → ℕ → List ℕ
 bytes_at s at count = slice_range s.memory at (at + count)
 
 unfoldable pub memory_line : State → ℕ → ℕ → List ℕ
-memory_line s at count = encode_lower (bytes_at s at count) ++ 10 ∷ []
+memory_line s at count = hex_line (bytes_at s at count)
 
 -- ---- dis
 
@@ -72,8 +71,7 @@ word_line s at =
 -- so many words from an address
 unfoldable pub disassembly_of : State → ℕ → ℕ → List ℕ
 disassembly_of s at count =
-    flat_map (λ place. word_line s (at + 2 * place)) (range_with_len 0 count) ++ codes "."
-    ++ 10 ∷ []
+    flat_map (λ place. word_line s (at + 2 * place)) (range_with_len 0 count) ++ full_stop
 
 -- ---- screen
 
@@ -96,7 +94,7 @@ two_digits n = if nat_lt n 10 then 48 ∷ decimal n else decimal n
 unfoldable pub row_line : Points → ℕ → List ℕ
 row_line lit row =
     if has_lit lit row
-    then two_digits row ++ codes " " ++ encode_lower (stored_row lit row) ++ 10 ∷ []
+    then two_digits row ++ codes " " ++ hex_line (stored_row lit row)
     else []
 
 -- the rows with a lit point, from the top
@@ -104,4 +102,4 @@ unfoldable pub row_lines : Points → List ℕ
 row_lines lit = flat_map (row_line lit) (range_with_len 0 64)
 
 unfoldable pub screen_of : State → List ℕ
-screen_of s = size_name s.core.high ++ 10 ∷ [] ++ row_lines s.core.lit ++ codes "." ++ 10 ∷ []
+screen_of s = size_name s.core.high ++ 10 ∷ [] ++ row_lines s.core.lit ++ full_stop

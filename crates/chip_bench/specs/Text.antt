@@ -1,5 +1,5 @@
 -- Pieces of answers (own).
-use Rattle.std.specs.Prelude.{ℕ, ◌/◌, ◌%◌, List, [], ◌∷◌}
+use Rattle.std.specs.Prelude.{ℕ, ◌/◌, ◌%◌, List, [], ◌∷◌, ◌++◌, codes}
 use Rattle.std.specs.List.{flat_map}
 use Rattle.hex.specs.Hex.{encode_lower}
 
@@ -14,3 +14,11 @@ hex_word w = encode_lower (w / 256 ∷ w % 256 ∷ [])
 -- each item after a space
 abbrev pub spaced : (ℕ → List ℕ) → List ℕ → List ℕ
 spaced text items = flat_map (λ item. 32 ∷ text item) items
+
+-- a line of bytes in lower case hexadecimal
+abbrev pub hex_line : List ℕ → List ℕ
+hex_line bytes = encode_lower bytes ++ 10 ∷ []
+
+-- the line that ends an answer of many lines
+abbrev pub full_stop : List ℕ
+full_stop = codes "." ++ 10 ∷ []

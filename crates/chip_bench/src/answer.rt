@@ -2,7 +2,8 @@
 ghost use Rattle.std.specs.Prelude.{◌≡◌, ◌++◌, IfOk, OnOk};
 ghost use Rattle.chip_asm.specs.Program.{symbols_of, faults_of};
 ghost use Rattle.chip_asm.specs.Listing.{listing_of};
-ghost use Rattle.chip_bench.specs.Answers.{hex_line, symbol_line, symbols_text, fault_line, faults_text, listing_text};
+ghost use Rattle.chip_bench.specs.Text.{hex_line};
+ghost use Rattle.chip_bench.specs.Answers.{symbol_line, symbols_text, fault_line, faults_text, listing_text};
 
 use crate::text::{push_decimal, push_hex, push_signed};
 use chip_asm::{Source, Symbol};
