@@ -37,6 +37,33 @@ pub(crate) struct Edited<'a> {
     pub(crate) traits: &'a [Traits],
 }
 
+/// Whether the eight lines from a place on are steady. All eight are asked before the one branch.
+fn are_eight_steady(traits: &[Traits], place: usize) -> bool
+    requires { place + 8 ≤ length traits.now }
+    ensures { (index : ℕ) (other : Traits) → result ≡ true → index < 8
+        → (slice_index_or traits.now (place + index) other).is_steady ≡ true }
+{
+    let mut steady = true;
+    for index in 0..8 {
+        steady &= traits[place + index].is_steady;
+    }
+    steady
+}
+
+/// So many of the first lines before a place that are steady, as are known by eights.
+fn steady_by_eights(traits: &[Traits], place: usize) -> usize
+    requires { place ≤ length traits.now }
+    ensures within { result ≤ place }
+    ensures steady { (index : ℕ) (other : Traits) → index < result
+        → (slice_index_or traits.now index other).is_steady ≡ true }
+{
+    let mut count = 0;
+    while place - count >= 8 && are_eight_steady(traits, count) {
+        count += 8;
+    }
+    count
+}
+
 /// How many lines before a place are steady, up to the first that isn't.
 fn steady_lines(traits: &[Traits], place: usize) -> usize
     requires { place ≤ length traits.now }
@@ -44,7 +71,7 @@ fn steady_lines(traits: &[Traits], place: usize) -> usize
     ensures steady { (index : ℕ) (other : Traits) → index < result
         → (slice_index_or traits.now index other).is_steady ≡ true }
 {
-    for index in 0..place {
+    for index in steady_by_eights(traits, place)..place {
         if !traits[index].is_steady {
             return index;
         }

@@ -47,9 +47,27 @@ fn end_before(placements: &[Placement], place: usize) -> usize
     }
 }
 
+/// Copies so many bytes of an image from one place to another one. They go by way of a buffer, so
+/// that all are copied at once where the two places are as near as a line is long.
+fn copy_bytes(image: &mut [u8], from: usize, to: usize, count: usize)
+    requires count { count ≤ IMAGE_BYTES }
+    requires from { from + count ≤ length image.old }
+    requires to { to + count ≤ length image.old }
+    ensures long { length image.new ≡ length image.old }
+    ensures before { (index : ℕ) → index < to
+        → slice_index image.new index ≡ slice_index image.old index }
+    ensures copied { (index : ℕ) → to ≤ index → index < to + count
+        → slice_index image.new index ≡ slice_index image.old (from + (index - to)) }
+{
+    let mut buffer = [0; IMAGE_BYTES];
+    buffer[..count].copy_from_slice(&image[from..from + count]);
+    image[to..to + count].copy_from_slice(&buffer[..count]);
+}
+
 /// Moves the bytes from one place on to another one, and makes those between the first place and
 /// there zero.
 fn move_bytes(image: &mut [u8], first: usize, from: usize, to: usize)
+    requires long { length image.old ≡ IMAGE_BYTES }
     requires from { first ≤ from }
     requires to { first ≤ to }
     requires from_end { from ≤ length image.old }
@@ -60,7 +78,7 @@ fn move_bytes(image: &mut [u8], first: usize, from: usize, to: usize)
 {
     let len = image.len();
     let count = len - from.max(to);
-    image.copy_within(from..from + count, to);
+    copy_bytes(image, from, to, count);
     for index in to + count..len {
         image[index] = 0;
     }

@@ -1,5 +1,5 @@
 //! How far the lines after an edit move, where they do nothing else.
-ghost use Rattle.std.specs.Prelude.{◌≡◌, ◌≤◌, ◌++◌, true, OnOk, drop, length, map};
+ghost use Rattle.std.specs.Prelude.{◌≡◌, ℕ, ◌+◌, ◌<◌, ◌≤◌, ◌++◌, true, OnOk, drop, length, map, slice_index_or};
 ghost use Rattle.std.specs.List.{list_all};
 ghost use Rattle.chip_asm.specs.inner.Placements.{is_placed};
 ghost use Rattle.chip_asm.specs.inner.Records.{IsPlaceWithin, readings_in};
@@ -121,6 +121,34 @@ pub(crate) fn takes_steady(lines: &[BoxedLine], edit: &Edit) -> bool
     }
 }
 
+/// Whether the first pass asks only the size of the statement of each of the eight lines from a
+/// place on. All eight are asked before the one branch.
+fn are_eight_plain(traits: &[Traits], place: usize) -> bool
+    requires { place + 8 ≤ length traits.now }
+    ensures { (index : ℕ) (other : Traits) → result ≡ true → index < 8
+        → (slice_index_or traits.now (place + index) other).is_plain ≡ true }
+{
+    let mut plain = true;
+    for index in 0..8 {
+        plain &= traits[place + index].is_plain;
+    }
+    plain
+}
+
+/// The same as `first_plain`, or a later place: the lines before it were looked at by eights.
+fn first_plain_by_eights(traits: &[Traits], lowest: usize) -> usize
+    requires { lowest ≤ length traits.now }
+    ensures low { lowest ≤ result }
+    ensures within { result ≤ length traits.now }
+    ensures plain { list_all (λ t. t.is_plain) (drop result traits.now) ≡ true }
+{
+    let mut place = traits.len();
+    while place - lowest >= 8 && are_eight_plain(traits, place - 8) {
+        place -= 8;
+    }
+    place
+}
+
 /// The first place, from a lowest one on, from which the first pass asks only the size of the
 /// statement of each line.
 pub(crate) fn first_plain(traits: &[Traits], lowest: usize) -> usize
@@ -129,7 +157,7 @@ pub(crate) fn first_plain(traits: &[Traits], lowest: usize) -> usize
     ensures within { result ≤ length traits.now }
     ensures plain { list_all (λ t. t.is_plain) (drop result traits.now) ≡ true }
 {
-    let mut place = traits.len();
+    let mut place = first_plain_by_eights(traits, lowest);
     while place > lowest {
         if !traits[place - 1].is_plain {
             return place;

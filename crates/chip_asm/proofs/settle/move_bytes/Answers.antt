@@ -11,7 +11,7 @@ returns c = λ k h. by k h (ltb k c.args.first) (ltb k c.args.to) (ltb k (c.args
     by k h true b n is_a is_b is_n =
         let below : k < c.args.first = ltb-true k _ is_a in
         let under : k < c.args.to = omega (arith, c.requires.to) in
-        c.loop-index-2.invariant.1 k below ∙ c.loop-index.invariant.1 k (omega arith) ∙ c.copy_within.ensures.by_index.1 k 0 under
+        c.loop-index-2.invariant.1 k below ∙ c.loop-index.invariant.1 k (omega arith) ∙ c.copy_bytes.ensures.before k under
     by k h false true n is_a is_b is_n =
         let low : c.args.first ≤ k = ltb-false k _ is_a in
         let under : k < c.args.to = ltb-true k _ is_b in
@@ -20,7 +20,7 @@ returns c = λ k h. by k h (ltb k c.args.first) (ltb k c.args.to) (ltb k (c.args
         let past : c.args.to ≤ k = ltb-false k _ is_b in
         let within = ltb-true k _ is_n in
         let place : c.args.from + (k - c.args.to) ≡ k - c.args.to + c.args.from = omega arith in
-        c.loop-index-2.invariant.2 k past ∙ c.loop-index.invariant.1 k within ∙ c.copy_within.ensures.by_index.0 k 0 past (omega arith) ∙ ap (λ i. get_or c.args.image.now i 0) place
+        c.loop-index-2.invariant.2 k past ∙ c.loop-index.invariant.1 k within ∙ c.copy_bytes.ensures.copied k past (omega arith) ∙ ap (λ i. get_or c.args.image.now i 0) place
     by k h false false false is_a is_b is_n =
         let past : c.args.to ≤ k = ltb-false k _ is_b in
         let beyond = ltb-false k _ is_n in
