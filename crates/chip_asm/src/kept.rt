@@ -6,7 +6,7 @@ ghost use Rattle.chip_lang.specs.SeenLine.{seen_line};
 ghost use Rattle.chip_asm.specs.Edits.{before_replace};
 ghost use Rattle.chip_asm.specs.inner.Effect.{HasSameEffectAt};
 ghost use Rattle.chip_asm.specs.Program.{image_of_lines};
-ghost use Rattle.chip_asm.specs.inner.Records.{IsPlaceWithin, count_after, lines_after, reading_in, readings_in, texts_in, place_before};
+ghost use Rattle.chip_asm.specs.inner.Records.{IsPlaceWithin, count_after, lines_after, reading_in, readings_in, texts_in};
 ghost use Rattle.chip_asm.specs.Work.{needs_count};
 ghost use Rattle.chip_asm.specs.inner.Layouts.{IsLayoutOf, IsSpareFor};
 ghost use Rattle.chip_asm.specs.inner.Resume.{first_changed};

@@ -1,5 +1,5 @@
 //! Edits by which no name comes or goes, and of which the first pass asks only the size.
-ghost use Rattle.std.specs.Prelude.{◌≡◌, ℕ, ◌+◌, ◌<◌, ◌≤◌, ◌++◌, false, true, IfOk, IfSome, OnOk, drop, length, map, option_to_list, slice_index_or, take, vec_len};
+ghost use Rattle.std.specs.Prelude.{◌≡◌, ◌+◌, ◌<◌, ◌≤◌, ◌++◌, false, true, IfOk, IfSome, OnOk, drop, length, map, option_to_list, take, vec_len};
 ghost use Rattle.std.specs.List.{list_all};
 ghost use Rattle.chip_asm.specs.inner.Layouts.{IsLayoutOf};
 ghost use Rattle.chip_asm.specs.inner.Hints.{names_in};

@@ -5,7 +5,7 @@ ghost use Rattle.chip_lang.specs.SeenLine.{seen_line};
 ghost use Rattle.chip_lang.specs.Uses.{agree_on};
 ghost use Rattle.chip_lang.specs.Code.{code_of};
 ghost use Rattle.chip_asm.specs.inner.Hints.{names_in, hint_in};
-ghost use Rattle.chip_asm.specs.inner.Recode.{has_code, is_placed_at, is_encoded_again, codes_up_to, count_up_to, new_codes, count_again};
+ghost use Rattle.chip_asm.specs.inner.Recode.{has_code, is_placed_at, is_encoded_again, new_codes, count_again};
 ghost use Rattle.chip_asm.specs.inner.Moves.{SaysMove, AreMoves};
 ghost use Rattle.chip_asm.specs.declared.recode.Moved.{Moved};
 ghost use Rattle.std.specs.Option.{option_map_or};
