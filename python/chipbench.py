@@ -285,6 +285,11 @@ def split_lines(source: bytes) -> list[bytes]:
     return lines + [last] if last else lines
 
 
+def join_lines(lines: Iterable[bytes]) -> bytes:
+    """A source that has these lines. A CR at a line's end gets a second one, since one is dropped."""
+    return b"".join(line + (b"\r\n" if line.endswith(b"\r") else b"\n") for line in lines)
+
+
 @dataclass(frozen=True)
 class Fault:
     """A fault of a line. `start` and `end` are byte positions in the line, which only `check` tells."""
@@ -570,8 +575,7 @@ class Bench:
         handle, name = tempfile.mkstemp(prefix="chipbench-", suffix=".asm")
         try:
             with os.fdopen(handle, "wb") as file:
-                # a CR at a line's end would be dropped without a second one
-                file.write(b"".join(line + (b"\r\n" if line.endswith(b"\r") else b"\n") for line in self.lines))
+                file.write(join_lines(self.lines))
             try:
                 self._running = Program([self.program, "debug", *self._options, name])
             except OSError as error:

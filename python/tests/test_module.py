@@ -53,7 +53,8 @@ class Edits(Opened):
 
     def test_text_is_kept_as_it_is(self) -> None:
         bench = self.bench("")
-        for text in ("", "  CLS  ", "; ; ü", b"; \xff\x00"):
+        texts: list[str | bytes] = ["", "  CLS  ", "; ; ü", b"; \xff\x00"]
+        for text in texts:
             bench.insert(len(bench.lines) + 1, text)
         shown = [line.text.encode("utf-8", "surrogateescape") for line in bench.listing]
         self.assertEqual(shown, [b"", b"  CLS  ", "; ; ü".encode(), b"; \xff\x00"])
