@@ -366,10 +366,14 @@ class Protocol(Served):
         client.send({"id": 99, "result": None})
         client.tell("$/setTrace", {"value": "off"})
         self.assertEqual(client.refused("textDocument/nothing", {})[0], -32601)
-        for params in (None, {}, [], {"textDocument": 5}, {"textDocument": {"uri": URI}}, {"textDocument": {"uri": [1]}},
-                       {"textDocument": {"uri": URI}, "position": {"line": -1, "character": 0}},
-                       {"textDocument": {"uri": URI}, "position": {"line": "1", "character": 0}},
-                       {"textDocument": {"uri": "file:///none"}, "position": {"line": 0, "character": 0}}):
+        position = {"line": -1, "character": 0}
+        wrong: list[Any] = [
+            None, {}, [], {"textDocument": 5}, {"textDocument": {"uri": URI}}, {"textDocument": {"uri": [1]}},
+            {"textDocument": {"uri": URI}, "position": position},
+            {"textDocument": {"uri": URI}, "position": {"line": "1", "character": 0}},
+            {"textDocument": {"uri": "file:///none"}, "position": {"line": 0, "character": 0}},
+        ]
+        for params in wrong:
             self.assertEqual(client.refused("textDocument/hover", params)[0], -32602, params)
 
     def test_a_bad_change_is_left_out_as_a_whole(self) -> None:
