@@ -68,6 +68,7 @@ end
 
 vim.cmd('filetype plugin indent on')
 vim.cmd('syntax on')
+vim.o.showmode = false
 require('chipbench').setup({ cmd = { vim.env.CHIPBENCH_LSP }, settings = { program = vim.env.CHIPBENCH } })
 
 test('the file type is found by the content', function()

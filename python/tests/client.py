@@ -2,10 +2,14 @@
 
 from __future__ import annotations
 
+import atexit
+import functools
 import json
+import os
 import queue
 import subprocess
 import sys
+import tempfile
 import threading
 from pathlib import Path
 from typing import Any
@@ -15,12 +19,23 @@ URI = "file:///tmp/game.asm"
 SECONDS = 20.0
 
 
+@functools.cache
+def compiled_folder() -> str:
+    """Where the servers of these tests keep their compiled modules, so that only the first one compiles them."""
+    folder = tempfile.TemporaryDirectory(prefix="chipbench-tests-")
+    atexit.register(folder.cleanup)
+    return folder.name
+
+
 class Client:
     """One running server. Messages are sent as they are; what comes back is sorted into answers and notifications."""
 
     def __init__(self, program: str | None, *, options: Any = None, capabilities: Any = None, ready: bool = True) -> None:
-        words = [sys.executable, "-B", str(SERVER)] + (["--program", program] if program else [])
-        self.process = subprocess.Popen(words, stdin=subprocess.PIPE, stdout=subprocess.PIPE, stderr=subprocess.PIPE)
+        words = [sys.executable, str(SERVER)] + (["--program", program] if program else [])
+        places = {**os.environ, "PYTHONPYCACHEPREFIX": compiled_folder()}
+        self.process = subprocess.Popen(
+            words, stdin=subprocess.PIPE, stdout=subprocess.PIPE, stderr=subprocess.PIPE, env=places
+        )
         self._answers: queue.Queue[dict[str, Any]] = queue.Queue()
         self.told: queue.Queue[dict[str, Any]] = queue.Queue()
         self._last = 0
