@@ -57,8 +57,11 @@ function lens(found) {
 }
 
 function action(found) {
-  const made = new vscode.CodeAction(found.title, vscode.CodeActionKind.Source);
+  const isFix = found.kind === 'quickfix';
+  const made = new vscode.CodeAction(found.title, isFix ? vscode.CodeActionKind.QuickFix : vscode.CodeActionKind.Source);
   made.command = found.command;
+  made.edit = found.edit && workspaceEdit(found.edit);
+  made.isPreferred = found.isPreferred;
   return made;
 }
 

@@ -17,7 +17,7 @@ from typing import Any, BinaryIO, NoReturn
 import chipbench
 from chipbench import Bench, ChipbenchError, Fault
 
-from . import completion, diagnostics, hover, layout, names, runs
+from . import completion, diagnostics, fixes, hover, layout, names, runs
 from .document import Document, OverLimits
 from .positions import Columns, choose_unit
 from .wire import (
@@ -274,7 +274,7 @@ class Server:
             "documentFormattingProvider": True,
             "documentRangeFormattingProvider": True,
             "codeLensProvider": {},
-            "codeActionProvider": {"codeActionKinds": ["source"]},
+            "codeActionProvider": {"codeActionKinds": ["quickfix", "source"]},
             "executeCommandProvider": {"commands": [runs.COMMAND]},
         }
 
@@ -459,7 +459,10 @@ REQUESTS: dict[str, Handler] = {
     "textDocument/documentSymbol": whole(names.symbols),
     "textDocument/foldingRange": whole(layout.folds),
     "textDocument/codeLens": whole(runs.lenses),
-    "textDocument/codeAction": lambda server, document, params: runs.actions(document, params["range"]["start"]["line"]),
+    "textDocument/codeAction": lambda server, document, params: [
+        *fixes.fixes(document, params["range"]["start"]["line"]),
+        *runs.actions(document, params["range"]["start"]["line"]),
+    ],
     "textDocument/inlayHint": lambda server, document, params: layout.hints(document, *lines_of(params)),
     "textDocument/formatting": lambda server, document, params: layout.format_lines(
         document, 0, document.line_count, server.open_bench

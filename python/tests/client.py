@@ -7,6 +7,7 @@ import functools
 import json
 import os
 import queue
+import shutil
 import subprocess
 import sys
 import tempfile
@@ -20,22 +21,22 @@ SECONDS = 20.0
 
 
 @functools.cache
-def compiled_folder() -> str:
-    """Where the servers of these tests keep their compiled modules, so that only the first one compiles them."""
+def copied_server() -> str:
+    """A copy of the server for these tests, beside which Python may keep it compiled."""
     folder = tempfile.TemporaryDirectory(prefix="chipbench-tests-")
     atexit.register(folder.cleanup)
-    return folder.name
+    shutil.copy(SERVER.parent / "chipbench.py", folder.name)
+    copied = shutil.copytree(SERVER, Path(folder.name) / SERVER.name, ignore=shutil.ignore_patterns("__pycache__"))
+    return str(copied)
 
 
 class Client:
     """One running server. Messages are sent as they are; what comes back is sorted into answers and notifications."""
 
     def __init__(self, program: str | None, *, options: Any = None, capabilities: Any = None, ready: bool = True) -> None:
-        words = [sys.executable, str(SERVER)] + (["--program", program] if program else [])
-        places = {**os.environ, "PYTHONPYCACHEPREFIX": compiled_folder()}
-        self.process = subprocess.Popen(
-            words, stdin=subprocess.PIPE, stdout=subprocess.PIPE, stderr=subprocess.PIPE, env=places
-        )
+        words = [sys.executable, copied_server()] + (["--program", program] if program else [])
+        names = {name: value for name, value in os.environ.items() if name != "PYTHONDONTWRITEBYTECODE"}
+        self.process = subprocess.Popen(words, stdin=subprocess.PIPE, stdout=subprocess.PIPE, stderr=subprocess.PIPE, env=names)
         self._answers: queue.Queue[dict[str, Any]] = queue.Queue()
         self.told: queue.Queue[dict[str, Any]] = queue.Queue()
         self._last = 0

@@ -2,6 +2,7 @@
 
 from __future__ import annotations
 
+import doctest
 import json
 import os
 import random
@@ -19,6 +20,7 @@ from client import URI, Client, span  # noqa: E402
 from programs import EXAMPLES, NeedsProgram, NeedsWords  # noqa: E402
 
 from chipbench import Bench  # noqa: E402
+from chipbench_lsp import completion, document, fixes, language, layout, positions  # noqa: E402
 
 GAME = """; A game in few lines.
 STEP    EQU 3
@@ -28,6 +30,13 @@ LOOP:   ADD V0, STEP
         JP LOOP
         EXIT
 """
+
+
+def load_tests(loader: unittest.TestLoader, tests: unittest.TestSuite, pattern: str | None) -> unittest.TestSuite:
+    """The docstrings of the server are tests too; they need no program."""
+    for module in (completion, document, fixes, language, layout, positions):
+        tests.addTests(doctest.DocTestSuite(module))
+    return tests
 
 
 def faults_of(found: list[dict[str, Any]]) -> list[tuple[int, str]]:
@@ -297,6 +306,24 @@ class Features(Served):
         client.edit((0, 0), (0, 0), "FOO\n")
         code, text = client.refused("workspace/executeCommand", {"command": "chipbench.runTo", "arguments": [URI, 1]})
         self.assertIn("Q1", text)
+
+    def test_fixes_are_offered_where_they_mend_the_line(self) -> None:
+        sources = (
+            ("LD V0, 0x1f", ["LD V0, #1f"]), ("LD V0, 1Fh ; x", ["LD V0, #1F ; x"]), ("CLS // clear", ["CLS ; clear"]),
+            ("DW 1 << 3", ["DW 1 < 3"]), ("DA 'abc", ["DA 'abc'"]), ("again", ["again:"]), ("drv V0, V1, 5", ["drw V0, V1, 5"]),
+            ("JP STRAT", ["JP START"]), ("jp strat", ["jp start"]), ("LD V0", []), ("DB 300", []), ("CLS", []), ("DB 'ä\rb", []),
+        )
+        client = self.opened(GAME)
+        for text, wanted in sources:
+            found = client.edit((7, 0), (7, 0), text)
+            where = {**self.document(), "range": span((7, 0), (7, 0)), "context": {"diagnostics": found}}
+            actions = client.ask("textDocument/codeAction", where)
+            made = [action["edit"]["changes"][URI][0]["newText"] for action in actions if action["kind"] == "quickfix"]
+            self.assertEqual(made[: max(len(wanted), 1)], wanted, text)
+            client.change({"text": GAME + text})
+            self.assertEqual(faults_of(client.shown()), faults_of(found))
+            client.change({"text": GAME})
+            self.assertEqual(client.shown(), [])
 
     def test_the_options_of_a_run(self) -> None:
         client = self.opened("RND V0, 255\nHERE: JP HERE\n", options={"tape": "2a"})

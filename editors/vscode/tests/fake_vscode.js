@@ -137,7 +137,7 @@ function makeEditor(settings) {
     FoldingRangeKind: { Comment: 1, Region: 3 },
     CodeLens: record('range', 'command'),
     CodeAction: record('title', 'kind'),
-    CodeActionKind: { Source: 'source' },
+    CodeActionKind: { Source: 'source', QuickFix: 'quickfix' },
     DocumentHighlight: record('range'),
     ProgressLocation: { Notification: 15 },
     commands: {

@@ -107,6 +107,14 @@ test('formatting and folding', options, async () => {
   assert.deepStrictEqual([folds[0].start, folds[0].end], [0, 1]);
 });
 
+test('a fix', options, async () => {
+  const { editor, document } = await opened('LD V0, 0x1F\n');
+  const at = new Position(0, 1);
+  const [fix] = await editor.providers.CodeActions.provideCodeActions(document, new Range(at, at), {});
+  assert.deepStrictEqual([fix.kind, fix.isPreferred], ['quickfix', true]);
+  assert.strictEqual(fix.edit.edits.get(document.uri.toString())[0].newText, 'LD V0, #1F');
+});
+
 test('run to here is shown in the output', options, async () => {
   const { editor, document } = await opened();
   await editor.commands['chipbench.runTo'](document.uri.toString(), 3);
