@@ -33,7 +33,7 @@ from types import TracebackType
 ANSWER_SECONDS = 60.0
 ONCE_SECONDS = 20.0
 
-# A script of `debug` may have 100,000 lines and 50,000,000 bytes. The program is started anew before that.
+# A script of `debug` may have 100,000 lines and 50,000,000 bytes. The program is restarted before that.
 SCRIPT_LINES = 90_000
 SCRIPT_BYTES = 45_000_000
 # A batch of commands whose answers are read together.
@@ -292,7 +292,7 @@ def join_lines(lines: Iterable[bytes]) -> bytes:
 
 @dataclass(frozen=True)
 class Fault:
-    """A fault of a line. `start` and `end` are byte positions in the line, which only `check` tells."""
+    """A fault of a line. `start` and `end` are byte positions in the line, which only `check` reports."""
 
     line: int
     code: str
@@ -315,8 +315,8 @@ class Symbol:
 
 @dataclass(frozen=True)
 class ListingLine:
-    """A line of the listing. `address` is None for a line that isn't live, `value` is None but for EQU, `=` and DEFINE, and `code`
-    has at most six bytes; `more` says that there are more."""
+    """A line of the listing. `address` is None for a line that isn't active. `value` is None except for EQU, `=` and
+    DEFINE. `code` has at most six bytes; `more` says that there are more."""
 
     number: int
     address: int | None
@@ -467,7 +467,7 @@ class State:
 
     def __init__(self, bench: Bench, step: int, answer: bytes) -> None:
         registers, counters, parts = answer.decode("ascii").splitlines()
-        words, stack = parts.split(" stack")
+        flags, stack = parts.split(" stack")
         named = counters.split()
         self._bench = bench
         self._edition = bench.edition
@@ -478,8 +478,8 @@ class State:
         self.random_bytes_used = int(named[9])
         self.is_high = named[10] == "high"
         self.stopped = None if named[11] == "run" else named[11]
-        self.flags = tuple(int(byte, 16) for byte in words.split()[1:])
-        self.stack = tuple(int(frame, 16) for frame in stack.split())
+        self.flags = tuple(int(byte, 16) for byte in flags.split()[1:])
+        self.call_stack = tuple(int(address, 16) for address in stack.split())
 
     @functools.cached_property
     def screen(self) -> Screen:
@@ -580,7 +580,7 @@ class Bench:
                 self._running = Program([self.program, "debug", *self._options, name])
             except OSError as error:
                 raise ChipbenchError(f"cannot run {self.program}: {error.strerror}") from None
-            # its answer tells that the source was read: there is no event yet
+            # its answer shows that the source was read: there is no event yet
             self._exchange_now([b"kdel 0 0"])
         finally:
             os.unlink(name)
@@ -604,8 +604,8 @@ class Bench:
             raise
 
     def exchange(self, commands: Iterable[str | bytes]) -> list[bytes]:
-        """Gives commands to the program, and returns their answers as they are, refusals included. The program is started anew
-        where it has ended, and before its script grows too long."""
+        """Gives commands to the program, and returns their answers as they are, refusals included. The program is restarted
+        after it has ended, and before its script grows too long."""
         given = [to_bytes(command) for command in commands]
         for command in given:
             if b"\n" in command or not command.strip(b" \r"):
@@ -636,7 +636,7 @@ class Bench:
             self._running = None
         self._start()
 
-    # -- what the bench keeps, so that the program can be started anew
+    # -- what the bench keeps, so that the program can be restarted
 
     def _keep_all(self, commands: Sequence[bytes], answers: Sequence[bytes]) -> None:
         for command, answer in zip(commands, answers):
@@ -652,12 +652,12 @@ class Bench:
             text = rest[0] if rest else b""
             self.lines[place : place + (word != b"ins")] = [] if word == b"del" else [text]
             return
-        words = command.split()
-        event = read_number(words[1]), read_number(words[2])
+        _, step, key, *down = command.split()
+        event = read_number(step), read_number(key)
         if word == b"kdel":
             del self._events[event]
         else:
-            self._events[event] = words[3] == b"down"
+            self._events[event] = down == [b"down"]
 
     @property
     def source(self) -> str:
@@ -695,15 +695,15 @@ class Bench:
         self._answer(b"%s %d %s" % (word, line, content))
 
     def insert(self, line: int, text: str | bytes) -> None:
-        """Puts a text before a line. Lines are counted from 1."""
+        """Inserts a line before a line. Lines are counted from 1."""
         self._edit(b"ins", line, text)
 
     def replace(self, line: int, text: str | bytes) -> None:
-        """Puts a text in the place of a line."""
+        """Replaces the text of a line."""
         self._edit(b"rep", line, text)
 
     def delete(self, line: int) -> None:
-        """Takes a line out."""
+        """Removes a line."""
         self._answer(b"del %d" % line)
 
     def press(self, key: int, *, at: int) -> None:
@@ -719,7 +719,7 @@ class Bench:
         self._answer(event_command(b"krep", at, key, down))
 
     def remove_event(self, key: int, *, at: int) -> None:
-        """Takes the key event of a step out."""
+        """Removes the key event of a step."""
         self._answer(b"kdel %d %d" % (at, key))
 
     @property

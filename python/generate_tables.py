@@ -5,7 +5,7 @@
     python/generate_tables.py --check   writes nothing; the status is 1 where the file isn't what the documents give
 
 Instructions come from the tables of docs/MACHINE.md (with SYS, which docs/LANGUAGE.md alone has), directives and faults from
-docs/LANGUAGE.md, stop causes from docs/MACHINE.md, the reserved words from crates/chip_lang/src/keyword.rt.
+docs/LANGUAGE.md, stops from docs/MACHINE.md, the reserved words from crates/chip_lang/src/keyword.rt.
 """
 
 from __future__ import annotations
@@ -89,7 +89,7 @@ def tables() -> dict[str, Any]:
         "parts": words["specials"],
         "options": options(language),
         "faults": {code: meaning for code, meaning, _ in rows(language, "| Fault | Meaning | Example |")},
-        "stops": {code: because for code, because in rows(machine, "| Cause | ")},
+        "stops": {code: because for code, because in rows(machine, "| Stop | ")},
     }
 
 

@@ -118,7 +118,7 @@ A property list of :profile, :rate, :tape, :seed, :every, :program."
         (display-buffer (current-buffer))))))
 
 (defun chip8-document-uri ()
-  "The name of the document, as eglot tells it to the server."
+  "The name of the document, as eglot names it to the server."
   (plist-get (eglot--TextDocumentIdentifier) :uri))
 
 (declare-function eglot--TextDocumentIdentifier "eglot")

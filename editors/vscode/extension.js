@@ -1,4 +1,4 @@
-// The extension: keeps one language server, tells it what is typed, and hands its answers to VS Code.
+// The extension: keeps one language server, sends it what is typed, and passes its answers to VS Code.
 'use strict';
 
 const vscode = require('vscode');
@@ -62,7 +62,7 @@ class Server {
     this.#output.appendLine(`the language server ended: ${reason}`);
     this.#starts = this.#starts.filter((at) => at > Date.now() - MINUTE);
     if (this.#starts.length < MOST_STARTS) this.start();
-    else vscode.window.showErrorMessage('chipbench: the language server has ended again and again; see the output of chipbench.');
+    else vscode.window.showErrorMessage('chipbench: the language server keeps ending; see the output of chipbench.');
   }
 
   #told(method, params) {
@@ -80,7 +80,7 @@ class Server {
     connection.tell('textDocument/didOpen', { textDocument: item });
   }
 
-  /** Tells what happened to a document. A server that isn't ready yet is told of all open documents when it is. */
+  /** Notifies the server. One that isn't ready yet gets all open documents when it is. */
   #tell(document, method, params) {
     if (document.languageId === LANGUAGE && this.#isReady) this.#connection?.tell(`textDocument/${method}`, params);
   }

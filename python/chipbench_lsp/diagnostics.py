@@ -71,7 +71,7 @@ def diagnostics(document: Document, places: Places, program: str | None) -> list
             diagnostic(document, number, (0, len(document.line(number))), code, text) for number, code, text in over.lines[:MOST_SHOWN]
         ]
     except ChipbenchError as error:
-        text = f"no faults can be told: {error}"
+        text = f"the faults are unknown: {error}"
         return [diagnostic(document, 0, (0, len(document.line(0))), "program", text)]
     found = [fault_diagnostic(document, places, program, number, code) for number, code in faults[:MOST_SHOWN]]
     if len(faults) > MOST_SHOWN:

@@ -12,7 +12,7 @@ from .positions import Columns
 
 LINE_BYTES = 200
 MOST_LINES = 4000
-# More edits than this are slower than a session that is started anew.
+# More edits than this are slower than a restart of the session.
 MOST_EDITS = 500
 
 OpenBench = Callable[[bytes], Bench]
@@ -22,7 +22,7 @@ class OverLimits(Exception):
     """The document is no source: the lines that pass a limit, each with a code and a sentence. Lines are counted from 0."""
 
     def __init__(self, lines: list[tuple[int, str, str]]) -> None:
-        super().__init__("the document passes the limits of a source")
+        super().__init__("the document is over the limits of a source")
         self.lines = lines
 
 
@@ -70,7 +70,7 @@ class Session:
         self.starts = 0
 
     def follow(self, lines: list[bytes]) -> Bench:
-        """The session on these lines: edited where it can be, started anew where it can't or where the program has died."""
+        """The session on these lines: edited where it can be, restarted where it can't, or where the program has ended."""
         if self._bench is not None and self._edit(self._bench, lines):
             return self._bench
         self.close()
@@ -159,7 +159,7 @@ class Document:
             raise
 
     def _change(self, change: dict[str, Any]) -> None:
-        """Makes a change as the protocol tells it: of a range, or of the whole text."""
+        """Makes one change of the protocol: of a range, or of the whole text."""
         text = change["text"]
         if not isinstance(text, str):
             raise TypeError("the text of a change is missing")
@@ -195,7 +195,7 @@ class Document:
     # -- what the program answers
 
     def bench(self) -> Bench:
-        """The session on the text of now. `OverLimits` where the text can't be a source."""
+        """The session on the current text. `OverLimits` where the text can't be a source."""
         if self.line_count > MOST_LINES + 1:
             raise OverLimits([(MOST_LINES, "O2", f"the source has over {MOST_LINES} lines")])
         source = self.source
@@ -205,7 +205,7 @@ class Document:
         return self.session.follow(source)
 
     def _answer(self, name: str, ask: Callable[[Bench], Any]) -> Any:
-        """What the program answers about the text of now: it is asked once."""
+        """What the program answers about the current text. It is asked once."""
         edition, answer = self._known.get(name, (-1, None))
         if edition != self.edition:
             answer = ask(self.bench())

@@ -37,7 +37,7 @@ def line_text(document: Document, number: int) -> str:
     except (OverLimits, ChipbenchError):
         return ""
     if row is None or row.address is None:
-        return "" if row is None else "not live"
+        return "" if row is None else "not active"
     if row.value is not None:
         return f"value {in_all_bases(row.value)}"
     shown = code[:MOST_BYTES].hex(" ")

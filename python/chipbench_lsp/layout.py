@@ -82,7 +82,7 @@ def format_lines(document: Document, first: int, last: int, open_bench: OpenBenc
             edits.append({"range": document.columns.range(number, lines[number], 0, len(lines[number])), "newText": made})
             lines[number] = made
     if edits:
-        check_same(document, lines, open_bench, "formatted")
+        check_same(document, lines, open_bench)
     return edits
 
 

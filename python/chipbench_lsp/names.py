@@ -23,7 +23,7 @@ def name_at(document: Document, number: int, place: int) -> Token | None:
 
 
 def uses(document: Document, name: str) -> Iterator[tuple[int, Token]]:
-    """Each place of a name in the document, in upper case: definitions, uses, and mentions in lines that aren't live."""
+    """Each place of a name in the document, in upper case: definitions, uses, and mentions in lines that aren't active."""
     for number in range(document.line_count):
         # a line that holds the name holds it as a text
         if name in document.line(number).upper():
@@ -83,12 +83,12 @@ def rename(document: Document, number: int, place: int, new_name: str, open_benc
         raise Failed(REQUEST_FAILED, fault)
     is_other = new_name.upper() != token.upper
     if is_other and next(uses(document, new_name.upper()), None) is not None:
-        raise Failed(REQUEST_FAILED, f"{new_name.upper()} stands in the source already")
+        raise Failed(REQUEST_FAILED, f"{new_name.upper()} is already used in the source")
     places = list(uses(document, token.upper))
     lines = document.lines
     for at, use in reversed(places):
         lines[at] = lines[at][: use.start] + new_name + lines[at][use.end :]
-    check_same(document, lines, open_bench, "renamed")
+    check_same(document, lines, open_bench)
     edits = [{"range": location(document, at, use)["range"], "newText": new_name} for at, use in places]
     return {"changes": {document.uri: edits}}
 
@@ -100,11 +100,11 @@ def outcome(bench: Bench) -> tuple[bytes, ...]:
     return image, faults, values
 
 
-def check_same(document: Document, lines: list[str], open_bench: OpenBench, done: str) -> None:
+def check_same(document: Document, lines: list[str], open_bench: OpenBench) -> None:
     """Assembles the changed lines, and refuses the change where they give another image, other faults or other values."""
     source = [to_bytes(line) for line in lines]
     if over_limits(source):
-        raise Failed(REQUEST_FAILED, f"{done}, a line would be too long")
+        raise Failed(REQUEST_FAILED, "the change makes a line longer than 200 bytes")
     try:
         before = outcome(document.bench())
         with open_bench(join_lines(source)) as bench:
@@ -112,9 +112,9 @@ def check_same(document: Document, lines: list[str], open_bench: OpenBench, done
     except OverLimits as over:
         raise Failed(REQUEST_FAILED, str(over)) from None
     except Refused as refused:
-        raise Failed(REQUEST_FAILED, f"{done}, the source would be refused: {refused}") from None
+        raise Failed(REQUEST_FAILED, f"the changed source is refused: {refused}") from None
     if before != after:
-        raise Failed(REQUEST_FAILED, f"{done}, the source would assemble to something else")
+        raise Failed(REQUEST_FAILED, "the changed source assembles to something else")
 
 
 def symbols(document: Document) -> list[dict[str, Any]]:

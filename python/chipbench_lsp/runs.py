@@ -45,7 +45,7 @@ def address_of(document: Document, number: int) -> int:
     """Where pc is when it is on a line: a line without bytes has the address of the next one."""
     row = document.listing(number)
     if row is None or row.address is None:
-        raise Failed(REQUEST_FAILED, "the line isn't live")
+        raise Failed(REQUEST_FAILED, "the line isn't active")
     return row.address
 
 
@@ -53,9 +53,9 @@ def run_to(bench: Bench, address: int, cancelled: threading.Event) -> dict[str, 
     """The registers and the screen at the first step with pc at an address, or why there is none."""
     step, last = first_step(bench, address, cancelled)
     if step is None:
-        text = f"pc isn't at #{address:03X} in the first {last.step} steps"
+        text = f"pc doesn't reach #{address:03X} in the first {last.step} steps"
         if last.stopped is not None:
-            text = f"pc isn't at #{address:03X} before the program stops at step {last.step}: {because(last)}"
+            text = f"the program stops at step {last.step} ({because(last)}) before pc reaches #{address:03X}"
         return {"step": None, "text": text}
     state = bench.at(step)
     text = f"step {step}: pc is at #{address:03X}\n\n{state}\n{state.screen}"

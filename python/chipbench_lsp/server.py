@@ -55,7 +55,7 @@ class Checked:
 
 
 def bench_options(settings: Any) -> dict[str, Any]:
-    """The options of a bench from the client's settings; those that are no option are left out."""
+    """The options of a bench from the client's settings. Other settings are ignored."""
     if not isinstance(settings, dict):
         return {}
     found: dict[str, Any] = {name: settings[name] for name in OPTIONS if isinstance(settings.get(name), (str, int))}
@@ -228,7 +228,7 @@ class Server:
         try:
             handler(self, message.get("params"))
         except Exception as error:
-            self.say(WARNING, f"{method} was not understood, and is left out: {error!r}")
+            self.say(WARNING, f"{method} is ignored: {error!r}")
 
     def say(self, kind: int, text: str) -> None:
         self.writer.notify("window/showMessage", {"type": kind, "message": f"chipbench-lsp: {text}"})
@@ -345,7 +345,7 @@ class Server:
     def _show(self, uri: str) -> None:
         document = self.documents[uri]
         found = diagnostics.diagnostics(document, self.places[uri], self.program)
-        # the same faults may stand at other versions: that is told too
+        # the same faults are published again for a new version
         self._shown[uri] = found
         params: dict[str, Any] = {"uri": uri, "diagnostics": found}
         if isinstance(document.version, int):

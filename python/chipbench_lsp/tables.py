@@ -40,13 +40,13 @@ INSTRUCTIONS = tuple(
     Instruction(row["word"], tuple(row["forms"]), row["effect"], row["stops"], row["vip"]) for row in TABLES["instructions"]
 )
 DIRECTIVES = {word: Directive(word, tuple(row["forms"]), row["effect"]) for word, row in TABLES["directives"].items()}
-# The documents tell these in prose.
+# The documents describe these in prose.
 CONDITIONS = {
-    "IFDEF": "the lines up to its ELSE or ENDIF are live where an accepted line before it defines n",
-    "IFUND": "the lines up to its ELSE or ENDIF are live where no accepted line before it defines n",
-    "ELSE": "the lines up to ENDIF are live where those before ELSE aren't",
+    "IFDEF": "the lines up to its ELSE or ENDIF are active if an accepted line before it defines n",
+    "IFUND": "the lines up to its ELSE or ENDIF are active if no accepted line before it defines n",
+    "ELSE": "the lines up to ENDIF are active if those before ELSE aren't",
     "ENDIF": "ends IFDEF or IFUND",
-    "END": "no line after it is live",
+    "END": "no line after it is active",
 }
 DIRECTIVES |= {word: Directive(word, DIRECTIVES[word].forms, effect) for word, effect in CONDITIONS.items()}
 MNEMONICS = frozenset(row.mnemonic for row in INSTRUCTIONS)

@@ -3,7 +3,8 @@
 
     python/tests/measure_typing.py [PROGRAM]
 
-Each kind of edit is made 200 times; the figures are milliseconds of the clock, as the client sees them.
+Each kind of edit is made 200 times. The figures are milliseconds of the clock, as the client sees them. The status is 1 where
+the median of an edit in the middle is over 20.
 """
 
 from __future__ import annotations
@@ -21,6 +22,10 @@ from programs import program  # noqa: E402
 LINES = 4000
 MIDDLE = 2000
 TIMES = 200
+MOST_MILLISECONDS = 20
+# This edit is at the top, and changes the code of half the lines.
+EVERYWHERE = "a constant that all lines use"
+KINDS = ("a letter in a comment", "a line more, a line less", "a fault comes and goes", EVERYWHERE)
 
 
 def source() -> str:
@@ -60,7 +65,7 @@ def main(words: list[str]) -> int:
         print("typing: no program is built, so nothing is measured")
         return 0
     slow = 0
-    for kind in ("a letter in a comment", "a line more, a line less", "a fault comes and goes", "a constant that all lines use"):
+    for kind in KINDS:
         client = Client(found)
         client.open(source())
         times = []
@@ -71,7 +76,7 @@ def main(words: list[str]) -> int:
         client.close()
         times.sort()
         print(f"typing, {kind}: {times[len(times) // 2]:.1f} ms, nine of ten within {times[len(times) * 9 // 10]:.1f}, at most {times[-1]:.1f}")
-        slow += times[len(times) // 2] > 20
+        slow += kind != EVERYWHERE and times[len(times) // 2] > MOST_MILLISECONDS
     return 1 if slow else 0
 
 

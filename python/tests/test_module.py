@@ -100,7 +100,7 @@ class Answers(Opened):
     def test_a_state(self) -> None:
         source = "HIGH\nLD V0, 7\nLD R, V0\nLD DT, V0\nCALL DOWN\nDOWN: RND V1, 255\nLD I, DOWN\nEXIT"
         state = self.bench(source).at(8)
-        self.assertEqual((state.v[0], state.pc, state.i, state.stack), (7, 0x20E, 0x20A, (0x20A,)))
+        self.assertEqual((state.v[0], state.pc, state.i, state.call_stack), (7, 0x20E, 0x20A, (0x20A,)))
         self.assertEqual((state.delay_timer, state.sound_timer, state.flags[0]), (7, 0, 7))
         self.assertEqual((state.random_bytes_used, state.is_high, state.stopped), (1, True, "S1"))
 
@@ -159,7 +159,7 @@ class Endings(Opened):
         self.refused("O1", Bench, "; " + "x" * 200, program=self.program)
         self.refused("O2", Bench, "\n" * 4001, program=self.program)
 
-    def test_a_program_that_dies_is_started_anew_with_all_edits(self) -> None:
+    def test_a_program_that_dies_is_restarted_with_all_edits(self) -> None:
         bench = self.bench()
         bench.insert(1, "LD V3, 3")
         bench.press(5, at=2)
@@ -173,7 +173,7 @@ class Endings(Opened):
         self.refused("N7", bench.press, 5, at=2)
         self.assertNotEqual(bench.process_id, process)
 
-    def test_a_long_session_is_started_anew_in_time(self) -> None:
+    def test_a_long_session_is_restarted_in_time(self) -> None:
         bench = self.bench()
         process = bench.process_id
         for number in range(4):

@@ -108,7 +108,7 @@ class Diagnostics(Served):
         self.assertEqual(client.edit((0, 0), (0, 3), "LD\rV0,\r5"), [])
         self.assertEqual(faults_of(client.edit((0, 0), (0, 0), "X")), [(1, "F3")])
 
-    def test_limits_are_told_and_nothing_is_lost(self) -> None:
+    def test_limits_are_reported_and_nothing_is_lost(self) -> None:
         client = self.opened()
         found = client.edit((0, 2), (0, 2), "x" * 300)
         self.assertEqual(faults_of(found), [(1, "O1")])
@@ -133,7 +133,7 @@ class Diagnostics(Served):
             pass
         self.assertEqual(params["diagnostics"], [])
 
-    def test_random_edits_tell_what_a_fresh_session_tells(self) -> None:
+    def test_random_edits_give_what_a_fresh_session_gives(self) -> None:
         chance = random.Random(7)
         pieces = ["CLS", "\n", "X: ", "LD V0, X", " EQU 3", "\U0001f600", "; ü", "\r\n", "IFDEF X\n", "ENDIF\n", "DB 'a", "'", " "]
         text = GAME
@@ -178,7 +178,7 @@ class Features(Served):
         self.assertIn("the delay timer", self.hover(client, 1, 4))
         self.assertIn("register VA", self.hover(client, 1, 8))
         self.assertIn("padding", self.hover(client, 2, 1))
-        self.assertIn("not live", self.hover(client, 4, 1))
+        self.assertIn("not active", self.hover(client, 4, 1))
 
     def test_hover_shows_all_bytes(self) -> None:
         client = self.opened("DB 1, 2, 3, 4, 5, 6, 7, 8, 9, 10\nCLS\n")
@@ -240,8 +240,8 @@ class Features(Served):
 
     def test_renames_that_are_refused(self) -> None:
         client = self.opened(GAME + "        LD V1, STEP" + " " * 175 + "; x\n")
-        for name, why in (("V0", "reserved"), ("drw", "reserved"), ("1A", "a letter"), ("A" * 65, "64"), ("loop", "stands in"),
-                          ("A" * 20, "too long"), ("A B", "a letter")):
+        for name, why in (("V0", "reserved"), ("drw", "reserved"), ("1A", "a letter"), ("A" * 65, "64"), ("loop", "already used"),
+                          ("A" * 20, "longer than"), ("A B", "a letter")):
             params = {**self.document(), "position": {"line": 1, "character": 1}, "newName": name}
             code, text = client.refused("textDocument/rename", params)
             self.assertEqual(code, -32803)
@@ -302,13 +302,13 @@ class Features(Served):
     def test_a_line_that_no_run_reaches(self) -> None:
         client = self.opened("EXIT\nA: CLS\nJP A\n", options={"showsRuns": True})
         result = client.ask("workspace/executeCommand", {"command": "chipbench.runTo", "arguments": [URI, 1]})
-        self.assertEqual(result["text"], "pc isn't at #202 before the program stops at step 1: S1, the program ended, by EXIT")
+        self.assertEqual(result["text"], "the program stops at step 1 (S1, the program ended, by EXIT) before pc reaches #202")
         client.edit((0, 0), (0, 0), "FOO\n")
         code, text = client.refused("workspace/executeCommand", {"command": "chipbench.runTo", "arguments": [URI, 1]})
         self.assertIn("Q1", text)
 
-    def test_fixes_are_offered_where_they_mend_the_line(self) -> None:
-        sources = (
+    def test_fixes_are_offered_where_they_remove_the_fault(self) -> None:
+        sources: tuple[tuple[str, list[str]], ...] = (
             ("LD V0, 0x1f", ["LD V0, #1f"]), ("LD V0, 1Fh ; x", ["LD V0, #1F ; x"]), ("CLS // clear", ["CLS ; clear"]),
             ("DW 1 << 3", ["DW 1 < 3"]), ("DA 'abc", ["DA 'abc'"]), ("again", ["again:"]), ("drv V0, V1, 5", ["drw V0, V1, 5"]),
             ("JP STRAT", ["JP START"]), ("jp strat", ["jp start"]), ("LD V0", []), ("DB 300", []), ("CLS", []), ("DB 'ä\rb", []),
@@ -374,7 +374,7 @@ class Protocol(Served):
         client = self.client()
         self.assertEqual(client.wait(), 1)
 
-    def test_broken_messages_are_answered_and_left_out(self) -> None:
+    def test_broken_messages_are_answered_and_ignored(self) -> None:
         client = self.opened()
         for body in (b"{", b"[]", b"3", b'"x"', b"\xff", b"", b"[" * 100_000):
             client.send_bytes(b"Content-Length: %d\r\n\r\n" % len(body) + body)
@@ -403,14 +403,14 @@ class Protocol(Served):
         for params in wrong:
             self.assertEqual(client.refused("textDocument/hover", params)[0], -32602, params)
 
-    def test_a_bad_change_is_left_out_as_a_whole(self) -> None:
+    def test_a_bad_change_is_ignored_as_a_whole(self) -> None:
         client = self.opened()
         good = {"range": span((0, 0), (0, 0)), "text": "FOO\n"}
         for bad in ({"range": span((-1, 0), (0, 0)), "text": ""}, {"range": 5, "text": ""}, {"range": span((0, 0), (0, 0))}, 7):
             client.change(good, bad)
-            self.assertIn("didChange was not understood", client.message())
+            self.assertIn("didChange is ignored", client.message())
         client.tell("textDocument/didChange", {"textDocument": {"uri": "file:///none", "version": 1}, "contentChanges": []})
-        self.assertIn("not understood", client.message())
+        self.assertIn("is ignored", client.message())
         self.assertEqual(client.edit((0, 0), (0, 0), ""), [])
 
     def test_positions_past_the_end(self) -> None:
@@ -457,7 +457,7 @@ class Protocol(Served):
             client.change({"range": span((0, 0), (0, 99)), "text": f"DB {number}"})
             self.assertIn(f"bytes `{number:02x} 00`", client.at("hover", 0, 0)["contents"]["value"])
 
-    def test_the_session_is_started_anew_where_the_program_dies(self) -> None:
+    def test_the_session_is_restarted_where_the_program_dies(self) -> None:
         client = self.opened()
         for _ in range(3):
             kill_children(client.process.pid)
@@ -496,7 +496,7 @@ class WithoutProgram(unittest.TestCase):
             client = Client(program)
             self.addCleanup(client.kill)
             found = client.open(GAME)
-            self.assertIn("no faults can be told", found[0]["message"])
+            self.assertIn("the faults are unknown", found[0]["message"])
             self.assertEqual(len(client.at("references", 3, 1, context={"includeDeclaration": True})), 2)
             self.assertEqual(client.ask("textDocument/inlayHint", {"textDocument": {"uri": URI}, "range": span((0, 0), (9, 0))}), [])
             self.assertIn("Vx := Vx + kk", client.at("hover", 3, 9)["contents"]["value"])

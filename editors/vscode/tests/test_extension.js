@@ -125,7 +125,7 @@ test('run to here is shown in the output', options, async () => {
   assert.match(editor.output.at(-1), /step 2/);
 });
 
-test('a server that dies is started anew, and nothing is lost', options, async () => {
+test('a server that dies is restarted, and nothing is lost', options, async () => {
   const { editor, server, document } = await opened();
   editor.type(document, 0, 0, 0, 'X');
   process.kill(server.processId, 'SIGKILL');
@@ -139,7 +139,7 @@ test('a server that is not there is given up', options, async () => {
   for (let tries = 0; tries < 100 && editor.errors.length === 0; tries += 1) {
     await new Promise((resolve) => setTimeout(resolve, 20));
   }
-  assert.match(editor.errors[0], /again and again/);
+  assert.match(editor.errors[0], /keeps ending/);
   assert.strictEqual(await editor.providers.Hover.provideHover(new TextDocument('x.asm', ''), new Position(0, 0)), null);
 });
 
