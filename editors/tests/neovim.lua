@@ -233,11 +233,24 @@ test('run to here', function()
   vim.cmd('silent! wincmd o')
 end)
 
-test('hints, where this Neovim has them', function()
-  edit_game()
+test('hints', function()
+  local buffer = edit_game()
   local range = { start = { line = 0, character = 0 }, ['end'] = { line = 9, character = 0 } }
   local found = request('textDocument/inlayHint', { textDocument = vim.lsp.util.make_text_document_params(), range = range })
   same(found[1].label, '0200 6005')
+  if vim.lsp.inlay_hint then
+    return
+  end
+  local namespace = vim.api.nvim_get_namespaces().chipbench_hints
+  local function count()
+    return #vim.api.nvim_buf_get_extmarks(buffer, namespace, 0, -1, {})
+  end
+  vim.cmd('ChipbenchHints')
+  wait_for('five hints', function()
+    return count() == 5
+  end)
+  vim.cmd('ChipbenchHints')
+  same(count(), 0)
 end)
 
 io.stdout:write(passed .. ' passed, ' .. failed .. ' failed\n')

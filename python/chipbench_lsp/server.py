@@ -6,6 +6,7 @@ One thread reads messages, so that a cancelled request is known before its turn.
 
 from __future__ import annotations
 
+import contextlib
 import os
 import queue
 import sys
@@ -114,7 +115,7 @@ class Server:
             except BadMessage as bad:
                 self._queue.put(bad)
                 continue
-            except (OSError, ValueError):
+            except (OSError, ValueError, MemoryError):
                 message = None
             if message is None:
                 self._queue.put(END)
@@ -367,10 +368,9 @@ class Server:
         uri, edition, lines, source = due, document.edition, document.lines, document.source
 
         def work() -> None:
-            try:
+            faults = []
+            with contextlib.suppress(Exception):
                 faults = chipbench.check(chipbench.join_lines(source), program)
-            except ChipbenchError:
-                faults = []
             self._queue.put(Checked(uri, edition, lines, faults))
 
         self._is_checking = True

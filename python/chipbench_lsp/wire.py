@@ -17,6 +17,7 @@ REQUEST_FAILED = -32803
 
 HEADER = b"content-length:"
 LONGEST_HEADER = 10_000
+LONGEST_MESSAGE = 1 << 28
 
 
 class Failed(Exception):
@@ -45,8 +46,8 @@ def read_length(stream: BinaryIO) -> int | None:
             continue
         if line.lower().startswith(HEADER):
             digits = line[len(HEADER) :].strip()
-            if not digits.isdigit():
-                raise BadMessage("the header Content-Length has no number")
+            if not digits.isdigit() or len(digits) > 9 or int(digits) > LONGEST_MESSAGE:
+                raise BadMessage("the header Content-Length has no length of a message")
             length = int(digits)
 
 

@@ -379,8 +379,9 @@ class Protocol(Served):
         for body in (b"{", b"[]", b"3", b'"x"', b"\xff", b"", b"[" * 100_000):
             client.send_bytes(b"Content-Length: %d\r\n\r\n" % len(body) + body)
             self.assertEqual(client.next_answer()["error"]["code"], -32700, body[:9])
-        client.send_bytes(b"Content-Length: many\r\n\r\n")
-        self.assertEqual(client.next_answer()["error"]["code"], -32700)
+        for length in (b"many", b"", b"-1", b"9" * 5000, b"999999999"):
+            client.send_bytes(b"Content-Length: " + length + b"\r\n\r\n")
+            self.assertEqual(client.next_answer()["error"]["code"], -32700, length[:9])
         client.send_bytes(b"rubbish\r\n\r\nContent-Type: x\r\n")
         self.assertIn("LOOP", client.at("hover", 3, 1)["contents"]["value"])
 
@@ -488,6 +489,21 @@ def kill_children(process: int) -> None:
     for child in listed.stdout.split():
         os.kill(int(child), signal.SIGKILL)
     time.sleep(0.05)
+
+
+class Settings(Served):
+    def test_settings_that_the_program_refuses(self) -> None:
+        client = self.opened(options={"rate": 0, "every": [1], "tape": "xyz", "seed": None})
+        self.assertIn("the faults are unknown", self.first[0]["message"])
+        client.tell("workspace/didChangeConfiguration", {"settings": {"chipbench": {"rate": 7}}})
+        self.assertEqual(client.shown(), [])
+
+    def test_settings_that_are_nothing(self) -> None:
+        client = self.opened(options=[1, 2])
+        useless: list[Any] = [None, 5, {}, {"settings": 5}, {"settings": {"chipbench": 5}}]
+        for settings in useless:
+            client.tell("workspace/didChangeConfiguration", settings)
+        self.assertEqual(client.edit((0, 0), (0, 0), ""), [])
 
 
 class WithoutProgram(unittest.TestCase):

@@ -37,6 +37,60 @@ local function run_to_cursor()
   M.run_to(vim.api.nvim_get_current_buf(), vim.api.nvim_win_get_cursor(0)[1] - 1)
 end
 
+local hints = vim.api.nvim_create_namespace('chipbench_hints')
+
+-- Shows the address and the bytes of each line after it, in a Neovim that has no inlay hints of its own.
+local function draw_hints(buffer)
+  local last = vim.api.nvim_buf_line_count(buffer)
+  local params = {
+    textDocument = { uri = vim.uri_from_bufnr(buffer) },
+    range = { start = { line = 0, character = 0 }, ['end'] = { line = last, character = 0 } },
+  }
+  vim.lsp.buf_request(buffer, 'textDocument/inlayHint', params, function(failure, found)
+    if failure or not found or not vim.b[buffer].chipbench_hints then
+      return
+    end
+    vim.api.nvim_buf_clear_namespace(buffer, hints, 0, -1)
+    for _, hint in ipairs(found) do
+      if hint.position.line < vim.api.nvim_buf_line_count(buffer) then
+        local text = { { '  ' .. hint.label, 'NonText' } }
+        vim.api.nvim_buf_set_extmark(buffer, hints, hint.position.line, 0, { virt_text = text })
+      end
+    end
+  end)
+end
+
+-- Switches the hints of a buffer on or off.
+function M.toggle_hints(buffer)
+  if vim.lsp.inlay_hint then
+    return vim.lsp.inlay_hint.enable(not vim.lsp.inlay_hint.is_enabled({ bufnr = buffer }), { bufnr = buffer })
+  end
+  vim.b[buffer].chipbench_hints = not vim.b[buffer].chipbench_hints
+  if vim.b[buffer].chipbench_hints then
+    draw_hints(buffer)
+  else
+    vim.api.nvim_buf_clear_namespace(buffer, hints, 0, -1)
+  end
+end
+
+local function add_commands(buffer)
+  vim.api.nvim_buf_create_user_command(buffer, 'ChipbenchRunToCursor', run_to_cursor, {})
+  vim.api.nvim_buf_create_user_command(buffer, 'ChipbenchHints', function()
+    M.toggle_hints(buffer)
+  end, {})
+  local group = vim.api.nvim_create_augroup('chipbench_hints', { clear = false })
+  vim.api.nvim_clear_autocmds({ group = group, buffer = buffer })
+  vim.api.nvim_create_autocmd({ 'TextChanged', 'InsertLeave' }, {
+    group = group,
+    buffer = buffer,
+    callback = function()
+      if vim.b[buffer].chipbench_hints then
+        draw_hints(buffer)
+      end
+    end,
+  })
+end
+
 local function configure(options)
   local init = vim.tbl_extend('force', { showsRuns = true }, options.settings or {})
   return {
@@ -44,7 +98,15 @@ local function configure(options)
     cmd = options.cmd or { 'chipbench-lsp' },
     init_options = init,
     root_dir = options.root_dir or vim.fn.getcwd(),
-    on_attach = options.on_attach,
+    on_attach = function(client, buffer)
+      if options.on_attach then
+        options.on_attach(client, buffer)
+      end
+      -- they may have been switched on before the server was ready
+      if vim.b[buffer].chipbench_hints then
+        draw_hints(buffer)
+      end
+    end,
     on_exit = function(_, _, id)
       for key, client in pairs(clients) do
         if client == id then
@@ -78,7 +140,7 @@ function M.setup(options)
     group = vim.api.nvim_create_augroup('chipbench', { clear = true }),
     callback = function(event)
       attach(options, event.buf)
-      vim.api.nvim_buf_create_user_command(event.buf, 'ChipbenchRunToCursor', run_to_cursor, {})
+      add_commands(event.buf)
     end,
   })
 end
