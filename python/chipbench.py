@@ -9,9 +9,7 @@ properties read what the program answers:
 600570011202
 6
 
-A refused command raises `Refused`, with the code and the sentence of the program.
-
-The module needs the standard library alone. `Program` and `answer_end` know the protocol of `debug` and nothing of the language.
+A refused command raises `Refused`, with the code and the sentence of the program. The module needs the standard library alone.
 """
 
 from __future__ import annotations
@@ -28,7 +26,7 @@ import time
 from collections.abc import Iterable, Iterator, Sequence
 from dataclasses import dataclass, field
 from pathlib import Path
-from types import TracebackType
+from typing import NamedTuple
 
 ANSWER_SECONDS = 60.0
 ONCE_SECONDS = 20.0
@@ -38,6 +36,8 @@ SCRIPT_LINES = 90_000
 SCRIPT_BYTES = 45_000_000
 # A batch of commands whose answers are read together.
 BATCH = 500
+# The most bytes of the answers of one exchange, unless a program has another bound.
+MOST_BYTES = 1 << 30
 
 # An answer whose first line is `no CODE` ends there. Of the others these end with a line `.`, and these have more than one line.
 ENDED_BY_DOT = {b"syms", b"list", b"faults", b"screen", b"dis"}
@@ -51,8 +51,7 @@ STORED_COLUMNS = 128
 STORED_ROWS = 64
 
 
-# ---------------------------------------------------------------------------------------------------------------------------
-# Errors
+# -- Errors
 
 
 class ChipbenchError(Exception):
@@ -85,12 +84,15 @@ class Ended(ChipbenchError):
         self.answers = answers
 
 
+class TooMuch(ChipbenchError):
+    """The answers to one exchange are over their bound. The program is of no more use."""
+
+
 class Stale(ChipbenchError):
     """A part of a state was read for the first time after the source or the key events had changed."""
 
 
-# ---------------------------------------------------------------------------------------------------------------------------
-# The program
+# -- The program: the protocol of `debug`, and nothing of the language
 
 
 def answer_end(command: bytes, read: bytes | bytearray, start: int) -> int:
@@ -122,7 +124,7 @@ def answer_end(command: bytes, read: bytes | bytearray, start: int) -> int:
 class Program:
     """One running program `chipbench debug`. It is for one thread at a time."""
 
-    def __init__(self, arguments: Sequence[str]) -> None:
+    def __init__(self, arguments: Sequence[str], most_bytes: int = MOST_BYTES) -> None:
         self._errors = tempfile.TemporaryFile()
         try:
             self._process = subprocess.Popen(
@@ -136,8 +138,8 @@ class Program:
         self._output = self._process.stdout.fileno()
         os.set_blocking(self._input, False)
         os.set_blocking(self._output, False)
-        self.commands = 0
-        self.bytes = 0
+        self._most_bytes = most_bytes
+        self.commands = self.bytes = 0
 
     @property
     def process_id(self) -> int:
@@ -152,7 +154,7 @@ class Program:
         self.bytes += len(script)
         answers: list[bytes] = []
         to_write = memoryview(script)
-        read, start = bytearray(), 0
+        read, size = bytearray(), 0
         deadline = time.monotonic() + seconds
         while len(answers) < len(commands):
             left = deadline - time.monotonic()
@@ -164,9 +166,12 @@ class Program:
             if readable:
                 piece = os.read(self._output, 1 << 18)
                 if not piece:
-                    raise self._ended(bytes(read[start:]).decode("latin-1"), answers)
+                    raise self._ended(read.decode("latin-1"), answers)
                 read += piece
-                start = self._take(commands, read, start, answers)
+                size += len(piece)
+                if size > self._most_bytes:
+                    raise TooMuch(f"the answers have over {self._most_bytes} bytes")
+                self._take(commands, read, answers)
         return answers
 
     def _write(self, to_write: memoryview) -> memoryview:
@@ -175,8 +180,9 @@ class Program:
         except BrokenPipeError:
             return to_write[:0]
 
-    def _take(self, commands: Sequence[bytes], read: bytearray, start: int, answers: list[bytes]) -> int:
-        """Takes the whole answers from what was read, and returns where the next one begins."""
+    def _take(self, commands: Sequence[bytes], read: bytearray, answers: list[bytes]) -> None:
+        """Moves the whole answers from what was read to the answers."""
+        start = 0
         while len(answers) < len(commands):
             end = answer_end(commands[len(answers)], read, start)
             if end < 0:
@@ -186,7 +192,7 @@ class Program:
                 raise self._ended(answer.decode("latin-1"), answers)
             answers.append(answer)
             start = end
-        return start
+        del read[:start]
 
     def _ended(self, said: str, answers: list[bytes]) -> Ended:
         status = self._end()
@@ -254,8 +260,7 @@ def refusal(program: str, code: str) -> Refused:
     return Refused(code, sentences(program).get(code, ""))
 
 
-# ---------------------------------------------------------------------------------------------------------------------------
-# Sources
+# -- Sources
 
 
 def to_bytes(text: str | bytes) -> bytes:
@@ -305,8 +310,7 @@ class Fault:
         return f"line {self.line}: {self.code}" + (f": {self.sentence}" if self.sentence else "")
 
 
-@dataclass(frozen=True)
-class Symbol:
+class Symbol(NamedTuple):
     """What a name is: its value, and the line that defines it."""
 
     value: int
@@ -327,8 +331,7 @@ class ListingLine:
     text: str
 
 
-@dataclass(frozen=True)
-class Word:
+class Word(NamedTuple):
     """A word of the memory, and its text in a source."""
 
     address: int
@@ -411,8 +414,7 @@ def disassemble(image: bytes, program: str | None = None) -> str:
     return to_text(output)
 
 
-# ---------------------------------------------------------------------------------------------------------------------------
-# The machine
+# -- The machine
 
 
 @dataclass(frozen=True)
@@ -502,8 +504,7 @@ class State:
         return f"<State step={self.step} pc={self.pc:04x} stopped={self.stopped}>"
 
 
-# ---------------------------------------------------------------------------------------------------------------------------
-# The bench
+# -- The bench
 
 
 class Bench:
@@ -555,7 +556,7 @@ class Bench:
     def __enter__(self) -> Bench:
         return self
 
-    def __exit__(self, kind: type[BaseException] | None, error: BaseException | None, trace: TracebackType | None) -> None:
+    def __exit__(self, *_: object) -> None:
         self.close()
 
     def close(self) -> None:

@@ -182,6 +182,13 @@ class Endings(Opened):
         self.assertEqual(bench.at(1).v[0], 3)
         self.assertEqual(len(bench.exchange([b"image"] * 120_000)), 120_000)
 
+    def test_answers_over_their_bound(self) -> None:
+        program = chipbench.Program([self.program, "debug"], most_bytes=10_000)
+        self.addCleanup(program.close)
+        self.assertEqual(len(program.exchange([b"regs 0"] * 40)), 40)
+        with self.assertRaises(chipbench.TooMuch):
+            program.exchange([b"mem 0 0 4096"] * 2)
+
     def test_commands_without_an_answer_are_not_given(self) -> None:
         bench = self.bench()
         for command in ("", "  ", "image\nimage", "\r"):
