@@ -4,6 +4,7 @@ from __future__ import annotations
 
 import doctest
 import os
+import re
 import signal
 import subprocess
 import sys
@@ -13,7 +14,7 @@ from typing import Any
 
 sys.path.insert(0, str(Path(__file__).resolve().parent))
 
-from programs import EXAMPLES, NeedsProgram, NeedsWords, has_words  # noqa: E402
+from programs import EXAMPLES, PYTHON, TOP, NeedsProgram, NeedsWords, has_words  # noqa: E402
 
 import chipbench  # noqa: E402
 from chipbench import Bench, ChipbenchError, Ended, Refused, Screen, Stale  # noqa: E402
@@ -146,6 +147,14 @@ class Answers(Opened):
             bench = self.bench(None, path=script.with_suffix(".asm"), tape=tape)
             answers = b"".join(bench.exchange(line for line in script.read_bytes().splitlines() if line.strip()))
             self.assertEqual(answers, script.with_suffix(".out").read_bytes(), script.name)
+
+    def test_the_example_of_the_readme(self) -> None:
+        found = re.search(r"```python\n(.*?)```", (PYTHON / "README.md").read_text(encoding="utf-8"), re.DOTALL)
+        assert found is not None
+        names = {**os.environ, "PYTHONPATH": str(PYTHON), "PYTHONIOENCODING": "utf-8", "CHIPBENCH": os.path.abspath(self.program)}
+        ran = subprocess.run([sys.executable, "-B", "-c", found[1]], cwd=TOP, env=names, capture_output=True, check=True)
+        lines = ran.stdout.decode().split("\n")
+        self.assertEqual((lines[0], lines[3].strip()), ("1 S1", "▄██"))
 
     def test_sources_as_bytes(self) -> None:
         for source in (b"CLS\r\nRET\r\n", b"CLS\rDB 1", b"CLS\r", b"CLS\r\r\n", b"\n\n", b"", b"; \xff"):

@@ -6,9 +6,11 @@ import doctest
 import json
 import os
 import random
+import shutil
 import signal
 import subprocess
 import sys
+import tempfile
 import time
 import unittest
 from pathlib import Path
@@ -17,7 +19,7 @@ from typing import Any
 sys.path.insert(0, str(Path(__file__).resolve().parent))
 
 from client import URI, Client, span  # noqa: E402
-from programs import EXAMPLES, NeedsProgram, NeedsWords  # noqa: E402
+from programs import EXAMPLES, TOP, NeedsProgram, NeedsWords  # noqa: E402
 
 from chipbench import Bench  # noqa: E402
 from chipbench_lsp import completion, document, fixes, language, layout, positions  # noqa: E402
@@ -504,6 +506,18 @@ class Settings(Served):
         for settings in useless:
             client.tell("workspace/didChangeConfiguration", settings)
         self.assertEqual(client.edit((0, 0), (0, 0), ""), [])
+
+
+class Launcher(unittest.TestCase):
+    def test_through_a_link_and_without_its_files(self) -> None:
+        with tempfile.TemporaryDirectory() as folder:
+            link, copy = Path(folder) / "link", Path(folder) / "chipbench-lsp"
+            link.symlink_to(TOP / "chipbench-lsp")
+            shutil.copy(TOP / "chipbench-lsp", copy)
+            found = subprocess.run([link, "--help"], capture_output=True, text=True)
+            self.assertEqual((found.returncode, found.stdout.split()[:2]), (0, ["usage:", "chipbench-lsp"]))
+            missing = subprocess.run([copy], capture_output=True, text=True)
+            self.assertEqual((missing.returncode, "isn't beside" in missing.stderr), (127, True))
 
 
 class WithoutProgram(unittest.TestCase):
