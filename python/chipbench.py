@@ -39,7 +39,7 @@ BATCH = 500
 # The most bytes of the answers of one exchange, unless a program has another bound.
 MOST_BYTES = 1 << 30
 
-# An answer whose first line is `no CODE` ends there. Of the others these end with a line `.`, and these have more than one line.
+# An answer whose first line is `no CODE` ends there. Of the others these end with a line `.`, and these have several lines.
 ENDED_BY_DOT = {b"syms", b"list", b"faults", b"screen", b"dis"}
 LINES = {b"regs": 3}
 # What the program prints in the place of all answers where the source doesn't open.
@@ -452,11 +452,9 @@ class Screen:
         )
 
     def draw(self, letters: str = " ▀▄█") -> str:
-        """The screen as text: a character for two pixels, one above the other. `letters` are for none, the upper, the lower, both."""
-        pairs = zip(self.rows[::2], self.rows[1::2])
-        return "\n".join(
-            "".join(letters[(above == "#") + 2 * (below == "#")] for above, below in zip(upper, lower)) for upper, lower in pairs
-        )
+        """The screen as text, a character for two pixels, one above the other: `letters` for none, the upper, the lower, both."""
+        pairs = (zip(upper, lower) for upper, lower in zip(self.rows[::2], self.rows[1::2]))
+        return "\n".join("".join(letters[(above == "#") + 2 * (below == "#")] for above, below in pair) for pair in pairs)
 
     def __str__(self) -> str:
         return self.draw()
@@ -509,7 +507,7 @@ class State:
 class Bench:
     """A source, key events, and the machine at each step, as one `chipbench debug` answers them.
 
-    Give one of `source` (text or bytes), `path` (a file), and `image` (the bytes of a program, which `dis` turns into a source).
+    Give one of `source` (text or bytes), `path` (a file), and `image` (bytes, which `dis` turns into a source).
     `profile`, `rate`, `tape` (bytes), `seed` and `every` are the options of `chipbench debug`. `program` is the program's name,
     by default that of `find_program`.
 
@@ -537,7 +535,8 @@ class Bench:
         if sum(given is not None for given in (source, path, image)) > 1:
             raise ValueError("give one of source, path and image")
         self.program = os.fspath(program) if program is not None else find_program()
-        settings = {"profile": profile, "rate": rate, "tape": None if tape is None else tape.hex(), "seed": seed, "every": every}
+        random_bytes = None if tape is None else tape.hex()
+        settings = {"profile": profile, "rate": rate, "tape": random_bytes, "seed": seed, "every": every}
         self._options = [f"--{name}={value}" for name, value in settings.items() if value is not None]
         self._running: Program | None = None
         self._is_closed = False

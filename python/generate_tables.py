@@ -50,7 +50,8 @@ def instructions(machine: str) -> list[dict[str, Any]]:
         also = vip.get(pattern, "") or (f"n = 0: {vip['DXY0']}" if pattern == "DXYN" else "")
         found.append({"word": pattern, "forms": forms, "effect": effect, "stops": stops, "vip": also})
     found.append({
-        "word": "0NNN", "forms": ["SYS a"], "effect": "the word a, which the machine reads as any other word", "stops": "", "vip": "",
+        "word": "0NNN", "forms": ["SYS a"], "stops": "", "vip": "",
+        "effect": "the word a, which the machine reads as any other word",
     })
     return found
 

@@ -127,8 +127,8 @@ class Server {
   }
 }
 
-function providers(server) {
-  const ask = (method, params, token) => server.ask(`textDocument/${method}`, params, token);
+/** Providers for a place in a document. */
+function placeProviders(ask) {
   const at = (method, make) => async (document, position, token) => make(await ask(method, placeOf(document, position), token));
   const lists = (make) => (found) => convert.list(found, make);
   return {
@@ -149,38 +149,46 @@ function providers(server) {
         return { range: convert.range(found.range), placeholder: found.placeholder };
       },
     },
-    DocumentSymbol: {
-      provideDocumentSymbols: async (document, token) =>
-        convert.list(await ask('documentSymbol', documentOf(document), token), convert.symbol),
-    },
-    FoldingRange: {
-      provideFoldingRanges: async (document, _, token) =>
-        convert.list(await ask('foldingRange', documentOf(document), token), convert.fold),
-    },
-    CodeLens: {
-      provideCodeLenses: async (document, token) => convert.list(await ask('codeLens', documentOf(document), token), convert.lens),
-    },
-    CodeActions: {
-      provideCodeActions: async (document, where, context, token) => {
-        const params = { ...documentOf(document), range: convert.toRange(where), context: { diagnostics: [] } };
-        return convert.list(await ask('codeAction', params, token), convert.action);
-      },
-    },
-    InlayHints: {
-      provideInlayHints: async (document, where, token) =>
-        convert.list(await ask('inlayHint', { ...documentOf(document), range: convert.toRange(where) }, token), convert.hint),
-    },
+  };
+}
+
+/** Providers for a whole document. */
+function documentProviders(ask) {
+  const all = (method, make) => async (document, token) => convert.list(await ask(method, documentOf(document), token), make);
+  const folds = all('foldingRange', convert.fold);
+  return {
+    DocumentSymbol: { provideDocumentSymbols: all('documentSymbol', convert.symbol) },
+    CodeLens: { provideCodeLenses: all('codeLens', convert.lens) },
+    FoldingRange: { provideFoldingRanges: (document, _, token) => folds(document, token) },
     DocumentFormattingEdit: {
       provideDocumentFormattingEdits: async (document, options, token) =>
         convert.list(await ask('formatting', { ...documentOf(document), options }, token), convert.edit),
     },
+  };
+}
+
+/** Providers for a range of a document. */
+function rangeProviders(ask) {
+  const within = async (method, make, document, where, more, token) =>
+    convert.list(await ask(method, { ...documentOf(document), range: convert.toRange(where), ...more }, token), make);
+  const context = { diagnostics: [] };
+  return {
+    CodeActions: {
+      provideCodeActions: (document, where, _, token) => within('codeAction', convert.action, document, where, { context }, token),
+    },
+    InlayHints: {
+      provideInlayHints: (document, where, token) => within('inlayHint', convert.hint, document, where, {}, token),
+    },
     DocumentRangeFormattingEdit: {
-      provideDocumentRangeFormattingEdits: async (document, where, options, token) => {
-        const params = { ...documentOf(document), range: convert.toRange(where), options };
-        return convert.list(await ask('rangeFormatting', params, token), convert.edit);
-      },
+      provideDocumentRangeFormattingEdits: (document, where, options, token) =>
+        within('rangeFormatting', convert.edit, document, where, { options }, token),
     },
   };
+}
+
+function providers(server) {
+  const ask = (method, params, token) => server.ask(`textDocument/${method}`, params, token);
+  return { ...placeProviders(ask), ...documentProviders(ask), ...rangeProviders(ask) };
 }
 
 /** Asks for the machine at the first step on a line, and shows it in the output. */

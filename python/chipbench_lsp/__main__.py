@@ -16,7 +16,8 @@ def main(arguments: list[str]) -> NoReturn:
     parser = argparse.ArgumentParser(
         prog="chipbench-lsp", description="A language server for sources of chipbench, on standard input and output."
     )
-    parser.add_argument("--program", metavar="PATH", help="the program chipbench; else $CHIPBENCH, the one beside it, or that of the PATH")
+    which = "the program chipbench; by default $CHIPBENCH, the one beside the server, or the one on the PATH"
+    parser.add_argument("--program", metavar="PATH", help=which)
     parser.add_argument("--stdio", action="store_true", help="does nothing: standard input and output are used in any case")
     serve(parser.parse_args(arguments).program)
 

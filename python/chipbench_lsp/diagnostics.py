@@ -67,9 +67,8 @@ def diagnostics(document: Document, places: Places, program: str | None) -> list
     try:
         faults = document.faults
     except OverLimits as over:
-        return [
-            diagnostic(document, number, (0, len(document.line(number))), code, text) for number, code, text in over.lines[:MOST_SHOWN]
-        ]
+        lines = over.lines[:MOST_SHOWN]
+        return [diagnostic(document, number, (0, len(document.line(number))), code, text) for number, code, text in lines]
     except ChipbenchError as error:
         text = f"the faults are unknown: {error}"
         return [diagnostic(document, 0, (0, len(document.line(0))), "program", text)]

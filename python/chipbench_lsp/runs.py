@@ -30,7 +30,8 @@ def lenses(document: Document) -> list[dict[str, Any]]:
     for number in range(document.line_count):
         line = document.read(number)
         if line.form == "label" and (line.head is None or line.mnemonic is not None):
-            found.append({"range": document.columns.range(number, line.text, 0, len(line.text)), "command": command(document, number)})
+            span = document.columns.range(number, line.text, 0, len(line.text))
+            found.append({"range": span, "command": command(document, number)})
     return found
 
 

@@ -1,6 +1,6 @@
 """The server: takes messages in their order, keeps the documents, and answers.
 
-One thread reads messages, so that a cancelled request is known before its turn. The main thread does all that touches documents.
+One thread reads messages, so that a cancelled request is known before its turn. The main thread alone touches documents.
 `check` and `run to here` take longer; they run in threads of their own, on copies, and report to the main one.
 """
 
