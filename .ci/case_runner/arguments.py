@@ -43,18 +43,13 @@ class Block:
             found = found[: len(expected) + 40]
         elif self.side == "ends" and not found.endswith(expected):
             found = found[-len(expected) - 40 :]
-        elif self.side or (self.form and found == expected):
+        elif self.side or found == expected:
             return
-        _check_lines(what, expected, found, self.side)
-
-
-def _check_lines(what, expected, found, side):
-    lines, answered = lines_of(expected), lines_of(found)
-    is_text = not side and (found.endswith(b"\n") or not found)
-    if is_text and first_difference(lines, answered) is None:
-        return
-    how = f"doesn't {side[:-1]} so" if side else "is another"
-    raise Unlike(f"{what} {how}\n{diff(lines, answered)}")
+        lines, answered = lines_of(expected), lines_of(found)
+        if not self.side and not self.form and first_difference(lines, answered) is None:
+            return
+        how = f"doesn't {self.side[:-1]} so" if self.side else "is another"
+        raise Unlike(f"{what} {how}\n{diff(lines, answered)}")
 
 
 @dataclass
@@ -200,11 +195,11 @@ class _Reader:
                 self.cases.append(ArgumentCase(self.text.file, line.number, line.rest))
                 continue
             if not self.cases:
-                raise self.text.malformed(line, "no case has begun")
+                raise self.text.malformed(line.number, "no case has begun")
             try:
                 self.cases[-1].steps += self._steps(line, shlex.split(line.rest))
             except (ValueError, IndexError, KeyError) as it:
-                raise self.text.malformed(line, f"{line.text}: {it}") from it
+                raise self.text.malformed(line.number, f"{line.text}: {it}") from it
         return self.cases
 
     def _steps(self, line, words):
@@ -264,4 +259,4 @@ class _Reader:
 
 def read_arguments(file):
     """The cases of a file of arguments."""
-    return _Reader(Text(file, file.read_text(encoding="utf-8"))).read()
+    return _Reader(Text(file)).read()

@@ -1,8 +1,11 @@
 """Compares expected lines with answered ones."""
 import difflib
+import itertools
 
 # A line that stands for any lines, also for none.
 ANY = "..."
+# What is shown of a diff, and of a line of it, at most.
+LINES, CHARACTERS = 100, 200
 
 
 def _length_of_prefix(expected, answered):
@@ -58,26 +61,24 @@ def first_difference(expected, answered):
     return None
 
 
-def shown(line):
-    """A line with its control characters, and blanks at its end, as they are written in Python."""
-    is_plain = line.isprintable() and not line.endswith(" ")
-    return line if is_plain else repr(line)
+def _shown(lines):
+    """Lines as a diff shows them: control characters, and blanks at an end, are written as in Python."""
+    shown = []
+    for line in lines:
+        front = line[:CHARACTERS]
+        is_plain = front.isprintable() and not front.endswith(" ")
+        shown.append((front if is_plain else repr(front)) + (" .." if len(line) > CHARACTERS else ""))
+    return shown
 
 
 def diff(expected, answered):
-    """A unified diff of expected and answered lines."""
-    lines = difflib.unified_diff(
-        [shown(line) for line in expected],
-        [shown(line) for line in answered],
-        "expected",
-        "answered",
-        lineterm="",
-    )
-    return "\n".join(lines)
+    """The front of a unified diff of expected and answered lines."""
+    lines = difflib.unified_diff(_shown(expected), _shown(answered), "expected", "answered", lineterm="")
+    return "\n".join(itertools.islice(lines, LINES))
 
 
 def lines_of(output):
-    """The lines of an output; what follows the last line's end is a line where there is any."""
-    text = output.decode("utf-8", "backslashreplace")
-    lines = text.split("\n")
-    return lines[:-1] if lines[-1] == "" else lines
+    """The lines of an output. A last line without an end says so."""
+    lines = output.decode("utf-8", "backslashreplace").split("\n")
+    last = lines.pop()
+    return lines + ([f"{last} (no line end)"] if last else [])

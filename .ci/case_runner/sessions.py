@@ -3,9 +3,8 @@ import pathlib
 from dataclasses import dataclass, field, replace
 
 from .compare import diff, first_difference, lines_of
-from .texts import Text, bytes_of
+from .texts import TOP, Text, bytes_of
 
-TOP = pathlib.Path(__file__).resolve().parent.parent.parent
 # The least and the greatest number of steps between two checkpoints: no answer depends on it.
 EACH_EVERY = ("1000", "100000")
 SETTINGS = ("profile", "rate", "tape", "seed", "every")
@@ -110,16 +109,16 @@ class _Reader:
         self.text, self.kind = text, kind
         self.cases = []
         # what stands before the first case
-        self.common = kind(text.file, 1, pathlib.Path(text.file).stem)
+        self.common = kind(text.file, 1, text.path.stem)
         self.case = self.common
 
     def read(self):
         while (line := self.text.take()) is not None:
             self._read_line(line)
-        if not self.cases and self.common.commands:
+        if self.common.commands:
             self.cases = [self.common]
         if not self.cases:
-            raise self.text.malformed(line or _FIRST, "there is no case")
+            raise self.text.malformed(1, "there is no case")
         for case in self.cases:
             self._check(case)
         return self.cases
@@ -147,14 +146,14 @@ class _Reader:
         elif line.word in SETTINGS and line.rest:
             case.settings[line.word] = line.rest
         else:
-            raise self.text.malformed(line, f"neither a setting nor a command: {line.text}")
+            raise self.text.malformed(line.number, f"neither a setting nor a command: {line.text}")
 
     def _begin(self, line):
         common = self.common
         if common.commands:
-            raise self.text.malformed(line, "commands stand before the first case")
+            raise self.text.malformed(line.number, "commands stand before the first case")
         if not line.rest:
-            raise self.text.malformed(line, "a case without a name")
+            raise self.text.malformed(line.number, "a case without a name")
         self.case = replace(
             common, line=line.number, name=line.rest, settings=dict(common.settings), commands=[]
         )
@@ -162,38 +161,27 @@ class _Reader:
 
     def _file(self, line):
         """The bytes of a file beside the test or under examples/."""
-        for folder in (pathlib.Path(self.text.file).parent, TOP / "examples"):
+        for folder in (self.text.path.parent, TOP / "examples"):
             if (folder / line.rest).is_file():
                 return (folder / line.rest).read_bytes()
-        raise self.text.malformed(line, f"no such file: {line.rest}")
+        raise self.text.malformed(line.number, f"no such file: {line.rest}")
 
     def _check(self, case):
+        """A refusal is expected of the commands that begin with `!`, and of no other."""
         for command in case.commands if self.kind is Session else []:
-            at = _at(command)
-            is_refused = command.answer[:1] != [] and command.answer[0].startswith("no ")
+            is_refused = len(command.answer) == 1 and command.answer[0].startswith("no ")
             if is_refused and not command.is_refused:
-                raise self.text.malformed(at, f"a refusal is expected of `> {command.text}`: begin it with `!`")
-            if command.is_refused and (not is_refused or len(command.answer) > 1):
-                raise self.text.malformed(at, f"no refusal is expected of `! {command.text}`")
-
-
-class _At:
-    def __init__(self, number):
-        self.number = number
-
-
-_FIRST = _At(1)
-
-
-def _at(command):
-    return _At(command.line)
+                why = f"a refusal is expected of `> {command.text}`: begin it with `!`"
+                raise self.text.malformed(command.line, why)
+            if command.is_refused and not is_refused:
+                raise self.text.malformed(command.line, f"no refusal is expected of `! {command.text}`")
 
 
 def read_sessions(file):
     """The sessions of a file."""
-    return _Reader(Text(file, file.read_text(encoding="utf-8")), Session).read()
+    return _Reader(Text(file), Session).read()
 
 
 def read_calls(file):
     """The cases of a file of calls."""
-    return _Reader(Text(file, file.read_text(encoding="utf-8")), Calls).read()
+    return _Reader(Text(file), Calls).read()

@@ -1,6 +1,9 @@
 """Reads the text of a test: its lines, and the blocks in it."""
+import pathlib
 import re
 from dataclasses import dataclass
+
+TOP = pathlib.Path(__file__).resolve().parent.parent.parent
 
 _REPEATED = re.compile(r"\{([^{}*]+)\*([0-9]+)\}")
 _PIECE = re.compile(r'\s*(?:([0-9]+)\s*\*\s*)?"((?:[^"\\]|\\.)*)"')
@@ -36,9 +39,10 @@ class Line:
 class Text:
     """The lines of a test that are still to be read."""
 
-    def __init__(self, file, content):
-        self.file = file
-        lines = content.split("\n")
+    def __init__(self, path):
+        self.path = path
+        self.file = path.relative_to(TOP) if path.is_relative_to(TOP) else path
+        lines = path.read_text(encoding="utf-8").split("\n")
         if lines[-1] == "":
             lines.pop()
         self._lines = [Line(number, text) for number, text in enumerate(lines, 1)]
@@ -57,13 +61,13 @@ class Text:
         while True:
             line = self.take()
             if line is None:
-                raise self.malformed(begun, "no `end` follows")
+                raise self.malformed(begun.number, "no `end` follows")
             if line.text == "end":
                 return texts
             texts.append(line.text)
 
-    def malformed(self, line, text):
-        return Malformed(self.file, line.number, text)
+    def malformed(self, number, text):
+        return Malformed(self.file, number, text)
 
 
 def _unescaped(text):
