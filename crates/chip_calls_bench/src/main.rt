@@ -36,11 +36,6 @@ struct Calls {
     session: Session,
 }
 
-/// A number of a command.
-fn number(text: &str) -> Result<usize, Error> {
-    Ok(text.parse::<usize>()?)
-}
-
 impl Calls {
     fn new(alloc: Global) -> Result<Calls, Error> {
         Ok(Calls {
@@ -74,13 +69,20 @@ impl Calls {
     /// Carries out a command that has no answer.
     fn prepare(&mut self, alloc: Global, word: &str, rest: &str) -> Result<(), Error> {
         match word {
-            "source" => push_line(&mut self.source, rest)?,
-            "script" => push_line(&mut self.script, rest)?,
+            "source" | "script" => {
+                let lines = if word == "source" {
+                    &mut self.source
+                } else {
+                    &mut self.script
+                };
+                lines.extend_from_slice(rest.as_bytes())?;
+                lines.push(b'\n')?;
+            }
             "repeat" => {
                 let (count, text) = rest.split_once(" ").unwrap_or((rest, ""));
                 let text = if text == "\\n" { "\n" } else { text };
                 self.source
-                    .extend_from_slice(text.repeat(alloc, number(count)?)?.as_bytes())?;
+                    .extend_from_slice(text.repeat(alloc, count.parse::<usize>()?)?.as_bytes())?;
             }
             "open" => {
                 self.session = Session::open(alloc, &self.source, rest.parse::<u32>()?)?;
@@ -92,18 +94,11 @@ impl Calls {
     }
 }
 
-/// Adds a line.
-fn push_line(lines: &mut Vec<u8>, line: &str) -> Result<(), Error> {
-    lines.extend_from_slice(line.as_bytes())?;
-    lines.push(b'\n')?;
-    Ok(())
-}
-
 /// Whether there are settings of a rate, a length of the tape, and a distance of checkpoints.
 fn settings(alloc: Global, rest: &str) -> Result<String, Error> {
     let mut words = rest.split(" ");
     let rate = words.next().unwrap_or("").parse::<u32>()?;
-    let tape = vec![in alloc; 0u8; number(words.next().unwrap_or(""))?]?;
+    let tape = vec![in alloc; 0u8; words.next().unwrap_or("").parse::<usize>()?]?;
     let spacing = words.next().unwrap_or("").parse::<u32>()?;
     let made = match Settings::new(alloc, rate, &tape) {
         Ok(settings) => settings.with_spacing(spacing),
@@ -137,7 +132,7 @@ fn run(rt: &HostRuntime, words: &str, script: &[u8], plan: &Plan) -> Result<Stri
     let mut output = Counted::new(Sink::new(rt.alloc(), plan));
     let mut errors = Vec::new(rt.alloc());
     let status = program(rt.alloc(), rt, &list, &mut input, &mut output, &mut errors);
-    told(rt.alloc(), status, output.get().taken(), &errors)
+    told(rt.alloc(), status, &output.get().taken, &errors)
 }
 
 /// What the program answers where the system can't give its arguments for that reason.
@@ -159,8 +154,8 @@ fn counted(alloc: Global) -> Result<String, Error> {
     let is_well = reader.read(&mut [0]).is_ok()
         | writer.write(&[0]).is_ok()
         | writer.flush().is_ok();
-    let (read, unread) = (reader.get().calls(), reader.failures());
-    let (written, unwritten) = (writer.get().calls(), writer.failures());
+    let (read, unread) = (reader.get().calls, reader.failures());
+    let (written, unwritten) = (writer.get().calls, writer.failures());
     Ok(format!(in alloc;
         "a call went well: {is_well}\nreads {read}, failures {unread}\nwrites {written}, failures {unwritten}"
     )?)

@@ -23,8 +23,8 @@ pub(crate) struct Plan {
     writer_fails: bool,
     /// `flush-fails`: whether a flush fails.
     flush_fails: bool,
-    /// `other-error`: whether a read or a write that fails isn't just interrupted.
-    other_error: bool,
+    /// Why a read or a write fails: it is interrupted, but for `other-error`.
+    reason: ErrorKind,
 }
 
 impl Plan {
@@ -37,7 +37,7 @@ impl Plan {
         room: usize::MAX,
         writer_fails: false,
         flush_fails: false,
-        other_error: false,
+        reason: ErrorKind::Interrupted,
     };
 
     /// A reader and a writer of which each call fails.
@@ -71,19 +71,10 @@ impl Plan {
             "reader-fails" => self.reader_fails = value != 0,
             "writer-fails" => self.writer_fails = value != 0,
             "flush-fails" => self.flush_fails = value != 0,
-            "other-error" => self.other_error = value != 0,
+            "other-error" => self.reason = ErrorKind::Other,
             _ => bail!("no such part: {name}"),
         }
         Ok(())
-    }
-
-    /// The error of a read or a write that fails.
-    fn error(&self) -> io::Error {
-        io::Error::from(if self.other_error {
-            ErrorKind::Other
-        } else {
-            ErrorKind::Interrupted
-        })
     }
 }
 
@@ -92,7 +83,7 @@ impl Plan {
 pub(crate) struct Feed<'a> {
     left: &'a [u8],
     plan: Plan,
-    calls: u64,
+    pub(crate) calls: u64,
     failures: u64,
 }
 
@@ -105,11 +96,6 @@ impl<'a> Feed<'a> {
             failures: 0,
         }
     }
-
-    /// How many calls were made.
-    pub(crate) fn calls(&self) -> u64 {
-        self.calls
-    }
 }
 
 impl Read for Feed<'_> {
@@ -118,7 +104,7 @@ impl Read for Feed<'_> {
         let count = self.left.len().min(buf.len()).min(self.plan.read);
         if count == 0 && self.plan.reader_fails {
             self.failures = self.failures.saturating_add(1);
-            return Err(self.plan.error());
+            return Err(io::Error::from(self.plan.reason));
         }
         let (given, left) = self.left.split_at(count);
         buf[..count].copy_from_slice(given);
@@ -130,9 +116,9 @@ impl Read for Feed<'_> {
 /// A writer by a plan, and the bytes that it took.
 #[derive(Drop)]
 pub(crate) struct Sink {
-    taken: Vec<u8>,
+    pub(crate) taken: Vec<u8>,
     plan: Plan,
-    calls: u64,
+    pub(crate) calls: u64,
     failures: u64,
 }
 
@@ -145,16 +131,6 @@ impl Sink {
             failures: 0,
         }
     }
-
-    /// The bytes that it took.
-    pub(crate) fn taken(&self) -> &[u8] {
-        &self.taken
-    }
-
-    /// How many calls were made.
-    pub(crate) fn calls(&self) -> u64 {
-        self.calls
-    }
 }
 
 impl Write for Sink {
@@ -165,7 +141,7 @@ impl Write for Sink {
         if count == 0 && !buf.is_empty() {
             self.failures = self.failures.saturating_add(1);
             if self.plan.writer_fails {
-                return Err(self.plan.error());
+                return Err(io::Error::from(self.plan.reason));
             }
         }
         self.taken.extend_from_slice(&buf[..count])?;
@@ -204,7 +180,7 @@ pub(crate) fn talk(
     let ended = serve_by(alloc, source, &mut reader, &mut writer)?;
     let (reads, unread) = (reader.failures(), reader.get().failures);
     let (writes, unwritten) = (writer.failures(), writer.get().failures);
-    let text = String::from_utf8_lossy(alloc, writer.get().taken())?;
+    let text = String::from_utf8_lossy(alloc, &writer.get().taken)?;
     Ok(format!(in alloc;
         "{ended:?}, {reads} of {unread} reads and {writes} of {unwritten} writes failed: {text:?}"
     )?)
