@@ -6,7 +6,7 @@ from dataclasses import dataclass
 TOP = pathlib.Path(__file__).resolve().parent.parent.parent
 
 _REPEATED = re.compile(r"\{([^{}*]+)\*([0-9]+)\}")
-_PIECE = re.compile(r'\s*(?:([0-9]+)\s*\*\s*)?"((?:[^"\\]|\\.)*)"')
+_PIECE = re.compile(r'\s*(?:([0-9]+)\s*\*|"((?:[^"\\]|\\.)*)"|([()]))')
 _ESCAPE = re.compile(r"\\(?:x([0-9a-fA-F]{2})|(.))")
 _ESCAPED = {"n": "\n", "r": "\r", "t": "\t", "0": "\0", '"': '"', "\\": "\\"}
 
@@ -79,17 +79,28 @@ def _unescaped(text):
     return _ESCAPE.sub(meant, text).encode("latin-1")
 
 
-def _pieces(texts):
-    """The bytes of lines of quoted pieces, each repeated as often as the number before it says."""
-    made = []
-    for text in texts:
-        at = 0
-        while text[at:].strip():
-            found = _PIECE.match(text, at)
-            if not found:
-                raise ValueError(f"no quoted text: {text[at:]}")
-            made.append(_unescaped(found.group(2)) * int(found.group(1) or 1))
-            at = found.end()
+def _tokens(text):
+    """The counts, texts and parentheses of a text of pieces."""
+    at = 0
+    while text[at:].strip():
+        found = _PIECE.match(text, at)
+        if not found:
+            raise ValueError(f"neither a quoted text, a count nor a parenthesis: {text[at:].strip()}")
+        yield found.groups()
+        at = found.end()
+
+
+def _group(tokens):
+    """The bytes of pieces up to a parenthesis, each repeated as often as the count before it says."""
+    made, times = [], 1
+    for count, quoted, parenthesis in tokens:
+        if count:
+            times = int(count)
+            continue
+        if parenthesis == ")":
+            break
+        made.append((_group(tokens) if parenthesis else _unescaped(quoted)) * times)
+        times = 1
     return b"".join(made)
 
 
@@ -98,7 +109,7 @@ def bytes_of(texts, form):
     if form == "hex":
         return bytes.fromhex("".join(texts))
     if form == "bytes":
-        return _pieces(texts)
+        return _group(_tokens("\n".join(texts)))
     return "".join(text + "\n" for text in texts).encode()
 
 
