@@ -1,7 +1,7 @@
 """The examples of the documents: what they say is answered is what the program answers.
 
-docs/FORMATS.md has a source and a session for each command, docs/LANGUAGE.md a source for each fault, and README.md
-a first session.
+docs/FORMATS.md has a source and a session for each command, docs/LANGUAGE.md a source for each fault. README.md and
+docs/GUIDE.md are replayed by .ci/guide-tests.
 """
 import pathlib
 import re
@@ -9,8 +9,6 @@ import tempfile
 
 from case_runner.sessions import Command, Session
 from case_runner.texts import TOP
-
-COMMANDS = "ins rep del kins krep kdel image syms list faults regs mem screen dis".split()
 
 
 def section(file, heading):
@@ -30,15 +28,12 @@ def block(lines):
     return [(number, line[4:]) for number, line in lines if line.startswith("    ")]
 
 
-def session(file, lines, is_command):
-    """The session that lines of a document show: a source, and commands with their answers."""
-    if not lines:
-        raise ValueError(f"{file} shows no session here")
+def session(file, lines):
+    """The session that lines of a document show: a source, and after `> ` commands with their answers."""
     shown = Session(pathlib.Path(file), lines[0][0], f"of line {lines[0][0]}")
     for number, line in lines:
-        command = is_command(line)
-        if command is not None:
-            shown.commands.append(Command(number, command, False))
+        if line == ">" or line.startswith("> "):
+            shown.commands.append(Command(number, line[2:], False))
         elif shown.commands:
             shown.commands[-1].answer += [line] if line else []
         elif line:
@@ -46,26 +41,11 @@ def session(file, lines, is_command):
     return shown
 
 
-def marked(line):
-    """The command that stands after `> `."""
-    return line[2:] if line == ">" or line.startswith("> ") else None
-
-
-def worded(line):
-    """A line that begins with a command's word."""
-    return line if line.split(" ")[0] in COMMANDS else None
-
-
 def sessions_of_formats():
     lines = section("docs/FORMATS.md", "## An example of each command")
     starts = [at for at, (_, line) in enumerate(lines) if line.startswith("### ")] + [len(lines)]
     for start, end in zip(starts, starts[1:]):
-        yield lines[start][1][4:], session("docs/FORMATS.md", block(lines[start:end]), marked)
-
-
-def session_of_readme():
-    lines = block(section("README.md", "## A first session"))
-    return session("README.md", [it for it in lines if not it[1].startswith("$ ")], worded)
+        yield lines[start][1][4:], session("docs/FORMATS.md", block(lines[start:end]))
 
 
 def fault_examples():
@@ -101,4 +81,3 @@ def checks(program):
         yield f"docs/FORMATS.md, {name}", lambda it=shown: wrong_session(program, it)
     for code, lines in faults:
         yield f"docs/LANGUAGE.md, {code}", lambda code=code, it=lines: wrong_fault(program, code, it)
-    yield "README.md, a first session", lambda: wrong_session(program, session_of_readme())
