@@ -61,7 +61,8 @@ returns-then-place-le-HALF_PAGE-clause-room c =
     let i = c.args.place.page in
     let within : i < length pages = omega (arith, ap length c.reserve.ensures.items, c.requires.page) in
     let is = c.in_ok-insert.ensures.items in
-    let size : length front.items ≡ 64 = omega (arith, c.in_ok-later.ensures.len) in
-    (omega (arith, ap length is, length-parted pages i front later within, within),
-    λ d. let there = ap (λ (ps : List (Vec Event)). length (get_or ps i d).items) is ∙ ap (λ (p : Vec Event). length p.items) (first_part pages i front later d within) in
-    (omega (arith, there, size, c.if-place-le-HALF_PAGE.true), omega (arith, there, size)))
+    let size : length front.items ≡ 64 = omega (arith, c.in_ok-later.ensures.len) in (
+      omega (arith, ap length is, length-parted pages i front later within, within),
+      λ d. let there = ap (λ (ps : List (Vec Event)). length (get_or ps i d).items) is ∙ ap (λ (p : Vec Event). length p.items) (first_part pages i front later d within) in
+          (omega (arith, there, size, c.if-place-le-HALF_PAGE.true), omega (arith, there, size)),
+    )
