@@ -1,4 +1,4 @@
-use Rattle.std.proofs.Common.{◌≡◌, ◌/◌, ◌%◌, ◌∙◌, ◌<◌, rules, refl, arith}
+use Rattle.std.proofs.Common.{◌≡◌, ◌/◌, ◌%◌, ◌∙◌, rules, refl, arith}
 use Rattle.chip_lang.specs.inner.ByDigits.{instr_with}
 use Rattle.chip_lang.proofs.Decoding.{on_page, some_if, of_system_page, of_arithmetic, of_key, of_transfer}
 use Rattle.chip_lang.proofs.instr.instr_of.Goals as goal
