@@ -5,7 +5,7 @@
     editors/generate.py --check   writes nothing; the status is 1 where a file isn't what the tables give
 
 The words of the language come from crates/chip_lang/src (form.rt, keyword.rt, statement.rt), those of the
-command line from crates/chip_bench/src/command_line.rt.
+command line from crates/chip_arguments/src (arguments.rt, commands.rt).
 """
 import json
 import pathlib
@@ -67,16 +67,18 @@ class Words:
     """The commands of the program with their options."""
 
     def __init__(self):
-        text = read("chip_bench/src/command_line.rt")
+        text = read("chip_arguments/src/arguments.rt") + read("chip_arguments/src/commands.rt")
         consts = {}
         for name, value in re.findall(r'const (\w+): &str = "((?:[^"\\]|\\.|\\\n)*)";', text):
             consts[name] = re.sub(r"\\\n\s*", "", value)
-        functions = dict(re.findall(r"\nfn (\w+)<'a>\(alloc: Global\)(.*?)\n}", text, re.S))
-        arguments = {
-            name[: -len("_argument")]: Argument(body, consts)
-            for name, body in functions.items()
-            if name.endswith("_argument")
-        }
+        functions = dict(re.findall(r"\n(?:pub\(crate\) )?fn (\w+)<'a>\(alloc: Global\)(.*?)\n}", text, re.S))
+        arguments = {}
+        for name, body in functions.items():
+            if name.endswith("_argument"):
+                # one that only changes another has that one's texts
+                changed = re.search(r"(\w+_argument)\(alloc\)", body)
+                body = functions[changed.group(1)] if changed else body
+                arguments[name[: -len("_argument")]] = Argument(body, consts)
         top = functions["chipbench"]
         order = re.findall(r"\.subcommand\((\w+_command)\(alloc\)", text)
         self.about = re.search(r'\.about\(\s*"(.*?)"', top).group(1)
@@ -84,7 +86,7 @@ class Words:
         debug = next(command for command in self.commands if command.name == "debug")
         notes = consts["DEBUG_NOTES"].replace("\\n", "\n")
         debug.example = re.search(r"Example: (.*)", notes).group(1)
-        self.codes = re.findall(r'code: "(\w+)"', read("chip_bench/src/pages.rt"))
+        self.codes = re.findall(r'code: "(\w+)"', read("chip_pages/src/pages.rt"))
 
 
 def bash(words):

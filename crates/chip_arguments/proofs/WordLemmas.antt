@@ -17,11 +17,11 @@ use Rattle.clap.specs.declared.parser.matches.Found.{Found}
 use Rattle.chip_machine.specs.Profile.{profile_name}
 use Rattle.chip_machine.specs.declared.profile.Profile.{Profile}
 use Rattle.chip_machine.specs.declared.profile.Profile.TheVariants as profile
-use Rattle.chip_bench.specs.CommandLine.{chipbench}
-use Rattle.chip_bench.specs.CommandWords.{Asks, AsksBy, AsksFor, ReadsNumber, faults_below, word_faults, needed, profile_fault}
-use Rattle.chip_bench.specs.SettingWords.{default_words}
-use Rattle.chip_bench.specs.declared.command_line.CommandLine.{CommandLine}
-use Rattle.chip_bench.specs.declared.command_line.CommandLine.TheVariants as line
+use Rattle.chip_arguments.specs.CommandLine.{chipbench}
+use Rattle.chip_arguments.specs.CommandWords.{Asks, AsksBy, AsksFlag, AsksFor, ReadsNumber, faults_below, word_faults, needed, profile_fault}
+use Rattle.chip_arguments.specs.SettingWords.{default_words}
+use Rattle.chip_arguments.specs.declared.command_line.CommandLine.{CommandLine}
+use Rattle.chip_arguments.specs.declared.command_line.CommandLine.TheVariants as line
 
 -- a number that `parse` reads
 reads_text : {E : Type 0} (gives : List ℕ → Result ℕ E → Type 0) (bits : ℕ) (text : Option (List ℕ)) (number : Option ℕ) →
@@ -43,6 +43,14 @@ needed_is found id text e = e ∙ ap (λ (t : Option (List ℕ)). unwrap_or t []
 
 pub first_is : (found : Found) (id : List ℕ) (text : Option (List ℕ)) → text ≡ first_value found id → text ≡ first_of id (rows_of found)
 first_is found id text e = e ∙ first_value-rows found id
+
+-- a flag that is read
+pub flag_is : (found : Found) (id : List ℕ) (is_set : Bool) → (one_text found id ≡ Some (codes "true") → is_set ≡ true) →
+    (one_text found id ≡ Some (codes "false") → is_set ≡ false) → (one_text found id ≡ None → is_set ≡ false) →
+    AsksFlag (one_of id (rows_of found)) is_set
+flag_is found id is_set set unset none =
+    subst (λ (text : Option (List ℕ)). AsksFlag text is_set) (one_text-rows found id)
+    (record { set = set; unset = unset; none = none })
 
 -- a name that is known
 pub known_profile : (name : List ℕ) (p : Profile) → name ≡ profile_name p → profile_fault (Some name) ≡ []

@@ -1,5 +1,5 @@
 -- What the words of the command line ask for, by the values that `clap` finds in them (own).
-use Rattle.std.specs.Prelude.{◌≡◌, ◌≢◌, ℕ, ◌<◌, ◌^◌, List, [], ◌∷◌, codes, Option, Some, None, option_copied, unwrap_or, if◌then◌else◌}
+use Rattle.std.specs.Prelude.{◌≡◌, ◌≢◌, ℕ, ◌<◌, ◌^◌, Bool, true, false, List, [], ◌∷◌, codes, Option, Some, None, option_copied, unwrap_or, if◌then◌else◌}
 use Rattle.std.specs.List.{list_any}
 use Rattle.std.specs.Str.{bytes_eq}
 use Rattle.std.specs.Str.Parse.{IsNumeral, digits_value, without_leading_plus}
@@ -10,15 +10,13 @@ use Rattle.chip_machine.specs.Profile.{profile_name, profile_names}
 use Rattle.chip_machine.specs.declared.profile.Profile.{Profile}
 use Rattle.chip_machine.specs.declared.profile.Profile.TheVariants.{Schip}
 use Rattle.chip_replay.specs.declared.limits.TheConstants.{LEAST_SPACING}
-use Rattle.chip_views.specs.declared.picture.Letters.{Letters}
-use Rattle.chip_views.specs.declared.picture.Letters.TheVariants.{Blocks, Plain}
-use Rattle.chip_bench.specs.CommandLine.{chipbench}
-use Rattle.chip_bench.specs.SettingWords.{default_words}
-use Rattle.chip_bench.specs.declared.command_line.CommandLine.{CommandLine}
-use Rattle.chip_bench.specs.declared.command_line.CommandLine.TheVariants as line
-use Rattle.chip_bench.specs.declared.command_line.PictureWords.{PictureWords}
-use Rattle.chip_bench.specs.declared.command_line.RunWords.{RunWords}
-use Rattle.chip_bench.specs.declared.command_line.SettingWords.{SettingWords}
+use Rattle.chip_arguments.specs.CommandLine.{chipbench}
+use Rattle.chip_arguments.specs.SettingWords.{default_words}
+use Rattle.chip_arguments.specs.declared.command_line.CommandLine.{CommandLine}
+use Rattle.chip_arguments.specs.declared.command_line.CommandLine.TheVariants as line
+use Rattle.chip_arguments.specs.declared.command_line.PictureWords.{PictureWords}
+use Rattle.chip_arguments.specs.declared.command_line.RunWords.{RunWords}
+use Rattle.chip_arguments.specs.declared.command_line.SettingWords.{SettingWords}
 
 -- the name of a profile that there is not
 abbrev pub profile_fault : Option (List ℕ) → Kinds
@@ -72,11 +70,11 @@ pub record AsksSettings (rows : List Row) (words : SettingWords) : Type 0 where
 abbrev pub needed : List ℕ → List Row → List ℕ
 needed id rows = unwrap_or (first_of id rows) []
 
--- plain letters where the value of the flag is `true`, else half blocks
-pub record AsksLetters (flag : Option (List ℕ)) (letters : Letters) : Type 0 where
-  pub plain : flag ≡ Some (codes "true") → letters ≡ Plain
-  pub blocks : flag ≡ Some (codes "false") → letters ≡ Blocks
-  pub none : flag ≡ None → letters ≡ Blocks
+-- a flag is set where its value is `true`
+pub record AsksFlag (value : Option (List ℕ)) (is_set : Bool) : Type 0 where
+  pub set : value ≡ Some (codes "true") → is_set ≡ true
+  pub unset : value ≡ Some (codes "false") → is_set ≡ false
+  pub none : value ≡ None → is_set ≡ false
 
 -- the run that the values of a command ask for
 pub record AsksRun (rows : List Row) (words : RunWords) : Type 0 where
@@ -88,7 +86,7 @@ pub record AsksRun (rows : List Row) (words : RunWords) : Type 0 where
 -- the picture that they ask for
 pub record AsksPicture (rows : List Row) (words : PictureWords) : Type 0 where
   pub run : AsksRun rows words.run
-  pub letters : AsksLetters (one_of (codes "ascii") rows) words.letters
+  pub ascii : AsksFlag (one_of (codes "ascii") rows) words.ascii
   pub bitmap : option_copied words.bitmap ≡ first_of (codes "pbm") rows
   pub png : option_copied words.png ≡ first_of (codes "png") rows
 

@@ -1,10 +1,10 @@
 use Rattle.std.proofs.Common.{◌≡◌, ◌≢◌, [], List, ℕ, Option, codes, rules, subst}
 use Rattle.std.proofs.lemmas.Result.{err_from_is_err_and}
 use Rattle.clap.specs.Words.{FailsBy, found_of}
-use Rattle.chip_bench.specs.CommandWords.{IsProfile, profile_fault}
-use Rattle.chip_bench.proofs.WordLemmas.{first_is}
-use Rattle.chip_bench.proofs.command_line.command_asked.Goals as goal
-use Rattle.chip_bench.proofs.command_line.command_asked.Goals.{in-asm, in-list, in-check, in-dis, in-run, in-picture, in-explain, in_default}
+use Rattle.chip_arguments.specs.CommandWords.{IsProfile, profile_fault}
+use Rattle.chip_arguments.proofs.WordLemmas.{first_is}
+use Rattle.chip_arguments.proofs.command_line.command_asked.Goals as goal
+use Rattle.chip_arguments.proofs.command_line.command_asked.Goals.{in-asm, in-list, in-check, in-dis, in-run, in-picture, in-explain, in_default}
 
 pub returns-in_err-profile-clause-fault : goal.returns-in_err-profile-clause-fault
 returns-in_err-profile-clause-fault c =

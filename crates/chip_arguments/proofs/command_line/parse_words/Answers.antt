@@ -2,13 +2,13 @@ use Rattle.std.proofs.Common.{◌≡◌, sym, [], List, ℕ, None, ap, ◌∙◌
 use Rattle.std.proofs.lemmas.List.{nil_from_length}
 use Rattle.std.proofs.lemmas.Result.{err_from_is_err_and}
 use Rattle.clap.specs.Words.{App, FailsBy, app_of, fault_of, found_of, is_simple_and_free, rows_of}
-use Rattle.chip_bench.specs.CommandLine as line
-use Rattle.chip_bench.specs.CommandWords.{AsksFor, word_faults}
-use Rattle.chip_bench.specs.SettingWords.{default_words}
-use Rattle.chip_bench.specs.declared.command_line.CommandLine.TheVariants.{Debug}
-use Rattle.chip_bench.proofs.CommandExamples.{is_exact, is_plain, no_words, no_words_no_command}
-use Rattle.chip_bench.proofs.WordLemmas.{asked_for, asked_none, fails_by_clap, judged, subcommand_named, subcommand_none, without_command}
-use Rattle.chip_bench.proofs.command_line.parse_words.Goals as goal
+use Rattle.chip_arguments.specs.CommandLine as line
+use Rattle.chip_arguments.specs.CommandWords.{AsksFor, word_faults}
+use Rattle.chip_arguments.specs.SettingWords.{default_words}
+use Rattle.chip_arguments.specs.declared.command_line.CommandLine.TheVariants.{Debug}
+use Rattle.chip_arguments.proofs.CommandExamples.{is_exact, is_plain, no_words, no_words_no_command}
+use Rattle.chip_arguments.proofs.WordLemmas.{asked_for, asked_none, fails_by_clap, judged, subcommand_named, subcommand_none, without_command}
+use Rattle.chip_arguments.proofs.command_line.parse_words.Goals as goal
 
 pub returns-in_err-matches-clause-fault : goal.returns-in_err-matches-clause-fault
 returns-in_err-matches-clause-fault g c =

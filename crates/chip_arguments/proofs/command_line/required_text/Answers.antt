@@ -1,7 +1,7 @@
 use Rattle.std.proofs.Common.{◌≡◌, [], rules, unwrap_or}
 use Rattle.clap.specs.Words.{first_value, found_of}
-use Rattle.chip_bench.proofs.WordLemmas.{needed_is}
-use Rattle.chip_bench.proofs.command_line.required_text.Goals as goal
+use Rattle.chip_arguments.proofs.WordLemmas.{needed_is}
+use Rattle.chip_arguments.proofs.command_line.required_text.Goals as goal
 
 pub returns : goal.returns
 returns c =

@@ -1,7 +1,7 @@
 use Rattle.std.proofs.Common.{codes}
 use Rattle.clap.specs.Words.{found_of}
-use Rattle.chip_bench.proofs.WordLemmas.{first_is}
-use Rattle.chip_bench.proofs.command_line.run_words.Goals as goal
+use Rattle.chip_arguments.proofs.WordLemmas.{first_is}
+use Rattle.chip_arguments.proofs.command_line.run_words.Goals as goal
 
 pub returns : goal.returns
 returns c = λ named. record {

@@ -1,8 +1,8 @@
 use Rattle.std.proofs.Common.{codes}
 use Rattle.std.specs.Str.Parse.{ParsesUnsigned, ExplainsUnsignedError, HasUnsignedDigitsIfOk}
 use Rattle.clap.specs.Words.{found_of}
-use Rattle.chip_bench.proofs.WordLemmas.{reads}
-use Rattle.chip_bench.proofs.command_line.seed_asked.Goals as goal
+use Rattle.chip_arguments.proofs.WordLemmas.{reads}
+use Rattle.chip_arguments.proofs.command_line.seed_asked.Goals as goal
 
 pub returns : goal.returns
 returns c =
