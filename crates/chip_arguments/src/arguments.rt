@@ -1,6 +1,6 @@
 //! The arguments of the commands, as `clap` builds them.
-ghost use Rattle.std.specs.Prelude.{◌≡◌, false};
-ghost use Rattle.clap.specs.Words.{rule_of};
+ghost use Rattle.std.specs.Prelude.{◌≡◌, Some, false};
+ghost use Rattle.clap.specs.Words.{new_rule, rule_of};
 ghost use Rattle.chip_arguments.specs.CommandLine as line;
 
 use crate::limits::MOST_RATE;
@@ -21,10 +21,7 @@ pub(crate) fn source_argument<'a>(alloc: Global) -> Arg<'a>
     ensures rule { rule_of result ≡ line.source }
     ensures local { result.global ≡ false }
 {
-    Arg::new(alloc, "source")
-        .value_name("SOURCE")
-        .help("The source, a file of text")
-        .action(ArgAction::Set)
+    place(alloc, "source", "SOURCE", "The source, a file of text")
 }
 
 #[tactic(auto, unfolding(crate::specs::CommandLine::needed_source))]
@@ -40,11 +37,13 @@ pub(crate) fn image_argument<'a>(alloc: Global) -> Arg<'a>
     ensures rule { rule_of result ≡ line.image }
     ensures local { result.global ≡ false }
 {
-    Arg::new(alloc, "image")
-        .value_name("IMAGE")
-        .help("The file to write, as a whole or not at all")
-        .action(ArgAction::Set)
-        .required(true)
+    place(
+        alloc,
+        "image",
+        "IMAGE",
+        "The file to write, as a whole or not at all",
+    )
+    .required(true)
 }
 
 #[tactic(auto, unfolding(crate::specs::CommandLine::steps))]
@@ -52,10 +51,7 @@ pub(crate) fn steps_argument<'a>(alloc: Global) -> Arg<'a>
     ensures rule { rule_of result ≡ line.steps }
     ensures local { result.global ≡ false }
 {
-    Arg::new(alloc, "steps")
-        .long("steps")
-        .value_name("N")
-        .help("How many steps to run, 0 to 1000000")
+    option(alloc, "steps", "N", "How many steps to run, 0 to 1000000")
         .value_parser(value_parser!(u32).range(0..=i64::from(LAST_STEP)))
         .required(true)
 }
@@ -65,7 +61,10 @@ pub(crate) fn keys_argument<'a>(alloc: Global) -> Arg<'a>
     ensures rule { rule_of result ≡ line.keys }
     ensures local { result.global ≡ false }
 {
-    Arg::new(alloc, "keys").long("keys").value_name("FILE").help(
+    option(
+        alloc,
+        "keys",
+        "FILE",
         "The key events, a file of lines `S K down` and `S K up` [default: none]",
     )
 }
@@ -86,10 +85,12 @@ pub(crate) fn pbm_argument<'a>(alloc: Global) -> Arg<'a>
     ensures rule { rule_of result ≡ line.pbm }
     ensures local { result.global ≡ false }
 {
-    Arg::new(alloc, "pbm")
-        .long("pbm")
-        .value_name("FILE")
-        .help("Writes a portable bitmap to a file, and prints nothing")
+    option(
+        alloc,
+        "pbm",
+        "FILE",
+        "Writes a portable bitmap to a file, and prints nothing",
+    )
 }
 
 #[tactic(auto, unfolding(crate::specs::CommandLine::png))]
@@ -97,10 +98,12 @@ pub(crate) fn png_argument<'a>(alloc: Global) -> Arg<'a>
     ensures rule { rule_of result ≡ line.png }
     ensures local { result.global ≡ false }
 {
-    Arg::new(alloc, "png")
-        .long("png")
-        .value_name("FILE")
-        .help("Writes a PNG picture to a file, and prints nothing")
+    option(
+        alloc,
+        "png",
+        "FILE",
+        "Writes a PNG picture to a file, and prints nothing",
+    )
 }
 
 #[tactic(auto, unfolding(crate::specs::CommandLine::code))]
@@ -108,12 +111,12 @@ pub(crate) fn code_argument<'a>(alloc: Global) -> Arg<'a>
     ensures rule { rule_of result ≡ line.code }
     ensures local { result.global ≡ false }
 {
-    Arg::new(alloc, "code")
-        .value_name("CODE")
-        .help(
-            "F1 to F17, N1 to N10, Q1 to Q4, C1, C2, E1 to E4, O1 to O3 or S1 to S7 [default: all, a line each]",
-        )
-        .action(ArgAction::Set)
+    place(
+        alloc,
+        "code",
+        "CODE",
+        "F1 to F17, N1 to N10, Q1 to Q4, C1, C2, E1 to E4, O1 to O3 or S1 to S7 [default: all, a line each]",
+    )
 }
 
 #[tactic(auto, unfolding(crate::specs::CommandLine::rate))]
@@ -121,12 +124,14 @@ pub(crate) fn rate_argument<'a>(alloc: Global) -> Arg<'a>
     ensures rule { rule_of result ≡ line.rate }
     ensures local { result.global ≡ false }
 {
-    Arg::new(alloc, "rate")
-        .long("rate")
-        .value_name("N")
-        .help("How many steps lie between two ticks of the timers, 1 to 1000")
-        .value_parser(value_parser!(u32).range(1..=i64::from(MOST_RATE)))
-        .default_value("10")
+    option(
+        alloc,
+        "rate",
+        "N",
+        "How many steps lie between two ticks of the timers, 1 to 1000",
+    )
+    .value_parser(value_parser!(u32).range(1..=i64::from(MOST_RATE)))
+    .default_value("10")
 }
 
 #[tactic(auto, unfolding(crate::specs::CommandLine::tape))]
@@ -134,7 +139,10 @@ pub(crate) fn tape_argument<'a>(alloc: Global) -> Arg<'a>
     ensures rule { rule_of result ≡ line.tape }
     ensures local { result.global ≡ false }
 {
-    Arg::new(alloc, "tape").long("tape").value_name("HEX").help(
+    option(
+        alloc,
+        "tape",
+        "HEX",
         "The random bytes, 1 to 4096 of them in hexadecimal, used over and over [default: 00]",
     )
 }
@@ -144,13 +152,13 @@ pub(crate) fn seed_argument<'a>(alloc: Global) -> Arg<'a>
     ensures rule { rule_of result ≡ line.seed }
     ensures local { result.global ≡ false }
 {
-    Arg::new(alloc, "seed")
-        .long("seed")
-        .value_name("N")
-        .help(
-            "Makes 256 random bytes from a number, 0 to 18446744073709551615, in the place of --tape",
-        )
-        .value_parser(value_parser!(u64))
+    option(
+        alloc,
+        "seed",
+        "N",
+        "Makes 256 random bytes from a number, 0 to 18446744073709551615, in the place of --tape",
+    )
+    .value_parser(value_parser!(u64))
 }
 
 #[tactic(auto, unfolding(crate::specs::CommandLine::profile))]
@@ -158,10 +166,7 @@ pub(crate) fn profile_argument<'a>(alloc: Global) -> Arg<'a>
     ensures rule { rule_of result ≡ line.profile }
     ensures local { result.global ≡ false }
 {
-    Arg::new(alloc, "profile")
-        .long("profile")
-        .value_name("NAME")
-        .help(PROFILE_HELP)
+    option(alloc, "profile", "NAME", PROFILE_HELP)
 }
 
 #[tactic(auto, unfolding(crate::specs::CommandLine::every))]
@@ -169,9 +174,35 @@ pub(crate) fn every_argument<'a>(alloc: Global) -> Arg<'a>
     ensures rule { rule_of result ≡ line.every }
     ensures local { result.global ≡ false }
 {
-    Arg::new(alloc, "every")
-        .long("every")
-        .value_name("P")
-        .help(EVERY_HELP)
-        .value_parser(value_parser!(u32).range(i64::from(LEAST_SPACING)..=i64::from(MOST_SPACING)))
+    option(alloc, "every", "P", EVERY_HELP).value_parser(value_parser!(u32).range(
+        i64::from(LEAST_SPACING)..=i64::from(MOST_SPACING),
+    ))
+}
+
+// An argument `--NAME VALUE`.
+fn option<'a>(alloc: Global, name: &'a str, value: &'a str, help: &'a str) -> Arg<'a>
+    ensures rule { rule_of result ≡ record (new_rule name.entry.now) {
+      long = Some name.entry.now;
+      value_names = 1;
+    } }
+    ensures local { result.global ≡ false }
+{
+    Arg::new(alloc, name)
+        .long(name)
+        .value_name(value)
+        .help(help)
+}
+
+// An argument that stands at its place alone.
+fn place<'a>(alloc: Global, name: &'a str, value: &'a str, help: &'a str) -> Arg<'a>
+    ensures rule { rule_of result ≡ record (new_rule name.entry.now) {
+      value_names = 1;
+      action = Some ArgAction.Set;
+    } }
+    ensures local { result.global ≡ false }
+{
+    Arg::new(alloc, name)
+        .value_name(value)
+        .help(help)
+        .action(ArgAction::Set)
 }
