@@ -9,6 +9,7 @@ import signal
 import subprocess
 import sys
 import unittest
+import unittest.mock
 from pathlib import Path
 from typing import Any
 
@@ -183,13 +184,18 @@ class Endings(Opened):
         self.assertNotEqual(bench.process_id, process)
 
     def test_a_long_session_is_restarted_in_time(self) -> None:
-        bench = self.bench()
-        process = bench.process_id
-        for number in range(4):
-            bench.exchange([b"rep 1 LD V0, %d" % number] * 30_000)
-        self.assertNotEqual(bench.process_id, process)
-        self.assertEqual(bench.at(1).v[0], 3)
-        self.assertEqual(len(bench.exchange([b"image"] * 120_000)), 120_000)
+        for limit, value in (("SCRIPT_LINES", 1000), ("SCRIPT_BYTES", 14_000)):
+            bench = self.bench()
+            bench.press(5, at=2)
+            process = bench.process_id
+            with unittest.mock.patch.object(chipbench, limit, value):
+                for number in range(4):
+                    bench.exchange([b"rep 1 LD V0, %d" % number] * 300)
+                self.assertNotEqual(bench.process_id, process)
+                self.assertEqual(bench.at(1).v[0], 3)
+                self.refused("N7", bench.press, 5, at=2)
+                if limit == "SCRIPT_LINES":
+                    self.assertEqual(len(bench.exchange([b"image"] * 2500)), 2500)
 
     def test_answers_over_their_bound(self) -> None:
         program = chipbench.Program([self.program, "debug"], most_bytes=10_000)
