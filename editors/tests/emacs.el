@@ -23,7 +23,7 @@ LOOP:   ADD V0, STEP
 (setq chip8-server (list (getenv "CHIPBENCH_LSP"))
       chip8-settings (list :program (getenv "CHIPBENCH"))
       eglot-send-changes-idle-time 0
-      eglot-sync-connect 20
+      eglot-sync-connect 60
       eglot-autoshutdown t
       flymake-no-changes-timeout 0.1
       create-lockfiles nil
@@ -34,7 +34,7 @@ LOOP:   ADD V0, STEP
     (error "found %S and not %S" found wanted)))
 
 (defmacro wait-for (what condition)
-  `(let ((end (+ (float-time) 20)))
+  `(let ((end (+ (float-time) 60)))
      (while (not ,condition)
        (when (> (float-time) end)
          (error "waited in vain: %s" ,what))

@@ -18,7 +18,7 @@ local function same(found, wanted, what)
 end
 
 local function wait_for(what, condition)
-  if not vim.wait(20000, condition, 10) then
+  if not vim.wait(60000, condition, 10) then
     error('waited in vain: ' .. what, 2)
   end
 end
@@ -40,7 +40,7 @@ local function shown(buffer)
 end
 
 local function request(method, params)
-  local answers = vim.lsp.buf_request_sync(0, method, params, 20000)
+  local answers = vim.lsp.buf_request_sync(0, method, params, 60000)
   local _, answer = next(answers or {})
   return answer and answer.result, answer and answer.error
 end
@@ -184,7 +184,7 @@ test('completion', function()
     if vim.fn.pumvisible() == 1 then
       timer:stop()
       vim.api.nvim_feedkeys(keys('<C-n><C-y><Esc>'), 'n', false)
-    elseif turns > 500 then
+    elseif turns > 2000 then
       timer:stop()
       vim.api.nvim_feedkeys(keys('<Esc>'), 'n', false)
     end
@@ -198,9 +198,9 @@ end)
 test('formatting', function()
   edit_game({ 'A:CLS', 'JP A' })
   if vim.lsp.buf.format then
-    vim.lsp.buf.format({ async = false, timeout_ms = 20000 })
+    vim.lsp.buf.format({ async = false, timeout_ms = 60000 })
   else
-    vim.lsp.buf.formatting_sync({}, 20000)
+    vim.lsp.buf.formatting_sync({}, 60000)
   end
   same(vim.api.nvim_buf_get_lines(0, 0, -1, false), { 'A:      CLS', '        JP A' })
 end)

@@ -17,7 +17,7 @@ from typing import Any
 
 SERVER = Path(__file__).resolve().parent.parent / "chipbench_lsp"
 URI = "file:///tmp/game.asm"
-SECONDS = 20.0
+SECONDS = 60.0
 
 
 @functools.cache

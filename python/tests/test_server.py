@@ -131,7 +131,7 @@ class Diagnostics(Served):
         self.assertEqual(faults_of(client.open("FOO", other)), [(1, "F3")])
         self.assertEqual(faults_of(client.edit((0, 0), (0, 0), "BAR ")), [(1, "F3")])
         client.tell("textDocument/didClose", {"textDocument": {"uri": other}})
-        while (params := client.told.get(timeout=20)["params"])["uri"] != other:
+        while (params := client.told.get(timeout=60)["params"])["uri"] != other:
             pass
         self.assertEqual(params["diagnostics"], [])
 

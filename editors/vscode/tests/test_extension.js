@@ -11,7 +11,7 @@ const { makeEditor, Position, Range, TextDocument } = require('./fake_vscode.js'
 const FOLDER = path.dirname(__dirname);
 const TOP = path.dirname(path.dirname(FOLDER));
 const PROGRAM = process.env.CHIPBENCH || path.join(TOP, 'crates/chipbench/out/chipbench');
-const options = { skip: fs.existsSync(PROGRAM) ? false : 'no program is built', timeout: 60_000 };
+const options = { skip: fs.existsSync(PROGRAM) ? false : 'no program is built', timeout: 120_000 };
 
 const GAME = `STEP    EQU 3
 START:  LD V0, 5
