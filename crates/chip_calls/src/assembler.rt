@@ -8,148 +8,133 @@
 //! - `fault N`, `faults`: the fault of a line, or all with their lines. `symbol NAME`, `symbols`: a
 //!   name's value and line, or all names with theirs. `listing`: the listing.
 
-use crate::problem::Problem;
-use crate::text::{line_bytes, push_bytes, push_hex, split_word};
+use crate::text::{line_bytes, number, push_bytes, push_hex, refuse, split_word};
 use chip_asm::{OpenError, Refusal, Source};
 use std::alloc::{AllocError, Global};
 
+/// Opens a source by a copy of its bytes.
 pub(crate) fn opened(alloc: Global, text: &[u8]) -> Result<Source, OpenError> {
     Source::open(alloc, text)
 }
 
+/// Opens a source by its bytes.
 pub(crate) fn opened_whole(alloc: Global, text: &[u8]) -> Result<Source, OpenError> {
     Source::open_bytes(alloc, Vec::from_slice(alloc, text)?)
 }
 
-pub(crate) fn insert(
+/// Makes the edit of a command.
+pub(crate) fn edited(
     alloc: Global,
     source: &mut Source,
+    word: &str,
     line: usize,
     text: &[u8],
 ) -> Result<(), Refusal> {
-    source.insert(alloc, line, text)
+    match word {
+        "ins" => source.insert(alloc, line, text),
+        "rep" => source.replace(alloc, line, text),
+        _ => source.delete(alloc, line),
+    }
 }
 
-pub(crate) fn replace(
-    alloc: Global,
-    source: &mut Source,
-    line: usize,
-    text: &[u8],
-) -> Result<(), Refusal> {
-    source.replace(alloc, line, text)
-}
-
-pub(crate) fn delete(alloc: Global, source: &mut Source, line: usize) -> Result<(), Refusal> {
-    source.delete(alloc, line)
-}
-
-/// Makes an edit.
+/// Makes an edit, and answers it.
 pub(crate) fn edit(
     alloc: Global,
+    out: &mut String,
     built: &[u8],
     source: &mut Source,
     word: &str,
     rest: &str,
-) -> Result<String, Problem> {
-    let (number, line) = split_word(rest);
-    let (number, bytes) = (number.parse::<usize>()?, line_bytes(built, line));
-    let made = match word {
-        "ins" => insert(alloc, source, number, bytes),
-        "rep" => replace(alloc, source, number, bytes),
-        _ => delete(alloc, source, number),
+) -> Result<(), AllocError> {
+    let (place, line) = split_word(rest);
+    let Some(place) = number(place) else {
+        return refuse(out);
     };
-    match made {
-        Ok(()) => Ok(String::from_str(alloc, "ok")?),
-        Err(refusal) => Ok(format!(in alloc; "{refusal:?}")?),
+    match edited(alloc, source, word, place as usize, line_bytes(built, line)) {
+        Ok(()) => out.push_str("ok"),
+        Err(refusal) => write!(out, "{refusal:?}"),
     }
 }
 
-/// What a source answers to a command, or none where the command is another.
+/// Answers a command, and says whether it is one of these.
 pub(crate) fn answer(
     alloc: Global,
+    out: &mut String,
     source: &Source,
     word: &str,
     rest: &str,
-) -> Result<Option<String>, Problem> {
-    match word {
-        "image" => Ok(Some(image_text(alloc, source)?)),
-        "fault" => Ok(Some(fault_text(alloc, source, rest.parse::<usize>()?)?)),
-        "faults" => Ok(Some(faults_text(alloc, source)?)),
-        "symbol" => Ok(Some(symbol_text(alloc, source, rest)?)),
-        "symbols" => Ok(Some(symbols_text(alloc, source)?)),
-        "listing" => Ok(Some(listing_text(alloc, source)?)),
-        _ => count_answer(alloc, source, word, rest),
-    }
+) -> Result<bool, AllocError> {
+    let answered = match word {
+        "image" => push_image(out, source),
+        "fault" => push_fault(out, source, rest),
+        "faults" => push_faults(alloc, out, source),
+        "symbol" => push_symbol(out, source, rest),
+        "symbols" => push_symbols(alloc, out, source),
+        "listing" => push_listing(alloc, out, source),
+        "lines" => write!(out, "{}", source.lines()),
+        "parsed" | "work" | "encoded" => push_work(out, source, word, rest),
+        _ => return Ok(false),
+    };
+    answered?;
+    Ok(true)
 }
 
-/// The same of the commands about counts.
-fn count_answer(
-    alloc: Global,
-    source: &Source,
-    word: &str,
-    rest: &str,
-) -> Result<Option<String>, Problem> {
+fn push_work(out: &mut String, source: &Source, word: &str, rest: &str) -> Result<(), AllocError> {
     let work = source.work();
     let (parsed, encoded) = (work.parsed, work.encoded);
-    match word {
-        "lines" => Ok(Some(source.lines().to_string(alloc)?)),
-        "parsed" => Ok(Some(parsed.to_string(alloc)?)),
-        "work" => Ok(Some(format!(in alloc; "{parsed} {encoded}")?)),
-        "encoded" if encoded <= rest.parse::<u64>()? => Ok(Some(String::from_str(alloc, "so")?)),
-        "encoded" => Ok(Some(encoded.to_string(alloc)?)),
-        _ => Ok(None),
+    match (word, number(rest)) {
+        ("parsed", _) => write!(out, "{parsed}"),
+        ("encoded", Some(most)) => write!(out, "{}", encoded <= u64::from(most)),
+        _ => write!(out, "{parsed} {encoded}"),
     }
 }
 
-fn image_text(alloc: Global, source: &Source) -> Result<String, AllocError> {
-    let Some(image) = source.image() else {
-        return String::from_str(alloc, "none");
+fn push_image(out: &mut String, source: &Source) -> Result<(), AllocError> {
+    match source.image() {
+        None => out.push_str("none"),
+        Some([]) => out.push_str("empty"),
+        Some(image) if image.len() <= 32 => push_hex(out, image),
+        Some(image) => {
+            let others = image.iter().filter(|byte| **byte != 0).count();
+            write!(out, "{} bytes, {others} not 0", image.len())
+        }
+    }
+}
+
+fn push_fault(out: &mut String, source: &Source, line: &str) -> Result<(), AllocError> {
+    let Some(line) = number(line) else {
+        return refuse(out);
     };
-    if image.len() > 32 {
-        let (count, others) = (image.len(), image.iter().filter(|byte| **byte != 0).count());
-        return format!(in alloc; "{count} bytes, {others} not 0");
-    }
-    if image.is_empty() {
-        return String::from_str(alloc, "empty");
-    }
-    hex::encode(alloc, image)
-}
-
-fn fault_text(alloc: Global, source: &Source, line: usize) -> Result<String, AllocError> {
-    match source.fault(line) {
-        Some(fault) => format!(in alloc; "F{}", fault.number()),
-        None => String::from_str(alloc, "none"),
+    match source.fault(line as usize) {
+        Some(fault) => write!(out, "F{}", fault.number()),
+        None => out.push_str("none"),
     }
 }
 
-fn faults_text(alloc: Global, source: &Source) -> Result<String, AllocError> {
-    let mut text = String::new(alloc);
+fn push_faults(alloc: Global, out: &mut String, source: &Source) -> Result<(), AllocError> {
     for (line, fault) in &source.faults(alloc)? {
         let number = fault.number();
-        writeln!(text, "{line} F{number}")?;
+        writeln!(out, "{line} F{number}")?;
     }
-    Ok(text)
+    Ok(())
 }
 
-fn symbol_text(alloc: Global, source: &Source, name: &str) -> Result<String, AllocError> {
+fn push_symbol(out: &mut String, source: &Source, name: &str) -> Result<(), AllocError> {
     match source.symbol(name.as_bytes()) {
-        Some(symbol) => format!(in alloc; "{} {}", symbol.value, symbol.line),
-        None => String::from_str(alloc, "none"),
+        Some(symbol) => write!(out, "{} {}", symbol.value, symbol.line),
+        None => out.push_str("none"),
     }
 }
 
-fn symbols_text(alloc: Global, source: &Source) -> Result<String, AllocError> {
-    let mut text = String::new(alloc);
+fn push_symbols(alloc: Global, out: &mut String, source: &Source) -> Result<(), AllocError> {
     for (name, symbol) in &source.symbols(alloc)? {
-        push_bytes(&mut text, name.get())?;
+        push_bytes(out, name.get())?;
         let (value, line) = (symbol.value, symbol.line);
-        writeln!(text, " {value} {line}")?;
+        writeln!(out, " {value} {line}")?;
     }
-    Ok(text)
+    Ok(())
 }
 
-fn listing_text(alloc: Global, source: &Source) -> Result<String, AllocError> {
-    let mut text = String::new(alloc);
-    push_bytes(&mut text, &source.listing(alloc)?)?;
-    Ok(text)
+fn push_listing(alloc: Global, out: &mut String, source: &Source) -> Result<(), AllocError> {
+    push_bytes(out, &source.listing(alloc)?)
 }

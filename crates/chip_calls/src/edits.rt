@@ -2,9 +2,8 @@
 //! all answers are those of the lines opened anew. It answers `ok` with the number of edits of each
 //! kind, or the first edit after which an answer differs.
 
-use crate::assembler::{delete, insert, opened, replace};
-use crate::problem::Problem;
-use crate::text::split_word;
+use crate::assembler::{edited, opened};
+use crate::text::{number, refuse, split_word};
 use chip_asm::Source;
 use std::alloc::{AllocError, Global};
 
@@ -67,32 +66,26 @@ fn some_line(state: &mut u32) -> &'static str {
     }
 }
 
-/// The faults and the names of a source, and whether it has an image.
-fn tables(alloc: Global, source: &Source) -> Result<String, AllocError> {
-    let faults = source.faults(alloc)?;
-    let symbols = source.symbols(alloc)?;
-    let has_image = source.image().is_some();
-    format!(in alloc; "{faults:?} {symbols:?} {has_image}")
-}
-
 /// All answers of a source but its work, one after another.
 fn answers(alloc: Global, source: &Source) -> Result<Vec<u8>, AllocError> {
+    let (faults, symbols) = (source.faults(alloc)?, source.symbols(alloc)?);
+    let tables = format!(in alloc; "{faults:?} {symbols:?}")?;
     let mut answers = source.listing(alloc)?;
-    answers.extend_from_slice(tables(alloc, source)?.as_bytes())?;
-    answers.extend_from_slice(source.image().unwrap_or_default())?;
+    answers.extend_from_slice(tables.as_bytes())?;
+    answers.extend_from_slice(source.image().unwrap_or(b" no image"))?;
     Ok(answers)
 }
 
-/// The answers of these lines opened anew, or none where they do not open.
-fn fresh_answers(alloc: Global, lines: &[&str]) -> Result<Option<Vec<u8>>, AllocError> {
+/// Whether a source answers as its lines opened anew do.
+fn answers_alike(alloc: Global, source: &Source, lines: &[&str]) -> Result<bool, AllocError> {
     let mut text = String::new(alloc);
     for line in lines {
         text.push_str(line)?;
         text.push('\n')?;
     }
     match opened(alloc, text.as_bytes()) {
-        Ok(source) => Ok(Some(answers(alloc, &source)?)),
-        Err(_) => Ok(None),
+        Ok(fresh) => Ok(answers(alloc, source)?.as_slice() == answers(alloc, &fresh)?.as_slice()),
+        Err(_) => Ok(false),
     }
 }
 
@@ -115,29 +108,27 @@ fn edit_once(
     let line = some_line(state);
     let place = next(state) as usize % (lines.len() + 1);
     let kind = next(state) % 8;
-    let made = if place == lines.len() || (kind == 0 && lines.len() < MOST_LINES) {
+    let word = if place == lines.len() || (kind == 0 && lines.len() < MOST_LINES) {
         lines.insert(place, line)?;
         counts.inserted = counts.inserted.saturating_add(1);
-        insert(alloc, source, place + 1, line.as_bytes())
+        "ins"
     } else if kind == 1 || lines.len() > MOST_LINES {
         lines.remove(place);
         counts.deleted = counts.deleted.saturating_add(1);
-        delete(alloc, source, place + 1)
+        "del"
     } else {
         lines[place] = line;
         counts.replaced = counts.replaced.saturating_add(1);
-        replace(alloc, source, place + 1, line.as_bytes())
+        "rep"
     };
-    Ok(made.is_ok())
-}
-
-/// Whether a source answers as its lines opened anew do.
-fn answers_alike(alloc: Global, source: &Source, lines: &[&str]) -> Result<bool, AllocError> {
-    let kept = answers(alloc, source)?;
-    match fresh_answers(alloc, lines)? {
-        Some(fresh) => Ok(kept.as_slice() == fresh.as_slice()),
-        None => Ok(false),
-    }
+    Ok(edited(
+        alloc,
+        source,
+        word,
+        place.saturating_add(1),
+        line.as_bytes(),
+    )
+    .is_ok())
 }
 
 /// Makes so many edits, and gives the number of the first after which an answer differs.
@@ -160,17 +151,22 @@ fn first_difference(
 }
 
 /// Answers `edits`.
-pub(crate) fn answer(alloc: Global, rest: &str) -> Result<String, Problem> {
+pub(crate) fn answer(alloc: Global, out: &mut String, rest: &str) -> Result<(), AllocError> {
     let (seed, count) = split_word(rest);
-    let (seed, count) = (seed.parse::<u32>()?, count.parse::<u32>()?);
+    let (Some(seed), Some(count)) = (number(seed), number(count)) else {
+        return refuse(out);
+    };
     let mut counts = Counts {
         replaced: 0,
         inserted: 0,
         deleted: 0,
     };
-    if let Some(number) = first_difference(alloc, seed, count, &mut counts)? {
-        return Ok(format!(in alloc; "differs after edit {number}")?);
+    if let Some(place) = first_difference(alloc, seed, count, &mut counts)? {
+        return write!(out, "differs after edit {place}");
     }
     let (replaced, inserted, deleted) = (counts.replaced, counts.inserted, counts.deleted);
-    Ok(format!(in alloc; "ok {replaced} replaced, {inserted} inserted, {deleted} deleted")?)
+    write!(
+        out,
+        "ok {replaced} replaced, {inserted} inserted, {deleted} deleted"
+    )
 }

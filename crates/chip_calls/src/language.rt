@@ -6,8 +6,8 @@
 //!   value, name or code; or the fault of its reading. `read-length LINE`: how long that answer is.
 //! - `tokens LINE`: each token with its first byte and the place after its last one.
 //! - `defines LINE`, `name PLACE LINE`: the name that it defines, and the name that it uses at a
-//!   place. `uses-names LINE`, `agrees LINE`: whether it uses any, and whether two empty tables
-//!   agree on them.
+//!   place. `uses-names LINE`: whether it uses any. `agrees LINE`: whether two empty tables agree on
+//!   them.
 //! - `constant LINE`: the value of an EQU without names. `nothing LINE`: how many lines were read
 //!   where only a line without a statement is. `copy LINE`: a copy of its bytes.
 //! - `place FAULT LINE`: the bytes at which such a fault of it lies. `mnemonic LINE`: its mnemonic.
@@ -16,8 +16,7 @@
 ghost use Rattle.chip_lang.specs.Value.{Symbols};
 ghost use Rattle.std.specs.FinMap as map;
 
-use crate::problem::Problem;
-use crate::text::{line_bytes, name_text, push_bytes, push_hex, split_word, yes_or_no};
+use crate::text::{line_bytes, number, push_bytes, push_hex, push_name, refuse, split_word};
 use chip_lang::{
     Body, Bytes, Coded, Expr, Fault, Line, Meter, Names, agree_on, constant, defines, encode, eval,
     fault_span, mnemonic_of, read_line, read_nothing, tokens, uses, uses_names,
@@ -35,47 +34,30 @@ impl Names for NoNames {
     }
 }
 
-/// What chip_lang answers to a command, or none where the command is another.
+/// Answers a command, and says whether it is one of these.
 pub(crate) fn answer(
     alloc: Global,
+    out: &mut String,
     built: &[u8],
     word: &str,
     rest: &str,
-) -> Result<Option<String>, Problem> {
+) -> Result<bool, AllocError> {
     let bytes = line_bytes(built, rest);
-    match word {
-        "read" => Ok(Some(reading(alloc, bytes)?)),
-        "read-length" => Ok(Some(reading(alloc, bytes)?.len().to_string(alloc)?)),
-        "tokens" => Ok(Some(tokens_text(alloc, bytes)?)),
-        "nothing" => Ok(Some(count_of_nothing(bytes).to_string(alloc)?)),
-        "copy" => Ok(Some(copied(alloc, bytes)?)),
-        "mnemonic" => Ok(Some(mnemonic_text(alloc, bytes)?)),
-        "place" => Ok(Some(place_text(alloc, built, rest)?)),
-        "sentence" => Ok(Some(fault_of(rest)?.to_string(alloc)?)),
-        _ => names_answer(alloc, built, word, rest),
-    }
-}
-
-/// The same of the commands about names.
-fn names_answer(
-    alloc: Global,
-    built: &[u8],
-    word: &str,
-    rest: &str,
-) -> Result<Option<String>, Problem> {
-    if word == "name" {
-        let (place, line) = split_word(rest);
-        let line = read(alloc, line_bytes(built, line))?;
-        return Ok(Some(name_text(alloc, uses(&line, place.parse::<usize>()?))?));
-    }
-    let line = read(alloc, line_bytes(built, rest))?;
-    match word {
-        "defines" => Ok(Some(name_text(alloc, defines(&line))?)),
-        "uses-names" => Ok(Some(yes_or_no(alloc, uses_names(&line))?)),
-        "agrees" => Ok(Some(yes_or_no(alloc, agree_on(&line, &NoNames, &NoNames))?)),
-        "constant" => Ok(Some(constant_text(alloc, &line)?)),
-        _ => Ok(None),
-    }
+    let answered = match word {
+        "read" => push_reading(alloc, out, bytes),
+        "read-length" => push_length(alloc, out, bytes),
+        "tokens" => push_tokens(alloc, out, bytes),
+        "nothing" => write!(out, "{}", count_of_nothing(bytes)),
+        "copy" => push_copy(alloc, out, bytes),
+        "mnemonic" => push_mnemonic(alloc, out, bytes),
+        "place" => push_place(alloc, out, built, rest),
+        "sentence" => push_sentence(out, rest),
+        "name" => push_used_name(alloc, out, built, rest),
+        "defines" | "uses-names" | "agrees" | "constant" => push_names(alloc, out, word, bytes),
+        _ => return Ok(false),
+    };
+    answered?;
+    Ok(true)
 }
 
 /// A line as it is read.
@@ -84,113 +66,142 @@ fn read(alloc: Global, line: &[u8]) -> Result<Line, AllocError> {
 }
 
 /// What a line says.
-fn reading(alloc: Global, bytes: &[u8]) -> Result<String, AllocError> {
-    let mut text = String::new(alloc);
-    push_line(alloc, &mut text, &read(alloc, bytes)?)?;
-    Ok(text)
+fn push_reading(alloc: Global, out: &mut String, bytes: &[u8]) -> Result<(), AllocError> {
+    push_line(alloc, out, &read(alloc, bytes)?)
 }
 
-fn push_fault(alloc: Global, text: &mut String, fault: Fault) -> Result<(), AllocError> {
-    text.push('F')?;
-    text.push_str(fault.number().to_string(alloc)?.as_str())
+/// How long that is.
+fn push_length(alloc: Global, out: &mut String, bytes: &[u8]) -> Result<(), AllocError> {
+    let mut text = String::new(alloc);
+    push_reading(alloc, &mut text, bytes)?;
+    write!(out, "{}", text.len())
+}
+
+fn push_fault(out: &mut String, fault: Fault) -> Result<(), AllocError> {
+    let number = fault.number();
+    write!(out, "F{number}")
 }
 
 /// The label, the kind of the statement, and what its operand says.
-fn push_line(alloc: Global, text: &mut String, line: &Line) -> Result<(), AllocError> {
+fn push_line(alloc: Global, out: &mut String, line: &Line) -> Result<(), AllocError> {
     match line {
-        Line::Bad(fault) => push_fault(alloc, text, *fault),
+        Line::Bad(fault) => push_fault(out, *fault),
         Line::Read { label, body } => {
-            match label {
-                Some(label) => push_bytes(text, label.get())?,
-                None => text.push('-')?,
-            }
-            push_kind(text, body)?;
-            push_operand(alloc, text, line, body)
+            push_label(out, label)?;
+            out.push_str(kind_of(body))?;
+            push_operand(alloc, out, line, body)
         }
     }
 }
 
-/// The kind of a statement, between two blanks.
-fn push_kind(text: &mut String, body: &Body) -> Result<(), AllocError> {
-    text.push(' ')?;
-    text.push_str(kind_of(body))?;
-    text.push(' ')
+fn push_label(out: &mut String, label: &Option<Bytes>) -> Result<(), AllocError> {
+    match label {
+        Some(label) => push_bytes(out, label.get()),
+        None => out.push('-'),
+    }
 }
 
+/// The kind of a statement, between two blanks.
 fn kind_of(body: &Body) -> &'static str {
     match body {
-        Body::Empty => "Empty",
-        Body::Equ(_) => "Equ",
-        Body::Org(_) => "Org",
-        Body::Ds(_) => "Ds",
-        Body::Db(_) => "Db",
-        Body::Dw(_) => "Dw",
-        Body::Da(_) => "Da",
-        Body::Code(_, _) => "Code",
-        Body::Define => "Define",
-        Body::Ifdef(_) => "Ifdef",
-        Body::Ifund(_) => "Ifund",
-        Body::Else => "Else",
-        Body::Endif => "Endif",
-        Body::End => "End",
-        Body::Align(_) => "Align",
-        Body::Options => "Option",
-        Body::Used => "Used",
-        Body::Xref => "Xref",
+        Body::Empty => " Empty ",
+        Body::Equ(_) => " Equ ",
+        Body::Org(_) => " Org ",
+        Body::Ds(_) => " Ds ",
+        Body::Db(_) => " Db ",
+        Body::Dw(_) => " Dw ",
+        Body::Da(_) => " Da ",
+        Body::Code(_, _) => " Code ",
+        Body::Define => " Define ",
+        Body::Ifdef(_) => " Ifdef ",
+        Body::Ifund(_) => " Ifund ",
+        Body::Else => " Else ",
+        Body::Endif => " Endif ",
+        Body::End => " End ",
+        Body::Align(_) => " Align ",
+        Body::Options => " Option ",
+        Body::Used => " Used ",
+        Body::Xref => " Xref ",
     }
 }
 
 /// What the operand of a statement says.
 fn push_operand(
     alloc: Global,
-    text: &mut String,
+    out: &mut String,
     line: &Line,
     body: &Body,
 ) -> Result<(), AllocError> {
     match body {
-        Body::Equ(expr) | Body::Org(expr) | Body::Ds(expr) => push_value(alloc, text, expr),
-        Body::Ifdef(name) | Body::Ifund(name) => push_bytes(text, name.get()),
-        Body::Align(true) => text.push_str("ON"),
-        Body::Align(false) => text.push_str("OFF"),
-        _ => push_code(alloc, text, line),
+        Body::Equ(expr) | Body::Org(expr) | Body::Ds(expr) => push_value(out, expr),
+        Body::Ifdef(name) | Body::Ifund(name) => push_bytes(out, name.get()),
+        Body::Align(true) => out.push_str("ON"),
+        Body::Align(false) => out.push_str("OFF"),
+        _ => push_code(alloc, out, line),
     }
 }
 
-fn push_value(alloc: Global, text: &mut String, expr: &Expr) -> Result<(), AllocError> {
+fn push_value(out: &mut String, expr: &Expr) -> Result<(), AllocError> {
     match eval(expr, &NoNames) {
-        Ok(value) => text.push_str(value.to_string(alloc)?.as_str()),
-        Err(fault) => push_fault(alloc, text, fault),
+        Ok(value) => write!(out, "{value}"),
+        Err(fault) => push_fault(out, fault),
     }
 }
 
-fn push_code(alloc: Global, text: &mut String, line: &Line) -> Result<(), AllocError> {
+fn push_code(alloc: Global, out: &mut String, line: &Line) -> Result<(), AllocError> {
     match encode(alloc, &mut Meter::new(), line, &NoNames)? {
-        Coded::Bytes(bytes) => push_hex(alloc, text, bytes.get()),
-        Coded::Faulty(fault) => push_fault(alloc, text, fault),
+        Coded::Bytes(bytes) => push_hex(out, bytes.get()),
+        Coded::Faulty(fault) => push_fault(out, fault),
     }
 }
 
-fn tokens_text(alloc: Global, bytes: &[u8]) -> Result<String, AllocError> {
-    let mut text = String::new(alloc);
+fn push_tokens(alloc: Global, out: &mut String, bytes: &[u8]) -> Result<(), AllocError> {
     for token in &tokens(alloc, bytes)? {
         let (kind, start, end) = (token.kind, token.start, token.end);
-        writeln!(text, "{kind:?} {start} {end}")?;
+        writeln!(out, "{kind:?} {start} {end}")?;
     }
-    Ok(text)
+    Ok(())
+}
+
+fn push_used_name(
+    alloc: Global,
+    out: &mut String,
+    built: &[u8],
+    rest: &str,
+) -> Result<(), AllocError> {
+    let (place, line) = split_word(rest);
+    match number(place) {
+        Some(place) => push_use(out, &read(alloc, line_bytes(built, line))?, place as usize),
+        None => refuse(out),
+    }
+}
+
+fn push_use(out: &mut String, line: &Line, place: usize) -> Result<(), AllocError> {
+    push_name(out, uses(line, place))
+}
+
+/// What there is to say of the names of a line.
+fn push_names(alloc: Global, out: &mut String, word: &str, bytes: &[u8]) -> Result<(), AllocError> {
+    push_names_of(out, word, &read(alloc, bytes)?)
+}
+
+fn push_names_of(out: &mut String, word: &str, line: &Line) -> Result<(), AllocError> {
+    match word {
+        "defines" => push_name(out, defines(line)),
+        "uses-names" => write!(out, "{}", uses_names(line)),
+        "agrees" => write!(out, "{}", agree_on(line, &NoNames, &NoNames)),
+        _ => write!(out, "{:?}", constant_of(line)),
+    }
 }
 
 /// The value of the expression of an EQU, where no name has a say in it.
-fn constant_text(alloc: Global, line: &Line) -> Result<String, AllocError> {
-    let value = match line {
+fn constant_of(line: &Line) -> Option<i32> {
+    match line {
         Line::Read {
             body: Body::Equ(expr),
             ..
         } => constant(expr),
         _ => None,
-    };
-    match value {
-        Some(value) => value.to_string(alloc),
-        None => String::from_str(alloc, "none"),
     }
 }
 
@@ -204,14 +215,14 @@ fn count_of_nothing(bytes: &[u8]) -> u64 {
     }
 }
 
-fn copied(alloc: Global, bytes: &[u8]) -> Result<String, AllocError> {
-    name_text(alloc, Some(Bytes::from_slice(alloc, bytes)?.get()))
+fn push_copy(alloc: Global, out: &mut String, bytes: &[u8]) -> Result<(), AllocError> {
+    push_bytes(out, Bytes::from_slice(alloc, bytes)?.get())
 }
 
-fn mnemonic_text(alloc: Global, bytes: &[u8]) -> Result<String, AllocError> {
+fn push_mnemonic(alloc: Global, out: &mut String, bytes: &[u8]) -> Result<(), AllocError> {
     match mnemonic_of(alloc, bytes)? {
-        Some(mnemonic) => name_text(alloc, Some(mnemonic.get())),
-        None => name_text(alloc, None),
+        Some(mnemonic) => push_bytes(out, mnemonic.get()),
+        None => out.push_str("none"),
     }
 }
 
@@ -237,18 +248,25 @@ const FAULTS: [Fault; 17] = [
 ];
 
 /// The fault of a number, as `F4`.
-fn fault_of(name: &str) -> Result<Fault, Problem> {
-    let number = name.strip_prefix("F").unwrap_or(name).parse::<usize>()?;
-    match FAULTS.get(number.wrapping_sub(1)) {
-        Some(fault) => Ok(*fault),
-        None => Err(Problem::BadNumber),
+fn fault_of(name: &str) -> Option<Fault> {
+    let place = number(name.strip_prefix("F")?)?.checked_sub(1)?;
+    FAULTS.get(place as usize).copied()
+}
+
+fn push_sentence(out: &mut String, fault: &str) -> Result<(), AllocError> {
+    match fault_of(fault) {
+        Some(fault) => write!(out, "{fault}"),
+        None => refuse(out),
     }
 }
 
 /// Where in a line a fault lies: its first byte, and the place after its last one.
-fn place_text(alloc: Global, built: &[u8], rest: &str) -> Result<String, Problem> {
+fn push_place(alloc: Global, out: &mut String, built: &[u8], rest: &str) -> Result<(), AllocError> {
     let (fault, line) = split_word(rest);
-    let span = fault_span(alloc, line_bytes(built, line), fault_of(fault)?)?;
+    let Some(fault) = fault_of(fault) else {
+        return refuse(out);
+    };
+    let span = fault_span(alloc, line_bytes(built, line), fault)?;
     let (start, end) = (span.start, span.end);
-    Ok(format!(in alloc; "{start} {end}")?)
+    write!(out, "{start} {end}")
 }

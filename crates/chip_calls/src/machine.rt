@@ -8,235 +8,243 @@
 //!   addresses that it touched. `steps FROM COUNT KEYS`: so many steps at once, of which the first
 //!   has the number FROM and each tenth ticks; `first-touch ADDRESS` asks which touched it first.
 //! - `poke ADDRESS BYTE`, `exchange ADDRESS OLD NEW`: other bytes in the memory.
-//! - `keep`: keeps a copy; `swap`: takes the kept machine, and keeps this one; `take`: takes the
-//!   state of the kept one; `same-memory`: whether both have the same memory.
+//! - `keep`: keeps a copy. `swap`: goes on with the kept machine, and keeps this one. `take`: takes
+//!   the state of the kept one. `same-memory`: whether both have the same memory.
 //! - `touch-add ADDRESS`, `touch-clear`, `touch-empty`: the list of touched addresses alone.
 
-use crate::problem::Problem;
 use crate::state;
-use crate::text::{bytes_of_hex, split_word, yes_or_no};
+use crate::text::{bytes_of_hex, hex_number, number, refuse, split_word};
 use chip_machine::limits::MEMORY_BYTES;
-use chip_machine::{Machine, Profile, SameKeys, StartError, Touch};
+use chip_machine::{Machine, Profile, SameKeys, Touch};
 use std::alloc::{AllocError, Global};
 use std::mem;
-
-/// The tape of a machine that `start` makes.
-const TAPE: [u8; 2] = [0xa5, 0x5a];
 
 /// A machine, one that is kept, and what their steps touched.
 #[derive(Drop)]
 pub(crate) struct Machines {
-    machine: Machine,
-    kept: Machine,
+    machine: Option<Machine>,
+    kept: Option<Machine>,
     /// The steps that `run` made since the start.
     steps: u32,
     touch: Touch,
     first_touch: Vec<u32>,
 }
 
-fn started(
-    alloc: Global,
-    image: &[u8],
-    tape: &[u8],
-    profile: Profile,
-) -> Result<Machine, StartError> {
-    Machine::start(alloc, image, tape, profile)
-}
-
-/// A machine without an image.
-fn empty(alloc: Global) -> Result<Machine, Problem> {
-    match started(alloc, &[], &TAPE, Profile::Schip) {
-        Ok(machine) => Ok(machine),
-        Err(_) => Err(Problem::OutOfMemory),
-    }
-}
-
 impl Machines {
-    pub(crate) fn new(alloc: Global) -> Result<Machines, Problem> {
+    pub(crate) fn new(alloc: Global) -> Result<Machines, AllocError> {
         Ok(Machines {
-            machine: empty(alloc)?,
-            kept: empty(alloc)?,
+            machine: None,
+            kept: None,
             steps: 0,
             touch: Touch::new(),
             first_touch: vec![in alloc; u32::MAX; MEMORY_BYTES]?,
         })
     }
 
-    /// What chip_machine answers to a command, or none where the command is another.
+    /// Answers a command, and says whether it is one of these.
     pub(crate) fn answer(
         &mut self,
         alloc: Global,
+        out: &mut String,
         word: &str,
         rest: &str,
-    ) -> Result<Option<String>, Problem> {
-        match word {
-            "start" => Ok(Some(self.start(alloc, rest)?)),
-            "start-zeros" => Ok(Some(self.start_zeros(alloc, rest)?)),
-            "first-touch" => Ok(Some(self.first_touch_text(alloc, rest)?)),
-            "same-memory" => Ok(Some(yes_or_no(alloc, self.is_same_memory())?)),
-            _ => {
-                if self.carry_out(alloc, word, rest)? || self.copy(word)? {
-                    return Ok(Some(String::new(alloc)));
-                }
-                match self.touch_answer(alloc, word, rest)? {
-                    Some(text) => Ok(Some(text)),
-                    None => state::answer(alloc, &self.machine, word, rest),
-                }
+    ) -> Result<bool, AllocError> {
+        let answered = match word {
+            "start" | "start-zeros" => self.start(alloc, out, word, rest),
+            "keep" | "swap" | "take" => self.copy(word),
+            "same-memory" => write!(out, "{}", self.is_same_memory()),
+            "first-touch" => push_first_touch(out, &self.first_touch, rest),
+            "touches" => push_touches(out, &self.touch),
+            "touch-count" | "touch-empty" | "touch-add" | "touch-clear" => {
+                answer_touch(out, &mut self.touch, word, rest)
             }
-        }
+            "profiles" | "profile" | "start-error" => state::push_profile(alloc, out, word, rest),
+            _ => return self.machine_answer(alloc, out, word, rest),
+        };
+        answered?;
+        Ok(true)
     }
 
-    fn start(&mut self, alloc: Global, rest: &str) -> Result<String, Problem> {
-        let (name, bytes) = split_word(rest);
-        match Profile::from_name(name) {
-            Some(profile) => {
-                let image = bytes_of_hex(alloc, bytes)?;
-                self.start_with(alloc, &image, &TAPE, profile)
-            }
-            None => Err(Problem::NotAllowed),
+    /// What the machine does or answers.
+    fn machine_answer(
+        &mut self,
+        alloc: Global,
+        out: &mut String,
+        word: &str,
+        rest: &str,
+    ) -> Result<bool, AllocError> {
+        let Some(machine) = &mut self.machine else {
+            return Ok(false);
+        };
+        let is_made = match word {
+            "run" => run(machine, &mut self.touch, &mut self.steps, rest),
+            "step" | "step-tick" => step(machine, &mut self.touch, word),
+            "steps" => make_steps(machine, &mut self.first_touch, rest),
+            "poke" => poke(machine, rest),
+            "exchange" => exchange(alloc, machine, rest),
+            _ => return state::answer(out, machine, word, rest),
+        };
+        if is_made.is_none() {
+            refuse(out)?;
         }
+        Ok(true)
     }
 
-    fn start_zeros(&mut self, alloc: Global, rest: &str) -> Result<String, Problem> {
-        let (image, tape) = split_word(rest);
-        let image = vec![in alloc; 0; image.parse::<usize>()?]?;
-        let tape = vec![in alloc; 0; tape.parse::<usize>()?]?;
-        self.start_with(alloc, &image, &tape, Profile::Schip)
+    fn start(
+        &mut self,
+        alloc: Global,
+        out: &mut String,
+        word: &str,
+        rest: &str,
+    ) -> Result<(), AllocError> {
+        let (first, second) = split_word(rest);
+        if word == "start-zeros" {
+            let (Some(image), Some(tape)) = (number(first), number(second)) else {
+                return refuse(out);
+            };
+            let image = vec![in alloc; 0; image as usize]?;
+            let tape = vec![in alloc; 0; tape as usize]?;
+            return self.start_with(alloc, out, &image, &tape, Profile::Schip);
+        }
+        match (Profile::from_name(first), bytes_of_hex(alloc, second)) {
+            (Some(profile), Some(image)) => {
+                self.start_with(alloc, out, &image, &[0xa5, 0x5a], profile)
+            }
+            _ => refuse(out),
+        }
     }
 
     fn start_with(
         &mut self,
         alloc: Global,
+        out: &mut String,
         image: &[u8],
         tape: &[u8],
         profile: Profile,
-    ) -> Result<String, Problem> {
-        match started(alloc, image, tape, profile) {
+    ) -> Result<(), AllocError> {
+        match Machine::start(alloc, image, tape, profile) {
             Ok(machine) => {
-                self.machine = machine;
+                self.machine = Some(machine);
                 self.steps = 0;
-                Ok(String::from_str(alloc, "ok")?)
+                out.push_str("ok")
             }
-            Err(error) => Ok(format!(in alloc; "M{}", error.number())?),
+            Err(error) => write!(out, "M{}", error.number()),
         }
     }
 
-    /// Makes steps or changes bytes, where a command says so.
-    fn carry_out(&mut self, alloc: Global, word: &str, rest: &str) -> Result<bool, Problem> {
-        match word {
-            "run" => self.run(rest)?,
-            "step" => self.machine.step(0, false, &mut self.touch),
-            "step-tick" => self.machine.step(0, true, &mut self.touch),
-            "steps" => self.make_steps(rest)?,
-            "poke" => self.poke(rest)?,
-            "exchange" => self.exchange(alloc, rest)?,
-            _ => return Ok(false),
-        }
-        Ok(true)
-    }
-
-    fn run(&mut self, rest: &str) -> Result<(), Problem> {
-        let (count, keys) = split_word(rest);
-        let keys = if keys.is_empty() { "0" } else { keys };
-        let keys = u16::from_str_radix(keys, 16)?;
-        for _ in 0..count.parse::<u32>()? {
-            self.machine.step(keys, self.steps % 10 == 9, &mut self.touch);
-            self.steps = self.steps.wrapping_add(1);
+    /// Copies machines.
+    fn copy(&mut self, word: &str) -> Result<(), AllocError> {
+        match (word, &mut self.machine, &mut self.kept) {
+            ("keep", Some(machine), kept) => *kept = Some(machine.copy_of()?),
+            ("take", Some(machine), Some(kept)) => machine.copy_from(kept)?,
+            (_, machine, kept) => mem::swap(machine, kept),
         }
         Ok(())
-    }
-
-    fn make_steps(&mut self, rest: &str) -> Result<(), Problem> {
-        let (from, rest) = split_word(rest);
-        let (count, keys) = split_word(rest);
-        let (from, count) = (from.parse::<u16>()?, count.parse::<u16>()?);
-        let mut keys = SameKeys(u16::from_str_radix(keys, 16)?);
-        if self.first_touch.len() != MEMORY_BYTES {
-            return Err(Problem::NotAllowed);
-        }
-        let table = self.first_touch.as_mut_slice();
-        self.machine.steps(&mut keys, 10, u32::from(from), u32::from(count), table);
-        Ok(())
-    }
-
-    fn poke(&mut self, rest: &str) -> Result<(), Problem> {
-        let (at, byte) = split_word(rest);
-        let (at, byte) = (u16::from_str_radix(at, 16)?, u8::from_str_radix(byte, 16)?);
-        if usize::from(at) >= MEMORY_BYTES {
-            return Err(Problem::NotAllowed);
-        }
-        self.machine.poke(at, byte);
-        Ok(())
-    }
-
-    fn exchange(&mut self, alloc: Global, rest: &str) -> Result<(), Problem> {
-        let (at, rest) = split_word(rest);
-        let (old, new) = split_word(rest);
-        let at = u16::from_str_radix(at, 16)?;
-        let (old, new) = (bytes_of_hex(alloc, old)?, bytes_of_hex(alloc, new)?);
-        let has_room = new.len() <= MEMORY_BYTES && at as usize <= MEMORY_BYTES - new.len();
-        if !has_room || old.len() != new.len() {
-            return Err(Problem::NotAllowed);
-        }
-        self.machine.exchange(at, &old, &new);
-        Ok(())
-    }
-
-    /// Copies machines, where a command says so.
-    fn copy(&mut self, word: &str) -> Result<bool, AllocError> {
-        match word {
-            "keep" => self.kept = self.machine.copy_of()?,
-            "swap" => mem::swap(&mut self.machine, &mut self.kept),
-            "take" => self.machine.copy_from(&self.kept)?,
-            _ => return Ok(false),
-        }
-        Ok(true)
     }
 
     fn is_same_memory(&self) -> bool {
-        self.machine.memory() == self.kept.memory()
-    }
-
-    fn first_touch_text(&self, alloc: Global, rest: &str) -> Result<String, Problem> {
-        match self.first_touch.get(usize::from_str_radix(rest, 16)?) {
-            Some(step) if *step != u32::MAX => Ok(step.to_string(alloc)?),
-            _ => Ok(String::from_str(alloc, "none")?),
-        }
-    }
-
-    /// What the list of touched addresses answers.
-    fn touch_answer(
-        &mut self,
-        alloc: Global,
-        word: &str,
-        rest: &str,
-    ) -> Result<Option<String>, Problem> {
-        match word {
-            "touches" => Ok(Some(touches_text(alloc, &self.touch)?)),
-            "touch-count" => Ok(Some(self.touch.len().to_string(alloc)?)),
-            "touch-empty" => Ok(Some(yes_or_no(alloc, self.touch.is_empty())?)),
-            "touch-add" => {
-                let is_added = self.touch.add(u16::from_str_radix(rest, 16)?);
-                Ok(Some(yes_or_no(alloc, is_added)?))
-            }
-            "touch-clear" => {
-                self.touch.clear();
-                Ok(Some(String::new(alloc)))
-            }
-            _ => Ok(None),
+        match (&self.machine, &self.kept) {
+            (Some(machine), Some(kept)) => machine.memory() == kept.memory(),
+            _ => false,
         }
     }
 }
 
-fn touches_text(alloc: Global, touch: &Touch) -> Result<String, AllocError> {
-    let mut text = String::new(alloc);
-    for place in 0..touch.len() {
+/// Makes so many steps, where the command says how many.
+fn run(machine: &mut Machine, touch: &mut Touch, made: &mut u32, rest: &str) -> Option<()> {
+    let (count, keys) = split_word(rest);
+    let keys = if keys.is_empty() {
+        0
+    } else {
+        hex_number(keys)?
+    };
+    for _ in 0..number(count)? {
+        machine.step(keys, *made % 10 == 9, touch);
+        *made = made.wrapping_add(1);
+    }
+    Some(())
+}
+
+fn step(machine: &mut Machine, touch: &mut Touch, word: &str) -> Option<()> {
+    machine.step(0, word == "step-tick", touch);
+    Some(())
+}
+
+/// Makes steps at once.
+fn make_steps(machine: &mut Machine, first_touch: &mut [u32], rest: &str) -> Option<()> {
+    let (from, rest) = split_word(rest);
+    let (count, keys) = split_word(rest);
+    let from = u16::try_from(number(from)?).ok()?;
+    let count = u16::try_from(number(count)?).ok()?;
+    let mut keys = SameKeys(hex_number(keys)?);
+    if first_touch.len() != MEMORY_BYTES {
+        return None;
+    }
+    machine.steps(
+        &mut keys,
+        10,
+        u32::from(from),
+        u32::from(count),
+        first_touch,
+    );
+    Some(())
+}
+
+fn poke(machine: &mut Machine, rest: &str) -> Option<()> {
+    let (at, byte) = split_word(rest);
+    let (at, byte) = (hex_number(at)?, hex_number(byte)?);
+    if usize::from(at) < MEMORY_BYTES {
+        machine.poke(at, (byte % 256) as u8);
+    }
+    Some(())
+}
+
+fn exchange(alloc: Global, machine: &mut Machine, rest: &str) -> Option<()> {
+    let (at, rest) = split_word(rest);
+    let (old, new) = split_word(rest);
+    let at = hex_number(at)?;
+    let (old, new) = (bytes_of_hex(alloc, old)?, bytes_of_hex(alloc, new)?);
+    let has_room = new.len() <= MEMORY_BYTES && at as usize <= MEMORY_BYTES - new.len();
+    if !has_room || old.len() != new.len() {
+        return None;
+    }
+    machine.exchange(at, &old, &new);
+    Some(())
+}
+
+fn push_touches(out: &mut String, touch: &Touch) -> Result<(), AllocError> {
+    for place in 0..=touch.len() {
         if let Some(address) = touch.get(place) {
-            write!(text, "{address:03x} ")?;
+            write!(out, "{address:03x} ")?;
         }
     }
-    if touch.get(touch.len()).is_some() {
-        text.push_str("and more ")?;
+    Ok(())
+}
+
+/// What the list of touched addresses answers.
+fn answer_touch(
+    out: &mut String,
+    touch: &mut Touch,
+    word: &str,
+    rest: &str,
+) -> Result<(), AllocError> {
+    match (word, hex_number(rest)) {
+        ("touch-count", _) => write!(out, "{}", touch.len()),
+        ("touch-empty", _) => write!(out, "{}", touch.is_empty()),
+        ("touch-add", Some(address)) => write!(out, "{}", touch.add(address)),
+        _ => {
+            touch.clear();
+            Ok(())
+        }
     }
-    Ok(text)
+}
+
+fn push_first_touch(out: &mut String, first_touch: &[u32], rest: &str) -> Result<(), AllocError> {
+    let Some(address) = hex_number(rest) else {
+        return refuse(out);
+    };
+    match first_touch.get(usize::from(address)) {
+        Some(step) if *step != u32::MAX => write!(out, "{step}"),
+        _ => out.push_str("none"),
+    }
 }

@@ -12,7 +12,6 @@ mod assembler;
 mod edits;
 mod language;
 mod machine;
-mod problem;
 mod replay;
 mod runs;
 mod state;
@@ -21,10 +20,10 @@ mod toy;
 mod words;
 
 use crate::machine::Machines;
-use crate::problem::Problem;
 use crate::replay::Run;
-use crate::text::{bytes_of_hex, split_word};
+use crate::text::{bytes_of_hex, number, refuse, split_word};
 use chip_asm::{OpenError, Source};
+use chip_replay::Keys;
 use std::alloc::{AllocError, Global};
 use std::io;
 use std::io::{BufRead, BufReader};
@@ -41,143 +40,137 @@ struct Calls {
 }
 
 impl Calls {
-    fn new(alloc: Global) -> Result<Calls, Problem> {
+    fn new(alloc: Global) -> Result<Calls, AllocError> {
         Ok(Calls {
             built: Vec::new(alloc),
             is_source: false,
             source: Source::new(alloc),
             machines: Machines::new(alloc)?,
-            run: Run::new(alloc),
+            run: Run::Keys(Keys::new(alloc)),
         })
     }
 
-    /// What a line of the input is answered with.
-    fn take(&mut self, alloc: Global, line: &str) -> Result<String, Problem> {
+    /// Answers a line of the input.
+    fn take(&mut self, alloc: Global, out: &mut String, line: &str) -> Result<(), AllocError> {
         if !self.is_source {
             let (word, rest) = split_word(line);
-            return self.answer(alloc, word, rest);
+            return self.answer(alloc, out, word, rest);
         }
         if line == "end" {
             self.is_source = false;
-            return Ok(self.open(alloc, assembler::opened(alloc, &self.built))?);
+            return self.open(alloc, out, "open");
         }
         self.built.extend_from_slice(line.as_bytes())?;
         self.built.push(b'\n')?;
-        Ok(String::new(alloc))
-    }
-
-    /// What a command is answered with.
-    fn answer(&mut self, alloc: Global, word: &str, rest: &str) -> Result<String, Problem> {
-        if self.build(alloc, word, rest)? {
-            return Ok(String::new(alloc));
-        }
-        match word {
-            "open" => Ok(self.open(alloc, assembler::opened(alloc, &self.built))?),
-            "open-bytes" => Ok(self.open(alloc, assembler::opened_whole(alloc, &self.built))?),
-            "ins" | "rep" | "del" => {
-                assembler::edit(alloc, &self.built, &mut self.source, word, rest)
-            }
-            "edits" => edits::answer(alloc, rest),
-            "runs" => runs::answer(alloc, rest),
-            _ => self.answer_of_layer(alloc, word, rest),
-        }
-    }
-
-    /// Builds the text, where a command says so.
-    fn build(&mut self, alloc: Global, word: &str, rest: &str) -> Result<bool, Problem> {
-        match word {
-            "source" => self.is_source = true,
-            "text" | "text-hex" => {}
-            "add" | "add-hex" => {
-                let (count, line) = split_word(rest);
-                self.add(alloc, word, count.parse::<u32>()?, line)?;
-                return Ok(true);
-            }
-            _ => return Ok(false),
-        }
-        self.built.clear();
-        self.add(alloc, word, 1, rest)?;
-        Ok(true)
-    }
-
-    /// Adds a line or bytes in hexadecimal so many times to the built text.
-    fn add(&mut self, alloc: Global, word: &str, count: u32, line: &str) -> Result<(), Problem> {
-        if word.ends_with("-hex") {
-            return Ok(self.add_bytes(count, &bytes_of_hex(alloc, line)?)?);
-        }
-        Ok(self.add_bytes(count, line.as_bytes())?)
-    }
-
-    fn add_bytes(&mut self, count: u32, bytes: &[u8]) -> Result<(), AllocError> {
-        for _ in 0..count {
-            self.built.extend_from_slice(bytes)?;
-        }
         Ok(())
     }
 
-    /// Takes a source that was opened.
-    fn open(
+    /// Answers a command.
+    fn answer(
         &mut self,
         alloc: Global,
-        opened: Result<Source, OpenError>,
-    ) -> Result<String, AllocError> {
-        match opened {
-            Ok(source) => {
-                self.source = source;
-                String::from_str(alloc, "ok")
+        out: &mut String,
+        word: &str,
+        rest: &str,
+    ) -> Result<(), AllocError> {
+        match word {
+            "source" | "text" | "text-hex" => {
+                self.is_source = word == "source";
+                self.built.clear();
+                self.add(alloc, out, word, 1, rest)
             }
-            Err(error) => format!(in alloc; "{error:?}"),
+            "add" | "add-hex" => {
+                let (count, line) = split_word(rest);
+                self.add(alloc, out, word, number(count).unwrap_or(0), line)
+            }
+            "open" | "open-bytes" => self.open(alloc, out, word),
+            "ins" | "rep" | "del" => {
+                assembler::edit(alloc, out, &self.built, &mut self.source, word, rest)
+            }
+            "edits" => edits::answer(alloc, out, rest),
+            "runs" => runs::answer(alloc, out, rest),
+            _ => self.ask(alloc, out, word, rest),
         }
     }
 
-    /// What the layer that has a command answers.
-    fn answer_of_layer(
+    /// Adds a line or bytes in hexadecimal so many times to the built text.
+    fn add(
         &mut self,
         alloc: Global,
+        out: &mut String,
+        word: &str,
+        count: u32,
+        line: &str,
+    ) -> Result<(), AllocError> {
+        if !word.ends_with("-hex") {
+            return add_bytes(&mut self.built, count, line.as_bytes());
+        }
+        match bytes_of_hex(alloc, line) {
+            Some(bytes) => add_bytes(&mut self.built, count, &bytes),
+            None => refuse(out),
+        }
+    }
+
+    /// Opens the built text.
+    fn open(&mut self, alloc: Global, out: &mut String, word: &str) -> Result<(), AllocError> {
+        match open_as(alloc, word, &self.built) {
+            Ok(source) => {
+                self.source = source;
+                out.push_str("ok")
+            }
+            Err(error) => write!(out, "{error:?}"),
+        }
+    }
+
+    /// Has the layer answer whose command it is.
+    fn ask(
+        &mut self,
+        alloc: Global,
+        out: &mut String,
         word: &str,
         rest: &str,
-    ) -> Result<String, Problem> {
-        if let Some(text) = language::answer(alloc, &self.built, word, rest)? {
-            return Ok(text);
+    ) -> Result<(), AllocError> {
+        if language::answer(alloc, out, &self.built, word, rest)?
+            || words::answer(alloc, out, word, rest)?
+            || assembler::answer(alloc, out, &self.source, word, rest)?
+            || self.machines.answer(alloc, out, word, rest)?
+            || self.run.answer(alloc, out, word, rest)?
+        {
+            return Ok(());
         }
-        if let Some(text) = words::answer(alloc, word, rest)? {
-            return Ok(text);
-        }
-        if let Some(text) = assembler::answer(alloc, &self.source, word, rest)? {
-            return Ok(text);
-        }
-        if let Some(text) = self.machines.answer(alloc, word, rest)? {
-            return Ok(text);
-        }
-        match self.run.answer(alloc, word, rest)? {
-            Some(text) => Ok(text),
-            None => Err(Problem::NoSuchCommand),
-        }
+        refuse(out)
     }
 }
 
-/// Prints an answer, and nothing for an empty one.
-fn print(rt: &impl Print, answer: &str) -> io::Result<()> {
-    if answer.is_empty() {
-        return Ok(());
+fn open_as(alloc: Global, word: &str, text: &[u8]) -> Result<Source, OpenError> {
+    if word == "open" {
+        assembler::opened(alloc, text)
+    } else {
+        assembler::opened_whole(alloc, text)
     }
-    println!(rt; "{answer}")
+}
+
+fn add_bytes(built: &mut Vec<u8>, count: u32, bytes: &[u8]) -> Result<(), AllocError> {
+    for _ in 0..count {
+        built.extend_from_slice(bytes)?;
+    }
+    Ok(())
 }
 
 /// Answers each line of the input.
 fn answer_all(rt: &(impl Input + Print + AllocGlobal), calls: &mut Calls) -> io::Result<()> {
+    let mut out = String::new(rt.alloc());
     for line in BufReader::new(rt.alloc(), rt.reader())?.lines(rt.alloc()) {
-        match calls.take(rt.alloc(), line?.as_str()) {
-            Ok(answer) => print(rt, answer.as_str().trim_end())?,
-            Err(problem) => println!(rt; "{problem}")?,
+        calls.take(rt.alloc(), &mut out, line?.as_str())?;
+        if !out.is_empty() {
+            rt.println(out.as_str().trim_end())?;
         }
+        out.clear();
     }
     Ok(())
 }
 
 fn main(rt: HostRuntime) -> io::Result<()> {
-    match Calls::new(rt.alloc()) {
-        Ok(mut calls) => answer_all(&rt, &mut calls),
-        Err(problem) => println!(rt; "{problem}"),
-    }
+    let mut calls = Calls::new(rt.alloc())?;
+    answer_all(&rt, &mut calls)
 }

@@ -9,17 +9,16 @@
 //!   step from 1 to that one. `held STEP`: the keys that are down, as a number.
 //! - `at STEP`: the sum of the small machine; `at-each STEP` asks for each step up to that one.
 //!   `counts`: the steps made, the last step that is known and how many checkpoints are kept.
-//!   `made`: the steps that the machine and its copies made; `is-counted`: whether the replay counts
+//!   `made`: the steps that the machine and its copies made. `is-counted`: whether the replay counts
 //!   as many.
 
 ghost use Rattle.std.specs.Prelude.{◌≡◌, ◌≤◌, [], drop, IfOk};
 ghost use Rattle.chip_replay.specs.Image.{padded};
 ghost use Rattle.chip_replay.specs.Limits.{image_start};
 
-use crate::problem::Problem;
-use crate::text::{split_word, yes_or_no};
+use crate::text::{number, refuse, split_word};
 use crate::toy::Toy;
-use chip_replay::{AtError, KeyFault, Keys, LEAST_SPACING, MOST_SPACING, Replay};
+use chip_replay::{KeyFault, Keys, LEAST_SPACING, MOST_SPACING, Replay, Traced};
 use std::alloc::{AllocError, Global};
 use std::cell::Cell;
 use std::rc::Rc;
@@ -28,186 +27,151 @@ use std::rc::Rc;
 #[derive(Drop)]
 pub(crate) enum Run {
     Keys(Keys),
-    Toy {
-        replay: Replay<Toy>,
-        /// The steps that the machine and its copies made.
-        made: Rc<Cell<u64>>,
-    },
-}
-
-/// A step, a key, and whether it is down from then on.
-#[derive(Clone, Copy)]
-struct Event {
-    step: u32,
-    key: u32,
-    down: bool,
-}
-
-/// Reads a step, a key, and `down` if it is so.
-fn event_of(text: &str) -> Result<Event, Problem> {
-    let (step, rest) = split_word(text);
-    let (key, state) = split_word(rest);
-    Ok(Event {
-        step: step.parse::<u32>()?,
-        key: key.parse::<u32>()?,
-        down: state == "down",
-    })
+    Toy(Replay<Toy>, Rc<Cell<u64>>),
 }
 
 impl Run {
-    pub(crate) fn new(alloc: Global) -> Run {
-        Run::Keys(Keys::new(alloc))
-    }
-
-    /// What chip_replay answers to a command, or none where the command is another.
+    /// Answers a command, and says whether it is one of these.
     pub(crate) fn answer(
         &mut self,
         alloc: Global,
+        out: &mut String,
         word: &str,
         rest: &str,
-    ) -> Result<Option<String>, Problem> {
+    ) -> Result<bool, AllocError> {
         match word {
-            "keys" => *self = Run::new(alloc),
-            "toy" => *self = toy_run(alloc, rest.parse::<u32>()?)?,
+            "keys" => *self = Run::Keys(Keys::new(alloc)),
+            "toy" => *self = toy_run(alloc, number(rest).unwrap_or(0))?,
             "toy-image" => *self = toy_with_image(alloc, rest)?,
-            "insert" | "replace" | "delete" | "fill" => {
-                let made = self.edit(word, event_of(rest)?);
-                return Ok(Some(made_text(alloc, made)?));
-            }
-            "held" => return Ok(Some(self.held(rest.parse::<u32>()?).to_string(alloc)?)),
-            _ => return self.toy_answer(alloc, word, rest),
+            "insert" | "replace" | "delete" | "fill" => self.edit(out, word, rest)?,
+            "held" => self.push_held(out, rest)?,
+            _ => match self {
+                Run::Toy(replay, made) => return answer_toy(out, replay, made, word, rest),
+                Run::Keys(_) => return Ok(false),
+            },
         }
-        Ok(Some(String::new(alloc)))
+        Ok(true)
     }
 
-    /// The same of the commands about the small machine.
-    fn toy_answer(
-        &mut self,
-        alloc: Global,
-        word: &str,
-        rest: &str,
-    ) -> Result<Option<String>, Problem> {
-        let Run::Toy { replay, made } = self else {
-            return Ok(None);
+    /// Makes an edit, and answers it.
+    fn edit(&mut self, out: &mut String, word: &str, rest: &str) -> Result<(), AllocError> {
+        let (step, rest) = split_word(rest);
+        let (key, state) = split_word(rest);
+        let (Some(step), Some(key)) = (number(step), number(key)) else {
+            return refuse(out);
         };
-        match word {
-            "at" => Ok(Some(sum_text(alloc, replay, rest.parse::<u32>()?)?)),
-            "at-each" => Ok(Some(last_sum_text(alloc, replay, rest.parse::<u32>()?)?)),
-            "counts" => Ok(Some(counts_text(alloc, replay)?)),
-            "made" => Ok(Some(made.get().to_string(alloc)?)),
-            "is-counted" => Ok(Some(yes_or_no(alloc, replay.ran() == made.get())?)),
-            _ => Ok(None),
+        let made = match self {
+            Run::Keys(keys) => edit_keys(keys, word, step, key, state == "down"),
+            Run::Toy(replay, _) => edit_replay(replay, word, step, key, state == "down"),
+        };
+        match made {
+            Ok(()) => out.push_str("ok"),
+            Err(fault) => write!(out, "{fault:?}"),
         }
     }
 
     /// The keys that are down at a step.
-    fn held(&self, step: u32) -> u16 {
-        match self {
-            Run::Keys(keys) => keys.held(step),
-            Run::Toy { replay, .. } => replay.keys().held(step),
-        }
+    fn push_held(&self, out: &mut String, rest: &str) -> Result<(), AllocError> {
+        let Some(step) = number(rest) else {
+            return refuse(out);
+        };
+        let keys = match self {
+            Run::Keys(keys) => keys,
+            Run::Toy(replay, _) => replay.keys(),
+        };
+        write!(out, "{}", keys.held(step))
     }
+}
 
-    fn insert(&mut self, event: Event) -> Result<(), KeyFault> {
-        match self {
-            Run::Keys(keys) => keys.insert(event.step, event.key, event.down),
-            Run::Toy { replay, .. } => replay.insert_key(event.step, event.key, event.down),
-        }
-    }
-
-    fn replace(&mut self, event: Event) -> Result<(), KeyFault> {
-        match self {
-            Run::Keys(keys) => keys.replace(event.step, event.key, event.down),
-            Run::Toy { replay, .. } => replay.replace_key(event.step, event.key, event.down),
-        }
-    }
-
-    fn delete(&mut self, event: Event) -> Result<(), KeyFault> {
-        match self {
-            Run::Keys(keys) => keys.delete(event.step, event.key),
-            Run::Toy { replay, .. } => replay.delete_key(event.step, event.key),
-        }
-    }
-
-    /// Inserts such an event at each step from 1 to that one.
-    fn fill(&mut self, last: Event) -> Result<(), KeyFault> {
-        for step in 1..=last.step {
-            self.insert(Event { step, ..last })?;
-        }
-        Ok(())
-    }
-
-    /// Makes an edit.
-    fn edit(&mut self, word: &str, event: Event) -> Result<(), KeyFault> {
-        match word {
-            "insert" => self.insert(event),
-            "replace" => self.replace(event),
-            "delete" => self.delete(event),
-            _ => self.fill(event),
+/// Makes an edit of key events.
+fn edit_keys(keys: &mut Keys, word: &str, step: u32, key: u32, down: bool) -> Result<(), KeyFault> {
+    match word {
+        "insert" => keys.insert(step, key, down),
+        "replace" => keys.replace(step, key, down),
+        "delete" => keys.delete(step, key),
+        _ => {
+            for number in 1..=step {
+                keys.insert(number, key, down)?;
+            }
+            Ok(())
         }
     }
 }
 
-/// How an edit was answered.
-fn made_text(alloc: Global, made: Result<(), KeyFault>) -> Result<String, AllocError> {
-    match made {
-        Ok(()) => String::from_str(alloc, "ok"),
-        Err(fault) => format!(in alloc; "{fault:?}"),
+/// Makes an edit of the key events of a replay.
+pub(crate) fn edit_replay<M: Traced>(
+    replay: &mut Replay<M>,
+    word: &str,
+    step: u32,
+    key: u32,
+    down: bool,
+) -> Result<(), KeyFault> {
+    match word {
+        "insert" => replay.insert_key(step, key, down),
+        "replace" => replay.replace_key(step, key, down),
+        _ => replay.delete_key(step, key),
     }
 }
 
-/// The sum at a step.
-fn sum_at(replay: &mut Replay<Toy>, step: u32) -> Result<u8, AtError> {
-    Ok(replay.at(step)?.sum())
+/// Answers a command about the small machine, and says whether it is one.
+fn answer_toy(
+    out: &mut String,
+    replay: &mut Replay<Toy>,
+    made: &Rc<Cell<u64>>,
+    word: &str,
+    rest: &str,
+) -> Result<bool, AllocError> {
+    let answered = match (word, number(rest)) {
+        ("at", Some(step)) => push_sum(out, replay, step, step),
+        ("at-each", Some(last)) => push_sum(out, replay, 0, last),
+        ("made", _) => write!(out, "{}", made.get()),
+        ("is-counted", _) => write!(out, "{}", replay.ran() == made.get()),
+        ("counts", _) => {
+            let (ran, reach, kept) = (replay.ran(), replay.reach(), replay.kept());
+            write!(out, "{ran} {reach} {kept}")
+        }
+        _ => return Ok(false),
+    };
+    answered?;
+    Ok(true)
 }
 
-fn sum_text(alloc: Global, replay: &mut Replay<Toy>, step: u32) -> Result<String, AllocError> {
-    match sum_at(replay, step) {
-        Ok(sum) => sum.to_string(alloc),
-        Err(error) => format!(in alloc; "{error:?}"),
-    }
-}
-
-/// The sum at a step, after those at each step before it.
-fn last_sum_text(alloc: Global, replay: &mut Replay<Toy>, last: u32) -> Result<String, AllocError> {
-    for step in 0..last {
-        if let Err(error) = sum_at(replay, step) {
-            return format!(in alloc; "{error:?} at {step}");
+/// The sum at the last of these steps, or the first error at one of them.
+fn push_sum(
+    out: &mut String,
+    replay: &mut Replay<Toy>,
+    first: u32,
+    last: u32,
+) -> Result<(), AllocError> {
+    let mut sum = 0;
+    for step in first..=last {
+        match replay.at(step) {
+            Ok(state) => sum = state.sum(),
+            Err(error) => return write!(out, "{error:?}"),
         }
     }
-    sum_text(alloc, replay, last)
+    write!(out, "{sum}")
 }
 
-/// The steps made, the last step that is known, and how many checkpoints are kept.
-fn counts_text(alloc: Global, replay: &Replay<Toy>) -> Result<String, AllocError> {
-    let (ran, reach, kept) = (replay.ran(), replay.reach(), replay.kept());
-    format!(in alloc; "{ran} {reach} {kept}")
-}
-
-/// The replay of a small machine with checkpoints after so many steps each.
-fn toy_run(alloc: Global, spacing: u32) -> Result<Run, Problem> {
-    if spacing < LEAST_SPACING || spacing > MOST_SPACING {
-        return Err(Problem::NotAllowed);
-    }
+/// The replay of a small machine with checkpoints after so many steps each, or the nearest number
+/// that is allowed.
+fn toy_run(alloc: Global, spacing: u32) -> Result<Run, AllocError> {
     let made = Rc::new(alloc, Cell::new(0))?;
     let toy = Toy::new(alloc, made.clone()?)?;
-    let replay = Replay::new(alloc, toy, 10, spacing)?;
-    Ok(Run::Toy { replay, made })
+    let spacing = spacing.max(LEAST_SPACING).min(MOST_SPACING);
+    Ok(Run::Toy(Replay::new(alloc, toy, 10, spacing)?, made))
 }
 
 /// A replay that was asked about the step 5000; an error where the sum there is not 0.
-fn asked(alloc: Global, made: Rc<Cell<u64>>) -> Result<Replay<Toy>, Problem>
+fn asked(alloc: Global, made: Rc<Cell<u64>>) -> Result<Replay<Toy>, AllocError>
     ensures { IfOk result (λ replay. drop image_start replay.start.bytes ≡ padded []) }
 {
     let toy = Toy::new(alloc, made)?;
     let mut replay = Replay::new(alloc, toy, 10, LEAST_SPACING)?;
-    let Ok(state) = replay.at(5000) else {
-        return Err(Problem::OutOfMemory);
-    };
-    if state.sum() != 0 {
-        return Err(Problem::NotAllowed);
+    match replay.at(5000) {
+        Ok(state) if state.sum() == 0 => Ok(replay),
+        _ => Err(AllocError),
     }
-    Ok(replay)
 }
 
 /// Changes an image without bytes, in one of the three ways.
@@ -222,9 +186,9 @@ fn change_image(replay: &mut Replay<Toy>, way: &str)
 }
 
 /// A replay that was asked and then has another image.
-fn toy_with_image(alloc: Global, way: &str) -> Result<Run, Problem> {
+fn toy_with_image(alloc: Global, way: &str) -> Result<Run, AllocError> {
     let made = Rc::new(alloc, Cell::new(0))?;
     let mut replay = asked(alloc, made.clone()?)?;
     change_image(&mut replay, way);
-    Ok(Run::Toy { replay, made })
+    Ok(Run::Toy(replay, made))
 }

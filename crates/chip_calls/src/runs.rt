@@ -4,10 +4,10 @@
 //! first difference.
 
 use crate::edits::next;
-use crate::problem::Problem;
-use crate::text::split_word;
+use crate::replay::edit_replay;
+use crate::text::{number, refuse, split_word};
 use chip_machine::{Machine, Profile, Touch};
-use chip_replay::{KeyFault, LEAST_SPACING, Replay};
+use chip_replay::{LEAST_SPACING, Replay};
 use std::alloc::{AllocError, Global};
 
 /// How many edits and questions each program has.
@@ -19,13 +19,18 @@ const STEPS: u32 = 2000;
 /// A question is about so many steps in order.
 const NEAR: u32 = 4;
 
+/// The keys that have events, each at steps that are multiples of `APART`.
+const KEYS: u32 = 4;
+
+const APART: u32 = 16;
+
 /// A replay, and what it was made of as edited so far.
 #[derive(Drop)]
 struct Run {
     start: Machine,
     rate: u32,
-    /// The step, the key, and whether it is down from then on.
-    events: Vec<(u32, u32, bool)>,
+    /// For each step that can have events each key, and whether it is down from then on.
+    events: Vec<Option<bool>>,
     replay: Replay<Machine>,
 }
 
@@ -51,44 +56,43 @@ fn word_of(kind: u32, digits: u32) -> u32 {
     }
 }
 
-/// A generated program.
-fn some_image(alloc: Global, state: &mut u32) -> Result<Vec<u8>, AllocError> {
+/// A machine with a generated program.
+fn some_machine(alloc: Global, state: &mut u32) -> Result<Machine, AllocError> {
     let mut image = Vec::new(alloc);
     for _ in 0..24u32 {
         let kind = next(state);
         let word = (word_of(kind, next(state)) % 65_536) as u16;
         image.extend_from_slice(&word.to_be_bytes())?;
     }
-    Ok(image)
-}
-
-fn started(alloc: Global, image: &[u8]) -> Result<Machine, Problem> {
-    match Machine::start(alloc, image, &[0xa5, 0x5a], Profile::Schip) {
+    match Machine::start(alloc, &image, &[0xa5, 0x5a], Profile::Schip) {
         Ok(machine) => Ok(machine),
-        Err(_) => Err(Problem::NotAllowed),
+        Err(_) => Err(AllocError),
     }
 }
 
 /// A run of a generated program.
-fn opened(alloc: Global, state: &mut u32) -> Result<Run, Problem> {
-    let start = started(alloc, &some_image(alloc, state)?)?;
+fn opened(alloc: Global, state: &mut u32) -> Result<Run, AllocError> {
+    let start = some_machine(alloc, state)?;
     let rate = 1 + next(state) % 12;
     let replay = Replay::new(alloc, start.copy_of()?, rate, LEAST_SPACING)?;
     Ok(Run {
         start,
         rate,
-        events: Vec::new(alloc),
+        events: vec![in alloc; None; (STEPS / APART * KEYS) as usize]?,
         replay,
     })
 }
 
 /// The keys that are down in a step, by those that were down in the one before it.
-fn after_events(events: &[(u32, u32, bool)], step: u32, before: u16) -> u16 {
+fn keys_in_step(events: &[Option<bool>], step: u32, before: u16) -> u16 {
     let mut keys = before;
-    for (at, key, is_down) in events {
-        if *at == step {
-            let bit = 1 << (*key % 16);
-            keys = if *is_down { keys | bit } else { keys & !bit };
+    if step % APART == 0 {
+        for key in 0..KEYS {
+            match events.get((step / APART) as usize * KEYS as usize + key as usize) {
+                Some(Some(true)) => keys |= 1 << key,
+                Some(Some(false)) => keys &= !(1 << key),
+                _ => {}
+            }
         }
     }
     keys
@@ -112,14 +116,6 @@ fn are_alike(one: &Machine, other: &Machine) -> bool {
         && one.memory() == other.memory()
 }
 
-/// Whether the state that a replay answers is that of a machine.
-fn is_at(replay: &mut Replay<Machine>, step: u32, machine: &Machine) -> bool {
-    match replay.at(step) {
-        Ok(state) => are_alike(state, machine),
-        Err(_) => false,
-    }
-}
-
 /// Whether the replay answers some steps from one on as a machine that makes each step.
 fn answers_from(run: &mut Run, first: u32) -> Result<bool, AllocError> {
     let mut machine = run.start.copy_of()?;
@@ -129,59 +125,47 @@ fn answers_from(run: &mut Run, first: u32) -> Result<bool, AllocError> {
         if step >= first && !is_at(&mut run.replay, step, &machine) {
             return Ok(false);
         }
-        keys = after_events(&run.events, step, keys);
+        keys = keys_in_step(&run.events, step, keys);
         machine.step(keys, (step + 1) % run.rate.max(1) == 0, &mut touch);
     }
     Ok(true)
 }
 
-fn insert(run: &mut Run, step: u32, key: u32, down: bool) -> Result<(), KeyFault> {
-    run.replay.insert_key(step, key, down)
-}
-
-fn replace(run: &mut Run, step: u32, key: u32, down: bool) -> Result<(), KeyFault> {
-    run.replay.replace_key(step, key, down)
-}
-
-fn delete(run: &mut Run, step: u32, key: u32) -> Result<(), KeyFault> {
-    run.replay.delete_key(step, key)
-}
-
-/// Where the event of a step and key stands, if there is one.
-fn place_of(events: &[(u32, u32, bool)], step: u32, key: u32) -> Option<usize> {
-    events
-        .iter()
-        .position(|event| event.0 == step && event.1 == key)
+/// Whether the state that a replay answers is that of a machine.
+fn is_at(replay: &mut Replay<Machine>, step: u32, machine: &Machine) -> bool {
+    match replay.at(step) {
+        Ok(state) => are_alike(state, machine),
+        Err(_) => false,
+    }
 }
 
 /// Some edit of a key event, and whether it was accepted: one that is there is changed or taken
 /// out.
-fn edit(run: &mut Run, state: &mut u32) -> Result<bool, AllocError> {
-    let step = next(state) % STEPS / 16 * 16;
-    let key = next(state) % 4;
+fn edit(run: &mut Run, state: &mut u32) -> bool {
+    let step = next(state) % STEPS / APART * APART;
+    let key = next(state) % KEYS;
     let down = next(state) % 3 != 0;
-    let made = match place_of(&run.events, step, key) {
-        Some(place) if place < run.events.len() => {
-            if next(state) % 2 == 0 {
-                run.events.remove(place);
-                delete(run, step, key)
-            } else {
-                run.events[place].2 = down;
-                replace(run, step, key, down)
-            }
-        }
-        _ => {
-            run.events.push((step, key, down))?;
-            insert(run, step, key, down)
-        }
+    let place = (step / APART * KEYS + key) as usize;
+    let Some(event) = run.events.get_mut(place) else {
+        return false;
     };
-    Ok(made.is_ok())
+    let word = if event.is_none() {
+        *event = Some(down);
+        "insert"
+    } else if next(state) % 2 == 0 {
+        *event = None;
+        "delete"
+    } else {
+        *event = Some(down);
+        "replace"
+    };
+    edit_replay(&mut run.replay, word, step, key, down).is_ok()
 }
 
 /// Makes some edits, and says whether the replay then answers as it should.
 fn goes_on(run: &mut Run, state: &mut u32) -> Result<bool, AllocError> {
     for _ in 0..next(state) % 4 {
-        if !edit(run, state)? {
+        if !edit(run, state) {
             return Ok(false);
         }
     }
@@ -189,7 +173,7 @@ fn goes_on(run: &mut Run, state: &mut u32) -> Result<bool, AllocError> {
 }
 
 /// Makes the run of a seed, and gives the first command after which an answer differs.
-fn first_difference(alloc: Global, seed: u32) -> Result<Option<u32>, Problem> {
+fn first_difference(alloc: Global, seed: u32) -> Result<Option<u32>, AllocError> {
     let mut state = seed;
     let mut run = opened(alloc, &mut state)?;
     for command in 0..COMMANDS {
@@ -201,14 +185,16 @@ fn first_difference(alloc: Global, seed: u32) -> Result<Option<u32>, Problem> {
 }
 
 /// Answers `runs`.
-pub(crate) fn answer(alloc: Global, rest: &str) -> Result<String, Problem> {
-    let (seed, count) = split_word(rest);
-    let (first, count) = (seed.parse::<u32>()?, count.parse::<u32>()?);
-    for number in 0..count {
-        let seed = first.wrapping_add(number);
+pub(crate) fn answer(alloc: Global, out: &mut String, rest: &str) -> Result<(), AllocError> {
+    let (first, count) = split_word(rest);
+    let (Some(first), Some(count)) = (number(first), number(count)) else {
+        return refuse(out);
+    };
+    for place in 0..count {
+        let seed = first.wrapping_add(place);
         if let Some(command) = first_difference(alloc, seed)? {
-            return Ok(format!(in alloc; "differs at command {command} of seed {seed}")?);
+            return write!(out, "differs at command {command} of seed {seed}");
         }
     }
-    Ok(format!(in alloc; "ok {count}")?)
+    write!(out, "ok {count}")
 }

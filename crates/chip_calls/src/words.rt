@@ -7,19 +7,26 @@
 //!   has to have the word as its code, and to be one of data where the word is no instruction.
 
 use crate::language::NoNames;
-use crate::problem::Problem;
-use chip_lang::{Coded, Meter, decode, encode, push_shown, read_line, show, word as word_of};
+use crate::text::{hex_number, refuse};
+use chip_lang::{Coded, Line, Meter, decode, encode, push_shown, read_line, show, word as word_of};
 use std::alloc::{AllocError, Global};
 
-/// What chip_lang answers to a command, or none where the command is another.
-pub(crate) fn answer(alloc: Global, word: &str, rest: &str) -> Result<Option<String>, Problem> {
-    match word {
-        "decode" => Ok(Some(decoded_text(alloc, u16::from_str_radix(rest, 16)?)?)),
-        "show" => Ok(Some(shown_text(alloc, u16::from_str_radix(rest, 16)?)?)),
-        "decode-all" => Ok(Some(decoded_all(alloc)?)),
-        "show-all" => Ok(Some(shown_all(alloc)?)),
-        _ => Ok(None),
-    }
+/// Answers a command, and says whether it is one of these.
+pub(crate) fn answer(
+    alloc: Global,
+    out: &mut String,
+    word: &str,
+    rest: &str,
+) -> Result<bool, AllocError> {
+    let answered = match word {
+        "decode" => push_decoded(out, rest),
+        "show" => push_texts(alloc, out, rest),
+        "decode-all" => decode_all(out),
+        "show-all" => show_all(alloc, out),
+        _ => return Ok(false),
+    };
+    answered?;
+    Ok(true)
 }
 
 /// The word of the instruction that a word is.
@@ -30,42 +37,52 @@ fn decoded(word: u16) -> Option<u16> {
     }
 }
 
-fn decoded_text(alloc: Global, word: u16) -> Result<String, AllocError> {
+fn push_decoded(out: &mut String, rest: &str) -> Result<(), AllocError> {
+    let Some(word) = hex_number(rest) else {
+        return refuse(out);
+    };
     match decoded(word) {
-        Some(word) => format!(in alloc; "{word:04x}"),
-        None => String::from_str(alloc, "none"),
+        Some(word) => write!(out, "{word:04x}"),
+        None => out.push_str("none"),
     }
 }
 
-fn decoded_all(alloc: Global) -> Result<String, AllocError> {
+fn decode_all(out: &mut String) -> Result<(), AllocError> {
     let mut count = 0u32;
     for word in 0..=65535u16 {
         if let Some(found) = decoded(word) {
             if found != word {
-                return format!(in alloc; "{word:04x} is decoded as {found:04x}");
+                return write!(out, "{word:04x} is decoded as {found:04x}");
             }
             count = count.saturating_add(1);
         }
     }
-    format!(in alloc; "{count} instructions")
+    write!(out, "{count} instructions")
 }
 
-fn shown_text(alloc: Global, word: u16) -> Result<String, AllocError> {
-    let mut text = show(alloc, word)?;
-    text.push('\n')?;
-    push_shown(&mut text, word)?;
-    Ok(text)
+/// The source text of a word.
+fn shown(alloc: Global, word: u16) -> Result<String, AllocError> {
+    show(alloc, word)
 }
 
-fn shown_all(alloc: Global) -> Result<String, AllocError> {
+fn push_texts(alloc: Global, out: &mut String, rest: &str) -> Result<(), AllocError> {
+    let Some(word) = hex_number(rest) else {
+        return refuse(out);
+    };
+    out.push_str(shown(alloc, word)?.as_str())?;
+    out.push('\n')?;
+    push_shown(out, word)
+}
+
+fn show_all(alloc: Global, out: &mut String) -> Result<(), AllocError> {
     let mut meter = Meter::new();
     for word in 0..=65535u16 {
         if !gives_back(alloc, &mut meter, word)? {
-            return format!(in alloc; "not {word:04x}");
+            return write!(out, "not {word:04x}");
         }
     }
     let (parsed, encoded) = (meter.parsed, meter.encoded);
-    format!(in alloc; "{parsed} parsed, {encoded} encoded")
+    write!(out, "{parsed} parsed, {encoded} encoded")
 }
 
 /// Whether the source text of a word is one of data where it has to be, and has the word as its
@@ -73,23 +90,13 @@ fn shown_all(alloc: Global) -> Result<String, AllocError> {
 fn gives_back(alloc: Global, meter: &mut Meter, word: u16) -> Result<bool, AllocError> {
     let text = shown(alloc, word)?;
     let is_data = text.as_str().starts_with("DW");
-    let is_code = has_code(alloc, meter, text.as_bytes(), word)?;
-    Ok(is_code && is_data == decoded(word).is_none())
-}
-
-fn shown(alloc: Global, word: u16) -> Result<String, AllocError> {
-    show(alloc, word)
+    let line = read_line(alloc, meter, text.as_bytes())?;
+    Ok(is_data == decoded(word).is_none() && has_code(alloc, meter, &line, word)?)
 }
 
 /// Whether a line has a word as its code.
-fn has_code(
-    alloc: Global,
-    meter: &mut Meter,
-    line: &[u8],
-    word: u16,
-) -> Result<bool, AllocError> {
-    let line = read_line(alloc, meter, line)?;
-    match encode(alloc, meter, &line, &NoNames)? {
+fn has_code(alloc: Global, meter: &mut Meter, line: &Line, word: u16) -> Result<bool, AllocError> {
+    match encode(alloc, meter, line, &NoNames)? {
         Coded::Bytes(bytes) => Ok(bytes.get() == word.to_be_bytes().as_slice()),
         Coded::Faulty(_) => Ok(false),
     }
