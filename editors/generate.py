@@ -76,9 +76,6 @@ class Words:
         arguments = {}
         for name, body in functions.items():
             if name.endswith("_argument"):
-                # one that only changes another has that one's texts
-                changed = re.search(r"(\w+_argument)\(alloc\)", body)
-                body = functions[changed.group(1)] if changed else body
                 arguments[name[: -len("_argument")]] = Argument(body, consts)
 
         def whole(body):
@@ -86,7 +83,7 @@ class Words:
             return re.sub(r"\b(with_\w+)\(alloc", lambda call: whole(functions[call.group(1)]), body)
 
         halves = functions["with_debug_to_dis"] + functions["with_run_to_explain"]
-        order = re.findall(r"\bwith_(\w+)\(alloc", halves)
+        order = re.findall(r"(\w+)_command\(alloc\)", halves)
         self.about = re.search(r'"chipbench",\s*"(.*?)"', functions["program"]).group(1)
         self.commands = [Command(whole(functions[f"{name}_command"]), arguments) for name in order]
         debug = next(command for command in self.commands if command.name == "debug")
