@@ -10,7 +10,7 @@ use std::alloc::AllocError;
 
 /// An open block: the number of its IF line; that line was live; its condition holds on this side;
 /// an ELSE came.
-#[derive(Clone, Copy, Debug)]
+#[derive(Clone, Copy)]
 pub(crate) struct Block {
     pub(crate) number: usize,
     pub(crate) live: bool,

@@ -3,7 +3,7 @@ use crate::way::Way;
 
 /// Places of an image, counted from its first byte: from `first` up to `end`; and how the edit was
 /// made that changed them.
-#[derive(Clone, Copy, Debug)]
+#[derive(Clone, Copy)]
 pub(crate) struct Changed {
     pub(crate) first: usize,
     pub(crate) end: usize,

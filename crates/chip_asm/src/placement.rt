@@ -4,7 +4,7 @@ ghost use Rattle.std.specs.Prelude.{◌≡◌, is_none, ◌&&◌};
 use chip_lang::Fault;
 
 /// What the first pass finds of a line. All lines have one each, so it is small: 16 bytes.
-#[derive(Clone, Copy, Debug)]
+#[derive(Clone, Copy)]
 pub(crate) struct Placement {
     pub(crate) value: i32,
     pub(crate) number: u16,

@@ -54,7 +54,7 @@ fn are_four_accepted(placements: &[Placement], place: usize) -> bool
 }
 
 /// What an edit does to a name, or to the names of a line.
-#[derive(Clone, Copy, Debug)]
+#[derive(Clone, Copy)]
 pub(crate) enum Moved {
     /// The name keeps its value.
     No,

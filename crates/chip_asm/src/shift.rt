@@ -15,7 +15,7 @@ use chip_lang::limits::MEMORY_BYTES;
 use std::alloc::AllocError;
 
 /// How far lines move: their numbers, and their addresses.
-#[derive(Clone, Copy, Debug)]
+#[derive(Clone, Copy)]
 pub(crate) struct Shift {
     /// How many lines come before them.
     pub(crate) added: u16,

@@ -10,7 +10,7 @@ use crate::placement::Placement;
 
 /// So many lines at the front that an edit leaves where they stood, and so many at the back that
 /// moved by one distance, if at all.
-#[derive(Clone, Copy, Debug)]
+#[derive(Clone, Copy)]
 pub(crate) struct Span {
     pub(crate) front: usize,
     pub(crate) back: usize,

@@ -17,7 +17,7 @@ use chip_lang::{Body, Line, defines, uses_names};
 use std::alloc::{AllocError, Global};
 
 /// What steps over all lines ask of a line.
-#[derive(Clone, Copy, Debug)]
+#[derive(Clone, Copy)]
 pub(crate) struct Traits {
     /// Whether it is an instruction or has no statement.
     pub(crate) is_bare: bool,

@@ -34,7 +34,7 @@ pub struct Span {
 
 /// The tokens at which a fault lies: the one of the index `first`, or that one and all after it. An
 /// index past the last token is the place after that one.
-#[derive(Clone, Copy, Debug)]
+#[derive(Clone, Copy)]
 pub(crate) struct Place {
     first: usize,
     wide: bool,

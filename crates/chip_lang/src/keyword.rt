@@ -10,7 +10,7 @@ use crate::form::Special;
 use crate::number::Reg;
 
 /// A word in upper case and what it means.
-#[derive(Clone, Copy, Debug)]
+#[derive(Clone, Copy)]
 pub(crate) struct Named<T> {
     pub(crate) text: &'static [u8],
     pub(crate) meaning: T,
