@@ -9,7 +9,7 @@ import unittest
 import common
 from common import DOCUMENTS, Page, answers_initialize, entries, image_of, is_listed, named_documents, package, run, version
 
-SUITE, MIRROR = "bookworm", "http://deb.debian.org/debian"
+MIRROR = "http://deb.debian.org/debian"
 TOOLS = {"debootstrap": "debootstrap", "lintian": "lintian"}
 # What shows the manual pages, the completions, the page and the module.
 BESIDE = ("python3", "man-db", "bash-completion", "zsh", "fish")
@@ -29,7 +29,7 @@ def say(text):
     print(f"package-tests: {text}", file=sys.stderr, flush=True)
 
 
-def prepare(base, keep):
+def prepare(suite, base, keep):
     """Makes the packages and the root that the tests copy."""
     global _folder, _base, _packages
     if os.geteuid() != 0:
@@ -41,11 +41,11 @@ def prepare(base, keep):
         run("apt-get", "install", "-y", "--no-install-recommends", *missing, timeout=LONG)
     _folder = tempfile.TemporaryDirectory(prefix="chipbench-clean-")
     _packages = pathlib.Path(keep).resolve() if keep else pathlib.Path(_folder.name, "packages")
-    package(_packages, common.chosen())
+    package(_packages, common.chosen(), timeout=LONG)
     _base = pathlib.Path(base).resolve() if base else pathlib.Path(_folder.name, "base")
     if not base:
-        say(f"debootstrap makes a root of {SUITE}, which takes minutes")
-        run("debootstrap", "--variant=minbase", SUITE, _base, MIRROR, timeout=LONG)
+        say(f"debootstrap makes a root of {suite}, which takes minutes")
+        run("debootstrap", "--variant=minbase", suite, _base, MIRROR, timeout=LONG)
 
 
 def debian_package():
