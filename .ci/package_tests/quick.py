@@ -15,6 +15,8 @@ from common import is_repository, named_documents, package, program, run, versio
 
 # The folders whose every file is either installed or left out by name.
 LISTED_FOLDERS = ("docs", "editors", "examples", "page", "python")
+# The folders that documents may link to, though they aren't installed.
+REPOSITORY_ALONE = (".ci", "bench", "crates")
 RECORD = "share/chipbench/INSTALLED"
 
 
@@ -151,7 +153,7 @@ class TestInstall(unittest.TestCase):
         for document in sorted(top.rglob("*.md")):
             for link in re.findall(r"\]\(([^)#\s]+)[^)]*\)", document.read_text()):
                 target = os.path.relpath(document.parent / link, top)
-                if ":" in link or target.split("/")[0] not in (*LISTED_FOLDERS, "README.md", "LICENSE"):
+                if ":" in link or target.split("/")[0] in REPOSITORY_ALONE:
                     continue
                 self.assertTrue((top / target).exists(), f"{document}: {link}")
 
