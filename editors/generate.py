@@ -5,7 +5,7 @@
     editors/generate.py --check   writes nothing; the status is 1 where a file isn't what the tables give
 
 The words of the language come from crates/chip_lang/src (form.rt, keyword.rt, statement.rt), those of the
-command line from crates/chip_bench/src/command_line.rt.
+command line from crates/chip_arguments/src (arguments.rt, commands.rt).
 """
 import json
 import pathlib
@@ -47,18 +47,19 @@ class Argument:
             found = re.search(rf'\.{method}\(\s*(?:"((?:[^"\\]|\\.)*)"|([A-Z_]+))', body)
             return None if not found else found.group(1) or consts.get(found.group(2), "")
 
-        self.long, self.value, self.help = one("long"), one("value_name"), one("help") or ""
+        made = re.search(r'\b(option|place)\(\s*alloc,\s*"(\w+)",\s*"(\w+)",\s*(?:"((?:[^"\\]|\\.)*)"|([A-Z_]+))', body)
+        if made:
+            kind, name, self.value, text, const = made.groups()
+            self.long, self.help = name if kind == "option" else None, text or consts[const]
+        else:
+            self.long, self.value, self.help = one("long"), one("value_name"), one("help") or ""
 
 
 class Command:
     def __init__(self, body, arguments):
-        self.name = re.search(r'Command::new\(alloc, "(\w+)"\)', body).group(1)
-        self.about = re.search(r'\.about\(\s*"(.*?)"', body).group(1)
-        example = re.search(r'\.after_help\(\s*"Example: (.*?)"', body)
-        self.example = example.group(1) if example else None
-        names = []
-        for found in re.finditer(r"(\w+)_argument\(alloc\)|with_settings\(alloc", body):
-            names += [found.group(1)] if found.group(1) else ["rate", "tape", "seed", "profile"]
+        found = re.search(r'new_command\(\s*alloc,\s*"(\w+)",\s*"(.*?)",\s*(?:"Example: (.*?)"|[A-Z_]+)', body)
+        self.name, self.about, self.example = found.groups()
+        names = re.findall(r"(\w+)_argument\(alloc\)", body)
         self.options = [arguments[name] for name in names if arguments[name].long]
         self.places = [arguments[name].value for name in names if not arguments[name].long]
 
@@ -67,24 +68,31 @@ class Words:
     """The commands of the program with their options."""
 
     def __init__(self):
-        text = read("chip_bench/src/command_line.rt")
+        text = read("chip_arguments/src/arguments.rt") + read("chip_arguments/src/commands.rt")
         consts = {}
         for name, value in re.findall(r'const (\w+): &str = "((?:[^"\\]|\\.|\\\n)*)";', text):
             consts[name] = re.sub(r"\\\n\s*", "", value)
-        functions = dict(re.findall(r"\nfn (\w+)<'a>\(alloc: Global\)(.*?)\n}", text, re.S))
-        arguments = {
-            name[: -len("_argument")]: Argument(body, consts)
-            for name, body in functions.items()
-            if name.endswith("_argument")
-        }
-        top = functions["chipbench"]
-        order = re.findall(r"\.subcommand\((\w+_command)\(alloc\)", text)
-        self.about = re.search(r'\.about\(\s*"(.*?)"', top).group(1)
-        self.commands = [Command(functions[name], arguments) for name in order]
+        functions = dict(re.findall(r"\n(?:pub\(crate\) )?fn (\w+)<'a>\(\s*alloc: Global(.*?)\n}", text, re.S))
+        arguments = {}
+        for name, body in functions.items():
+            if name.endswith("_argument"):
+                # one that only changes another has that one's texts
+                changed = re.search(r"(\w+_argument)\(alloc\)", body)
+                body = functions[changed.group(1)] if changed else body
+                arguments[name[: -len("_argument")]] = Argument(body, consts)
+
+        def whole(body):
+            """The body, with those of the functions that it has add arguments in the place of their calls."""
+            return re.sub(r"\b(with_\w+)\(alloc", lambda call: whole(functions[call.group(1)]), body)
+
+        halves = functions["with_debug_to_dis"] + functions["with_run_to_explain"]
+        order = re.findall(r"\bwith_(\w+)\(alloc", halves)
+        self.about = re.search(r'"chipbench",\s*"(.*?)"', functions["program"]).group(1)
+        self.commands = [Command(whole(functions[f"{name}_command"]), arguments) for name in order]
         debug = next(command for command in self.commands if command.name == "debug")
         notes = consts["DEBUG_NOTES"].replace("\\n", "\n")
         debug.example = re.search(r"Example: (.*)", notes).group(1)
-        self.codes = re.findall(r'code: "(\w+)"', read("chip_bench/src/pages.rt"))
+        self.codes = re.findall(r'code: "(\w+)"', read("chip_pages/src/pages.rt"))
 
 
 def bash(words):

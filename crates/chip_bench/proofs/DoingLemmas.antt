@@ -9,17 +9,17 @@ use Rattle.chip_lang.specs.declared.limits.TheConstants.{IMAGE_BYTES}
 use Rattle.chip_views.specs.Dis.{source_of_image}
 use Rattle.chip_bench.specs.Doing.{Assembles, AssemblesBy, Checks, Debugs, Declined, Disassembles, DisassemblesBytes, Does, Explains, FromKeys, FromSource, GivesSource, IfSettled, IsFileWritten, IsShort, IsSourceUnread, IsUnsettled, Lists, Outcome, Pictures, PicturesBy, PrintsPicture, Runs, WithAsked, image_in}
 use Rattle.chip_bench.specs.inner.Reads.{IsAsked, IsImageHindered, IsImageOrFaults, IsKeysUnread, IsUnasked}
-use Rattle.chip_bench.specs.Pages.{IsPageText}
+use Rattle.chip_pages.specs.Pages.{IsPageText}
 use Rattle.chip_bench.specs.Printing.{Prints, PrintsUnder, printed_check, printed_listing, printed_picture, printed, printed_of, printed_run}
-use Rattle.chip_bench.specs.declared.command_line.PictureWords.{PictureWords}
+use Rattle.chip_arguments.specs.declared.command_line.PictureWords.{PictureWords}
 use Rattle.chip_bench.specs.declared.question.PictureForm.{PictureForm}
 use Rattle.chip_bench.specs.Running.{AnswersScript, IsUnread}
 use Rattle.chip_bench.specs.Settings.{SessionSettings}
 use Rattle.chip_bench.specs.SettingWords.{settings_asked}
 use Rattle.chip_bench.specs.Tally.{Tally}
-use Rattle.chip_bench.specs.declared.command_line.CommandLine.{CommandLine}
-use Rattle.chip_bench.specs.declared.command_line.RunWords.{RunWords}
-use Rattle.chip_bench.specs.declared.command_line.SettingWords.{SettingWords}
+use Rattle.chip_arguments.specs.declared.command_line.CommandLine.{CommandLine}
+use Rattle.chip_arguments.specs.declared.command_line.RunWords.{RunWords}
+use Rattle.chip_arguments.specs.declared.command_line.SettingWords.{SettingWords}
 use Rattle.chip_bench.specs.declared.ending.Ending.TheVariants.{Done}
 use Rattle.chip_bench.specs.declared.ending.Failure.{Failure}
 use Rattle.chip_bench.specs.declared.ending.Failure.TheVariants as failure

@@ -5,16 +5,12 @@ pub mod WriteLemmas
 pub mod ProgressLemmas
 pub mod ServeLemmas
 pub mod RunningLemmas
-pub mod CommandLemmas
-pub mod CommandExamples
 pub mod AnswerLemmas
 pub mod ImageLemmas
 pub mod Parts
 pub mod TapeLemmas
 pub mod TextLemmas
 pub mod KeyLemmas
-pub mod WordLemmas
 pub mod RowLemmas
 pub mod RowBytes
-pub mod PageLemmas
 pub mod DoingLemmas

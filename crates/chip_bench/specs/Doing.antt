@@ -11,7 +11,7 @@
 --     Ends                           how the program ended after that
 -- No contract says what bytes a file gives or takes: of a file's bytes these words say that there
 -- are some.
-use Rattle.std.specs.Prelude.{◌≡◌, ◌≢◌, ◌⊎◌, ℕ, ◌<◌, ◌≤◌, Bool, List, [], codes, length, take, Option, Some, None, IfSome, Result, Ok, IsErrAnd}
+use Rattle.std.specs.Prelude.{◌≡◌, ◌≢◌, ◌⊎◌, ℕ, ◌<◌, ◌≤◌, Bool, List, [], codes, length, take, Option, Some, None, IfSome, Result, Ok, IsErrAnd, if◌then◌else◌}
 use Rattle.std.specs.Borrow.{Bor}
 use Rattle.std.specs.Io.KnownBytes.{Keeps}
 use Rattle.std.specs.declared.io.Error.{Error as IoError}
@@ -20,20 +20,23 @@ use Rattle.chip_asm.specs.Program.{image_of}
 use Rattle.chip_asm.specs.declared.refusal.OpenError.{OpenError}
 use Rattle.chip_lang.specs.declared.limits.TheConstants.{IMAGE_BYTES}
 use Rattle.chip_views.specs.Dis.{source_of_image}
-use Rattle.chip_bench.specs.CommandWords.{AsksFor}
+use Rattle.chip_views.specs.declared.picture.Letters.{Letters}
+use Rattle.chip_views.specs.declared.picture.Letters.TheVariants.{Blocks, Plain}
+use Rattle.chip_arguments.specs.CommandWords.{AsksFor}
 use Rattle.chip_bench.specs.KeyFile.{key_fault, session_under}
 use Rattle.chip_bench.specs.Session.{session_of}
-use Rattle.chip_bench.specs.Pages.{IsContents, IsPageText, version_text}
+use Rattle.chip_pages.specs.Pages.{IsContents, IsPageText}
+use Rattle.chip_arguments.specs.Version.{version_text}
 use Rattle.chip_bench.specs.Printing.{Printed, PrintsUnder, Prints, RefusesKeys, printed_check, fault_under, printed_faults, printed_listing, printed_picture, printed, printed_of, printed_run}
 use Rattle.chip_bench.specs.Running.{AnswersIfAsked, AnswersScript, IsUnread, source_bytes_read, status_of}
 use Rattle.chip_bench.specs.SettingWords.{settings_asked}
 use Rattle.chip_bench.specs.Settings.{SessionSettings}
 use Rattle.chip_bench.specs.Tally.{Tally}
-use Rattle.chip_bench.specs.declared.command_line.CommandLine.{CommandLine}
-use Rattle.chip_bench.specs.declared.command_line.CommandLine.TheVariants as line
-use Rattle.chip_bench.specs.declared.command_line.PictureWords.{PictureWords}
-use Rattle.chip_bench.specs.declared.command_line.RunWords.{RunWords}
-use Rattle.chip_bench.specs.declared.command_line.SettingWords.{SettingWords}
+use Rattle.chip_arguments.specs.declared.command_line.CommandLine.{CommandLine}
+use Rattle.chip_arguments.specs.declared.command_line.CommandLine.TheVariants as line
+use Rattle.chip_arguments.specs.declared.command_line.PictureWords.{PictureWords}
+use Rattle.chip_arguments.specs.declared.command_line.RunWords.{RunWords}
+use Rattle.chip_arguments.specs.declared.command_line.SettingWords.{SettingWords}
 use Rattle.chip_bench.specs.declared.ending.Ending.{Ending}
 use Rattle.chip_bench.specs.declared.ending.Ending.TheVariants.{Done, Faulty}
 use Rattle.chip_bench.specs.declared.ending.Failure.{Failure}
@@ -84,6 +87,10 @@ module _ {R : Type 0} (remaining : R → Option (List ℕ)) (in_old in_new : Tal
     pub given : name ≡ standard_input
         → IfSome (remaining in_old.inner) (λ all. bytes ≡ take source_bytes_read all)
     pub untouched : name ≢ standard_input → in_new ≡ in_old
+
+-- which characters stand for the points of a picture
+abbrev pub letters_of : Bool → Letters
+letters_of ascii = if ascii then Plain else Blocks
 
 -- What is read. `Unwritten` says that nothing was written.
 module _ {R : Type 0} (remaining : R → Option (List ℕ)) (in_old in_new : Tally R)
@@ -172,7 +179,7 @@ module _ {W : Type 0} (contents : W → Option (List ℕ)) (out_old out_new : Ta
   abbrev pub PicturesBy : Option SessionSettings → List ℕ → List ℕ → PictureWords
       → Option (Bor (List ℕ)) → Option (Bor (List ℕ)) → Outcome → Type 0
   PicturesBy settings source keys words None None ended =
-      PrintsPicture settings source keys words.run.steps (form.Text words.letters) ended
+      PrintsPicture settings source keys words.run.steps (form.Text (letters_of words.ascii)) ended
   PicturesBy settings source keys words (Some bitmap) None ended =
       WritesPicture settings source keys words.run.steps form.Bitmap bitmap ended
   PicturesBy settings source keys words None (Some png) ended =

@@ -1,31 +1,14 @@
--- The key events of a file: a line `S K down` or `S K up` is what `kins S K down` or `kins S K up`
--- is in a script (own).
-use Rattle.std.specs.Prelude.{◌≡◌, ℕ, ◌+◌, ◌==◌, Bool, List, [], ◌∷◌, ◌++◌, map, codes, Option, Some, None, Result, Ok, Err, if◌then◌else◌}
-use Rattle.std.specs.List.{list_all, before_first}
-use Rattle.chip_asm.specs.Lines.{lines_of}
+-- The key events of a file, line by line, as those of a script (own).
+use Rattle.std.specs.Prelude.{◌≡◌, ℕ, ◌+◌, List, [], ◌∷◌, Option, Some, None, Result, Ok, Err}
+use Rattle.chip_files.specs.KeyLines.{key_commands}
 use Rattle.chip_bench.specs.Session.{Text, Session, edited}
-use Rattle.chip_bench.specs.Commands.{Command, blank, change, ask, command_of, is_space}
+use Rattle.chip_bench.specs.Commands.{Command, blank, change, ask, command_of}
 use Rattle.chip_bench.specs.Refusals.{refusal_code}
 use Rattle.chip_bench.specs.Transcript.{fault_code, after, session_after}
 use Rattle.chip_bench.specs.declared.command.CommandFault.{CommandFault}
 use Rattle.chip_bench.specs.declared.refusal.Refusal.{Refusal}
 use Rattle.chip_bench.specs.declared.key_file.KeyFileError.{KeyFileError}
 use Rattle.chip_bench.specs.declared.key_file.KeyFileError.TheVariants.{Line, OutOfMemory}
-
-abbrev pub is_semicolon : ℕ → Bool
-is_semicolon byte = byte == 59
-
--- what a line says: all before its first semicolon
-abbrev pub said : Text → Text
-said line = before_first is_semicolon line
-
--- the line of a script that does the same: an empty one where the line says nothing
-unfoldable pub key_command : Text → Text
-key_command line = if list_all is_space (said line) then [] else codes "kins " ++ said line
-
--- those of a file, whose lines are cut as a source's
-abbrev pub key_commands : List ℕ → List Text
-key_commands file = map key_command (lines_of file)
 
 -- the code of a refused edit
 abbrev pub change_refusal : Result Session Refusal → Option Text

@@ -17,11 +17,9 @@
 --     KeyFile      the key events of a file, as lines of a script
 --     Transcript   the reply to each line of a script, and the transcript of all
 --     Serving      what a call of `serve` reads and writes, for each way in which it ends
---     CommandLine  the words that the program takes
 --     Running      what a run of the program reads, writes and answers
 --     SettingWords what the words of the command line say of settings
 --     Tape         the tape of a seed
---     Pages        what `explain` prints
 --     Doing        what the program does for each thing that its words can ask for
 --     inner        for private contracts: how far a script has been carried out, how the parts of a
 --                  kept run fit together, what was read
@@ -37,7 +35,6 @@ pub mod Commands
 pub mod CommandView
 pub mod Transcript
 pub mod Serving
-pub mod CommandLine
 pub mod Running
 pub mod IsAnswer
 pub mod Kept
@@ -47,8 +44,6 @@ pub mod Workbench
 pub mod Tape
 pub mod SettingWords
 pub mod Printing
-pub mod CommandWords
 pub mod KeyFile
-pub mod Pages
 pub mod Doing
 pub mod inner

@@ -2,17 +2,10 @@
 use Rattle.std.specs.Prelude.{ℕ, List, [], ◌∷◌, Option, Some, None, Result, Ok, Err, option_and_then}
 use Rattle.std.specs.Borrow.{Bor}
 use Rattle.hex.specs.Hex.{decode_of}
-use Rattle.chip_machine.specs.declared.profile.Profile.TheVariants.{Schip}
-use Rattle.chip_replay.specs.declared.limits.TheConstants.{LEAST_SPACING}
 use Rattle.chip_bench.specs.Settings.{SessionSettings, settings_fault, spacing_fault}
 use Rattle.chip_bench.specs.Tape.{tape_of}
-use Rattle.chip_bench.specs.declared.command_line.SettingWords.{SettingWords}
+use Rattle.chip_arguments.specs.declared.command_line.SettingWords.{SettingWords}
 use Rattle.chip_bench.specs.declared.settings.SetError.{SetError}
-
--- where the words say nothing of the settings
-abbrev pub default_words : SettingWords
-default_words =
-    record { rate = 10; tape = None; seed = None; profile = Schip; spacing = LEAST_SPACING }
 
 abbrev pub if_ok : {T E : Type 0} → Result T E → Option T
 if_ok (Ok value) = Some value

@@ -270,7 +270,7 @@ fn key_event(operands: &[u8]) -> Option<(u32, (u32, bool))>
     Some((step, (key, down)))
 }
 
-pub(crate) fn is_blank(text: &[u8]) -> bool
+fn is_blank(text: &[u8]) -> bool
     ensures { result ≡ list_all is_space text.now }
 {
     text.iter().all(|byte| *byte == b' ')

@@ -2,23 +2,19 @@
 ghost use Rattle.std.specs.Prelude.{◌≡◌, [], ◌∷◌, Ok, Err, None, Some, IfOk, IfErr, IsErr, OnOk, IfSome, ◌⊎◌, ◌++◌, map, take};
 ghost use Rattle.hex.specs.Hex.{decode_of};
 ghost use Rattle.clap.specs.Words.{kind_of};
-ghost use Rattle.chip_bench.specs.Pages.{version_text};
+ghost use Rattle.chip_arguments.specs.Version.{version_text};
 ghost use Rattle.chip_bench.specs.Printing.{Prints, printed};
 ghost use Rattle.chip_bench.specs.Settings.{default_settings};
 ghost use Rattle.chip_bench.specs.SettingWords.{settings_asked, tape_asked};
 ghost use Rattle.chip_bench.specs.Running.{AnswersScript, RunsSession, status_of, failure_status, AreFaulty, IsWithoutWords, IsUnread, source_bytes_read};
 ghost use Rattle.chip_bench.specs.inner.Reads.{IsAsked, IsKeysUnread, IsUnasked, IsUsage};
-ghost use Rattle.chip_bench.specs.Doing.{Assembles, Checks, Debugs, Disassembles, Does, Ends, GivesSource, IsFileWritten, IsSourceUnread, Lists, Performs, Pictures, PicturesBy, PrintsPicture, Runs, ShowsVersion, WritesPicture};
-ghost use Rattle.chip_bench.specs.CommandWords.{word_faults};
+ghost use Rattle.chip_bench.specs.Doing.{Assembles, Checks, Debugs, Disassembles, Does, Ends, GivesSource, IsFileWritten, IsSourceUnread, Lists, Performs, Pictures, PicturesBy, PrintsPicture, Runs, ShowsVersion, WritesPicture, letters_of};
+ghost use Rattle.chip_arguments.specs.CommandWords.{word_faults};
 ghost use Rattle.std.specs.Io.KnownBytes.{Keeps};
 ghost use Rattle.std.specs.IoError.{error_kind};
 
-use crate::command_line::{
-    CommandLine, PictureWords, RunWords, SettingWords, not_text, parse_words,
-};
 use crate::counted::Counted;
 use crate::ending::{Ending, Failure};
-use crate::image_file::write_file;
 use crate::output::{
     KeyFile, answer_script, check_source, explain, image_or_faults, list_source, picture_source,
     print, print_source, print_version, run_source,
@@ -26,22 +22,24 @@ use crate::output::{
 use crate::question::PictureForm;
 use crate::settings::Settings;
 use crate::tape::tape_of;
+use chip_arguments::{CommandLine, PictureWords, RunWords, SettingWords, not_text, parse_words};
 use chip_asm::limits::SOURCE_BYTES;
+use chip_files::{read_most, write_file};
 use chip_machine::limits::IMAGE_BYTES;
+use chip_views::Letters;
 use clap::error::ErrorKind;
 use hex::FromHexError;
 use std::alloc::Global;
 use std::convert::AsStr;
-use std::fs::OpenFile;
+use std::io;
 use std::io::{Read, Write};
 use std::rt::Files;
-use std::{fs, io};
 
 // The name of a source that is read from the standard input.
 const INPUT: &str = "-";
 
 // A source of this length or more doesn't open.
-const MOST_SOURCE: u64 = SOURCE_BYTES as u64 + 1;
+const MOST_SOURCE: u32 = SOURCE_BYTES as u32 + 1;
 
 /// The program, with the words after its name. The answer is its status: 0 where it did what it was
 /// asked, 1 where the source has faults or doesn't open, 2 for words that it doesn't take, 3 where
@@ -356,11 +354,18 @@ fn picture<'a, F: Files, I: Read, O: Write>(
         asked,
     };
     match (words.bitmap, words.png) {
-        (None, None) => shot.print(alloc, PictureForm::Text(words.letters), output),
+        (None, None) => shot.print(alloc, PictureForm::Text(letters_of(words.ascii)), output),
         (Some(name), None) => shot.write(alloc, files, PictureForm::Bitmap, name, output),
         (None, Some(name)) => shot.write(alloc, files, PictureForm::Png, name, output),
         (Some(bitmap), Some(png)) => shot.write_both(alloc, files, bitmap, png, output),
     }
+}
+
+// Which characters stand for the points.
+fn letters_of(ascii: bool) -> Letters
+    ensures { result ≡ letters_of ascii }
+{
+    if ascii { Letters::Plain } else { Letters::Blocks }
 }
 
 // The screen of a source's image after some steps.
@@ -521,7 +526,7 @@ fn read_input<'a, I: Read>(alloc: Global, input: &mut Counted<I>) -> Result<Vec<
     ensures err { IfErr result (λ why. (why ≡ Failure.OutOfMemory) ⊎ (why ≡ Failure.Input)) }
 {
     let mut bytes = Vec::new(alloc);
-    match read_most(input, &mut bytes) {
+    match read_most(input, &mut bytes, MOST_SOURCE) {
         Ok(()) => Ok(bytes),
         Err(error) if error.kind() == io::ErrorKind::OutOfMemory => Err(Failure::OutOfMemory),
         Err(_) => Err(Failure::Input),
@@ -531,31 +536,9 @@ fn read_input<'a, I: Read>(alloc: Global, input: &mut Counted<I>) -> Result<Vec<
 fn read_file<'a, F: Files>(alloc: Global, files: &F, name: &'a str) -> Result<Vec<u8>, Failure<'a>>
     ensures { IfErr result (IsUnread name.entry) }
 {
-    match fs::open(files, name).and_then(|file| read_whole(alloc, file)) {
+    match chip_files::read_file(alloc, files, name, MOST_SOURCE) {
         Ok(bytes) => Ok(bytes),
         Err(error) if error.kind() == io::ErrorKind::OutOfMemory => Err(Failure::OutOfMemory),
         Err(error) => Err(Failure::CannotRead(name, error)),
     }
-}
-
-// What a file has, up to the length from which on no source opens. Room for it is taken at once,
-// where the file tells its length.
-fn read_whole<F: OpenFile + Read + Drop>(alloc: Global, file: F) -> io::Result<Vec<u8>> {
-    let length = match file.metadata() {
-        Ok(metadata) => metadata.len().min(MOST_SOURCE),
-        Err(_) => 0,
-    };
-    // One byte more, so that its end is found without a growth.
-    let mut bytes = Vec::with_capacity(alloc, length as usize + 1)?;
-    read_most(file, &mut bytes)?;
-    Ok(bytes)
-}
-
-// Appends what a reader has, up to the length from which on no source opens.
-fn read_most<R: Read + Drop>(reader: R, bytes: &mut Vec<u8>) -> io::Result<()>
-    ensures { OnOk result (IfSome (R.remaining reader)
-        (λ all. bytes.new.items ≡ bytes.old.items ++ take source_bytes_read all)) }
-{
-    reader.take(MOST_SOURCE).read_to_end(bytes)?;
-    Ok(())
 }

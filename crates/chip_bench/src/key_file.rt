@@ -1,16 +1,15 @@
 //! The key events of a file.
-ghost use Rattle.std.specs.Prelude.{◌≡◌, ◌==◌, ◌<◌, ◌≤◌, None, Some, IfOk, IfErr, OnOk, length};
+ghost use Rattle.std.specs.Prelude.{◌≡◌, None, Some, IfOk, IfErr, OnOk};
 ghost use Rattle.std.specs.Option.{option_copied};
-ghost use Rattle.std.specs.List.{position_or_len, after_first};
-ghost use Rattle.chip_asm.specs.Lines.{is_newline, first_text};
-ghost use Rattle.chip_bench.specs.KeyFile.{IsKeyFault, said, key_command, refusal_to, key_fault, session_under};
+ghost use Rattle.chip_files.specs.KeyLines.{key_command};
+ghost use Rattle.chip_bench.specs.KeyFile.{IsKeyFault, refusal_to, key_fault, session_under};
 ghost use Rattle.chip_bench.specs.Transcript.{after};
 ghost use Rattle.chip_bench.specs.declared.key_file.KeyFileError.TheVariants.{OutOfMemory};
 
 use crate::bench::Bench;
-use crate::command::{Command, is_blank, read_command};
+use crate::command::{Command, read_command};
 use crate::refusal::Refusal;
-use crate::server::without_carriage_return;
+use chip_files::{first_line, key_command};
 use std::alloc::{AllocError, Global};
 
 /// Why the key events of a file can't be made.
@@ -69,20 +68,6 @@ fn insert_key(
     make_change(alloc, bench, &command)
 }
 
-// The line of a script that does what a line of the file says.
-#[tactic(auto, unfolding(crate::specs::KeyFile::key_command))]
-fn key_command(alloc: Global, line: &[u8]) -> Result<Vec<u8>, AllocError>
-    ensures { IfOk result (λ command. command.items ≡ key_command line.now) }
-{
-    let text = said(line);
-    let mut command = Vec::new(alloc);
-    if !is_blank(text) {
-        command.extend_from_slice(b"kins ")?;
-        command.extend_from_slice(text)?;
-    }
-    Ok(command)
-}
-
 // Carries out a line of a script that asks nothing, or answers the code of why it is refused.
 #[tactic(auto, unfolding(crate::specs::KeyFile::refusal_to, crate::specs::Transcript::after))]
 fn make_change(
@@ -104,37 +89,4 @@ fn make_change(
         Err(Refusal::EditMemory) => Err(AllocError),
         Err(refusal) => Ok(Some(refusal.code())),
     }
-}
-
-/// The first line of some bytes, and what follows it.
-pub(crate) fn first_line(bytes: &[u8]) -> (&[u8], &[u8])
-    ensures line { result.0.now ≡ first_text bytes.now }
-    ensures rest { result.1.now ≡ after_first is_newline bytes.now }
-{
-    let end = place_of(b'\n', bytes);
-    if end < bytes.len() {
-        (without_carriage_return(&bytes[..end]), &bytes[end + 1..])
-    } else {
-        (bytes, &[])
-    }
-}
-
-// What a line says, without its comment.
-fn said(line: &[u8]) -> &[u8]
-    ensures { result.now ≡ said line.now }
-{
-    &line[..place_of(b';', line)]
-}
-
-// Where a byte stands first, or the length where it stands nowhere.
-fn place_of(wanted: u8, text: &[u8]) -> usize
-    ensures value { result ≡ position_or_len (λ byte. byte == wanted) text.now }
-    ensures within { result ≤ length text.now }
-{
-    for (place, byte) in text.iter().enumerate() {
-        if *byte == wanted {
-            return place;
-        }
-    }
-    text.len()
 }

@@ -421,7 +421,7 @@ pub(crate) fn refuse(answer: &mut Vec<u8>, code: &[u8]) -> Result<(), AllocError
     answer.extend_from_slice(b"\n")
 }
 
-pub(crate) fn without_carriage_return(line: &[u8]) -> &[u8]
+fn without_carriage_return(line: &[u8]) -> &[u8]
     ensures { result.now ≡ strip_carriage_return line.now }
 {
     match line {

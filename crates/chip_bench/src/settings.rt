@@ -4,15 +4,13 @@ ghost use Rattle.chip_replay.specs.Limits.{IsSpacing};
 ghost use Rattle.chip_bench.specs.Settings.{settings_of, settings_fault, spacing_fault};
 ghost use Rattle.chip_bench.specs.declared.settings.SetError.TheVariants.{OutOfMemory};
 
+use chip_arguments::limits::MOST_RATE;
 use chip_machine::Profile;
 use chip_machine::limits::TAPE_BYTES;
 use chip_replay::{LEAST_SPACING, MOST_SPACING};
 use std::alloc::{AllocError, Global};
 use std::marker::Model;
 use thiserror::Error;
-
-/// The most steps that may lie between two ticks of the timers.
-pub const MOST_RATE: u32 = 1000;
 
 /// Why there are no such settings.
 #[derive(Clone, Copy, Debug, PartialEq, Eq, Error)]

@@ -3,7 +3,7 @@
 ghost use Rattle.std.specs.Prelude.{◌≡◌, ◌<◌, ◌+◌, ◌*◌, ◌/◌, ◌%◌, Some};
 ghost use Rattle.chip_lang.specs.Decoding.{decode_of};
 ghost use Rattle.chip_lang.specs.Table.{fields_in};
-ghost use Rattle.chip_lang.specs.inner.ByDigits.{instr_with, instr_below, fields};
+ghost use Rattle.chip_lang.specs.inner.ByDigits.{instr_with, fields};
 ghost use Rattle.chip_lang.specs.declared.instr.Instr.{Instr};
 
 use crate::number::{Addr, Nibble, Reg};
@@ -153,7 +153,7 @@ pub fn word(instr: Instr) -> u16
 
 /// The word 00KK.
 fn of_system(byte: u8) -> u16
-    ensures { decode_of result ≡ instr_below 16 0 (fields 0 (byte / 16) (byte % 16) byte byte) }
+    ensures { decode_of result ≡ instr_with 0 (fields 0 (byte / 16) (byte % 16) byte byte) }
 {
     u16::from(byte)
 }
@@ -162,7 +162,7 @@ fn of_system(byte: u8) -> u16
 fn with_address(top: u16, a: Addr) -> u16
     requires { top < 16 }
     ensures { decode_of result
-        ≡ instr_below 16 top (fields (a / 256) (a / 16 % 16) (a % 16) (a % 256) a) }
+        ≡ instr_with top (fields (a / 256) (a / 16 % 16) (a % 16) (a % 256) a) }
 {
     top * 4096 + a.number()
 }
@@ -171,7 +171,7 @@ fn with_address(top: u16, a: Addr) -> u16
 fn with_byte(top: u16, x: Reg, byte: u8) -> u16
     requires { top < 16 }
     ensures { decode_of result
-        ≡ instr_below 16 top (fields x (byte / 16) (byte % 16) byte (256 * x + byte)) }
+        ≡ instr_with top (fields x (byte / 16) (byte % 16) byte (256 * x + byte)) }
 {
     top * 4096 + u16::from(x.number()) * 256 + u16::from(byte)
 }
@@ -181,7 +181,7 @@ fn with_registers(top: u16, x: Reg, y: Reg, n: u8) -> u16
     requires top { top < 16 }
     requires n { n < 16 }
     ensures { decode_of result
-        ≡ instr_below 16 top (fields x y n (16 * y + n) (256 * x + (16 * y + n))) }
+        ≡ instr_with top (fields x y n (16 * y + n) (256 * x + (16 * y + n))) }
 {
     top * 4096 + u16::from(x.number()) * 256 + u16::from(y.number()) * 16 + u16::from(n)
 }
@@ -195,9 +195,8 @@ pub fn decode(w: u16) -> Option<Instr>
 }
 
 #[inline(always)]
-#[tactic(auto, unfolding(crate::specs::inner::ByDigits::instr_with))]
 fn instr_of(w: u16) -> Option<Instr>
-    ensures { result ≡ instr_below 16 (w / 4096) (fields_in w) }
+    ensures { result ≡ instr_with (w / 4096) (fields_in w) }
 {
     let x = Reg::new((w / 256 % 16) as u8)?;
     let y = Reg::new((w / 16 % 16) as u8)?;

@@ -23,6 +23,7 @@ digit-le true m = omega arith
 digit-le false m = omega arith
 
 pub mask-lt : (p : ℕ → Bool) (n : ℕ) → mask p n < 2 ^ n
+unfolding mask
 mask-lt p zero = omega arith
 mask-lt p (suc n) = omega (arith, mask-lt p n, digit-le (p n) (2 ^ n), pow-suc 2 n)
 
@@ -82,6 +83,7 @@ pub pow-small : (k : ℕ) → k < 16 → 2 ^ k ≤ 32768
 pow-small k l = let h : 2 ^ k ≤ 2 ^ 15 = pow_mono {i = k} {j = 15} (omega arith) in h
 
 pub mask-same : (p q : ℕ → Bool) (n : ℕ) → ((k : ℕ) → k < n → p k ≡ q k) → mask p n ≡ mask q n
+unfolding mask
 mask-same p q zero same = refl
 mask-same p q (suc n) same =
     ap (λ m. m + cond (p n) (2 ^ n) 0) (mask-same p q n (λ k l. same k (omega arith))) ∙ ap (λ b. mask q n + cond b (2 ^ n) 0) (same n (omega arith))
@@ -94,6 +96,7 @@ top_bit false true m n t l h e = absurd (omega (arith, e))
 top_bit false false m n t l h e = (refl, omega (arith, e))
 
 pub mask-bits : (p q : ℕ → Bool) (n : ℕ) → mask p n ≡ mask q n → (k : ℕ) → k < n → p k ≡ q k
+unfolding mask
 mask-bits p q zero e k l = absurd (omega arith)
 mask-bits p q (suc n) e k l =
     let top = top_bit (p n) (q n) (mask p n) (mask q n) (2 ^ n) (mask-lt p n) (mask-lt q n) e in
@@ -104,6 +107,7 @@ mask-bits p q (suc n) e k l =
 
 -- after a place of a table is set, its bit is as set and not as it was
 pub mask-set : (xs : List Bool) (i : ℕ) (b : Bool) (n : ℕ) → i < length xs → i < n → mask (λ k. slice_index_or (set xs i b) k false) n + cond (slice_index_or xs i false) (2 ^ i) 0 ≡ mask (λ k. slice_index_or xs k false) n + cond b (2 ^ i) 0
+unfolding mask
 mask-set xs i b zero inside l = absurd (omega arith)
 mask-set xs i b (suc n) inside l =
     elim (cases_eq i n) [

@@ -1,9 +1,9 @@
 -- A list of lists, of which one is edited.
-use Rattle.std.proofs.Common.{◌≡◌, ℕ, suc, ◌+◌, ◌-◌, ◌<◌, ◌≤◌, List, [], ◌∷◌, ◌++◌, length, take, drop, set, get_or, refl, sym, ap, ◌∙◌, arith, inl, inr, length-append, length-set, get_or-set_same}
+use Rattle.std.proofs.Common.{◌≡◌, ℕ, suc, ◌+◌, ◌-◌, ◌<◌, ◌≤◌, List, [], ◌∷◌, ◌++◌, length, take, drop, set, get_or, refl, sym, ap, ◌∙◌, arith, inl, inr, length-append, length-set, get_or-set_same, get_or-set_other}
 use Rattle.std.specs.List.{flat_map, insert, remove}
 use Rattle.std.proofs.lemmas.Bool.{cases_lt}
-use Rattle.std.proofs.lemmas.List.{get_or_default, nil_from_length, drop_all, take-append-drop, take-set, drop-set-lt, take_all, take_more, append_assoc, append-nil, set-append_left, set-append_right}
-use Rattle.std.proofs.lemmas.List.Edits.{length-remove, insert-append_left, insert-append_right, remove-append_left, remove-append_right}
+use Rattle.std.proofs.lemmas.List.{places, same_lists, get_or_default, nil_from_length, drop_all, take-append-drop, take-set, drop-set-lt, take_all, take_more, append_assoc, append-nil, set-append_left, set-append_right}
+use Rattle.std.proofs.lemmas.List.Edits.{length-remove, get_or-insert_below, get_or-insert_at, length-insert, insert-append_left, insert-append_right, remove-append_left, remove-append_right}
 use Rattle.std.proofs.lemmas.List.Concat.{flat_map-append, get_or-flat_map}
 use Rattle.std.proofs.lemmas.List.Folds.{length-flat_map-take}
 use Rattle.std.proofs.Math.Seq.{drop-cons, take-suc-set}
@@ -21,6 +21,25 @@ split_set xs i x l =
 -- what was read at a place stands there, whatever stands past the end
 pub read_at : {A : Type 0} (xs : List A) (i : ℕ) (x : A) → i < length xs → x ≡ get_or xs i x → (d : A) → get_or xs i d ≡ x
 read_at xs i x l read d = get_or_default xs i d x l ∙ sym read
+
+-- an element is replaced, and another put after it
+pub first_part : {A : Type 0} (xs : List A) (i : ℕ) (y z d : A) → i < length xs → get_or (insert (set xs i y) (i + 1) z) i d ≡ y
+first_part xs i y z d l = get_or-insert_below (set xs i y) (i + 1) z d i (omega arith) (omega (arith, length-set xs i y)) ∙ get_or-set_same xs i y d l
+
+pub second_part : {A : Type 0} (xs : List A) (i : ℕ) (y z d : A) → i < length xs → get_or (insert (set xs i y) (i + 1) z) (i + 1) d ≡ z
+second_part xs i y z d l = get_or-insert_at (set xs i y) (i + 1) z d (omega (arith, length-set xs i y))
+
+pub length-parted : {A : Type 0} (xs : List A) (i : ℕ) (y z : A) → i < length xs → length (insert (set xs i y) (i + 1) z) ≡ length xs + 1
+length-parted xs i y z l = length-insert (set xs i y) (i + 1) z (omega (arith, length-set xs i y)) ∙ ap (λ n. n + 1) (length-set xs i y)
+
+pub take-parted : {A : Type 0} (xs : List A) (i : ℕ) (y z : A) → i < length xs → take i (insert (set xs i y) (i + 1) z) ≡ take i xs
+take-parted xs i y z l =
+    same_lists _ _ (grind (arith, places, length-parted xs i y z l))
+    (λ k d h.
+    let low : k < i = grind (arith, places) in
+    let inserted = get_or-insert_below (set xs i y) (i + 1) z d k (omega (arith, low)) (omega (arith, length-set xs i y, l)) in
+    let other = get_or-set_other xs i k y d (λ q. omega (arith, q, low)) in
+    grind (arith, places, inserted, other))
 
 module _ {X A : Type 0} (f : X → List A) (xs : List X) where
   pub count_all : (i : ℕ) → length xs ≤ i → length (flat_map f (take i xs)) ≡ length (flat_map f xs)

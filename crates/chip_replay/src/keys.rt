@@ -137,6 +137,7 @@ impl Keys {
 
     /// The keys that are down in a step, key k at bit k: each is as its last event up to then says,
     /// and up if there is none.
+    #[tactic(auto, unfolding(crate::specs::Mask::mask))]
     pub fn held(&self, step: u32) -> u16
         ensures { result ≡ held self.now step }
     {
@@ -164,6 +165,7 @@ impl Keys {
     /// The keys that are down before the events of a step.
     #[cold]
     #[inline(never)]
+    #[tactic(auto, unfolding(crate::specs::Mask::mask))]
     pub(crate) fn before(&self, step: u32) -> Holding
         ensures { KnowsKeys self.now step result }
     {
@@ -364,6 +366,7 @@ fn with_key(keys: u16, down: &[bool; KEY_COUNT], key: usize, is_down: bool) -> u
 }
 
 /// A mask with key k at bit k.
+#[tactic(auto, unfolding(crate::specs::Mask::mask))]
 fn mask_of(down: &[bool; KEY_COUNT]) -> u16
     ensures { result ≡ mask (λ k. slice_index_or down.now k false) 16 }
 {

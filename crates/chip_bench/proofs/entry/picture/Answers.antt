@@ -12,7 +12,7 @@ returns-in_err-asked g c =
 pub returns-in-None-None : goal.returns-in-None-None
 returns-in-None-None g c =
     pictures g.I.Read.remaining g.O.Write.contents c.args.input.now c.read_asked.new.input c.args.output.now c.print.new.output c.args.words.now
-    c.print.result c.in_ok-asked.asked None None c.in_ok-asked.ensures.ok c.in-None-None.is-0 c.in-None-None.is-1 c.print.ensures
+    c.print.result c.in_ok-asked.asked None None c.in_ok-asked.ensures.ok c.in-None-None.is-0 c.in-None-None.is-1 (rw c.letters_of.ensures at c.print.ensures)
 
 pub returns-in-None-Some : goal.returns-in-None-Some
 returns-in-None-Some g c =

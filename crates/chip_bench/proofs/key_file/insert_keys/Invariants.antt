@@ -1,5 +1,6 @@
 use Rattle.std.proofs.Common.{◌≡◌, ◌≤◌, ◌+◌, length}
-use Rattle.chip_bench.specs.KeyFile.{first_refusal, key_commands}
+use Rattle.chip_files.specs.KeyLines.{key_commands}
+use Rattle.chip_bench.specs.KeyFile.{first_refusal}
 use Rattle.chip_bench.specs.Transcript.{session_after}
 use Rattle.chip_bench.proofs.key_file.insert_keys.Given as goal
 

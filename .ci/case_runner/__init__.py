@@ -1,0 +1,1 @@
+"""Reads and runs the cases under tests/: docs/TESTS.md has their formats."""

@@ -1,0 +1,56 @@
+-- Worked examples: command lines with the kinds of fault that `clap` finds in them.
+use Rattle.std.proofs.Common.{◌≡◌, [], ◌∷◌, codes, true, refl, Some, None, option_map}
+use Rattle.clap.specs.Words.{fault_of, first_of, is_simple, is_simple_and_free, subcommand_of, one_of}
+use Rattle.clap.specs.declared.error.kind.ErrorKind.TheVariants as kind
+use Rattle.clap.proofs.OnLiterals.{clap_on_literals}
+use Rattle.std.specs.Prelude.{⊤}
+use Rattle.chip_arguments.specs.CommandLine.{ascii, asm, check, chipbench, code, debug, dis, every, explain, image, keys, list, needed_source, pbm, picture, png, profile, rate, run, seed, source, steps, tape, with_settings}
+
+-- what is unfolded to judge words that are written out
+unfoldable chipbench_on_literals : ⊤
+unfolding clap_on_literals ascii asm check chipbench code debug dis every explain image keys list needed_source pbm picture png profile rate run seed source steps tape with_settings
+chipbench_on_literals = tt
+
+pub is_exact : is_simple_and_free chipbench ≡ true
+unfolding chipbench_on_literals
+is_exact = refl
+
+pub no_words : fault_of chipbench [] ≡ []
+unfolding chipbench_on_literals
+no_words = refl
+
+steps_are_needed : fault_of chipbench (codes "run" ∷ codes "a" ∷ []) ≡ kind.MissingRequiredArgument ∷ []
+unfolding chipbench_on_literals
+steps_are_needed = refl
+
+rate_is_positive : fault_of chipbench (codes "debug" ∷ codes "--rate" ∷ codes "0" ∷ []) ≡ kind.ValueValidation ∷ []
+unfolding chipbench_on_literals
+rate_is_positive = refl
+
+options_want_a_command : fault_of chipbench (codes "--rate" ∷ codes "5" ∷ []) ≡ kind.UnknownArgument ∷ []
+unfolding chipbench_on_literals
+options_want_a_command = refl
+
+shows_help : fault_of chipbench (codes "--help" ∷ []) ≡ kind.DisplayHelp ∷ []
+unfolding chipbench_on_literals
+shows_help = refl
+
+default_rate : option_map (λ p. one_of (codes "rate") p.1) (subcommand_of chipbench (codes "debug" ∷ [])) ≡ Some (Some (codes "10"))
+unfolding chipbench_on_literals
+default_rate = refl
+
+pub is_plain : is_simple chipbench ≡ true
+unfolding chipbench_on_literals
+is_plain = refl
+
+pub no_words_no_command : subcommand_of chipbench [] ≡ None
+unfolding chipbench_on_literals
+no_words_no_command = refl
+
+every_is_for_debug : fault_of chipbench (codes "run" ∷ codes "a" ∷ codes "--steps" ∷ codes "1" ∷ codes "--every" ∷ codes "1000" ∷ []) ≡ kind.UnknownArgument ∷ []
+unfolding chipbench_on_literals
+every_is_for_debug = refl
+
+names_a_profile : option_map (λ p. first_of (codes "profile") p.1) (subcommand_of chipbench (codes "debug" ∷ codes "--profile" ∷ codes "vip" ∷ [])) ≡ Some (Some (codes "vip"))
+unfolding chipbench_on_literals
+names_a_profile = refl

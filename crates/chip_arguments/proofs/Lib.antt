@@ -1,0 +1,3 @@
+pub mod CommandLemmas
+pub mod CommandExamples
+pub mod WordLemmas

@@ -1,0 +1,144 @@
+-- What the values of a command ask for, from what `clap` reads in them.
+use Rattle.std.proofs.Common.{◌≡◌, inl, inr, ℕ, Bool, true, false, List, [], ◌∷◌, codes, Option, Some, None, Result, Ok, Err, IfOk, option_map, unwrap_or, refl, sym, ◌∙◌, ap, ap₂, subst}
+use Rattle.std.specs.Str.{bytes_eq}
+use Rattle.std.specs.Str.Parse.{ParsesUnsigned}
+use Rattle.std.proofs.lemmas.Slice.Eq.{bytes_eq-Decides}
+use Rattle.clap.proofs.WalkLemmas.{first_value-rows, one_text-rows}
+use Rattle.clap.specs.Kinds.{FailsBy, HasKind, IsAmong, Kinds, or_else}
+use Rattle.std.specs.Box.{box_value}
+use Rattle.clap.specs.Words.{App, HasMatchesOf, ReadsOne, Row, fault_of, first_of, first_value, found_of, is_simple, kind_of, one_of, one_text, rows_of, subcommand_name_of, subcommand_of}
+use Rattle.clap.specs.Simple.{subcommand_rows_of}
+use Rattle.clap.specs.declared.parser.matches.ArgMatches.{ArgMatches}
+use Rattle.clap.specs.declared.parser.matches.ArgMatches.TheViews.{out-ArgMatches, out-SubCommand}
+use Rattle.clap.specs.declared.error.Error.{Error}
+use Rattle.clap.specs.declared.error.kind.ErrorKind.{ErrorKind}
+use Rattle.clap.specs.declared.error.kind.ErrorKind.TheVariants as kind
+use Rattle.clap.specs.declared.parser.matches.Found.{Found}
+use Rattle.chip_machine.specs.Profile.{profile_name}
+use Rattle.chip_machine.specs.declared.profile.Profile.{Profile}
+use Rattle.chip_machine.specs.declared.profile.Profile.TheVariants as profile
+use Rattle.chip_arguments.specs.CommandLine.{chipbench}
+use Rattle.chip_arguments.specs.CommandWords.{Asks, AsksBy, AsksFlag, AsksFor, ReadsNumber, faults_below, word_faults, needed, profile_fault}
+use Rattle.chip_arguments.specs.SettingWords.{default_words}
+use Rattle.chip_arguments.specs.declared.command_line.CommandLine.{CommandLine}
+use Rattle.chip_arguments.specs.declared.command_line.CommandLine.TheVariants as line
+
+-- a number that `parse` reads
+reads_text : {E : Type 0} (gives : List ℕ → Result ℕ E → Type 0) (bits : ℕ) (text : Option (List ℕ)) (number : Option ℕ) →
+    ((t : List ℕ) (x : Result ℕ E) → gives t x → ParsesUnsigned bits 10 t x) → (text ≡ None → number ≡ None) →
+    ((t : List ℕ) → text ≡ Some t → ReadsOne gives t number) → ReadsNumber bits text number
+reads_text gives bits None number parses none value = none refl
+reads_text gives bits (Some t) None parses none value = let failed = value t refl in parses t (Err failed.0) failed.1
+reads_text gives bits (Some t) (Some n) parses none value = parses t (Ok n) (value t refl)
+
+pub reads : {E : Type 0} (gives : List ℕ → Result ℕ E → Type 0) (bits : ℕ) (found : Found) (id : List ℕ) (number : Option ℕ) →
+    ((t : List ℕ) (x : Result ℕ E) → gives t x → ParsesUnsigned bits 10 t x) → (one_text found id ≡ None → number ≡ None) →
+    ((t : List ℕ) → one_text found id ≡ Some t → ReadsOne gives t number) → ReadsNumber bits (one_of id (rows_of found)) number
+reads gives bits found id number parses none value =
+    subst (λ (text : Option (List ℕ)). ReadsNumber bits text number) (one_text-rows found id)
+    (reads_text gives bits (one_text found id) number parses none value)
+
+pub needed_is : (found : Found) (id text : List ℕ) → text ≡ unwrap_or (first_value found id) [] → text ≡ needed id (rows_of found)
+needed_is found id text e = e ∙ ap (λ (t : Option (List ℕ)). unwrap_or t []) (first_value-rows found id)
+
+pub first_is : (found : Found) (id : List ℕ) (text : Option (List ℕ)) → text ≡ first_value found id → text ≡ first_of id (rows_of found)
+first_is found id text e = e ∙ first_value-rows found id
+
+-- a flag that is read
+pub flag_is : (found : Found) (id : List ℕ) (is_set : Bool) → (one_text found id ≡ Some (codes "true") → is_set ≡ true) →
+    (one_text found id ≡ Some (codes "false") → is_set ≡ false) → (one_text found id ≡ None → is_set ≡ false) →
+    AsksFlag (one_of id (rows_of found)) is_set
+flag_is found id is_set set unset none =
+    subst (λ (text : Option (List ℕ)). AsksFlag text is_set) (one_text-rows found id)
+    (record { set = set; unset = unset; none = none })
+
+-- a name that is known
+pub known_profile : (name : List ℕ) (p : Profile) → name ≡ profile_name p → profile_fault (Some name) ≡ []
+known_profile name profile.Schip e = ap (λ (n : List ℕ). profile_fault (Some n)) e
+known_profile name profile.Vip e = ap (λ (n : List ℕ). profile_fault (Some n)) e
+
+-- a name that no profile has
+pub unknown_profile : (name : List ℕ) → ((p : Profile) → name ≡ profile_name p → ⊥) → profile_fault (Some name) ≡ kind.InvalidValue ∷ []
+unknown_profile name none =
+    by_tests (bytes_eq (profile_name profile.Schip) name) (bytes_eq (profile_name profile.Vip) name) refl refl
+  where
+    by_tests : (a b : Bool) → bytes_eq (profile_name profile.Schip) name ≡ a → bytes_eq (profile_name profile.Vip) name ≡ b →
+        profile_fault (Some name) ≡ kind.InvalidValue ∷ []
+    by_tests true b e f = absurd (none profile.Schip (sym ((bytes_eq-Decides (profile_name profile.Schip) name).0 e)))
+    by_tests false true e f = absurd (none profile.Vip (sym ((bytes_eq-Decides (profile_name profile.Vip) name).0 f)))
+    by_tests false false e f = rw (e, f) refl
+
+still_among : (k : ErrorKind) (kinds next : Kinds) → IsAmong k kinds → IsAmong k (or_else kinds next)
+still_among k [] next h = absurd h
+still_among k (x ∷ kinds) next h = h
+
+still_fails : (kinds next : Kinds) (e : Error) → HasKind kinds e → HasKind (or_else kinds next) e
+still_fails kinds next e (inl m) = inl m
+still_fails kinds next e (inr h) = inr (still_among (kind_of e) kinds next h)
+
+module _ {T : Type 0} where
+  -- what `clap` refuses is refused
+  pub fails_by_clap : (words : List (List ℕ)) (result : Result T Error) (e : Error) → result ≡ Err e →
+      FailsBy (fault_of chipbench words) result → FailsBy (word_faults words) result
+  unfolding word_faults
+  fails_by_clap words (Ok x) e h f = cc
+  fails_by_clap words (Err x) e h f = still_fails (fault_of chipbench words) (faults_below (subcommand_of chipbench words)) x f
+
+-- what `clap` takes is judged by the profile
+judged_by : (words : List (List ℕ)) (command : Option (List ℕ × List Row)) → fault_of chipbench words ≡ [] →
+    subcommand_of chipbench words ≡ command → word_faults words ≡ faults_below command
+unfolding word_faults
+judged_by words command none named =
+    ap (λ (kinds : Kinds). or_else kinds (faults_below (subcommand_of chipbench words))) none
+    ∙ ap (λ (c : Option (List ℕ × List Row)). faults_below c) named
+
+pub judged : {T : Type 0} (words : List (List ℕ)) (name : List ℕ) (rows : List Row) (result : Result T Error) →
+    fault_of chipbench words ≡ [] → subcommand_of chipbench words ≡ Some (name, rows) →
+    FailsBy (profile_fault (first_of (codes "profile") rows)) result → FailsBy (word_faults words) result
+judged words name rows result none named f =
+    subst (λ (kinds : Kinds). FailsBy kinds result) (sym (judged_by words (Some (name, rows)) none named)) f
+
+pub without_command : (words : List (List ℕ)) → fault_of chipbench words ≡ [] → subcommand_of chipbench words ≡ None → word_faults words ≡ []
+without_command words none named = judged_by words None none named
+
+asked_by : (words : List (List ℕ)) (command : Option (List ℕ × List Row)) (line : CommandLine) →
+    subcommand_of chipbench words ≡ command → AsksBy command line → AsksFor words line
+unfolding AsksFor
+asked_by words command line named asks = subst (λ (c : Option (List ℕ × List Row)). AsksBy c line) (sym named) asks
+
+pub asked_none : (words : List (List ℕ)) → subcommand_of chipbench words ≡ None → AsksFor words (line.Debug None default_words)
+asked_none words named = asked_by words None _ named refl
+
+pub asked_for : {E : Type 0} (words : List (List ℕ)) (name : List ℕ) (rows : List Row) (result : Result CommandLine E) →
+    subcommand_of chipbench words ≡ Some (name, rows) → IfOk result (Asks name rows) → IfOk result (AsksFor words)
+asked_for words name rows (Ok line) named asks = asked_by words (Some (name, rows)) line named asks
+asked_for words name rows (Err e) named asks = tt
+
+-- the command that the matches name, and its values
+pub named_in : {X : Type 0} (o : Option X) (f : X → List ℕ) (g : X → List Row) (name : List ℕ) (rows : List Row) →
+    Some name ≡ option_map f o → Some rows ≡ option_map (λ (p : List ℕ × List Row). p.1) (option_map {U = List ℕ × List Row} (λ x. (f x, g x)) o) →
+    option_map {U = List ℕ × List Row} (λ x. (f x, g x)) o ≡ Some (name, rows)
+named_in None f g name rows e h = cc
+named_in (Some x) f g name rows e h = ap Some (ap₂ (λ (a : List ℕ) (b : List Row). (a, b)) (sym (some_same e)) (sym (some_same h)))
+  where
+    some_same : {A : Type 0} {a b : A} → Some a ≡ Some b → a ≡ b
+    some_same e = cc
+
+pub none_named : {X : Type 0} (o : Option X) (f : X → List ℕ) (g : X → List Row) →
+    None ≡ option_map (λ (p : List ℕ × List Row). p.1) (option_map {U = List ℕ × List Row} (λ x. (f x, g x)) o) → option_map {U = List ℕ × List Row} (λ x. (f x, g x)) o ≡ None
+none_named None f g h = refl
+none_named (Some x) f g h = cc
+
+-- the command that words name, by the matches that `clap` answers
+pub subcommand_named : (app other : App) (words : List (List ℕ)) (m : ArgMatches) (name : List ℕ) (rows : List Row) → app ≡ other →
+    is_simple other ≡ true → HasMatchesOf app words m → Some name ≡ subcommand_name_of m →
+    Some rows ≡ option_map (λ (p : List ℕ × List Row). p.1) (subcommand_rows_of m) → subcommand_of other words ≡ Some (name, rows)
+subcommand_named app other words m name rows e simple has n r =
+    ap (λ (a : App). subcommand_of a words) (sym e) ∙ sym ((has (ap is_simple e ∙ simple)).1)
+    ∙ named_in (out-ArgMatches m).subcommand (λ b. (out-SubCommand (box_value b)).name.now) (λ b. rows_of (found_of (out-SubCommand (box_value b)).matches)) name rows n r
+
+pub subcommand_none : (app other : App) (words : List (List ℕ)) (m : ArgMatches) → app ≡ other → is_simple other ≡ true →
+    HasMatchesOf app words m → None ≡ option_map (λ (p : List ℕ × List Row). p.1) (subcommand_rows_of m) → subcommand_of other words ≡ None
+subcommand_none app other words m e simple has r =
+    ap (λ (a : App). subcommand_of a words) (sym e) ∙ sym ((has (ap is_simple e ∙ simple)).1)
+    ∙ none_named (out-ArgMatches m).subcommand (λ b. (out-SubCommand (box_value b)).name.now) (λ b. rows_of (found_of (out-SubCommand (box_value b)).matches)) r

@@ -1,0 +1,117 @@
+-- The command line of the program, as `clap` sees it (own). A command and an argument stand for
+-- themselves in clauses: what they are is unfolded where it is used.
+use Rattle.std.specs.Prelude.{List, [], ◌∷◌, Some, codes, true, pos}
+use Rattle.clap.specs.Words.{App, Rule, new_app, new_rule, with_rule, with_subcommand}
+use Rattle.chip_replay.specs.declared.limits.TheConstants.{LAST_STEP, LEAST_SPACING, MOST_SPACING}
+use Rattle.chip_arguments.specs.declared.limits.TheConstants.{MOST_RATE}
+use Rattle.clap.specs.declared.builder.action.ArgAction.TheVariants.{Set, SetTrue}
+use Rattle.clap.specs.declared.builder.value_parser.ValueParser.TheVariants as vp
+
+unfoldable pub source : Rule
+source = record (new_rule (codes "source")) { value_names = 1; action = Some Set }
+
+unfoldable pub needed_source : Rule
+needed_source = record source { required = true }
+
+unfoldable pub image : Rule
+image = record (new_rule (codes "image")) { value_names = 1; action = Some Set; required = true }
+
+unfoldable pub steps : Rule
+steps = record (new_rule (codes "steps")) {
+  long = Some (codes "steps");
+  value_names = 1;
+  parser = Some (vp.Signed (pos 0) (pos LAST_STEP));
+  required = true;
+}
+
+unfoldable pub rate : Rule
+rate = record (new_rule (codes "rate")) {
+  long = Some (codes "rate");
+  value_names = 1;
+  parser = Some (vp.Signed (pos 1) (pos MOST_RATE));
+  defaults = codes "10" ∷ [];
+}
+
+unfoldable pub tape : Rule
+tape = record (new_rule (codes "tape")) { long = Some (codes "tape"); value_names = 1 }
+
+unfoldable pub seed : Rule
+seed = record (new_rule (codes "seed")) {
+  long = Some (codes "seed");
+  value_names = 1;
+  parser = Some (vp.Unsigned 0 18446744073709551615);
+}
+
+-- any text: the names of the profiles are no part of what `clap` judges
+unfoldable pub profile : Rule
+profile = record (new_rule (codes "profile")) { long = Some (codes "profile"); value_names = 1 }
+
+unfoldable pub every : Rule
+every = record (new_rule (codes "every")) {
+  long = Some (codes "every");
+  value_names = 1;
+  parser = Some (vp.Signed (pos LEAST_SPACING) (pos MOST_SPACING));
+}
+
+unfoldable pub with_settings : App → App
+with_settings app = with_rule (with_rule (with_rule (with_rule app rate) tape) seed) profile
+
+unfoldable pub debug : App
+debug = with_rule (with_settings (with_rule (new_app (codes "debug")) source)) every
+
+unfoldable pub asm : App
+asm = with_rule (with_rule (new_app (codes "asm")) needed_source) image
+
+unfoldable pub list : App
+list = with_rule (new_app (codes "list")) needed_source
+
+unfoldable pub check : App
+check = with_rule (new_app (codes "check")) needed_source
+
+unfoldable pub dis : App
+dis = with_rule (new_app (codes "dis")) image
+
+unfoldable pub keys : Rule
+keys = record (new_rule (codes "keys")) { long = Some (codes "keys"); value_names = 1 }
+
+unfoldable pub ascii : Rule
+ascii = record (new_rule (codes "ascii")) { long = Some (codes "ascii"); action = Some SetTrue }
+
+unfoldable pub pbm : Rule
+pbm = record (new_rule (codes "pbm")) { long = Some (codes "pbm"); value_names = 1 }
+
+unfoldable pub png : Rule
+png = record (new_rule (codes "png")) { long = Some (codes "png"); value_names = 1 }
+
+unfoldable pub code : Rule
+code = record (new_rule (codes "code")) { value_names = 1; action = Some Set }
+
+unfoldable pub run : App
+run =
+    with_rule
+    (with_settings (with_rule (with_rule (new_app (codes "run")) needed_source) steps)) keys
+
+unfoldable pub picture : App
+picture =
+    with_rule (with_rule (with_rule (with_rule (with_settings (with_rule (with_rule
+    (new_app (codes "picture")) needed_source) steps)) keys) ascii) pbm) png
+
+unfoldable pub explain : App
+explain = with_rule (new_app (codes "explain")) code
+
+abbrev pub without_name : App → App
+without_name app = record app { top = record app.top { no_binary_name = true } }
+
+abbrev pub with_version : App → App
+with_version app = record app { top = record app.top { has_version = true } }
+
+-- these commands, in order
+abbrev pub with_commands : App → List App → App
+with_commands app [] = app
+with_commands app (command ∷ commands) = with_commands (with_subcommand app command.top) commands
+
+-- the program's commands
+unfoldable pub chipbench : App
+chipbench =
+    with_commands (without_name (with_version (new_app (codes "chipbench"))))
+    (debug ∷ asm ∷ list ∷ dis ∷ run ∷ picture ∷ check ∷ explain ∷ [])

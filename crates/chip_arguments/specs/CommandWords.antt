@@ -1,0 +1,119 @@
+-- What the words of the command line ask for, by the values that `clap` finds in them (own).
+use Rattle.std.specs.Prelude.{◌≡◌, ◌≢◌, ℕ, ◌<◌, ◌^◌, Bool, true, false, List, [], ◌∷◌, codes, Option, Some, None, option_copied, unwrap_or, if◌then◌else◌}
+use Rattle.std.specs.List.{list_any}
+use Rattle.std.specs.Str.{bytes_eq}
+use Rattle.std.specs.Str.Parse.{IsNumeral, digits_value, without_leading_plus}
+use Rattle.clap.specs.Kinds.{Kinds, or_else}
+use Rattle.clap.specs.Words.{Row, fault_of, first_of, one_of, subcommand_of}
+use Rattle.clap.specs.declared.error.kind.ErrorKind.TheVariants as kind
+use Rattle.chip_machine.specs.Profile.{profile_name, profile_names}
+use Rattle.chip_machine.specs.declared.profile.Profile.{Profile}
+use Rattle.chip_machine.specs.declared.profile.Profile.TheVariants.{Schip}
+use Rattle.chip_replay.specs.declared.limits.TheConstants.{LEAST_SPACING}
+use Rattle.chip_arguments.specs.CommandLine.{chipbench}
+use Rattle.chip_arguments.specs.SettingWords.{default_words}
+use Rattle.chip_arguments.specs.declared.command_line.CommandLine.{CommandLine}
+use Rattle.chip_arguments.specs.declared.command_line.CommandLine.TheVariants as line
+use Rattle.chip_arguments.specs.declared.command_line.PictureWords.{PictureWords}
+use Rattle.chip_arguments.specs.declared.command_line.RunWords.{RunWords}
+use Rattle.chip_arguments.specs.declared.command_line.SettingWords.{SettingWords}
+
+-- the name of a profile that there is not
+abbrev pub profile_fault : Option (List ℕ) → Kinds
+profile_fault None = []
+profile_fault (Some name) =
+    if list_any (λ known. bytes_eq known name) profile_names then [] else kind.InvalidValue ∷ []
+
+-- the same, of the words of a command
+abbrev pub faults_below : Option (List ℕ × List Row) → Kinds
+faults_below None = []
+faults_below (Some command) = profile_fault (first_of (codes "profile") command.1)
+
+-- the kinds of fault of the words: those that `clap` finds, and else a profile that there is not
+unfoldable pub word_faults : List (List ℕ) → Kinds
+word_faults words =
+    or_else (fault_of chipbench words) (faults_below (subcommand_of chipbench words))
+
+-- a text of decimal digits, which a plus may stand before, and which fits in so many bits
+abbrev pub IsNumber : ℕ → List ℕ → Type 0
+IsNumber bits text =
+    IsNumeral 10 (without_leading_plus text)
+    × (digits_value 10 (without_leading_plus text) < 2 ^ bits)
+
+-- the number that a text stands for, where there is a text and it is a number
+abbrev pub ReadsNumber : ℕ → Option (List ℕ) → Option ℕ → Type 0
+ReadsNumber bits None number = number ≡ None
+ReadsNumber bits (Some text) None = IsNumber bits text → ⊥
+ReadsNumber bits (Some text) (Some number) =
+    IsNumber bits text × (number ≡ digits_value 10 (without_leading_plus text))
+
+-- the same, with a number in its place
+pub record ReadsOr (bits : ℕ) (text : Option (List ℕ)) (default number : ℕ) : Type 0 where
+  pub read : Option ℕ
+  pub reads : ReadsNumber bits text read
+  pub number_is : number ≡ unwrap_or read default
+
+-- the profile of a name; without one it is SUPER-CHIP
+abbrev pub IsProfile : Option (List ℕ) → Profile → Type 0
+IsProfile None profile = profile ≡ Schip
+IsProfile (Some name) profile = name ≡ profile_name profile
+
+-- the settings that the values of a command ask for
+pub record AsksSettings (rows : List Row) (words : SettingWords) : Type 0 where
+  pub rate : ReadsOr 32 (one_of (codes "rate") rows) 10 words.rate
+  pub tape : option_copied words.tape ≡ first_of (codes "tape") rows
+  pub seed : ReadsNumber 64 (one_of (codes "seed") rows) words.seed
+  pub profile : IsProfile (first_of (codes "profile") rows) words.profile
+  pub spacing : ReadsOr 32 (one_of (codes "every") rows) LEAST_SPACING words.spacing
+
+-- the text of a value that the words can't lack
+abbrev pub needed : List ℕ → List Row → List ℕ
+needed id rows = unwrap_or (first_of id rows) []
+
+-- a flag is set where its value is `true`
+pub record AsksFlag (value : Option (List ℕ)) (is_set : Bool) : Type 0 where
+  pub set : value ≡ Some (codes "true") → is_set ≡ true
+  pub unset : value ≡ Some (codes "false") → is_set ≡ false
+  pub none : value ≡ None → is_set ≡ false
+
+-- the run that the values of a command ask for
+pub record AsksRun (rows : List Row) (words : RunWords) : Type 0 where
+  pub source : words.source.now ≡ needed (codes "source") rows
+  pub steps : ReadsOr 32 (one_of (codes "steps") rows) 0 words.steps
+  pub keys : option_copied words.keys ≡ first_of (codes "keys") rows
+  pub settings : AsksSettings rows words.settings
+
+-- the picture that they ask for
+pub record AsksPicture (rows : List Row) (words : PictureWords) : Type 0 where
+  pub run : AsksRun rows words.run
+  pub ascii : AsksFlag (one_of (codes "ascii") rows) words.ascii
+  pub bitmap : option_copied words.bitmap ≡ first_of (codes "pbm") rows
+  pub png : option_copied words.png ≡ first_of (codes "png") rows
+
+-- What the values of a command of that name ask for.
+abbrev pub Asks : List ℕ → List Row → CommandLine → Type 0
+Asks name rows (line.Asm source image) =
+    (name ≡ codes "asm") × (source.now ≡ needed (codes "source") rows)
+    × (image.now ≡ needed (codes "image") rows)
+Asks name rows (line.List source) =
+    (name ≡ codes "list") × (source.now ≡ needed (codes "source") rows)
+Asks name rows (line.Check source) =
+    (name ≡ codes "check") × (source.now ≡ needed (codes "source") rows)
+Asks name rows (line.Dis image) = (name ≡ codes "dis") × (image.now ≡ needed (codes "image") rows)
+Asks name rows (line.Run words) = (name ≡ codes "run") × AsksRun rows words
+Asks name rows (line.Picture words) = (name ≡ codes "picture") × AsksPicture rows words
+Asks name rows (line.Explain code) =
+    (name ≡ codes "explain") × (option_copied code ≡ first_of (codes "code") rows)
+Asks name rows (line.Debug source settings) =
+    (name ≢ codes "asm") × (name ≢ codes "list") × (name ≢ codes "check") × (name ≢ codes "dis")
+    × (name ≢ codes "run")
+    × (name ≢ codes "picture") × (name ≢ codes "explain")
+    × (option_copied source ≡ first_of (codes "source") rows) × AsksSettings rows settings
+
+-- what the words ask for, by the command that they name; without one, a session on the empty source
+abbrev pub AsksBy : Option (List ℕ × List Row) → CommandLine → Type 0
+AsksBy None asked = asked ≡ line.Debug None default_words
+AsksBy (Some command) asked = Asks command.0 command.1 asked
+
+unfoldable pub AsksFor : List (List ℕ) → CommandLine → Type 0
+AsksFor words asked = AsksBy (subcommand_of chipbench words) asked

@@ -1,0 +1,9 @@
+-- The settings that the words of the command line ask for where they say nothing of them (own).
+use Rattle.std.specs.Prelude.{None}
+use Rattle.chip_machine.specs.declared.profile.Profile.TheVariants.{Schip}
+use Rattle.chip_replay.specs.declared.limits.TheConstants.{LEAST_SPACING}
+use Rattle.chip_arguments.specs.declared.command_line.SettingWords.{SettingWords}
+
+abbrev pub default_words : SettingWords
+default_words =
+    record { rate = 10; tape = None; seed = None; profile = Schip; spacing = LEAST_SPACING }

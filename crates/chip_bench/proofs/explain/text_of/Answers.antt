@@ -1,7 +1,0 @@
-use Rattle.chip_bench.proofs.PageLemmas.{page_is}
-use Rattle.chip_bench.proofs.explain.text_of.Goals as goal
-
-pub returns : goal.returns
-returns c =
-    page_is c.args.page.now c.new-text.result.items c.push_all.new.text.items c.push_example.new.text.items c.push_all-2.new.text.items
-    c.new-text.ensures.items c.in_ok-push_all.ensures c.in_ok-push_example.ensures c.in_ok-push_all-2.ensures

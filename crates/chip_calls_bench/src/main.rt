@@ -1,0 +1,180 @@
+//! Calls of chip_bench, as text: each line of the standard input is a command, and its answer is
+//! printed.
+//!
+//! - `source TEXT`, `script TEXT`: adds a line to the source or to the script. `repeat N TEXT` adds
+//!   the text so many times to the source, or that many line ends for `\n`.
+//! - `settings RATE LENGTH EVERY`: `ok`, or why there are no settings with so long a tape.
+//! - `tape SEED`: the tape of a seed.
+//! - `open EVERY`: opens a session on the source. `do COMMAND` carries out a command of it. `parsed
+//!   N`, `encoded N`, `ran N` and `reach N`: `yes` where so many lines were parsed, at most so many
+//!   were encoded, the last command made at most so many steps, or the kept run is sound up to this
+//!   step or further; else `no` and the count.
+//! - `streams NAME=NUMBER..`: how the reader and the writer behave from then on (`Plan`). `serve`
+//!   answers the script by `serve`; `each NAME FIRST LAST` does so with each of these numbers.
+//! - `program WORD..`: the status of the program with these arguments, and what it prints.
+//! - `refuse REASON`: the same where the arguments can't be read.
+//! - `counted`: how often a reader and a writer that fail are called.
+#![tactic(auto)]
+
+mod session;
+mod streams;
+
+use crate::session::Session;
+use crate::streams::{Feed, Plan, Sink, each, talk};
+use anyhow::{Error, bail};
+use chip_bench::{Counted, Settings, program, refuse_words, tape_of};
+use std::alloc::Global;
+use std::io;
+use std::io::{BufRead, BufReader, Read, Write};
+
+/// What the commands so far made.
+#[derive(Drop)]
+struct Calls {
+    source: Vec<u8>,
+    script: Vec<u8>,
+    plan: Plan,
+    session: Session,
+}
+
+impl Calls {
+    fn new(alloc: Global) -> Result<Calls, Error> {
+        Ok(Calls {
+            source: Vec::new(alloc),
+            script: Vec::new(alloc),
+            plan: Plan::PLAIN,
+            session: Session::open(alloc, b"", 1000)?,
+        })
+    }
+
+    /// What a command is answered with: lines, or nothing.
+    fn answer(&mut self, rt: &HostRuntime, word: &str, rest: &str) -> Result<String, Error> {
+        let alloc = rt.alloc();
+        match word {
+            "settings" => settings(alloc, rest),
+            "tape" => tape(alloc, rest),
+            "do" => self.session.carry_out(alloc, rest),
+            "parsed" | "encoded" | "ran" | "reach" => self.session.judge(alloc, word, rest),
+            "serve" => talk(alloc, &self.source, &self.script, &self.plan),
+            "each" => each(alloc, &self.source, &self.script, &self.plan, rest),
+            "program" => run(rt, rest, &self.script, &self.plan),
+            "refuse" => refuse(alloc, rest),
+            "counted" => counted(alloc),
+            _ => {
+                self.prepare(alloc, word, rest)?;
+                Ok(String::new(alloc))
+            }
+        }
+    }
+
+    /// Carries out a command that has no answer.
+    fn prepare(&mut self, alloc: Global, word: &str, rest: &str) -> Result<(), Error> {
+        match word {
+            "source" | "script" => {
+                let lines = if word == "source" {
+                    &mut self.source
+                } else {
+                    &mut self.script
+                };
+                lines.extend_from_slice(rest.as_bytes())?;
+                lines.push(b'\n')?;
+            }
+            "repeat" => {
+                let (count, text) = rest.split_once(" ").unwrap_or((rest, ""));
+                let text = if text == "\\n" { "\n" } else { text };
+                self.source
+                    .extend_from_slice(text.repeat(alloc, count.parse::<usize>()?)?.as_bytes())?;
+            }
+            "open" => {
+                self.session = Session::open(alloc, &self.source, rest.parse::<u32>()?)?;
+            }
+            "streams" => self.plan = Plan::read(rest)?,
+            _ => bail!("no such command"),
+        }
+        Ok(())
+    }
+}
+
+/// Whether there are settings of a rate, a length of the tape, and a distance of checkpoints.
+fn settings(alloc: Global, rest: &str) -> Result<String, Error> {
+    let mut words = rest.split(" ");
+    let rate = words.next().unwrap_or("").parse::<u32>()?;
+    let tape = vec![in alloc; 0u8; words.next().unwrap_or("").parse::<usize>()?]?;
+    let spacing = words.next().unwrap_or("").parse::<u32>()?;
+    let made = match Settings::new(alloc, rate, &tape) {
+        Ok(settings) => settings.with_spacing(spacing),
+        Err(error) => Err(error),
+    };
+    match made {
+        Ok(_) => Ok(String::from_str(alloc, "ok")?),
+        Err(error) => Ok(format!(in alloc; "{error:?}")?),
+    }
+}
+
+/// The tape of a seed in hexadecimal.
+fn tape(alloc: Global, seed: &str) -> Result<String, Error> {
+    Ok(hex::encode(alloc, &tape_of(alloc, seed.parse::<u64>()?)?)?)
+}
+
+/// A status, what was printed, and what was said of errors.
+fn told(alloc: Global, status: u8, output: &[u8], errors: &[u8]) -> Result<String, Error> {
+    let output = String::from_utf8_lossy(alloc, output)?;
+    let errors = String::from_utf8_lossy(alloc, errors)?;
+    Ok(format!(in alloc; "status {status}\n{output}{errors}")?)
+}
+
+/// A run of the program by these words, with the script on its standard input.
+fn run(rt: &HostRuntime, words: &str, script: &[u8], plan: &Plan) -> Result<String, Error> {
+    let mut list = Vec::new(rt.alloc());
+    for word in words.split_whitespace() {
+        list.push(word)?;
+    }
+    let mut input = Counted::new(Feed::new(script, plan));
+    let mut output = Counted::new(Sink::new(rt.alloc(), plan));
+    let mut errors = Vec::new(rt.alloc());
+    let status = program(rt.alloc(), rt, &list, &mut input, &mut output, &mut errors);
+    told(rt.alloc(), status, &output.get().taken, &errors)
+}
+
+/// What the program answers where the system can't give its arguments for that reason.
+fn refuse(alloc: Global, reason: &str) -> Result<String, Error> {
+    let kind = match reason {
+        "invalid-data" => io::ErrorKind::InvalidData,
+        "out-of-memory" => io::ErrorKind::OutOfMemory,
+        _ => bail!("no such reason"),
+    };
+    let mut errors = Vec::new(alloc);
+    let status = refuse_words(alloc, &io::Error::from(kind), &mut errors);
+    told(alloc, status, b"", &errors)
+}
+
+/// Reads, writes and flushes once where each call fails, and tells the calls and the failures.
+fn counted(alloc: Global) -> Result<String, Error> {
+    let mut reader = Counted::new(Feed::new(b"", &Plan::FAILING));
+    let mut writer = Counted::new(Sink::new(alloc, &Plan::FAILING));
+    let is_well = reader.read(&mut [0]).is_ok()
+        | writer.write(&[0]).is_ok()
+        | writer.flush().is_ok();
+    let (read, unread) = (reader.get().calls, reader.failures());
+    let (written, unwritten) = (writer.get().calls, writer.failures());
+    Ok(format!(in alloc;
+        "a call went well: {is_well}\nreads {read}, failures {unread}\nwrites {written}, failures {unwritten}"
+    )?)
+}
+
+/// Answers each line of the input.
+fn answer_all(rt: &HostRuntime, calls: &mut Calls) -> Result<(), Error> {
+    for line in BufReader::new(rt.alloc(), rt.stdin())?.lines(rt.alloc()) {
+        let line = line?;
+        let (word, rest) = line.as_str().split_once(" ").unwrap_or((line.as_str(), ""));
+        match calls.answer(rt, word, rest) {
+            Ok(answer) if answer.is_empty() => (),
+            Ok(answer) => println!(rt; "{}", answer.trim_end())?,
+            Err(error) => println!(rt; "error: {error}")?,
+        }
+    }
+    Ok(())
+}
+
+fn main(rt: HostRuntime) -> Result<(), Error> {
+    answer_all(&rt, &mut Calls::new(rt.alloc())?)
+}

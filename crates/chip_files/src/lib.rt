@@ -1,0 +1,10 @@
+//! Files of the program: how one is read, how one is written, and the lines of a file of key events.
+#![tactic(auto)]
+
+mod image_file;
+mod key_lines;
+mod reading;
+
+pub use image_file::write_file;
+pub use key_lines::{first_line, key_command};
+pub use reading::{read_file, read_most};

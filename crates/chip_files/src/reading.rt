@@ -1,0 +1,43 @@
+//! The bytes of a file or of a stream, up to a number.
+ghost use Rattle.std.specs.Prelude.{◌≡◌, ◌++◌, IfSome, OnOk, take};
+
+use std::alloc::Global;
+use std::fs::OpenFile;
+use std::io::Read;
+use std::rt::Files;
+use std::{fs, io};
+
+/// What the file of a name has, up to `most` bytes.
+pub fn read_file<F: Files>(
+    alloc: Global,
+    files: &F,
+    name: &str,
+    most: u32,
+) -> io::Result<Vec<u8>> {
+    read_whole(alloc, fs::open(files, name)?, most)
+}
+
+// What a file has. Room for it is taken at once, where the file tells its length.
+fn read_whole<F: OpenFile + Read + Drop>(
+    alloc: Global,
+    file: F,
+    most: u32,
+) -> io::Result<Vec<u8>> {
+    let length = match file.metadata() {
+        Ok(metadata) => metadata.len().min(u64::from(most)),
+        Err(_) => 0,
+    };
+    // One byte more, so that its end is found without a growth.
+    let mut bytes = Vec::with_capacity(alloc, length as usize + 1)?;
+    read_most(file, &mut bytes, most)?;
+    Ok(bytes)
+}
+
+/// Appends what a reader has, up to `most` bytes.
+pub fn read_most<R: Read + Drop>(reader: R, bytes: &mut Vec<u8>, most: u32) -> io::Result<()>
+    ensures { OnOk result (IfSome (R.remaining reader)
+        (λ all. bytes.new.items ≡ bytes.old.items ++ take most all)) }
+{
+    reader.take(u64::from(most)).read_to_end(bytes)?;
+    Ok(())
+}

@@ -1,0 +1,3 @@
+-- What the contracts of chip_pages speak of (own).
+--     Pages        what `explain` prints
+pub mod Pages

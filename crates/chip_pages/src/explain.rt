@@ -1,0 +1,105 @@
+//! The pages on codes, as `explain` prints them.
+ghost use Rattle.std.specs.Prelude.{◌≡◌, ◌++◌, IfOk, IfSome, OnOk, option_copied, flat_map};
+ghost use Rattle.chip_pages.specs.Pages.{IsContents, IsPageText, contents_text, example_text, indented, page_of, page_text};
+
+use crate::pages::{Example, Page, all_pages};
+use std::alloc::{AllocError, Global};
+
+/// The page on a code, in either case, as text; nothing where there is no such code.
+pub fn page_text(alloc: Global, code: &str) -> Result<Option<Vec<u8>>, AllocError>
+    ensures { IfOk result (λ text. IfSome text (λ page. IsPageText code.now page.items)) }
+{
+    for group in &all_pages() {
+        if let Some(page) = page_among(group, code) {
+            return Ok(Some(text_of(alloc, page)?));
+        }
+    }
+    Ok(None)
+}
+
+#[tactic(auto, unfolding(crate::specs::Pages::page_of))]
+fn page_among<'a>(pages: &'a [Page], code: &str) -> Option<&'a Page>
+    ensures { option_copied result ≡ page_of pages.now code.now }
+{
+    pages
+        .iter()
+        .find(|page| page.code.eq_ignore_ascii_case(code))
+}
+
+/// All codes with their titles, a line each.
+pub fn contents(alloc: Global) -> Result<Vec<u8>, AllocError>
+    ensures { IfOk result (λ text. IsContents text.items) }
+{
+    let mut text = Vec::new(alloc);
+    for group in &all_pages() {
+        push_titles(&mut text, group)?;
+    }
+    Ok(text)
+}
+
+#[tactic(auto, unfolding(crate::specs::Pages::contents_text))]
+fn push_titles(text: &mut Vec<u8>, pages: &[Page]) -> Result<(), AllocError>
+    ensures { OnOk result (text.new.items ≡ text.old.items ++ contents_text pages.now) }
+{
+    for page in pages {
+        push_all(text, &[page.code, "  ", page.title, "\n"])?;
+    }
+    Ok(())
+}
+
+fn text_of(alloc: Global, page: &Page) -> Result<Vec<u8>, AllocError>
+    ensures { IfOk result (λ text. text.items ≡ page_text page.now) }
+{
+    let mut text = Vec::new(alloc);
+    push_all(
+        &mut text,
+        &[page.code, ": ", page.title, "\n\n", page.meaning, "\n\n"],
+    )?;
+    push_example(&mut text, &page.example)?;
+    push_all(&mut text, &["\nThe mend: ", page.mend, "\n"])?;
+    Ok(text)
+}
+
+fn push_example(text: &mut Vec<u8>, example: &Example) -> Result<(), AllocError>
+    ensures { OnOk result (text.new.items ≡ text.old.items ++ example_text example.now) }
+{
+    match *example {
+        Example::Source(source) => {
+            push_all(text, &["The last line of this source has it:\n\n"])?;
+            push_indented(text, source)
+        }
+        Example::Script { source, script } => {
+            push_all(text, &["On this source:\n\n"])?;
+            push_indented(text, source)?;
+            push_all(text, &["\nthe last of these commands is refused so:\n\n"])?;
+            push_indented(text, script)
+        }
+        Example::Stop(source) => {
+            push_all(
+                text,
+                &["The program of this source stops so, as `regs 100` shows:\n\n"],
+            )?;
+            push_indented(text, source)
+        }
+        Example::Told(what) => push_all(text, &["An example: ", what, "\n"]),
+    }
+}
+
+fn push_indented(text: &mut Vec<u8>, lines: &str) -> Result<(), AllocError>
+    ensures { OnOk result (text.new.items ≡ text.old.items ++ indented lines.now) }
+{
+    for line in lines.lines() {
+        push_all(text, &["    ", line, "\n"])?;
+    }
+    Ok(())
+}
+
+fn push_all(text: &mut Vec<u8>, parts: &[&str]) -> Result<(), AllocError>
+    ensures { OnOk result (text.new.items
+        ≡ text.old.items ++ flat_map (λ part. part.now) parts.now) }
+{
+    for part in parts {
+        text.extend_from_slice(part.as_bytes())?;
+    }
+    Ok(())
+}

@@ -1,0 +1,8 @@
+//! A page on each code that the workbench prints, and how `explain` prints it.
+#![tactic(auto)]
+
+mod explain;
+mod pages;
+
+pub use explain::{contents, page_text};
+pub use pages::{Example, Page, all_pages};
