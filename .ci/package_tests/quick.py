@@ -30,6 +30,19 @@ def omitted():
     return [line.split()[1] for line in lines if line.startswith("omit ")]
 
 
+def ported_crates(crate):
+    """The crates of the kit that a crate of the repository stands on."""
+    lines = (TOP / "crates.txt").read_text().splitlines()
+    below = {name.strip(): rest.split() for name, _, rest in (line.partition(":") for line in lines)}
+    found, waiting = set(), [crate]
+    while waiting:
+        name = waiting.pop()
+        if name not in found:
+            found.add(name)
+            waiting += below.get(name, [])
+    return found - set(below)
+
+
 class TestList(unittest.TestCase):
     def test_every_file_is_installed_or_omitted(self):
         if not is_repository():
@@ -62,10 +75,8 @@ class TestList(unittest.TestCase):
         licence = (TOP / "LICENSE").read_text().split("\n\n", 2)[2]
         lines = [line.strip() for line in text.split("License: Expat\n")[-1].splitlines()]
         self.assertEqual([line for line in licence.splitlines() if line], [line for line in lines if line != "."])
-        used = set((TOP / "crates.txt").read_text().replace(":", " ").split())
-        ported = {name for name in used if not name.startswith("chip")}
         named = {name for line in re.findall(r"^Files: (.*)", text, re.M) for name in line.split()}
-        self.assertEqual(named - {"*"}, ported)
+        self.assertEqual(named - {"*"}, ported_crates("chipbench"))
 
     def test_manual_of_the_page_has_its_options(self):
         manual = (TOP / "packaging/chipbench-page.1").read_text().replace("\\-", "-")
