@@ -117,7 +117,7 @@ export class Documents {
     }
     const { text, form } = this.#model;
     try {
-      const { saved, digest } = await request('save', { text: writeFile(text, form), known });
+      const { saved, digest } = await request('save', { name: this.#about.name, text: writeFile(text, form), known });
       if (saved) this.#saved(text, digest);
       else this.#askToOverwrite(digest);
     } catch (fault) {
@@ -210,7 +210,7 @@ export class Documents {
 
 /** The source text of an image, by the program's own `dis`. */
 async function sourceOf(image) {
-  const { status, output, errors } = await request('word', { word: 'dis', image });
+  const { status, output, errors } = await request('word', { word: 'dis', content: image });
   if (status === 2) throw new Error('this program has no word `dis`, which makes a source of an image');
   const reason = /^reason: (.*)$/m.exec(errors)?.[1] ?? errors.trim();
   if (status !== 0) throw new Error(reason || `the program ended with status ${status}`);
