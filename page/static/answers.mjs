@@ -37,10 +37,10 @@ export function readBytes(answer) {
   return bytes;
 }
 
-/** The size, and the stored rows with a lit point, each with its 32 hexadecimal digits. */
+/** The size, and the stored rows with a lit pixel, each with its 32 hexadecimal digits. */
 export function readScreen(answer) {
   const lines = linesOf(answer);
-  const rows = lines.slice(1, -1).map((line) => ({ row: Number(line.slice(0, 2)), points: line.slice(3) }));
+  const rows = lines.slice(1, -1).map((line) => ({ row: Number(line.slice(0, 2)), digits: line.slice(3) }));
   return { size: lines[0], rows };
 }
 

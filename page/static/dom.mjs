@@ -28,8 +28,6 @@ export function oncePerFrame(draw) {
 }
 
 const colours = new Map();
-const dark = globalThis.matchMedia?.('(prefers-color-scheme: dark)');
-dark?.addEventListener('change', () => colours.clear());
 
 /** The value of a colour of style.css. */
 export function colour(name) {
@@ -37,9 +35,15 @@ export function colour(name) {
   return colours.get(name);
 }
 
-/** Calls `draw` when the theme changes. */
+/** Calls `draw` when the colours change. */
 export function onTheme(draw) {
-  dark?.addEventListener('change', draw);
+  document.addEventListener('theme', draw);
+}
+
+/** The colours have changed. */
+export function themeChanged() {
+  colours.clear();
+  document.dispatchEvent(new Event('theme'));
 }
 
 export const grouped = (number) => number.toLocaleString('en-US');
