@@ -72,7 +72,7 @@ export class Completion {
   /** Below the word that is typed, or above where there is no room. */
   #place() {
     const box = this.#text.getBoundingClientRect();
-    const width = document.querySelector('#marks .measure').getBoundingClientRect().width / 100;
+    const width = this.#editor.columnWidth;
     const top = box.top + this.#editor.line * ROW;
     const size = this.#list.getBoundingClientRect();
     this.#list.style.left = `${Math.max(4, Math.min(box.left + this.#open.start * width, innerWidth - size.width - 4))}px`;

@@ -14,6 +14,15 @@ export function setText(place, text) {
   if (place.textContent !== text) place.textContent = text;
 }
 
+/** Sets the children of an element; those that stay are left alone, so that only what changes is drawn anew. */
+export function setChildren(place, wanted) {
+  const { children } = place;
+  const isNear = children.length === wanted.length;
+  const others = isNear ? wanted.map((_, at) => at).filter((at) => children[at] !== wanted[at]) : [];
+  if (isNear && others.every((at) => wanted[at].parentElement !== place)) for (const at of others) children[at].replaceWith(wanted[at]);
+  else place.replaceChildren(...wanted);
+}
+
 /** Calls `draw` once before the next picture, however often it is asked for. */
 export function oncePerFrame(draw) {
   let waiting = false;

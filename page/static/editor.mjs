@@ -1,6 +1,6 @@
 // The source: a text area as large as its text, with a gutter of numbers, addresses and bytes that scrolls with it.
 
-import { byId, element, oncePerFrame } from './dom.mjs';
+import { byId, element, oncePerFrame, setChildren } from './dom.mjs';
 import { hex } from './answers.mjs';
 import { Breakpoints } from './breakpoints.mjs';
 import { codeText } from './codes.mjs';
@@ -28,6 +28,8 @@ export class Editor extends EventTarget {
   /** The rows as they were made, by their line, each with the text that it was made of. */
   #made = { gutter: new Map(), colours: new Map() };
   #band = element('div', { className: 'here', hidden: true });
+  /** A hundred columns, to know how wide one is. */
+  #measure = element('span', { className: 'measure', textContent: '0'.repeat(100) });
   #draw = oncePerFrame(() => this.#drawRows());
   #before = '';
   #selection = [0, 0];
@@ -254,8 +256,11 @@ export class Editor extends EventTarget {
     const row = Math.floor((event.clientY - this.#scroller.getBoundingClientRect().top + this.#scroller.scrollTop) / ROW);
     const box = this.#text.getBoundingClientRect();
     const style = getComputedStyle(this.#text);
-    const ems = this.#layers.marks.querySelector('.measure').getBoundingClientRect().width / 100;
-    return { line: row + 1, column: (event.clientX - box.left - parseFloat(style.paddingLeft)) / ems };
+    return { line: row + 1, column: (event.clientX - box.left - parseFloat(style.paddingLeft)) / this.columnWidth };
+  }
+
+  get columnWidth() {
+    return this.#measure.getBoundingClientRect().width / 100;
   }
 
   /** A press on a number makes a breakpoint; one elsewhere beside the text goes to that line. */
@@ -284,7 +289,7 @@ export class Editor extends EventTarget {
     const first = Math.max(0, Math.floor(scrollTop / ROW) - SPARE_ROWS);
     const last = Math.min(this.#lines.length, Math.ceil((scrollTop + clientHeight) / ROW) + SPARE_ROWS);
     this.#rows = new Map();
-    const [bands, marks, colours] = [[this.#band], [element('span', { className: 'measure', textContent: '0'.repeat(100) })], []];
+    const [bands, marks, colours] = [[this.#band], [this.#measure], []];
     for (let line = first + 1; line <= last; line += 1) {
       const text = this.#lines[line - 1];
       this.#rows.set(line, this.#gutterRow(line));
@@ -293,10 +298,10 @@ export class Editor extends EventTarget {
       bands.push(at(line, element('div', { className: 'faulty' })));
       marks.push(...this.#faultMarks(line, text));
     }
-    this.#layers.gutter.replaceChildren(...this.#rows.values());
-    this.#layers.bands.replaceChildren(...bands);
-    this.#layers.colours.replaceChildren(...colours);
-    this.#layers.marks.replaceChildren(...marks);
+    setChildren(this.#layers.gutter, [...this.#rows.values()]);
+    setChildren(this.#layers.bands, bands);
+    setChildren(this.#layers.colours, colours);
+    setChildren(this.#layers.marks, marks);
     this.#drawHere();
   }
 
@@ -324,9 +329,10 @@ export class Editor extends EventTarget {
 
   /** Marks the line that pc is at, and no other. */
   #drawHere() {
-    for (const row of this.#layers.gutter.querySelectorAll('.here')) row.classList.remove('here');
-    this.#rows.get(this.#here)?.classList.add('here');
-    this.#band.hidden = this.#here === null;
+    const row = this.#rows.get(this.#here);
+    for (const other of this.#layers.gutter.querySelectorAll('.here')) if (other !== row) other.classList.remove('here');
+    row?.classList.add('here');
+    if (this.#band.hidden !== (this.#here === null)) this.#band.hidden = this.#here === null;
     at(this.#here ?? 1, this.#band);
   }
 

@@ -9,7 +9,7 @@ import { Completion } from './completion.mjs';
 import { Coverage } from './coverage.mjs';
 import { DisassemblyView } from './disassembly_view.mjs';
 import { Documents } from './documents.mjs';
-import { byId, grouped } from './dom.mjs';
+import { byId, grouped, setText } from './dom.mjs';
 import { Editor } from './editor.mjs';
 import { EventsView } from './events_view.mjs';
 import { Exports } from './exports.mjs';
@@ -268,8 +268,8 @@ class Page {
     this.#showStep(machine);
     this.#tellEffect(machine);
     takeAway('fault');
-    byId('last-step').textContent = `of ${grouped(this.workbench.lastStep)}`;
-    byId('work-state').textContent = `Answered in ${took < 10 ? took.toFixed(1) : Math.round(took)} ms.`;
+    setText(byId('last-step'), `of ${grouped(this.workbench.lastStep)}`);
+    setText(byId('work-state'), `Answered in ${took < 10 ? took.toFixed(1) : Math.round(took)} ms.`);
     const isStopped = machine.code === null && machine.registers.state !== 'run';
     if (isStopped && this.player.direction > 0) this.player.play(0);
     this.sound.sound(this.player.direction > 0 && machine.code === null && machine.registers.st > 0);
@@ -286,7 +286,7 @@ class Page {
 
   #showStep({ step }) {
     const field = byId('step');
-    if (document.activeElement !== field || this.player.direction !== 0) field.value = step;
+    if ((document.activeElement !== field || this.player.direction !== 0) && field.value !== String(step)) field.value = step;
     // the author who types looks at what is typed; who goes to another step looks at its line
     const isAway = document.activeElement === byId('source-text') && this.#revealed === step;
     if (this.player.direction === 0 && !isAway) {
@@ -328,8 +328,8 @@ class Page {
   }
 
   #tellEdit(text) {
-    byId('edit-effect').textContent = text;
-    byId('edit-effect').title = text;
+    setText(byId('edit-effect'), text);
+    if (byId('edit-effect').title !== text) byId('edit-effect').title = text;
   }
 
   // What goes wrong -----------------------------------------------------------------------------------------------------------

@@ -100,7 +100,7 @@ export class MemoryView {
 
   #tellChanges(changed) {
     if (changed.length === 0) {
-      this.#changes.textContent = '';
+      setText(this.#changes, '');
       return;
     }
     const [first, last] = [changed[0], changed[changed.length - 1]];

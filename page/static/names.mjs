@@ -17,7 +17,13 @@ export class Names {
 
   /** The label of an address, such as `LOOP`, or the label before it with the distance, `LOOP+4`; null where none is near. */
   at(address) {
-    const label = this.#labels.findLast(({ value }) => value <= address);
+    let [low, high] = [0, this.#labels.length];
+    while (low < high) {
+      const middle = (low + high) >> 1;
+      if (this.#labels[middle].value <= address) low = middle + 1;
+      else high = middle;
+    }
+    const label = this.#labels[low - 1];
     if (label === undefined || address - label.value > FARTHEST) return null;
     return address === label.value ? label.name : `${label.name}+${address - label.value}`;
   }

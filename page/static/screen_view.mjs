@@ -1,6 +1,6 @@
 // The screen on a canvas of 128 by 64 stored pixels.
 
-import { byId, colour, onTheme } from './dom.mjs';
+import { byId, colour, onTheme, setText } from './dom.mjs';
 import { codeText } from './codes.mjs';
 
 const WIDTH = 128;
@@ -34,8 +34,8 @@ export class ScreenView {
   }
 
   #tell(text) {
-    this.#state.textContent = text;
-    this.#state.title = text;
+    setText(this.#state, text);
+    if (this.#state.title !== text) this.#state.title = text;
   }
 
   /** Shows for a moment which pixels differ from those of another screen. */

@@ -23,6 +23,7 @@ export class SearchView {
   #stop = byId('search-stop');
   #goOn = false;
   #running = false;
+  #names = '';
 
   /**
    * `ask(questions)` answers about what the model wants; `symbols()` are the names; `lineAddress()` is the cursor line's, or
@@ -69,7 +70,10 @@ export class SearchView {
   }
 
   showNames() {
-    byId('names').replaceChildren(...this.#symbols().slice(0, 500).map(({ name }) => element('option', { value: name })));
+    const names = this.#symbols().slice(0, 500).map(({ name }) => name);
+    if (names.join() === this.#names) return;
+    this.#names = names.join();
+    byId('names').replaceChildren(...names.map((value) => element('option', { value })));
   }
 
   stop() {

@@ -1,6 +1,6 @@
 // The memory at I as a sprite, eight pixels a row; and a sprite that is drawn here as the DB line of the source.
 
-import { byId, element } from './dom.mjs';
+import { byId, element, setText } from './dom.mjs';
 import { hex } from './answers.mjs';
 
 const COLUMNS = 8;
@@ -74,8 +74,8 @@ export class SpriteView {
       if (pixel.getAttribute('aria-pressed') !== isLit) pixel.setAttribute('aria-pressed', isLit);
     });
     const at = this.#machine === null ? '' : `#${hex(this.#machine.registers.i, 3)}`;
-    this.#state.textContent = this.#drawn === null ? at : 'drawn here';
-    byId('sprite-text').textContent = `DB ${bytes.map(rowText).join(', ')}`;
+    setText(this.#state, this.#drawn === null ? at : 'drawn here');
+    setText(byId('sprite-text'), `DB ${bytes.map(rowText).join(', ')}`);
   }
 
   #pixel(place) {

@@ -30,13 +30,19 @@ PREFERENCES = {
     "network.captive-portal-service.enabled": False,
     "network.connectivity-service.enabled": False,
     "ui.key.menuAccessKeyFocuses": False,
+    "accessibility.tabfocus": 7,
 }
 KEYS = {
-    "Tab": "\ue004", "Enter": "\ue007", "Escape": "\ue00c", "Backspace": "\ue003", "ArrowLeft": "\ue012", "ArrowUp": "\ue013",
+    "Tab": "\ue004", "Enter": "\ue006", "Escape": "\ue00c", "Backspace": "\ue003", "ArrowLeft": "\ue012", "ArrowUp": "\ue013",
     "ArrowRight": "\ue014", "ArrowDown": "\ue015", "PageUp": "\ue00e", "PageDown": "\ue00f", "End": "\ue010", "Home": "\ue011",
     "Delete": "\ue017", **{f"F{number}": chr(0xE030 + number) for number in range(1, 13)},
 }  # fmt: skip
 MODIFIERS = ((ALT, "\ue00a"), (CONTROL, "\ue009"), (SHIFT, "\ue008"))
+
+
+def value_of(key: str, code: str) -> str:
+    """The key of this protocol: this one knows keys by what they type, and a place by the letter that it has."""
+    return KEYS.get(key) or (code[3:].lower() if code.startswith("Key") and not key.isalpha() else key)
 
 
 def plain(value: dict[str, Any]) -> Any:
@@ -68,7 +74,9 @@ class Firefox(Browser):
         self._theme = "light"
         self.call("session.new", capabilities={})
         self.call("session.subscribe", events=["log.entryAdded", "network.beforeRequestSent"])
-        self._context = self.call("browsingContext.getTree")["contexts"][0]["context"]
+        # the first tab never gets the focus, a new one does
+        self._context = self.call("browsingContext.create", type="tab")["context"]
+        self.call("browsingContext.activate", context=self._context)
 
     def _address(self) -> str:
         deadline = time.monotonic() + START_SECONDS
@@ -128,14 +136,15 @@ class Firefox(Browser):
 
     def key_down(self, key: str, code: str = "", modifiers: int = 0, text: str = "") -> None:
         held = [{"type": "keyDown", "value": value} for bit, value in MODIFIERS if modifiers & bit]
-        self._keys(*held, {"type": "keyDown", "value": KEYS.get(key, key)})
+        self._keys(*held, {"type": "keyDown", "value": value_of(key, code)})
 
     def key_up(self, key: str, code: str = "", modifiers: int = 0) -> None:
         held = [{"type": "keyUp", "value": value} for bit, value in MODIFIERS if modifiers & bit]
-        self._keys({"type": "keyUp", "value": KEYS.get(key, key)}, *held)
+        self._keys({"type": "keyUp", "value": value_of(key, code)}, *held)
 
     def type(self, text: str) -> None:
-        self._keys(*[{"type": kind, "value": character} for character in text for kind in ("keyDown", "keyUp")])
+        """In one go, as a text that is pasted; single keys are pressed."""
+        self.value(f"document.execCommand('insertText', false, {json.dumps(text)})")
 
     def mouse(self, kind: str, x: float, y: float, buttons: int = 1) -> None:
         move = {"type": "pointerMove", "x": round(x), "y": round(y)}
