@@ -3,7 +3,6 @@
 from __future__ import annotations
 
 import argparse
-import re
 import shutil
 import sys
 import time
@@ -40,29 +39,33 @@ def main(arguments: list[str]) -> int:
     if words.pictures is not None:
         words.pictures.mkdir(parents=True, exist_ok=True)
     tests = Tests(BROWSERS[words.browser](), words.program, words.page, words.pictures)
-    passed = failed = 0
     try:
         if words.documents is not None:
             tests.make_documents(words.documents)
             return 0
-        for name in [name for name in dir(tests) if name.startswith("test_")]:
-            if words.names and not any(part in name for part in words.names):
-                continue
-            began = time.monotonic()
-            try:
-                getattr(tests, name)()
-            except Exception:
-                failed += 1
-                traceback.print_exc(limit=3)
-                print(f"{re.sub('_', ' ', name[5:])}: failed")
-            else:
-                passed += 1
-                print(f"{re.sub('_', ' ', name[5:])}: passed in {time.monotonic() - began:.1f} s", flush=True)
+        names = [name for name in dir(tests) if name.startswith("test_")]
+        results = [ran(tests, name) for name in names if not words.names or any(part in name for part in words.names)]
     finally:
         tests.browser.close()
         shutil.rmtree(tests.folder, ignore_errors=True)
-    print(f"{passed} passed, {failed} failed")
-    return 1 if failed else 0
+    print(f"{results.count(True)} passed, {results.count(False)} failed")
+    return 0 if all(results) else 1
+
+
+def ran(tests: Tests, name: str) -> bool:
+    """Runs a test in a folder of its own, and says how it went."""
+    shutil.rmtree(tests.folder, ignore_errors=True)
+    tests.folder.mkdir()
+    began = time.monotonic()
+    told = name.removeprefix("test_").replace("_", " ")
+    try:
+        getattr(tests, name)()
+    except Exception:
+        traceback.print_exc(limit=3)
+        print(f"{told}: failed", flush=True)
+        return False
+    print(f"{told}: passed in {time.monotonic() - began:.1f} s", flush=True)
+    return True
 
 
 if __name__ == "__main__":

@@ -5,10 +5,12 @@ from __future__ import annotations
 import json
 import os
 import signal
+import subprocess
+import sys
 import time
 from pathlib import Path
 
-from browser_page import PageTests, wait_for
+from browser_page import SETTLED, PageTests, wait_for
 from driver import CONTROL
 
 
@@ -288,6 +290,28 @@ class FileTests(PageTests):
             size = "new Promise((done, fail) => { const image = new Image(); image.onload = () => done([image.width, image.height]); image.onerror = fail; image.src = URL.createObjectURL(new Blob([new Uint8Array(%s)], { type: 'image/gif' })); })"
             browser.open("about:blank")
             assert browser.value(size % list(animation)) == [512, 256]
+
+    def test_addresses_and_arguments(self) -> None:
+        """An address without its last slash is the page; faulty arguments end with a sentence before anything starts."""
+        with self.page("LD V0, 5\n") as browser:
+            browser.open(self.address.removesuffix("/"))
+            browser.wait(f"location.pathname.endsWith('/') && {SETTLED}")
+            self.step(1)
+            assert self.registers()["V0"] == "05"
+        for faulty in (("--port", "99999"), ("--seed", "99999999999999999999"), ("--rate", "99999"), ("--profile", "foo")):
+            words = [sys.executable, "-B", str(self.page_folder / "bridge.py"), "--program", self.program, "--no-open", *faulty, str(self.path)]
+            run = subprocess.run(words, capture_output=True, text=True, timeout=20)
+            assert (run.returncode, run.stdout) == (2, ""), (faulty, run)
+            assert faulty[1] in run.stderr and "Traceback" not in run.stderr, run.stderr
+
+    def test_the_file_that_a_browser_is_given(self) -> None:
+        """It leads on to the page, from a file of mode 0600."""
+        with self.page("LD V0, 5\n") as browser:
+            place = self.folder / "open.html"
+            place.write_text(f'<!doctype html><meta http-equiv="refresh" content="0; url={self.address}">')
+            browser.open(place.as_uri())
+            browser.wait(f"location.protocol === 'http:' && {SETTLED}")
+            browser.requests.clear()
 
     def test_garbage_in_the_storage(self) -> None:
         """What the browser kept may be anything: the page comes up, and shows the text that there is."""

@@ -168,14 +168,31 @@ class SourceTests(PageTests):
             browser.wait("/JP a {2}.1NNN.: goes to a/.test(document.getElementById('hover').textContent)")
 
     def test_faults_are_underlined(self) -> None:
-        """At their tokens, with the program's own sentence, where it has the word `check`."""
-        with self.page("LOOP:   LD V0, 5\n        JP LOOPS\n") as browser:
-            if not browser.value("fetch('about', { method: 'POST', body: '{}' }).then((reply) => reply.json()).then(({ words }) => words.includes('check'))"):
-                print("    the program has no word `check`: nothing is underlined")
-                return
-            browser.wait("document.querySelector('#marks .underline') !== null")
-            place = browser.value("[...document.querySelectorAll('#marks .underline')].map((one) => [one.style.left, one.style.width])")
-            assert place == [["11ch", "5ch"]], place
-            checked = subprocess.run([self.program, "check", str(self.path)], capture_output=True, text=True).stdout
-            sentence = re.search(r"F9: .*", checked)
-            assert sentence is not None and self.text_of("#marks .told") == sentence[0], (checked, self.text_of("#marks .told"))
+        """At their tokens, with the program's own sentence, by its word `check`."""
+        said = "game.asm:2:12: F9: undefined name\n        JP LOOPS\n           ^~~~~\n"
+        program = self.program
+        self.program = self.with_check(said)
+        try:
+            with self.page("LOOP:   LD V0, 5\n        JP LOOPS\n") as browser:
+                browser.wait("document.querySelector('#marks .underline') !== null")
+                place = browser.value("[...document.querySelectorAll('#marks .underline')].map((one) => [one.style.left, one.style.width])")
+                assert place == [["11ch", "5ch"]], place
+                assert self.text_of("#marks .told") == "F9: undefined name", self.text_of("#marks .told")
+                self.put_line(2, "        JP LOOP")
+                self.rest()
+                assert browser.value("document.querySelector('#marks .underline')") is None
+        finally:
+            self.program = program
+
+    def with_check(self, said: str) -> str:
+        """The program; where it lacks the word `check`, one that has it, with this answer."""
+        if re.search(r"^\s+check\b", subprocess.run([self.program, "--help"], capture_output=True, text=True).stdout, re.MULTILINE):
+            return self.program
+        place, answer = self.folder / "with-check", self.folder / "with-check.out"
+        answer.write_text(said)
+        place.write_text(
+            f'#!/bin/sh\ncase "$1" in\ncheck) cat "{answer}"; exit 1 ;;\n--help) "{self.program}" --help; echo "  check  Prints the faults" ;;\n'
+            f'*) exec "{self.program}" "$@" ;;\nesac\n'
+        )
+        place.chmod(0o755)
+        return str(place)

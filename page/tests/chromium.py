@@ -16,7 +16,7 @@ from typing import Any
 from driver import Browser
 from web_socket import WebSocket
 
-START_SECONDS = 30.0
+START_SECONDS = 90.0
 WORDS = (
     "--headless=new", "--remote-debugging-port=0", "--no-sandbox", "--disable-gpu", "--disable-dev-shm-usage", "--disable-background-networking",
     "--disable-component-update", "--no-first-run", "--hide-scrollbars",
@@ -52,6 +52,7 @@ class Chromium(Browser):
             with contextlib.suppress(FileNotFoundError, IndexError, ValueError):
                 return int(place.read_text().splitlines()[0])
             time.sleep(0.05)
+        self._process.kill()
         raise TimeoutError("chromium didn't start")
 
     def call(self, method: str, **parameters: Any) -> dict[str, Any]:

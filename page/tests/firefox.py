@@ -17,7 +17,7 @@ from typing import Any
 from driver import ALT, CONTROL, SHIFT, Browser
 from web_socket import WebSocket
 
-START_SECONDS = 60.0
+START_SECONDS = 90.0
 PREFERENCES = {
     "remote.active-protocols": 1,
     "browser.shell.checkDefaultBrowser": False,
@@ -85,6 +85,7 @@ class Firefox(Browser):
             if found is not None:
                 return found[1].decode()
             time.sleep(0.05)
+        self._process.kill()
         raise TimeoutError("firefox didn't start")
 
     def call(self, method: str, **parameters: Any) -> dict[str, Any]:
