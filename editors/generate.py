@@ -198,8 +198,9 @@ def manual(words):
         ".SH EXIT STATUS", ".TP", "0", "Done.", ".TP", "1", "The source has faults, or doesn't open.",
         ".TP", "2", "The words, a tape or a file of key events are faulty.", ".TP", "3",
         "A file, the input or the output failed, or there was too much input.", ".TP", "4",
-        "Want of memory.", ".SH SEE ALSO",
-        "docs/FORMATS.md, docs/LANGUAGE.md, docs/MACHINE.md and docs/GUIDE.md of the repository.", ""]
+        "Want of memory.", ".SH SEE ALSO", ".BR chipbench\\-page (1),", ".br",
+        "docs/FORMATS.md (commands and answers),", ".br", "docs/LANGUAGE.md (the language of sources),", ".br",
+        "docs/MACHINE.md (the machine),", ".br", "docs/GUIDE.md (a first game)", ""]
     return "\n".join(lines)
 
 
@@ -248,6 +249,21 @@ def textmate(language):
     return json.dumps(made, indent=2) + "\n"
 
 
+def emacs(language):
+    def words(name, texts, what):
+        listed = "\n    ".join(" ".join(f'"{text}"' for text in texts[start : start + 10]) for start in range(0, len(texts), 10))
+        return f"(defconst chip8-{name}\n  '({listed})\n  \"{what}\")\n"
+
+    return "\n".join([
+        ";;; chip8-words.el --- words of CHIP-8 sources; made by editors/generate.py  -*- lexical-binding: t -*-",
+        "", ";;; Code:", "",
+        words("mnemonics", language.mnemonics, "Names of instructions."),
+        words("directives", language.directives, "Names of directives."),
+        words("switches", language.switches, "Words of OPTION and ALIGN."),
+        words("parts", language.parts, "Words that name a part of the machine."),
+        "(provide 'chip8-words)", ";;; chip8-words.el ends here", ""])
+
+
 def files():
     words, language = Words(), Language()
     return {
@@ -257,6 +273,8 @@ def files():
         "chipbench.1": manual(words),
         "vim/syntax/chip8.vim": vim(language),
         "chip8.tmLanguage.json": textmate(language),
+        "vscode/syntaxes/chip8.tmLanguage.json": textmate(language),
+        "emacs/chip8-words.el": emacs(language),
     }
 
 
