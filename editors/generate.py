@@ -76,9 +76,6 @@ class Words:
         arguments = {}
         for name, body in functions.items():
             if name.endswith("_argument"):
-                # one that only changes another has that one's texts
-                changed = re.search(r"(\w+_argument)\(alloc\)", body)
-                body = functions[changed.group(1)] if changed else body
                 arguments[name[: -len("_argument")]] = Argument(body, consts)
 
         def whole(body):
@@ -86,7 +83,7 @@ class Words:
             return re.sub(r"\b(with_\w+)\(alloc", lambda call: whole(functions[call.group(1)]), body)
 
         halves = functions["with_debug_to_dis"] + functions["with_run_to_explain"]
-        order = re.findall(r"\bwith_(\w+)\(alloc", halves)
+        order = re.findall(r"(\w+)_command\(alloc\)", halves)
         self.about = re.search(r'"chipbench",\s*"(.*?)"', functions["program"]).group(1)
         self.commands = [Command(whole(functions[f"{name}_command"]), arguments) for name in order]
         debug = next(command for command in self.commands if command.name == "debug")
@@ -201,8 +198,9 @@ def manual(words):
         ".SH EXIT STATUS", ".TP", "0", "Done.", ".TP", "1", "The source has faults, or doesn't open.",
         ".TP", "2", "The words, a tape or a file of key events are faulty.", ".TP", "3",
         "A file, the input or the output failed, or there was too much input.", ".TP", "4",
-        "Want of memory.", ".SH SEE ALSO",
-        "docs/FORMATS.md, docs/LANGUAGE.md, docs/MACHINE.md and docs/GUIDE.md of the repository.", ""]
+        "Want of memory.", ".SH SEE ALSO", ".BR chipbench\\-page (1),", ".br",
+        "docs/FORMATS.md (commands and answers),", ".br", "docs/LANGUAGE.md (the language of sources),", ".br",
+        "docs/MACHINE.md (the machine),", ".br", "docs/GUIDE.md (a first game)", ""]
     return "\n".join(lines)
 
 

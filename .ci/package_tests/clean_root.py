@@ -1,0 +1,250 @@
+"""The packages in a clean Debian: its root is made by debootstrap, and entered by chroot."""
+import os
+import pathlib
+import shutil
+import sys
+import tempfile
+import unittest
+
+import common
+from common import DOCUMENTS, Page, answers_initialize, entries, image_of, is_listed, named_documents, package, run, version
+
+MIRROR = "http://deb.debian.org/debian"
+TOOLS = {"debootstrap": "debootstrap", "lintian": "lintian"}
+# What shows the manual pages, the completions, the page and the module.
+BESIDE = ("python3", "man-db", "bash-completion", "zsh", "fish")
+USER = "player"
+PACKAGES = "root-packages"
+# Where dpkg, apt and the manual's index keep what they know. All else has to be as it was before.
+KEPT_BY_SYSTEM = ("var/lib/dpkg", "var/lib/apt", "var/log", "var/cache")
+LONG = 1800
+MODULE_TRIAL = 'import chipbench; print(chipbench.Bench("CLS").image.hex())'
+
+_folder = None
+_base = None
+_packages = None
+
+
+def say(text):
+    print(f"package-tests: {text}", file=sys.stderr, flush=True)
+
+
+def prepare(suite, base, keep):
+    """Makes the packages and the root that the tests copy."""
+    global _folder, _base, _packages
+    if os.geteuid() != 0:
+        sys.exit("package-tests: the whole needs root, for chroot; --quick doesn't")
+    missing = [name for tool, name in TOOLS.items() if shutil.which(tool) is None]
+    if missing:
+        say(f"installing {' '.join(missing)}")
+        run("apt-get", "update", timeout=LONG)
+        run("apt-get", "install", "-y", "--no-install-recommends", *missing, timeout=LONG)
+    _folder = tempfile.TemporaryDirectory(prefix="chipbench-clean-")
+    _packages = pathlib.Path(keep).resolve() if keep else pathlib.Path(_folder.name, "packages")
+    package(_packages, common.chosen(), timeout=LONG)
+    _base = pathlib.Path(base).resolve() if base else pathlib.Path(_folder.name, "base")
+    if not base:
+        say(f"debootstrap makes a root of {suite}, which takes minutes")
+        run("debootstrap", "--variant=minbase", suite, _base, MIRROR, timeout=LONG)
+
+
+def debian_package():
+    return f"chipbench_{version()}_amd64.deb"
+
+
+def archive_name():
+    return f"chipbench-{version()}-x86_64-linux"
+
+
+class Root:
+    """A root of its own, with the packages and a user."""
+
+    def __init__(self, name, source):
+        self.path = pathlib.Path(_folder.name, name)
+        run("cp", "-a", "--reflink=auto", source, self.path, timeout=LONG)
+        shutil.copy("/etc/resolv.conf", self.path / "etc/resolv.conf")
+        shutil.copytree(_packages, self.path / "tmp" / PACKAGES, dirs_exist_ok=True)
+        if not (self.path / "home" / USER).exists():
+            self.run("useradd", "--create-home", "--shell", "/bin/bash", USER)
+
+    def command(self, *command, user=None):
+        """The command in this root, as the user or as root."""
+        identity = [f"--userspec={user}:{user}"] if user else []
+        home = f"/home/{user}" if user else "/root"
+        environment = [f"HOME={home}", "PATH=/usr/sbin:/usr/bin:/sbin:/bin", "LC_ALL=C.UTF-8", "TERM=dumb"]
+        environment += ["DEBIAN_FRONTEND=noninteractive", "MANPAGER=cat"]
+        return ["chroot", *identity, str(self.path), "env", "-i", *environment, *map(str, command)]
+
+    def run(self, *command, user=None, **options):
+        return run(*self.command(*command, user=user), **options).decode()
+
+    def shell(self, text, user=USER, **options):
+        """Runs a line of the shell in the user's home."""
+        return self.run("bash", "-c", f"cd && {text}", user=user, **options)
+
+    def apt(self, *command):
+        return self.run("apt-get", "-o", "APT::Sandbox::User=root", *command, timeout=LONG)
+
+    def files(self):
+        """Each path but those of the system's own records, with what tells a change."""
+        found = {}
+        for place, folders, names in os.walk(self.path):
+            below = os.path.relpath(place, self.path)
+            folders[:] = [name for name in folders if os.path.normpath(f"{below}/{name}") not in KEPT_BY_SYSTEM]
+            for name in folders + names:
+                stat = os.lstat(os.path.join(place, name))
+                state = () if name in folders else (stat.st_size, stat.st_mtime_ns)
+                found[os.path.normpath(f"{below}/{name}")] = (stat.st_mode, *state)
+        return found
+
+    def remove(self):
+        shutil.rmtree(self.path, ignore_errors=True)
+
+
+def assembles(test, root, program, examples):
+    """The main job: the image of an example is that of its transcript."""
+    root.shell(f"{program} asm {examples}/bounce.asm bounce.ch8", user=USER)
+    test.assertEqual((root.path / "home" / USER / "bounce.ch8").read_bytes(), image_of("bounce"))
+    root.shell(f"rm bounce.ch8 && {program} debug {examples}/bounce.asm < {examples}/bounce.script | cmp - {examples}/bounce.out")
+
+
+class TestLintian(unittest.TestCase):
+    def test_no_error_and_no_warning(self):
+        found = run("lintian", "--allow-root", "--fail-on", "none", _packages / debian_package(), timeout=LONG)
+        self.assertEqual([line for line in found.decode().splitlines() if line[:2] in ("E:", "W:")], [])
+
+
+class TestBareRoot(unittest.TestCase):
+    """A root with the C library and no Python."""
+
+    def setUp(self):
+        self.root = Root("bare", _base)
+        self.addCleanup(self.root.remove)
+
+    def test_the_program_needs_the_c_library_alone(self):
+        before = self.root.files()
+        self.root.run("dpkg", "--install", f"/tmp/{PACKAGES}/{debian_package()}")
+        assembles(self, self.root, "chipbench", f"/usr/{DOCUMENTS}/examples")
+        self.root.shell("chipbench-page --no-open", status=127)
+        self.root.run("dpkg", "--purge", "chipbench")
+        self.assertEqual(self.root.files(), before)
+
+
+class TestRootWithPython(unittest.TestCase):
+    """A root with what the page, the manual pages, the completions and the module need."""
+
+    @classmethod
+    def setUpClass(cls):
+        cls.root = Root("beside", _base)
+        cls.addClassCleanup(cls.root.remove)
+        say(f"installing {' '.join(BESIDE)} there")
+        cls.root.apt("update")
+        cls.root.apt("install", "-y", "--no-install-recommends", *BESIDE)
+        cls.root.shell("fish -c true")
+        cls.before = cls.root.files()
+        cls.root.apt("install", "-y", "--no-install-recommends", f"/tmp/{PACKAGES}/{debian_package()}")
+
+    @classmethod
+    def tearDownClass(cls):
+        """The last test of this class: the removal leaves nothing."""
+        cls.root.apt("purge", "-y", "chipbench")
+        after = cls.root.files()
+        left = sorted(path for path in after if path not in cls.before)
+        gone = sorted(path for path in cls.before if path not in after)
+        changed = sorted(path for path in after if path in cls.before and after[path] != cls.before[path])
+        assert (left, gone, changed) == ([], [], []), (left, gone, changed)
+
+    def test_assembles(self):
+        assembles(self, self.root, "chipbench", f"/usr/{DOCUMENTS}/examples")
+
+    def test_page_answers(self):
+        command = self.root.command("chipbench-page", f"/usr/{DOCUMENTS}/examples/bounce.asm", user=USER)
+        with Page(*command) as page:
+            page.check(self)
+
+    def test_manual_pages(self):
+        for entry in entries("debian"):
+            if entry.kind != "manual":
+                continue
+            name = pathlib.Path(entry.target).stem
+            shown = self.root.shell(f"man {name}")
+            self.assertIn(name, shown)
+            documents = named_documents(self.root.shell(f"zcat $(man -w {name})"))
+            self.assertNotEqual(documents, [])
+            for document in documents:
+                self.root.run("test", "-s", document)
+
+    def test_named_documents_of_the_help_are_there(self):
+        for document in named_documents(self.root.shell("chipbench debug --help")):
+            self.root.run("test", "-s", f"/usr/{DOCUMENTS}/docs/{pathlib.Path(document).name}")
+
+    def test_completion_of_bash(self):
+        load = "{ _comp_load chipbench || _completion_loader chipbench; } 2>/dev/null"
+        ask = 'COMP_WORDS=(chipbench as) COMP_CWORD=1; _chipbench; echo "${COMPREPLY[@]}"'
+        shown = self.root.shell(f". /usr/share/bash-completion/bash_completion; {load}; {ask}")
+        self.assertEqual(shown.split(), ["asm"])
+
+    def test_completion_of_zsh(self):
+        ask = "autoload -U compinit; compinit -u -D; print $_comps[chipbench]; autoload +X _chipbench && print loaded"
+        self.assertEqual(self.root.shell(f"zsh -fc '{ask}'").split(), ["_chipbench", "loaded"])
+
+    def test_completion_of_fish(self):
+        shown = self.root.shell("fish -c 'complete -C \"chipbench as\"'")
+        self.assertEqual([line.split("\t")[0] for line in shown.splitlines()], ["asm"])
+
+    def test_python_module(self):
+        if not is_listed("python/chipbench.py"):
+            self.skipTest("no module for Python")
+        self.assertEqual(self.root.shell(f"python3 -c '{MODULE_TRIAL}'").strip(), "00e0")
+        # what root's Python keeps of the module has to go with it
+        self.root.run("python3", "-c", "import chipbench")
+
+    def test_language_server(self):
+        if not is_listed("chipbench-lsp"):
+            self.skipTest("no language server")
+        # what root's Python keeps of the server's modules has to go with them
+        for user in (USER, None):
+            answers_initialize(self, *self.root.command("chipbench-lsp", user=user))
+
+
+class TestArchive(unittest.TestCase):
+    """The archive in an empty folder of a user."""
+
+    @classmethod
+    def setUpClass(cls):
+        cls.root = Root("archive", _base)
+        cls.addClassCleanup(cls.root.remove)
+        cls.root.apt("update")
+        cls.root.apt("install", "-y", "--no-install-recommends", "python3", "man-db")
+        cls.before = cls.root.files()
+        cls.root.shell(f"mkdir empty && tar -xzf /tmp/{PACKAGES}/{archive_name()}.tar.gz -C empty")
+        cls.top = f"/home/{USER}/empty/{archive_name()}"
+        cls.root.shell(f"mkdir bin && ln -s {cls.top}/bin/* bin/")
+
+    @classmethod
+    def tearDownClass(cls):
+        cls.root.shell("rm -r empty bin")
+        assert cls.root.files() == cls.before
+
+    def test_assembles(self):
+        assembles(self, self.root, f"{self.top}/bin/chipbench", f"{self.top}/{DOCUMENTS}/examples")
+
+    def test_page_answers_through_a_link(self):
+        with Page(*self.root.command(f"/home/{USER}/bin/chipbench-page", user=USER)) as page:
+            page.check(self)
+
+    def test_manual_page(self):
+        self.assertIn("chipbench", self.root.shell(f"man {self.top}/share/man/man1/chipbench.1"))
+        for document in named_documents(self.root.shell(f"cat {self.top}/share/man/man1/chipbench.1")):
+            self.root.run("test", "-s", f"{self.top}/{document}")
+
+    def test_python_module(self):
+        if not is_listed("python/chipbench.py"):
+            self.skipTest("no module for Python")
+        shown = self.root.shell(f"PYTHONPATH={self.top}/share/chipbench/python python3 -B -c '{MODULE_TRIAL}'")
+        self.assertEqual(shown.strip(), "00e0")
+
+    def test_language_server(self):
+        if not is_listed("chipbench-lsp"):
+            self.skipTest("no language server")
+        answers_initialize(self, *self.root.command(f"/home/{USER}/bin/chipbench-lsp", user=USER))
