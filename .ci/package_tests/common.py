@@ -15,7 +15,7 @@ BUILT = TOP / "crates/chipbench/out/chipbench"
 # A program that needs the C library alone, for tests that place a program and don't run it.
 STAND_IN = pathlib.Path("/bin/true")
 DOCUMENTS = "share/doc/chipbench"
-SECONDS = 120
+SECONDS = 600
 
 _chosen = None
 
