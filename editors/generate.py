@@ -76,9 +76,6 @@ class Words:
         arguments = {}
         for name, body in functions.items():
             if name.endswith("_argument"):
-                # one that only changes another has that one's texts
-                changed = re.search(r"(\w+_argument)\(alloc\)", body)
-                body = functions[changed.group(1)] if changed else body
                 arguments[name[: -len("_argument")]] = Argument(body, consts)
 
         def whole(body):
@@ -86,7 +83,7 @@ class Words:
             return re.sub(r"\b(with_\w+)\(alloc", lambda call: whole(functions[call.group(1)]), body)
 
         halves = functions["with_debug_to_dis"] + functions["with_run_to_explain"]
-        order = re.findall(r"\bwith_(\w+)\(alloc", halves)
+        order = re.findall(r"(\w+)_command\(alloc\)", halves)
         self.about = re.search(r'"chipbench",\s*"(.*?)"', functions["program"]).group(1)
         self.commands = [Command(whole(functions[f"{name}_command"]), arguments) for name in order]
         debug = next(command for command in self.commands if command.name == "debug")
@@ -252,6 +249,21 @@ def textmate(language):
     return json.dumps(made, indent=2) + "\n"
 
 
+def emacs(language):
+    def words(name, texts, what):
+        listed = "\n    ".join(" ".join(f'"{text}"' for text in texts[start : start + 10]) for start in range(0, len(texts), 10))
+        return f"(defconst chip8-{name}\n  '({listed})\n  \"{what}\")\n"
+
+    return "\n".join([
+        ";;; chip8-words.el --- words of CHIP-8 sources; made by editors/generate.py  -*- lexical-binding: t -*-",
+        "", ";;; Code:", "",
+        words("mnemonics", language.mnemonics, "Names of instructions."),
+        words("directives", language.directives, "Names of directives."),
+        words("switches", language.switches, "Words of OPTION and ALIGN."),
+        words("parts", language.parts, "Words that name a part of the machine."),
+        "(provide 'chip8-words)", ";;; chip8-words.el ends here", ""])
+
+
 def files():
     words, language = Words(), Language()
     return {
@@ -261,6 +273,8 @@ def files():
         "chipbench.1": manual(words),
         "vim/syntax/chip8.vim": vim(language),
         "chip8.tmLanguage.json": textmate(language),
+        "vscode/syntaxes/chip8.tmLanguage.json": textmate(language),
+        "emacs/chip8-words.el": emacs(language),
     }
 
 

@@ -28,19 +28,22 @@ export function readRegisters(answer) {
   };
 }
 
+/** The value of a hexadecimal digit in lower case. */
+const digit = (code) => (code < 58 ? code - 48 : code - 87);
+
 /** The bytes of `mem` or `image`. */
 export function readBytes(answer) {
   const bytes = new Uint8Array((answer.length - 1) / 2);
   for (let place = 0; place < bytes.length; place += 1) {
-    bytes[place] = parseInt(answer.slice(2 * place, 2 * place + 2), 16);
+    bytes[place] = 16 * digit(answer.charCodeAt(2 * place)) + digit(answer.charCodeAt(2 * place + 1));
   }
   return bytes;
 }
 
-/** The size, and the stored rows with a lit point, each with its 32 hexadecimal digits. */
+/** The size, and the stored rows with a lit pixel, each with its 32 hexadecimal digits. */
 export function readScreen(answer) {
   const lines = linesOf(answer);
-  const rows = lines.slice(1, -1).map((line) => ({ row: Number(line.slice(0, 2)), points: line.slice(3) }));
+  const rows = lines.slice(1, -1).map((line) => ({ row: Number(line.slice(0, 2)), digits: line.slice(3) }));
   return { size: lines[0], rows };
 }
 

@@ -4,6 +4,8 @@ import { byId, element, setText } from './dom.mjs';
 import { hex } from './answers.mjs';
 
 const HEAD = ['', 'Address', 'Word', 'Instruction', 'Line of the source'];
+/** Instructions whose last operand is an address. */
+const TO_ADDRESS = /^(?:JP|CALL|SYS|LD I,).* ?#([0-9a-f]{3})$/;
 const IMAGE_START = 512;
 
 export class DisassemblyView {
@@ -20,12 +22,12 @@ export class DisassemblyView {
     byId('disassembly').append(table);
   }
 
-  show({ code, words, registers }, { map, image }, lines) {
-    if (code !== null || words === null) return;
+  show({ code, words, registers }, { map, image, names }, lines) {
+    if (code !== null) return;
     while (this.#rows.length < words.length) this.#addRow();
     this.#rows.forEach((row, place) => {
       row.element.hidden = place >= words.length;
-      if (place < words.length) this.#showRow(row, words[place], registers.pc, map.lineAt(words[place].address), image, lines);
+      if (place < words.length) this.#showRow(row, words[place], { pc: registers.pc, line: map.lineAt(words[place].address), image, lines, names });
     });
   }
 
@@ -41,11 +43,14 @@ export class DisassemblyView {
     this.#body.append(row.element);
   }
 
-  #showRow(row, { address, word, text }, pc, line, image, lines) {
+  #showRow(row, { address, word, text }, { pc, line, image, lines, names }) {
     const assembled = line === null ? word : (wordOf(image, address - IMAGE_START) ?? word);
     const here = address === pc;
-    const texts = [here ? '▸' : '', hex(address, 4), word, text];
+    const target = TO_ADDRESS.exec(text);
+    const name = target === null ? null : names.at(parseInt(target[1], 16));
+    const texts = [here ? '▸' : '', hex(address, 4), word, name === null ? text : `${text} ${name}`];
     texts.forEach((shown, place) => setText(row.cells[place], shown));
+    row.cells[1].title = names.at(address) ?? '';
     row.element.classList.toggle('here', here);
     row.element.ariaCurrent = here ? 'true' : null;
     row.cells[2].classList.toggle('changed', assembled !== word);

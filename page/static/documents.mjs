@@ -1,218 +1,254 @@
-// The author's file: what it is opened with, what the browser kept of it, saving, downloads, and files that are opened instead.
+// The author's document: the file that it is of, what the browser kept of it, saving, and other documents in its place.
 
-import { readBytes, refusal } from './answers.mjs';
 import { request } from './bridge.mjs';
 import { byId } from './dom.mjs';
-import { download, readByteString } from './files.mjs';
-import { readKeys, writeKeys } from './key_script.mjs';
+import { KeyHistory } from './key_history.mjs';
+import { KeyScript } from './key_script.mjs';
 import { notice, takeAway } from './notices.mjs';
-import { Store } from './store.mjs';
+import { Store, tabDocument } from './store.mjs';
+import { TextHistory } from './text_history.mjs';
 import { readFile, writeFile } from './text_form.mjs';
 
-const LARGEST_FILE = 2_000_000;
 const WITHOUT_NAME = 'without a file';
+
+/**
+ * A document: its name, the slot under which the browser keeps it, whether it is a file of the bridge's folder, and then the
+ * digest and the text of that file as they were read last.
+ */
+function fileDocument({ name, path, text, digest }) {
+  return { name, slot: path, isFile: true, digest, file: text === null ? null : readFile(text) };
+}
+
+const elsewhere = (name, file) => ({ name, slot: `elsewhere ${name}`, isFile: false, digest: null, file });
 
 export class Documents {
   #about;
   #model;
   #editor;
-  #workbench;
   #store;
-  #digest;
-  #savedText;
-  /** The text that was opened from elsewhere last: as long as it isn't edited, nothing of it is the author's. */
-  #opened = null;
+  #open = { name: WITHOUT_NAME, slot: WITHOUT_NAME, isFile: false, digest: null, file: null };
+  /** The text of the file when it was read or saved last, or null; and the digest of another program's that was told of. */
+  #savedText = null;
+  #toldDigest = null;
+  #askName;
 
-  /** Of the file that the bridge tells `about`. */
-  constructor(about, { model, editor, workbench }) {
+  /** Of the file that the bridge tells `about`; `askName(name)` asks under which name to save. */
+  constructor(about, { model, editor, askName }) {
     this.#about = about;
     this.#model = model;
     this.#editor = editor;
-    this.#workbench = workbench;
-    this.#digest = about.digest;
-    const onFull = () => notice('full', 'This browser keeps no more: save or download the text.', { bad: true });
-    const onOther = () => this.#offerAside('Another window has changed this text.');
-    this.#store = new Store(about.path, model, { known: () => this.#digest, onFull, onOther });
-    byId('file-name').textContent = about.name ?? WITHOUT_NAME;
-    document.title = `${about.name ?? WITHOUT_NAME} – chipbench`;
-    byId('save').disabled = about.name === null;
-    this.#listen();
+    this.#askName = askName;
+    this.#store = new Store(model, {
+      known: () => this.#open.digest,
+      onFull: () => notice('full', 'This browser keeps no more: save or download the text.', { bad: true }),
+      onOther: () => this.#offerEarlier('Another window has changed this text.'),
+    });
+    addEventListener('focus', () => this.#checkDisk());
   }
 
-  // The start -----------------------------------------------------------------------------------------------------------------
+  get name() {
+    return this.#open.name;
+  }
 
-  /** Takes the text of the file, or that which the browser kept of it. Returns what else was kept, or null. */
-  begin() {
-    const { text: content } = this.#about;
-    const kept = this.#store.read();
-    const file = readFile(content ?? '');
-    this.#savedText = content === null ? null : file.text;
-    if (file.mended) {
-      notice('ends', 'A CR in this file stands elsewhere than at the end of each line: it is shown as the end of a line, and saved as LF.');
+  /** The documents and texts that were put aside, the newest last. */
+  get earlier() {
+    return this.#store.earlier;
+  }
+
+  /** Opens the document that the tab had, or that of the bridge. Returns what the browser kept of it, or null. */
+  async begin() {
+    if (this.#about.name !== null) this.#open = fileDocument(this.#about);
+    const kept = tabDocument.read(this.#about.start);
+    if (kept !== null && kept.slot !== this.#open.slot) {
+      const found = kept.isFile ? await request('read', { name: kept.name }).then(fileDocument).catch(() => null) : elsewhere(kept.name, null);
+      if (found !== null) this.#open = found;
     }
-    this.#take(file);
-    if (kept !== null && kept.text !== file.text) this.#takeKept(kept, file, content !== null);
-    this.#offerAside(content !== null && this.#model.text === file.text ? 'The text is that of the file.' : '');
+    const opened = this.#start();
+    const isOwn = (entry) => entry.slot === this.#open.slot && entry.kind !== 'save';
+    if (this.earlier.some(isOwn)) this.#offerEarlier('');
+    return opened;
+  }
+
+  /** Shows the document that is open now, with what the browser kept of it, which is returned. */
+  #start() {
+    const { name, slot, isFile, file, digest } = this.#open;
+    this.#store.use(slot);
+    const kept = this.#store.read();
+    this.#savedText = isFile && file !== null ? file.text : null;
+    this.#toldDigest = digest;
+    tabDocument.write({ start: this.#about.start, name, slot, isFile });
+    this.#showName();
+    for (const told of ['kept', 'ends', 'save', 'disk']) takeAway(told);
+    if (file?.mended) notice('ends', 'A CR in this file stands elsewhere than at the end of each line: it is shown as the end of a line, and saved as LF.');
+    const isKept = kept !== null && kept.text !== file?.text;
+    if (isKept && file !== null && (!isFile || kept.known !== digest)) {
+      this.#putAside(kept, isFile ? 'the file was changed since' : 'opened anew');
+      this.#take({ ...file, keys: kept.keys, keyHistory: kept.keyHistory });
+      this.#offerEarlier(`The text is that of ${name}.`);
+    } else if (isKept) {
+      this.#take(kept);
+      if (isFile && file !== null) this.#tellKept(file);
+    } else {
+      this.#take({ ...(kept ?? {}), ...(file ?? readFile(kept?.text ?? '')), form: file === null ? kept?.form : undefined });
+    }
     return kept;
   }
 
-  #takeKept(kept, file, isFile) {
-    if (isFile && kept.known !== this.#digest) {
-      this.#store.putAside(kept);
-      return;
-    }
-    this.#take({ ...kept.form, text: kept.text });
-    if (!isFile) return;
-    const takeFile = () => this.#replace(file, 'The text is now that of the file.');
-    notice('kept', 'This text was kept by the browser and isn\'t in the file yet.', {
-      choices: [['Go on', () => {}], ['Take the text of the file', takeFile]],
-    });
-  }
-
-  #take({ text, encoding, lineEnd }) {
-    this.#model.setText(text, { encoding, lineEnd });
+  #take({ text, form, encoding, lineEnd, keys = new KeyScript(), textHistory = new TextHistory(), keyHistory = new KeyHistory() }) {
+    this.#model.startWith({ text, form: form ?? { encoding, lineEnd }, keys, textHistory, keyHistory });
     this.#editor.text = text;
     this.tellState();
   }
 
-  /** Another text takes the place of the author's, which is kept until it is dropped. */
-  #replace(file, why) {
-    if (this.#model.text !== this.#opened) this.#store.putAside(this.#model);
-    this.#opened = file.text;
-    this.#take(file);
-    this.#offerAside(why);
+  #tellKept(file) {
+    const takeFile = () => this.#replace(file.text, file, 'The text is now that of the file.');
+    notice('kept', "This text was kept by the browser and isn't in the file yet.", {
+      choices: [['Go on', () => {}], ['Take the text of the file', takeFile]],
+    });
   }
 
-  #offerAside(why) {
-    const count = this.#store.aside.length;
+  // Other documents and texts -------------------------------------------------------------------------------------------------
+
+  /** Opens another document in the place of this one, whose text is kept. */
+  open(document, why) {
+    this.#store.keep();
+    const { text } = this.#model;
+    const isLost = text !== this.#savedText && text !== this.#open.file?.text;
+    if (isLost) this.#putAside(this.#model, 'not saved when another file was opened');
+    this.#open = document;
+    const kept = this.#start();
+    if (kept !== null) this.#model.setStep(kept.step);
+    if (isLost) this.#offerEarlier(why);
+    return kept;
+  }
+
+  openFile(found) {
+    this.open(fileDocument(found), `${found.name} is open now.`);
+  }
+
+  openText(name, byteString) {
+    this.open(elsewhere(name, readFile(byteString)), `${name} is open now. It isn't in the folder of the bridge: Save asks for a name.`);
+  }
+
+  /** Another text takes the place of the author's, as an edit that can be undone. */
+  #replace(text, { encoding, lineEnd }, why) {
+    this.#putAside(this.#model, 'another text took its place');
+    this.#editor.replace(0, this.#editor.text.length, text);
+    this.#model.setText(text, { encoding, lineEnd });
+    this.#offerEarlier(why);
+  }
+
+  #putAside({ text, form }, why, kind = 'text') {
+    const { name, slot, isFile } = this.#open;
+    this.#store.putEarlier({ text, form, name, slot, isFile, why, kind });
+  }
+
+  #offerEarlier(why) {
+    const { earlier } = this;
     takeAway('aside');
-    if (count === 0) return;
-    const takeBack = () => {
-      const { text, form } = this.#store.takeAside();
-      this.#replace({ ...form, text }, 'The text was taken back.');
-      this.#opened = null;
-    };
-    const drop = () => {
-      this.#store.takeAside();
-      this.#offerAside('That text was dropped.');
-    };
-    const more = count > 1 ? `, and ${count - 1} more from before that` : '';
-    notice('aside', `${why} This browser keeps the text that you had before${more}.`.trim(), {
-      choices: [['Take it back', takeBack], ['Drop it', drop]],
+    const place = earlier.findLastIndex(({ kind }) => kind !== 'save');
+    if (place < 0) return;
+    const of = earlier[place].slot === this.#open.slot ? 'the text that you had before' : `your text of ${earlier[place].name}`;
+    notice('aside', `${why} This browser keeps ${of}.`.trim(), {
+      choices: [['Take it back', () => this.takeBack(place)], ['Earlier texts …', () => byId('show-earlier').click()], ['Close', () => {}]],
     });
+  }
+
+  /** Takes an earlier text back, into its own document. */
+  async takeBack(place) {
+    const { text, form, name, slot, isFile } = this.#store.takeEarlier(place);
+    takeAway('aside');
+    if (slot !== this.#open.slot && slot !== undefined) {
+      const found = isFile ? await request('read', { name }).then(fileDocument).catch(() => null) : null;
+      this.open(found ?? elsewhere(name ?? WITHOUT_NAME, null), `${name} is open again.`);
+    }
+    if (text !== this.#model.text) this.#replace(text, form, 'The text was taken back.');
+  }
+
+  drop(place) {
+    this.#store.takeEarlier(place);
+    takeAway('aside');
   }
 
   // Saving --------------------------------------------------------------------------------------------------------------------
 
+  #showName() {
+    const { name, isFile } = this.#open;
+    byId('file-name').textContent = name;
+    document.title = `${name} – chipbench`;
+    byId('save').textContent = isFile ? 'Save' : 'Save …';
+  }
+
   tellState() {
     const saved = this.#savedText === this.#model.text ? 'saved' : 'not saved; kept in this browser';
-    byId('file-state').textContent = this.#about.name === null ? 'kept in this browser' : saved;
+    byId('file-state').textContent = this.#open.isFile ? saved : 'not in a file; kept in this browser';
   }
 
-  /** Writes the file, where it is still the one that is known. */
-  async save(known = this.#digest) {
-    if (this.#about.name === null) {
-      notice('save', 'The page was opened without a file: download the source instead.');
-      return;
-    }
+  /** Writes the file of the title; where there is none, asks for its name. */
+  save() {
+    if (this.#open.isFile) return this.#write(this.#open.name, this.#open.digest);
+    return this.saveAs();
+  }
+
+  async saveAs() {
+    const name = await this.#askName(this.#open.name === WITHOUT_NAME ? 'game.asm' : this.#open.name);
+    if (name !== null) await this.#write(name, name === this.#open.name && this.#open.isFile ? this.#open.digest : null);
+  }
+
+  /** Writes a file, where it is still the one that is known. */
+  async #write(name, known) {
     const { text, form } = this.#model;
     try {
-      const { saved, digest } = await request('save', { text: writeFile(text, form), known });
-      if (saved) this.#saved(text, digest);
-      else this.#askToOverwrite(digest);
+      const reply = await request('save', { name, text: writeFile(text, form), known });
+      if (reply.saved) this.#saved(text, reply);
+      else this.#askToOverwrite(reply);
     } catch (fault) {
-      notice('save', `It wasn't saved: ${fault.message}`, { bad: true });
+      notice('save', `It wasn't saved: ${fault.message}. Nothing is lost: the text is kept in this browser.`, { bad: true });
     }
   }
 
-  #saved(text, digest) {
-    this.#digest = digest;
+  #saved(text, { name, path, digest }) {
+    if (this.#savedText !== null && this.#savedText !== text && path === this.#open.slot) {
+      this.#putAside({ text: this.#savedText, form: this.#model.form }, 'in the file before you saved', 'save');
+    }
+    if (path !== this.#open.slot) this.#store.use(path);
+    this.#open = { name, slot: path, isFile: true, digest, file: { text, ...this.#model.form } };
     this.#savedText = text;
-    takeAway('save');
-    takeAway('kept');
+    this.#toldDigest = digest;
+    tabDocument.write({ start: this.#about.start, name, slot: path, isFile: true });
+    for (const told of ['save', 'kept', 'disk']) takeAway(told);
+    this.#showName();
     this.tellState();
     this.#store.keep();
   }
 
-  #askToOverwrite(digest) {
-    notice('save', 'The file was changed by another program since you opened it.', {
-      bad: true,
-      choices: [['Write mine over it', () => this.save(digest)], ['Leave it', () => {}]],
-    });
+  #askToOverwrite({ name, path, text, digest }) {
+    const isOwn = path === this.#open.slot;
+    const overwrite = () => {
+      if (text !== null) this.#store.putEarlier({ ...withForm(text), name, slot: path, isFile: true, why: 'in the file before it was written over', kind: 'text' });
+      return this.#write(name, digest);
+    };
+    const told = isOwn ? `${name} was changed by another program since you opened it.` : `There is a file ${name} already.`;
+    notice('save', `${told} It wasn't saved.`, { bad: true, choices: [['Write mine over it', overwrite], ['Leave it', () => {}]] });
   }
 
-  // Downloads and other files -------------------------------------------------------------------------------------------------
-
-  #listen() {
-    byId('save').addEventListener('click', () => this.save());
-    byId('download-source').addEventListener('click', () => this.#download('asm', writeFile(this.#model.text, this.#model.form)));
-    byId('download-keys').addEventListener('click', () => this.#download('keys', writeKeys(this.#model.keys)));
-    byId('download-image').addEventListener('click', () => this.#downloadImage());
-    byId('download-menu').addEventListener('focusout', ({ currentTarget, relatedTarget }) => {
-      if (!currentTarget.contains(relatedTarget)) currentTarget.open = false;
-    });
-    byId('download-menu').addEventListener('keydown', ({ key, currentTarget }) => {
-      if (key !== 'Escape') return;
-      currentTarget.open = false;
-      currentTarget.querySelector('summary').focus();
-    });
-    byId('upload').addEventListener('click', () => byId('upload-file').click());
-    byId('upload-file').addEventListener('change', ({ target }) => {
-      this.#open(target.files[0]);
-      target.value = '';
-    });
-    const holdsFiles = (event) => event.dataTransfer.types.includes('Files');
-    document.addEventListener('dragover', (event) => {
-      if (holdsFiles(event)) event.preventDefault();
-    });
-    document.addEventListener('drop', (event) => {
-      if (!holdsFiles(event)) return;
-      event.preventDefault();
-      this.#open(event.dataTransfer.files[0]);
-    });
-  }
-
-  #download(kind, byteString) {
-    const name = (this.#about.name ?? 'game.asm').replace(/\.[^.]*$/, '');
-    download(`${name}.${kind}`, byteString);
-    byId('download-menu').open = false;
-  }
-
-  async #downloadImage() {
-    const [image] = await this.#workbench.answers(this.#model.wanted, ['image']);
-    takeAway('image');
-    if (refusal(image) !== null) notice('image', 'There is no image, since some line has a fault.');
-    else this.#download('ch8', String.fromCharCode(...readBytes(image)));
-  }
-
-  /** A source, a script of keys, or an image, by the name of the file. */
-  async #open(file) {
-    if (file === undefined) return;
-    takeAway('upload');
-    if (file.size > LARGEST_FILE) {
-      notice('upload', `${file.name} is too long.`, { bad: true });
-      return;
-    }
-    try {
-      const content = await readByteString(file);
-      if (/\.keys$/i.test(file.name)) this.#model.setKeys(readKeys(content, this.#model.lastStep));
-      else await this.#openText(file.name, content);
-    } catch (fault) {
-      notice('upload', `${file.name} can't be opened: ${fault.message}. Nothing was changed.`, { bad: true });
-    }
-  }
-
-  async #openText(name, content) {
-    const source = /\.(ch8|rom|bin)$/i.test(name) ? await sourceOf(content) : content;
-    this.#replace(readFile(source), `The text is now that of ${name}.`);
+  /** Tells of a file that another program changed, once for each of its texts. */
+  async #checkDisk() {
+    if (!this.#open.isFile) return;
+    const found = await request('read', { name: this.#open.name }).catch(() => null);
+    if (found === null || found.path !== this.#open.slot || found.digest === this.#toldDigest || found.text === null) return;
+    this.#toldDigest = found.digest;
+    const take = () => {
+      this.#open = fileDocument(found);
+      this.#savedText = this.#open.file.text;
+      this.#replace(this.#savedText, this.#open.file, 'The text is now that of the file.');
+      this.tellState();
+    };
+    notice('disk', `${found.name} was changed by another program.`, { choices: [['Take its text', take], ['Keep mine', () => {}]] });
   }
 }
 
-/** The source text of an image, by the program's own `dis`. */
-async function sourceOf(image) {
-  const { status, output, errors } = await request('word', { word: 'dis', image });
-  if (status === 2) throw new Error('this program has no word `dis`, which makes a source of an image');
-  const reason = /^reason: (.*)$/m.exec(errors)?.[1] ?? errors.trim();
-  if (status !== 0) throw new Error(reason || `the program ended with status ${status}`);
-  return output;
+function withForm(byteString) {
+  const { text, encoding, lineEnd } = readFile(byteString);
+  return { text, form: { encoding, lineEnd } };
 }

@@ -14,6 +14,15 @@ export function setText(place, text) {
   if (place.textContent !== text) place.textContent = text;
 }
 
+/** Sets the children of an element; those that stay are left alone, so that only what changes is drawn anew. */
+export function setChildren(place, wanted) {
+  const { children } = place;
+  const isNear = children.length === wanted.length;
+  const others = isNear ? wanted.map((_, at) => at).filter((at) => children[at] !== wanted[at]) : [];
+  if (isNear && others.every((at) => wanted[at].parentElement !== place)) for (const at of others) children[at].replaceWith(wanted[at]);
+  else place.replaceChildren(...wanted);
+}
+
 /** Calls `draw` once before the next picture, however often it is asked for. */
 export function oncePerFrame(draw) {
   let waiting = false;
@@ -28,8 +37,6 @@ export function oncePerFrame(draw) {
 }
 
 const colours = new Map();
-const dark = globalThis.matchMedia?.('(prefers-color-scheme: dark)');
-dark?.addEventListener('change', () => colours.clear());
 
 /** The value of a colour of style.css. */
 export function colour(name) {
@@ -37,9 +44,15 @@ export function colour(name) {
   return colours.get(name);
 }
 
-/** Calls `draw` when the theme changes. */
+/** Calls `draw` when the colours change. */
 export function onTheme(draw) {
-  dark?.addEventListener('change', draw);
+  document.addEventListener('theme', draw);
+}
+
+/** The colours have changed. */
+export function themeChanged() {
+  colours.clear();
+  document.dispatchEvent(new Event('theme'));
 }
 
 export const grouped = (number) => number.toLocaleString('en-US');

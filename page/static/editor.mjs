@@ -1,58 +1,69 @@
 // The source: a text area as large as its text, with a gutter of numbers, addresses and bytes that scrolls with it.
 
-import { byId, element, oncePerFrame } from './dom.mjs';
+import { byId, element, oncePerFrame, setChildren } from './dom.mjs';
 import { hex } from './answers.mjs';
+import { Breakpoints } from './breakpoints.mjs';
 import { codeText } from './codes.mjs';
+import { TAB, columnOf, indentAfter, outdentLength, widthOf } from './columns.mjs';
+import { coloured } from './colours.mjs';
 
 const ROW = 20;
-const TAB = 8;
 const SPARE_ROWS = 12;
+/** More rows than these aren't kept. */
+const MOST_MADE = 1000;
 
 export class Editor extends EventTarget {
   #text = byId('source-text');
   #scroller = byId('editor');
-  #gutter = byId('gutter');
-  #bands = byId('bands');
-  #marks = byId('marks');
-  #state = byId('line-state');
-  #count = byId('fault-count');
-  #next = byId('next-fault');
+  #layers = Object.fromEntries(['gutter', 'bands', 'colours', 'marks'].map((name) => [name, byId(name)]));
+  #model;
   #lines = [''];
   #listing = [];
   #faults = new Map();
+  /** Where the faults lie and what the program says of them, by line; a line that isn't there is told by its code alone. */
+  #places = new Map();
+  #covered = new Map();
   #here = null;
   #rows = new Map();
+  /** The rows as they were made, by their line, each with the text that it was made of. */
+  #made = { gutter: new Map(), colours: new Map() };
   #band = element('div', { className: 'here', hidden: true });
+  /** A hundred columns, to know how wide one is. */
+  #measure = element('span', { className: 'measure', textContent: '0'.repeat(100) });
   #draw = oncePerFrame(() => this.#drawRows());
-  #told = '';
-  #explains;
+  #before = '';
+  #selection = [0, 0];
 
-  /** `explains` says whether there is more to tell of a code than its short text. */
-  constructor({ explains }) {
+  breakpoints = new Breakpoints();
+
+  constructor(model) {
     super();
-    this.#explains = explains;
-    this.#text.addEventListener('input', () => this.#typed());
+    this.#model = model;
+    this.#text.addEventListener('input', (event) => this.#typed(event.inputType));
+    this.#text.addEventListener('beforeinput', (event) => this.#beforeInput(event));
     this.#text.addEventListener('keydown', (event) => this.#pressed(event));
     // not every browser tells of a moved cursor by the first of these
     for (const name of ['selectionchange', 'keyup', 'pointerup']) {
       document.addEventListener(name, () => {
-        if (document.activeElement === this.#text) this.#tellLine();
+        if (document.activeElement === this.#text) this.#tellCursor();
       });
     }
     this.#scroller.addEventListener('scroll', this.#draw, { passive: true });
     this.#scroller.addEventListener('pointerdown', (event) => this.#pointed(event));
     new ResizeObserver(this.#draw).observe(this.#scroller);
-    this.#next.addEventListener('click', () => this.goToFault(true));
+    this.breakpoints.addEventListener('change', () => this.#drawRows());
   }
 
   get text() {
     return this.#text.value;
   }
 
+  /** Another text, which is no edit. */
   set text(text) {
     if (text === this.#text.value) return;
     this.#text.value = text;
     this.#text.setSelectionRange(0, 0);
+    this.#before = text;
     this.#resize();
   }
 
@@ -60,18 +71,32 @@ export class Editor extends EventTarget {
     return this.#lines;
   }
 
+  get listing() {
+    return this.#listing;
+  }
+
   /** The number of the line with the cursor. */
   get line() {
     return this.#text.value.slice(0, this.#text.selectionStart).split('\n').length;
   }
 
-  get listing() {
-    return this.#listing;
+  /** The lines with a fault, in order, and the code at the cursor's line, or null. */
+  get faultLines() {
+    return [...this.#faults.keys()].sort((one, other) => one - other);
   }
 
-  /** The code at the cursor's line, or null. */
   get fault() {
     return this.#faults.get(this.line) ?? null;
+  }
+
+  /** What is said of the fault of a line. */
+  faultText(line) {
+    return this.#places.get(line)?.sentence ?? codeText(this.#faults.get(line));
+  }
+
+  /** Where the fault of a line lies, once the program has said so; else null. */
+  faultPlace(line) {
+    return this.#places.get(line) ?? null;
   }
 
   focus() {
@@ -82,12 +107,22 @@ export class Editor extends EventTarget {
   show(listing, faults) {
     this.#listing = listing;
     this.#faults = faults;
-    const lines = [...faults.keys()].sort((one, other) => one - other);
-    this.#count.classList.toggle('some', lines.length > 0);
-    this.#count.textContent = lines.length === 0 ? 'no faults' : `${lines.length} ${lines.length === 1 ? 'fault' : 'faults'}, the first in line ${lines[0]}`;
-    this.#next.hidden = lines.length === 0;
-    this.#draw();
-    this.#tellLine();
+    this.#places = new Map();
+    this.#drawRows();
+    this.#tellCursor();
+  }
+
+  /** Where the faults of the lines that are shown lie. */
+  showPlaces(places) {
+    this.#places = places;
+    this.#drawRows();
+    this.#tellCursor();
+  }
+
+  /** When each line was carried out last, by line; an empty map shows nothing. */
+  showCovered(covered) {
+    this.#covered = covered;
+    this.#drawRows();
   }
 
   /** The line that pc is at, or null. */
@@ -97,10 +132,9 @@ export class Editor extends EventTarget {
     this.#drawHere();
   }
 
-  /** Brings the line that pc is at into sight, unless the author is in the text. */
+  /** Brings the line that pc is at into sight. */
   revealHere() {
-    if (this.#here === null || document.activeElement === this.#text) return;
-    this.#reveal(this.#here);
+    if (this.#here !== null) this.#reveal(this.#here);
   }
 
   #reveal(line) {
@@ -115,41 +149,81 @@ export class Editor extends EventTarget {
     this.#text.setSelectionRange(place, place);
     this.#reveal(line);
     this.#scroller.scrollLeft = 0;
-    this.#tellLine();
+    this.#tellCursor();
   }
 
   /** To the next fault after the cursor's line, or the one before; round the end. */
   goToFault(forward) {
-    const lines = [...this.#faults.keys()].sort((one, other) => one - other);
+    const lines = this.faultLines;
     if (lines.length === 0) return;
     const found = forward ? (lines.find((line) => line > this.line) ?? lines[0]) : (lines.findLast((line) => line < this.line) ?? lines[lines.length - 1]);
     this.goToLine(found);
   }
 
-  #typed() {
+  // Typing --------------------------------------------------------------------------------------------------------------------
+
+  #beforeInput(event) {
+    this.#selection = [this.#text.selectionStart, this.#text.selectionEnd];
+    if (event.inputType !== 'historyUndo' && event.inputType !== 'historyRedo') return;
+    event.preventDefault();
+    this.undo(event.inputType === 'historyRedo');
+  }
+
+  /** The text of the area became another one. */
+  #typed(inputType) {
+    const { value, selectionStart, selectionEnd } = this.#text;
+    this.#model.textHistory.record(this.#before, value, {
+      selectionBefore: this.#selection,
+      selectionAfter: [selectionStart, selectionEnd],
+      time: performance.now(),
+      isTyped: inputType === 'insertText' || inputType === 'deleteContentBackward' || inputType === 'deleteContentForward',
+    });
+    this.#taken();
+  }
+
+  #taken() {
+    this.breakpoints.follow(this.#before, this.#text.value);
+    this.#before = this.#text.value;
     this.#resize();
     this.dispatchEvent(new Event('edit'));
-    this.#tellLine();
+    this.#tellCursor();
+  }
+
+  /** Takes the last change back, or makes it again. */
+  undo(isRedo = false) {
+    const found = isRedo ? this.#model.textHistory.redo(this.#text.value) : this.#model.textHistory.undo(this.#text.value);
+    if (found === null) return;
+    this.#text.value = found.text;
+    this.#text.setSelectionRange(...found.selection);
+    this.#taken();
+    this.#reveal(this.line);
+  }
+
+  /** Puts a text in the place of a part, as typing would. */
+  replace(start, end, text) {
+    this.#selection = [this.#text.selectionStart, this.#text.selectionEnd];
+    this.#text.setRangeText(text, start, end, 'end');
+    this.#typed('replacement');
+  }
+
+  #type(text) {
+    this.replace(this.#text.selectionStart, this.#text.selectionEnd, text);
   }
 
   #pressed(event) {
-    if (event.key === 'Tab' && !event.shiftKey && !event.ctrlKey && !event.altKey && !event.metaKey) {
+    if (event.defaultPrevented || event.isComposing) return;
+    const control = event.ctrlKey || event.metaKey;
+    const isPlain = !control && !event.altKey;
+    const act = (action) => {
       event.preventDefault();
-      this.#indent();
-    }
-    if (event.key === 'Backspace' && !event.ctrlKey && !event.altKey && !event.metaKey) this.#outdent(event);
-    if (event.key === 'Enter' && (event.ctrlKey || event.metaKey) && !event.altKey) {
-      event.preventDefault();
-      this.dispatchEvent(new CustomEvent('run', { detail: !event.shiftKey }));
-    }
-    if (event.key === 'Enter' && !event.ctrlKey && !event.altKey && !event.metaKey && !event.isComposing) {
-      const line = this.#lines[this.line - 1] ?? '';
-      const indent = /^[ \t]*/.exec(line)[0];
-      // a label takes the place of the indent, so the next line is indented as far as its statement
-      const label = /^\w+:[ \t]*/.exec(line)?.[0].replace(/\S/g, ' ').padEnd(TAB) ?? '';
-      event.preventDefault();
-      this.#type(`\n${indent || label}`);
-    }
+      action();
+    };
+    if (event.key === 'Tab' && isPlain && !event.shiftKey) act(() => this.#indent());
+    else if (event.key === 'Backspace' && isPlain) this.#outdent(event);
+    else if (event.key === 'Enter' && isPlain) act(() => this.#type(`\n${indentAfter(this.#lines[this.line - 1] ?? '')}`));
+    else if (event.key === 'Enter' && control) act(() => this.dispatchEvent(new CustomEvent('run', { detail: !event.shiftKey })));
+    else if (control && !event.altKey && event.code === 'KeyZ') act(() => this.undo(event.shiftKey));
+    else if (control && !event.altKey && event.code === 'KeyY') act(() => this.undo(true));
   }
 
   /** Spaces up to the next eighth column; where several lines are chosen, all of them are indented. */
@@ -162,43 +236,51 @@ export class Editor extends EventTarget {
     }
     const end = value[selectionEnd - 1] === '\n' ? selectionEnd - 1 : selectionEnd;
     const indented = value.slice(start, end).replace(/^(?=.)/gm, ' '.repeat(TAB));
-    this.#text.setSelectionRange(start, end);
-    this.#type(indented);
+    this.replace(start, end, indented);
     this.#text.setSelectionRange(start, start + indented.length);
   }
 
   /** Takes an indent back whole, where nothing else stands before the cursor. */
   #outdent(event) {
     const { value, selectionStart, selectionEnd } = this.#text;
-    const before = value.slice(value.lastIndexOf('\n', selectionStart - 1) + 1, selectionStart);
-    if (selectionStart !== selectionEnd || before.length < 2 || before.trim() !== '' || before.includes('\t')) return;
+    const length = selectionStart === selectionEnd ? outdentLength(value.slice(value.lastIndexOf('\n', selectionStart - 1) + 1, selectionStart)) : 0;
+    if (length < 2) return;
     event.preventDefault();
-    this.#text.setSelectionRange(selectionStart - (before.length - TAB * Math.floor((before.length - 1) / TAB)), selectionStart);
-    document.execCommand('delete');
+    this.replace(selectionStart - length, selectionStart, '');
   }
 
-  /** Types into the text, so that it can be undone as typed text can. */
-  #type(text) {
-    if (!document.execCommand('insertText', false, text)) {
-      this.#text.setRangeText(text, this.#text.selectionStart, this.#text.selectionEnd, 'end');
-      this.#typed();
-    }
-  }
+  // Pointing ------------------------------------------------------------------------------------------------------------------
 
-  /** A press beside the text, in the gutter or below the last line, goes to that line. */
-  #pointed(event) {
-    if (event.target === this.#text || event.offsetX > this.#scroller.clientWidth) return;
+  /** The line and the column, from 0, under a pointer. */
+  placeAt(event) {
     const row = Math.floor((event.clientY - this.#scroller.getBoundingClientRect().top + this.#scroller.scrollTop) / ROW);
-    event.preventDefault();
-    this.goToLine(Math.max(1, Math.min(this.#lines.length, row + 1)));
+    const box = this.#text.getBoundingClientRect();
+    const style = getComputedStyle(this.#text);
+    return { line: row + 1, column: (event.clientX - box.left - parseFloat(style.paddingLeft)) / this.columnWidth };
   }
+
+  get columnWidth() {
+    return this.#measure.getBoundingClientRect().width / 100;
+  }
+
+  /** A press on a number makes a breakpoint; one elsewhere beside the text goes to that line. */
+  #pointed(event) {
+    if (event.target === this.#text || event.button !== 0 || event.offsetX > this.#scroller.clientWidth) return;
+    const { line } = this.placeAt(event);
+    event.preventDefault();
+    if (event.target.closest?.('.number') && line <= this.#lines.length) this.breakpoints.toggle(line);
+    else this.goToLine(Math.max(1, Math.min(this.#lines.length, line)));
+  }
+
+  // Drawing -------------------------------------------------------------------------------------------------------------------
 
   #resize() {
     this.#lines = this.#text.value.split('\n');
+    for (const made of Object.values(this.#made)) if (made.size > MOST_MADE) made.clear();
     const widest = this.#lines.reduce((most, line) => Math.max(most, widthOf(line)), 0);
     this.#text.style.height = `${(this.#lines.length + 1) * ROW}px`;
     this.#text.style.width = `${widest + 3}ch`;
-    this.#draw();
+    this.#drawRows();
   }
 
   /** Makes the rows that are in sight, or nearly so. */
@@ -207,53 +289,67 @@ export class Editor extends EventTarget {
     const first = Math.max(0, Math.floor(scrollTop / ROW) - SPARE_ROWS);
     const last = Math.min(this.#lines.length, Math.ceil((scrollTop + clientHeight) / ROW) + SPARE_ROWS);
     this.#rows = new Map();
-    const [bands, marks] = [[this.#band], []];
+    const [bands, marks, colours] = [[this.#band], [this.#measure], []];
     for (let line = first + 1; line <= last; line += 1) {
-      const fault = this.#faults.get(line);
-      this.#rows.set(line, at(line, this.#gutterRow(line, fault)));
-      if (fault === undefined) continue;
+      const text = this.#lines[line - 1];
+      this.#rows.set(line, this.#gutterRow(line));
+      colours.push(this.#row('colours', line, text, () => coloured(text)));
+      if (!this.#faults.has(line)) continue;
       bands.push(at(line, element('div', { className: 'faulty' })));
-      const mark = at(line, element('span', { textContent: `${fault}: ${codeText(fault)}` }));
-      mark.style.left = `${widthOf(this.#lines[line - 1]) + 2}ch`;
-      marks.push(mark);
+      marks.push(...this.#faultMarks(line, text));
     }
-    this.#gutter.replaceChildren(...this.#rows.values());
-    this.#bands.replaceChildren(...bands);
-    this.#marks.replaceChildren(...marks);
+    setChildren(this.#layers.gutter, [...this.#rows.values()]);
+    setChildren(this.#layers.bands, bands);
+    setChildren(this.#layers.colours, colours);
+    setChildren(this.#layers.marks, marks);
     this.#drawHere();
+  }
+
+  /** The row that was made of the same text for that line, or a new one. */
+  #row(kind, line, text, make) {
+    const known = this.#made[kind].get(line);
+    if (known?.text === text) return known.row;
+    const row = at(line, make());
+    this.#made[kind].set(line, { text, row });
+    return row;
+  }
+
+  /** What is wrong with a line, after it; and a line under the tokens where it is, once the program has said so. */
+  #faultMarks(line, text) {
+    const told = at(line, element('span', { className: 'told', textContent: `${this.#faults.get(line)}: ${this.faultText(line)}` }));
+    told.style.left = `${widthOf(text) + 2}ch`;
+    const place = this.#places.get(line);
+    if (place === undefined) return [told];
+    const underline = at(line, element('span', { className: 'underline' }));
+    const from = columnOf(text, place.start);
+    underline.style.left = `${from}ch`;
+    underline.style.width = `${Math.max(1, columnOf(text, place.end) - from)}ch`;
+    return [told, underline];
   }
 
   /** Marks the line that pc is at, and no other. */
   #drawHere() {
-    this.#gutter.querySelector('.here')?.classList.remove('here');
-    this.#rows.get(this.#here)?.classList.add('here');
-    this.#band.hidden = this.#here === null;
+    const row = this.#rows.get(this.#here);
+    for (const other of this.#layers.gutter.querySelectorAll('.here')) if (other !== row) other.classList.remove('here');
+    row?.classList.add('here');
+    if (this.#band.hidden !== (this.#here === null)) this.#band.hidden = this.#here === null;
     at(this.#here ?? 1, this.#band);
   }
 
-  #gutterRow(line, fault) {
+  #gutterRow(line) {
+    const fault = this.#faults.get(line);
     const { address, field } = this.#listing[line - 1] ?? { address: null, field: '' };
-    const part = (className, textContent) => element('span', { className, textContent });
     const shown = address === null ? (this.#listing[line - 1] ? '----' : '') : hex(address, 4);
-    const kind = fault === undefined ? 'row' : 'row faulty';
-    return element('div', { className: kind }, part('number', line), part('address', shown), part('field', fault ?? field));
+    const kinds = ['row', fault !== undefined && 'faulty', this.breakpoints.has(line) && 'break', this.#covered.has(line) && 'covered'];
+    const [name, title] = [kinds.filter(Boolean).join(' '), this.#covered.get(line) ?? ''];
+    const part = (className, textContent) => element('span', { className, textContent });
+    return this.#row('gutter', line, [name, title, shown, fault ?? field].join('|'), () =>
+      element('div', { className: name, title }, part('number', line), part('address', shown), part('field', fault ?? field)),
+    );
   }
 
-  #tellLine() {
-    const { line } = this;
-    const { address, field } = this.#listing[line - 1] ?? {};
-    const fault = this.#faults.get(line);
-    const bytes = field && fault === undefined ? `, ${field}` : '';
-    const text = `line ${line}${address === null || address === undefined ? '' : `, #${hex(address, 3)}`}${bytes}`;
-    if (`${text} ${fault}` === this.#told) return;
-    this.#told = `${text} ${fault}`;
-    this.#state.textContent = text;
-    if (fault === undefined) return;
-    this.#state.append(`; ${fault}: ${codeText(fault)} `);
-    if (!this.#explains) return;
-    const explain = element('button', { type: 'button', textContent: 'Explain', title: 'F1' });
-    explain.addEventListener('click', () => this.dispatchEvent(new CustomEvent('explain', { detail: fault })));
-    this.#state.append(explain);
+  #tellCursor() {
+    this.dispatchEvent(new Event('cursor'));
   }
 }
 
@@ -261,12 +357,4 @@ export class Editor extends EventTarget {
 function at(line, made) {
   made.style.transform = `translateY(${(line - 1) * ROW}px)`;
   return made;
-}
-
-/** How many columns a line takes, its tabs at every eighth. */
-function widthOf(line) {
-  if (!line.includes('\t')) return line.length;
-  let width = 0;
-  for (const character of line) width += character === '\t' ? TAB - (width % TAB) : 1;
-  return width;
 }

@@ -1,18 +1,17 @@
 // The events of the keys near the step looked at, each of which can be changed.
 
-import { byId, element, grouped, oncePerFrame } from './dom.mjs';
+import { byId, element, grouped, oncePerFrame, setText } from './dom.mjs';
 import { hex } from './answers.mjs';
 import { KEYS } from './key_script.mjs';
 
 const SHOWN = 40;
-const STEPS_MILLISECONDS = 100;
 const FIELDS = 'input, select, button';
 
 export class EventsView {
   #model;
   #rows = byId('event-rows');
   #state = byId('keys-state');
-  #undo = byId('undo-keys');
+  #buttons = Object.fromEntries(['undo-keys', 'undo-play', 'redo-keys'].map((name) => [name, byId(name)]));
   #form = byId('add-event');
   /** The rows as they were made, of which keys, and the place of the first of them among the events. */
   #made = [];
@@ -20,33 +19,45 @@ export class EventsView {
   #first = 0;
   #here = null;
   #draw = oncePerFrame(() => this.#drawRows());
-  #timer = null;
+  #step = 0;
 
   constructor(model) {
     this.#model = model;
-    model.addEventListener('change', ({ detail }) => (detail === 'step' ? this.#drawSoon() : this.#draw()));
+    model.addEventListener('change', ({ detail }) => {
+      if (detail !== 'step') this.#draw();
+    });
     this.#form.elements.key.append(...keyOptions(0));
     this.#form.addEventListener('submit', (event) => {
       event.preventDefault();
       const { step, key, down } = this.#form.elements;
       model.setKeys(model.keys.with(Math.min(model.lastStep, Number(step.value)), Number(key.value), down.value === 'down'));
     });
-    this.#undo.addEventListener('click', () => model.undoKeys());
+    this.#buttons['undo-keys'].addEventListener('click', () => model.undoKeys());
+    this.#buttons['undo-play'].addEventListener('click', () => model.undoKeys(true));
+    this.#buttons['redo-keys'].addEventListener('click', () => model.redoKeys());
     this.#draw();
   }
 
-  /** While steps pass by quickly, the rows aren't drawn anew for each. */
-  #drawSoon() {
-    this.#timer ??= setTimeout(() => {
-      this.#timer = null;
-      this.#draw();
-    }, STEPS_MILLISECONDS);
+  /** Marks the events around the step that is shown. */
+  show(step) {
+    this.#step = step;
+    this.#drawRows();
+  }
+
+  #drawButtons() {
+    const { keyHistory } = this.#model;
+    this.#buttons['undo-keys'].disabled = !keyHistory.canUndo;
+    this.#buttons['redo-keys'].disabled = !keyHistory.canRedo;
+    this.#buttons['undo-play'].hidden = keyHistory.lastPlay < 2;
+    this.#buttons['undo-play'].title = `Undoes all ${keyHistory.lastPlay} changes that the last play recorded`;
   }
 
   #drawRows() {
-    const { keys, step, lastStep } = this.#model;
-    this.#undo.disabled = !this.#model.canUndoKeys;
-    this.#state.textContent = keys.size === 0 ? 'no events: press keys while it plays' : `${grouped(keys.size)} ${keys.size === 1 ? 'event' : 'events'}`;
+    const { keys, lastStep } = this.#model;
+    const step = this.#step;
+    this.#drawButtons();
+    const told = keys.size === 0 ? 'no events: press keys while it plays' : `${grouped(keys.size)} ${keys.size === 1 ? 'event' : 'events'}`;
+    setText(this.#state, told);
     const { elements } = this.#form;
     elements.step.max = lastStep;
     if (!this.#form.contains(document.activeElement)) elements.step.value = step;
@@ -128,7 +139,7 @@ export class EventsView {
       cell(
         button('▸', `To ${name}`, () => this.#model.setStep(step)),
         ' ',
-        button('×', `Take ${name} out`, () => this.#model.setKeys(this.#model.keys.without(step, key))),
+        button('×', `Remove ${name}`, () => this.#model.setKeys(this.#model.keys.without(step, key))),
       ),
     );
   }

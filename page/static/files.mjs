@@ -3,9 +3,10 @@
 import { element } from './dom.mjs';
 import { toBytes } from './text_form.mjs';
 
-/** Hands a byte string to the browser as a file. */
-export function download(name, byteString) {
-  const address = URL.createObjectURL(new Blob([toBytes(byteString)], { type: 'application/octet-stream' }));
+/** Hands bytes, or a byte string, to the browser as a file. */
+export function download(name, content) {
+  const bytes = typeof content === 'string' ? toBytes(content) : content;
+  const address = URL.createObjectURL(new Blob([bytes], { type: 'application/octet-stream' }));
   element('a', { href: address, download: name }).click();
   setTimeout(() => URL.revokeObjectURL(address), 10_000);
 }

@@ -1,5 +1,7 @@
 // The script of keys: at most one event for each step and key, which says that the key is down, or up, from that step on.
 
+import { readNumber } from './numbers.mjs';
+
 export const KEYS = 16;
 
 /** Events in the order of steps, and of keys where two share a step. A script never changes: an edit makes a new one. */
@@ -78,15 +80,19 @@ export function writeKeys(script) {
   return script.events.map(({ step, key, down }) => `${step} ${key} ${word(down)}\n`).join('');
 }
 
-/** Reads such a text; a line may begin with `kins`. Blank lines are skipped, and a faulty line is thrown with its number. */
-export function readKeys(text, lastStep) {
-  const events = new Map();
-  text.split('\n').forEach((line, place) => {
-    if (line.trim() === '') return;
-    const found = /^\s*(?:kins\s+)?(\d{1,9})\s+(\d{1,2})\s+(down|up)\s*$/.exec(line);
-    const [step, key] = found === null ? [NaN, NaN] : [Number(found[1]), Number(found[2])];
-    if (!(step <= lastStep && key < KEYS)) throw new Error(`line ${place + 1} of the keys says no event: ${line.slice(0, 60)}`);
-    events.set(`${step} ${key}`, { step, key, down: found[3] === 'down' });
+/**
+ * Reads a text of key events that the program takes: `STEP KEY down` or `up` in a line, a `;` before a comment, numbers as in a
+ * script. Which texts it takes the program says (`keys` of the bridge); what can't be read is thrown with its line.
+ */
+export function readKeys(text) {
+  const events = text.split('\n').flatMap((line, place) => {
+    const words = line.replace(/;.*/s, '').trim();
+    if (words === '') return [];
+    const [step, key, state, ...more] = words.split(/ +/);
+    const event = { step: readNumber(step), key: readNumber(key ?? ''), down: state === 'down' };
+    const isEvent = event.step !== null && event.key !== null && event.key < KEYS && (event.down || state === 'up') && more.length === 0;
+    if (!isEvent) throw new Error(`line ${place + 1} of the keys is not an event: ${line.slice(0, 60)}`);
+    return [event];
   });
-  return new KeyScript(events.values());
+  return new KeyScript(new Map(events.map((event) => [`${event.step} ${event.key}`, event])).values());
 }

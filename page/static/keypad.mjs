@@ -42,8 +42,9 @@ export class Keypad {
     });
   }
 
-  show(model) {
-    const held = model.keys.held(model.step);
+  /** Which keys are down at a step. */
+  show(keys, step) {
+    const held = keys.held(step);
     for (const [key, button] of this.#buttons) button.setAttribute('aria-pressed', String(held[key]));
   }
 }

@@ -17,6 +17,7 @@ export class MemoryView {
   #heads = [];
   #cells = [];
   #machine = null;
+  #names = null;
   #readAddress;
 
   /** `readAddress(text)` is the number that a text says, or null. */
@@ -48,9 +49,10 @@ export class MemoryView {
     if (document.activeElement !== this.#from) this.#from.value = `#${hex(this.#start, 3)}`;
   }
 
-  show(machine) {
+  show(machine, { names }) {
     if (machine.code !== null) return;
     this.#machine = machine;
+    this.#names = names;
     this.#draw();
   }
 
@@ -77,6 +79,8 @@ export class MemoryView {
     ];
     const name = marks.filter(Boolean).join(' ');
     if (cell.className !== name) cell.className = name;
+    const label = this.#names.at(address) ?? '';
+    if (cell.title !== label) cell.title = label;
   }
 
   /** Makes the cells anew where there is room for other columns. */
@@ -96,11 +100,11 @@ export class MemoryView {
 
   #tellChanges(changed) {
     if (changed.length === 0) {
-      this.#changes.textContent = '';
+      setText(this.#changes, '');
       return;
     }
     const [first, last] = [changed[0], changed[changed.length - 1]];
-    const where = first === last ? `#${hex(first, 3)}` : `#${hex(first, 3)} to #${hex(last, 3)}`;
+    const where = first === last ? this.#names.told(first) : `${this.#names.told(first)} to #${hex(last, 3)}`;
     const button = element('button', { type: 'button', textContent: where });
     button.addEventListener('click', () => this.#goTo(first - (first % this.#columns)));
     this.#changes.replaceChildren('the step before wrote ', button);

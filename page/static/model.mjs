@@ -1,14 +1,12 @@
 // What the author has: the text, the keys, the settings and the step looked at. Each change is told to all who listen.
 
+import { KeyHistory } from './key_history.mjs';
 import { KeyScript } from './key_script.mjs';
+import { TextHistory } from './text_history.mjs';
 import { programLines } from './text_form.mjs';
-
-const MOST_UNDONE = 200;
 
 export class Model extends EventTarget {
   #wanted = null;
-  #undone = [];
-  #group = null;
 
   text = '';
   form = { encoding: 'utf-8', lineEnd: '\n' };
@@ -17,6 +15,8 @@ export class Model extends EventTarget {
   step = 0;
   lastStep = 100_000;
   withheld = new Map();
+  textHistory = new TextHistory();
+  keyHistory = new KeyHistory();
 
   /** What the program is to hold. The same object comes back as long as nothing of it changes. */
   get wanted() {
@@ -44,28 +44,32 @@ export class Model extends EventTarget {
     this.#changed('text');
   }
 
-  /** Changes of one group, such as a recording, are undone together. */
-  setKeys(keys, group = null) {
+  /** Another document: what can be undone of it begins with what was kept. */
+  startWith({ text, form, keys, textHistory, keyHistory }) {
+    this.textHistory = textHistory;
+    this.keyHistory = keyHistory;
+    this.setText(text, form);
+    this.startWithKeys(keys);
+  }
+
+  /** `group` says of which `play` or `move` the change is a part (key_history.mjs). */
+  setKeys(keys, group = {}) {
     if (keys === this.keys) return;
-    if (group === null || group !== this.#group) this.#undone.push(this.keys);
-    if (this.#undone.length > MOST_UNDONE) this.#undone.shift();
-    this.#group = group;
+    this.keyHistory.record(this.keys, keys, group);
     this.#takeKeys(keys);
   }
 
   /** The keys at the start: there is nothing to undo. */
   startWithKeys(keys) {
-    this.#takeKeys(keys);
+    if (keys !== this.keys) this.#takeKeys(keys);
   }
 
-  get canUndoKeys() {
-    return this.#undone.length > 0;
+  undoKeys(wholePlay = false) {
+    this.#takeKeys(this.keyHistory.undo(this.keys, wholePlay));
   }
 
-  undoKeys() {
-    const keys = this.#undone.pop();
-    this.#group = null;
-    if (keys !== undefined) this.#takeKeys(keys);
+  redoKeys(wholePlay = false) {
+    this.#takeKeys(this.keyHistory.redo(this.keys, wholePlay));
   }
 
   #takeKeys(keys) {

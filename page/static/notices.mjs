@@ -3,7 +3,6 @@
 import { byId, element } from './dom.mjs';
 
 const place = byId('notices');
-new ResizeObserver(() => document.documentElement.style.setProperty('--notices', `${place.offsetHeight}px`)).observe(place);
 
 /**
  * Shows a notice in the place of one with the same name. `choices` are pairs of a text and what it does; each takes the notice

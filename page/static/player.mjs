@@ -9,7 +9,7 @@ export class Player extends EventTarget {
   #position = 0;
   #shown = 0;
   #time = 0;
-  #recording = 0;
+  #play = '';
   #pressed = new Map();
 
   speed = 1;
@@ -32,7 +32,7 @@ export class Player extends EventTarget {
     this.#position = this.#model.step;
     this.#shown = this.#model.step;
     this.#time = performance.now();
-    this.#recording += 1;
+    this.#play = `play ${Date.now()}`;
     if (direction !== 0) requestAnimationFrame((now) => this.#tick(now));
     this.dispatchEvent(new Event('change'));
   }
@@ -99,7 +99,7 @@ export class Player extends EventTarget {
   }
 
   #record(keys) {
-    this.#model.setKeys(keys, `recording ${this.#recording}`);
+    this.#model.setKeys(keys, { play: this.#play });
   }
 
   #toggle(key) {

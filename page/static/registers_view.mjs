@@ -6,11 +6,11 @@ import { hex } from './answers.mjs';
 /** The fields that are shown, in order: a name, its text in the registers of a machine, and what it means where the name doesn't say. */
 const SMALL = Array.from({ length: 16 }, (_, number) => [`V${hex(number, 1).toUpperCase()}`, ({ v }) => hex(v[number], 2)]);
 const WIDE = [
-  ['pc', ({ pc }) => hex(pc, 4)],
-  ['I', ({ i }) => hex(i, 4)],
+  ['pc', ({ pc }) => hex(pc, 4), '', ({ pc }) => pc],
+  ['I', ({ i }) => hex(i, 4), '', ({ i }) => i],
   ['DT', ({ dt }) => hex(dt, 2)],
   ['ST', ({ st }) => hex(st, 2)],
-  ['draws', ({ draws }) => draws, 'random bytes drawn so far'],
+  ['random', ({ draws }) => draws, 'random bytes used so far'],
   ['size', ({ size }) => size],
   ['state', ({ state }) => state],
 ];
@@ -39,18 +39,19 @@ export class RegistersView {
   #cell(field) {
     const value = element('dd', { textContent: '–' });
     const cell = element('div', { className: WHOLE.includes(field) ? 'whole' : '' }, element('dt', { textContent: field[0] }), value);
-    this.#cells.push({ text: field[1], meaning: field[2] ?? '', cell, value });
+    this.#cells.push({ text: field[1], meaning: field[2] ?? '', address: field[3] ?? null, cell, value });
     return cell;
   }
 
-  show({ code, registers, before }) {
+  show({ code, registers, before }, { names }) {
     if (code !== null) return;
-    for (const { text, meaning, cell, value } of this.#cells) {
+    for (const { text, meaning, address, cell, value } of this.#cells) {
       const now = text(registers);
       const was = before === null ? now : text(before.registers);
       setText(value, now);
       cell.classList.toggle('changed', now !== was);
-      const description = describe(meaning, now, was);
+      const name = address === null ? null : names.at(address(registers));
+      const description = describe([meaning, name].filter(Boolean).join(''), now, was);
       if (cell.title !== description) cell.title = description;
     }
   }

@@ -1,6 +1,6 @@
-// The screen on a canvas of 128 by 64 stored points.
+// The screen on a canvas of 128 by 64 stored pixels.
 
-import { byId, colour, onTheme } from './dom.mjs';
+import { byId, colour, onTheme, setText } from './dom.mjs';
 import { codeText } from './codes.mjs';
 
 const WIDTH = 128;
@@ -26,36 +26,36 @@ export class ScreenView {
       return;
     }
     const { size, state } = machine.registers;
-    const points = size === 'high' ? 'high, 128 × 64' : 'low, 64 × 32';
-    this.#tell(state === 'run' ? points : `${state}: ${stopText(state, machine.wanted.options.profile)}`);
+    const shape = size === 'high' ? 'high, 128 × 64' : 'low, 64 × 32';
+    this.#tell(state === 'run' ? shape : `${state}: ${stopText(state, machine.wanted.options.profile)}`);
     this.#rows = machine.screen.rows;
     clearTimeout(this.#flashing);
     this.#draw();
   }
 
   #tell(text) {
-    this.#state.textContent = text;
-    this.#state.title = text;
+    setText(this.#state, text);
+    if (this.#state.title !== text) this.#state.title = text;
   }
 
-  /** Shows for a moment which points differ from those of another screen. */
+  /** Shows for a moment which pixels differ from those of another screen. */
   flash(other) {
     if (matchMedia('(prefers-reduced-motion: reduce)').matches) return;
-    const theirs = pointsOf(other.rows);
-    const marked = pointsOf(this.#rows).map((point, place) => point !== theirs[place]);
+    const theirs = pixelsOf(other.rows);
+    const marked = pixelsOf(this.#rows).map((pixel, place) => pixel !== theirs[place]);
     this.#draw(marked);
     clearTimeout(this.#flashing);
     this.#flashing = setTimeout(() => this.#draw(), FLASH_MILLISECONDS);
   }
 
-  /** Draws the points; those that are marked in other colours. */
+  /** Draws the pixels; those that are marked in other colours. */
   #draw(marked = null) {
     const plain = ['--screen-dark', '--screen-lit'].map((name) => bytesOf(colour(name)));
     const changed = ['--changed-ground', '--changed'].map((name) => bytesOf(colour(name)));
     const picture = this.#context.createImageData(WIDTH, HEIGHT);
     const colours = new Uint32Array(picture.data.buffer);
-    pointsOf(this.#rows).forEach((point, place) => {
-      colours[place] = (marked !== null && marked[place] ? changed : plain)[point];
+    pixelsOf(this.#rows).forEach((pixel, place) => {
+      colours[place] = (marked !== null && marked[place] ? changed : plain)[pixel];
     });
     this.#context.putImageData(picture, 0, 0);
   }
@@ -66,16 +66,16 @@ function stopText(state, profile) {
   return state === 'S2' && profile === 'vip' ? 'no instruction of vip at pc' : codeText(state);
 }
 
-/** The points of the stored rows, row after row: 1 where one is lit. */
-function pointsOf(rows) {
-  const points = Array(WIDTH * HEIGHT).fill(0);
-  for (const { row, points: digits } of rows) {
+/** The pixels of the stored rows, row after row: 1 where one is lit. */
+export function pixelsOf(rows) {
+  const pixels = Array(WIDTH * HEIGHT).fill(0);
+  for (const { row, digits } of rows) {
     for (let place = 0; place < digits.length; place += 1) {
       const digit = parseInt(digits[place], 16);
-      for (let bit = 0; bit < 4; bit += 1) points[row * WIDTH + 4 * place + bit] = (digit >> (3 - bit)) & 1;
+      for (let bit = 0; bit < 4; bit += 1) pixels[row * WIDTH + 4 * place + bit] = (digit >> (3 - bit)) & 1;
     }
   }
-  return points;
+  return pixels;
 }
 
 /** A colour `#rrggbb` as a picture holds it. */
@@ -84,8 +84,8 @@ function bytesOf(name) {
   return new Uint32Array(new Uint8Array([red, green, blue, 255]).buffer)[0];
 }
 
-/** How many points differ between two screens. */
-export function pointsApart(one, other) {
-  const theirs = pointsOf(other.rows);
-  return pointsOf(one.rows).filter((point, place) => point !== theirs[place]).length;
+/** How many pixels differ between two screens. */
+export function pixelsApart(one, other) {
+  const theirs = pixelsOf(other.rows);
+  return pixelsOf(one.rows).filter((pixel, place) => pixel !== theirs[place]).length;
 }

@@ -1,15 +1,15 @@
-// The search in time: what is looked for, how far it is, and a stop.
+// The search in time: what is looked for, the progress, and a stop.
 
 import { byId, element, grouped } from './dom.mjs';
 import { hex } from './answers.mjs';
-import { findStep, SearchStopped, subject } from './finder.mjs';
+import { findStep, NoSuchStep, SearchStopped, subject } from './finder.mjs';
 import { readNumber } from './numbers.mjs';
 
 const SUBJECTS = [
   ['pc', 'pc'],
   ['byte', 'the byte'],
   ...Array.from({ length: 16 }, (_, register) => [`v${hex(register, 1)}`, `V${hex(register, 1).toUpperCase()}`]),
-  ...[['i', 'I'], ['dt', 'DT'], ['st', 'ST'], ['draws', 'random draws'], ['stopped', 'the machine stopped']],
+  ...[['i', 'I'], ['dt', 'DT'], ['st', 'ST'], ['draws', 'random bytes used'], ['frames', 'frames of the call stack'], ['stopped', 'the machine stopped']],
 ];
 
 export class SearchView {
@@ -23,6 +23,7 @@ export class SearchView {
   #stop = byId('search-stop');
   #goOn = false;
   #running = false;
+  #names = '';
 
   /**
    * `ask(questions)` answers about what the model wants; `symbols()` are the names; `lineAddress()` is the cursor line's, or
@@ -69,7 +70,10 @@ export class SearchView {
   }
 
   showNames() {
-    byId('names').replaceChildren(...this.#symbols().slice(0, 500).map(({ name }) => element('option', { value: name })));
+    const names = this.#symbols().slice(0, 500).map(({ name }) => name);
+    if (names.join() === this.#names) return;
+    this.#names = names.join();
+    byId('names').replaceChildren(...names.map((value) => element('option', { value })));
   }
 
   stop() {
@@ -93,33 +97,45 @@ export class SearchView {
     const kind = isStop ? 'is' : relation.value;
     if (kind !== 'changes' && wanted === null) return this.#tell(`'${value.value}' is no number and no name of the source`);
     if (chosen.value === 'byte' && !(at !== null && at < 4096)) return this.#tell(`'${address.value}' is no address`);
-    await this.#run(forward, { of: subject(chosen.value, at ?? 0), relation: kind, wanted });
+    this.#tell('');
+    const told = await this.find(forward, { of: subject(chosen.value, at ?? 0), relation: kind, wanted });
+    if (told !== null) this.#tell(told);
   }
 
-  async #run(forward, question) {
+  /** Goes to the next step, or the last before, that a question is true of; returns what is to be said of it. */
+  async find(forward, question) {
+    if (this.#running) return null;
     const from = this.#model.step;
     this.#show(true);
-    this.#tell('');
     try {
-      const found = await findStep({
-        ...question,
-        ask: (questions) => this.#askOn(questions),
-        from,
-        forward,
-        lastStep: this.#model.lastStep,
-        progress: (part) => {
-          this.#progress.value = part;
-          return this.#goOn;
-        },
-      });
+      const found = await this.#found(forward, question, from);
       if (!this.#goOn) throw new SearchStopped();
-      if (found !== null) this.#model.setStep(found);
-      this.#tell(found === null ? `no such step ${forward ? 'after' : 'before'} ${grouped(from)}` : `step ${grouped(found)}`);
+      if (found === null) return `no such step ${forward ? 'after' : 'before'} ${grouped(from)}`;
+      this.#model.setStep(found);
+      return `step ${grouped(found)}`;
     } catch (fault) {
-      this.#tell(fault instanceof SearchStopped ? 'stopped' : fault.message || 'the search was given up');
+      if (fault instanceof NoSuchStep) return `no such step: ${fault.message}`;
+      return fault instanceof SearchStopped ? 'stopped' : fault.message || 'the search was given up';
     } finally {
       this.#show(false);
     }
+  }
+
+  #found(forward, question, from) {
+    const { lastStep, rate, keys } = this.#model;
+    return findStep({
+      ...question,
+      ask: (questions) => this.#askOn(questions),
+      from,
+      forward,
+      lastStep,
+      rate,
+      lastEvent: keys.events.at(-1)?.step ?? 0,
+      progress: (part) => {
+        this.#progress.value = part;
+        return this.#goOn;
+      },
+    });
   }
 
   /** An edit stops the search, since its answers would be of two runs. */

@@ -4,6 +4,8 @@ import { byId } from './dom.mjs';
 
 /** A longer tape, in digits, is told by its length. */
 const TAPE_SHOWN = 12;
+/** What holds where nothing is said. */
+const USUAL = { rate: '10', profile: 'schip', every: '1000' };
 
 export class SettingsView {
   #dialog = byId('settings');
@@ -11,15 +13,18 @@ export class SettingsView {
   #model;
   #known;
 
+  #appearance;
+
   /** `known` are the names of the options that the program takes. */
-  constructor(model, known) {
+  constructor(model, known, appearance) {
     this.#model = model;
+    this.#appearance = appearance;
     this.#known = new Set(known);
     for (const part of this.#form.querySelectorAll('[data-option]')) part.hidden = !this.#known.has(part.dataset.option);
     const lacking = ['profile', 'every'].filter((name) => !this.#known.has(name)).map((name) => `--${name}`);
     byId('settings-lack').textContent = lacking.length === 0 ? '' : `This program doesn't take ${lacking.join(' and ')} yet.`;
     this.#form.addEventListener('submit', (event) => {
-      if (event.submitter?.value === 'apply') model.setOptions(this.#chosen());
+      if (event.submitter?.value === 'apply') this.#apply();
     });
     model.addEventListener('change', ({ detail }) => {
       if (detail === 'options') byId('settings-state').textContent = this.#summary();
@@ -50,7 +55,18 @@ export class SettingsView {
     elements.tape.value = options.tape ?? '';
     elements.profile.value = options.profile ?? 'schip';
     elements.every.value = options.every ?? '1000';
+    elements.theme.value = this.#appearance.theme;
+    elements.screen.value = this.#appearance.screen;
     this.#dialog.showModal();
+  }
+
+  /** A run is made anew only where its settings are others. */
+  #apply() {
+    const { theme, screen } = this.#form.elements;
+    this.#appearance.choose({ theme: theme.value, screen: screen.value });
+    const chosen = this.#chosen();
+    const same = (one, other) => JSON.stringify(Object.entries({ ...USUAL, ...one }).sort()) === JSON.stringify(Object.entries({ ...USUAL, ...other }).sort());
+    if (!same(chosen, this.#model.options)) this.#model.setOptions(chosen);
   }
 
   #chosen() {

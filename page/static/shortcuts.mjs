@@ -11,6 +11,9 @@ const BY_PLACE = {
   KeyL: ['on-thousand'],
   KeyK: ['play'],
   KeyB: ['play-back'],
+  KeyN: ['break-on', 'break-back'],
+  KeyM: ['over', 'over-back'],
+  KeyU: ['out', 'out-back'],
 };
 
 /** Keys that do so outside texts alone, by what they type. */
@@ -64,8 +67,10 @@ function actionOf(event) {
   const control = event.ctrlKey || event.metaKey;
   if (event.key === 'F8') return event.shiftKey ? 'fault-before' : 'next-fault';
   if (event.key === 'F1') return 'explain';
+  if (event.key === 'F9') return 'breakpoint';
   if (control && !event.altKey && event.code === 'KeyS') return 'save';
-  if (control && !event.altKey && event.code === 'KeyZ') return inText ? undefined : 'undo-keys';
+  if (control && !event.altKey && event.code === 'KeyZ') return inText ? undefined : event.shiftKey ? 'redo-keys' : 'undo-keys';
+  if (control && !event.altKey && event.code === 'KeyY') return inText ? undefined : 'redo-keys';
   if (control || event.metaKey) return undefined;
   if (event.key === 'Escape' && inText) return 'to-timeline';
   const byPlace = BY_PLACE[event.code];

@@ -1,12 +1,18 @@
-// What the browser keeps of each file: the text, the keys, the settings, the step; and the texts that were put aside for others.
+// What the browser keeps of each file: the text, the keys, the settings, the step and what can be undone; and earlier texts.
 
-import { readKeys, writeKeys } from './key_script.mjs';
+import { KeyHistory } from './key_history.mjs';
+import { KeyScript, readKeys, writeKeys } from './key_script.mjs';
+import { TextHistory } from './text_history.mjs';
 
+const PREFIX = 'chipbench-page ';
+const EARLIER = 'chipbench-page, earlier';
 const LATER_MILLISECONDS = 300;
-const MOST_ASIDE = 10;
+const MOST_EARLIER = 20;
+const MOST_SAVES = 10;
+const MOST_EARLIER_CHARACTERS = 1_500_000;
 
 export class Store {
-  #name;
+  #slot = null;
   #timer = null;
   #model;
   #known;
@@ -21,8 +27,7 @@ export class Store {
    * `known()` is the digest of the file that the text was last the same as. `onFull()` is called when the browser keeps no more,
    * `onOther()` when the text of another window was put aside for that of this one.
    */
-  constructor(path, model, { known, onFull, onOther }) {
-    this.#name = `chipbench-page ${path ?? 'without a file'}`;
+  constructor(model, { known, onFull, onOther }) {
     this.#model = model;
     this.#known = known;
     this.#onFull = onFull;
@@ -33,82 +38,146 @@ export class Store {
     addEventListener('pagehide', () => this.keep());
   }
 
+  /** From now on the work is kept under this name. */
+  use(slot) {
+    this.#slot = slot;
+    this.#seen = undefined;
+    this.#work = null;
+    this.#text = null;
+  }
+
   /** Keeps what the author has; but where another window has kept its own since, only once something is changed in this one. */
   keep() {
     clearTimeout(this.#timer);
     this.#timer = null;
-    const { text, form, keys, options, step } = this.#model;
+    if (this.#slot === null) return;
+    const { text, form, keys, options, step, textHistory, keyHistory } = this.#model;
     const work = { text, form, keys: writeKeys(keys), known: this.#known() };
     const isChanged = JSON.stringify(work) !== this.#work;
-    const kept = this.#content(this.#name);
+    const kept = content(PREFIX + this.#slot);
     const isOther = kept !== this.#seen && this.#seen !== undefined;
     if (isOther && !isChanged) return;
     if (isOther) this.#putOtherAside(parsed(kept), text);
     this.#work = JSON.stringify(work);
     this.#text = text;
-    this.#seen = this.#write(this.#name, { ...work, options, step });
+    this.#seen = this.#write(PREFIX + this.#slot, { ...work, options, step });
+    this.#write(`${PREFIX}${this.#slot}, history`, { text: textHistory, keys: keyHistory });
   }
 
   #putOtherAside(other, text) {
     if (typeof other?.text !== 'string' || other.text === text || other.text === this.#text) return;
-    this.putAside(other);
+    this.putEarlier({ text: other.text, form: formOf(other.form), slot: this.#slot, why: 'kept by another window' });
     this.#onOther();
   }
 
-  #content(name) {
-    try {
-      return localStorage.getItem(name);
-    } catch {
-      return null;
-    }
-  }
-
   /** Returns what is kept now. */
-  #write(name, content) {
+  #write(name, value) {
     try {
-      localStorage.setItem(name, JSON.stringify(content));
+      localStorage.setItem(name, JSON.stringify(value));
     } catch {
       this.#onFull();
     }
-    return this.#content(name);
+    return content(name);
   }
 
-  /** What was kept, or null. */
+  /** What was kept, or null. What can't be read of it is left out. */
   read() {
-    this.#seen = this.#content(this.#name);
+    this.#seen = content(PREFIX + this.#slot);
     const kept = parsed(this.#seen);
     if (typeof kept?.text !== 'string') return null;
-    try {
-      return { ...kept, keys: readKeys(kept.keys, Infinity) };
-    } catch {
-      return null;
-    }
+    const history = parsed(content(`${PREFIX}${this.#slot}, history`));
+    return {
+      text: kept.text,
+      form: formOf(kept.form),
+      known: typeof kept.known === 'string' ? kept.known : null,
+      keys: keysOf(kept.keys),
+      options: optionsOf(kept.options),
+      step: Number.isSafeInteger(kept.step) ? kept.step : 0,
+      textHistory: TextHistory.of(history?.text, kept.text),
+      keyHistory: KeyHistory.of(history?.keys),
+    };
   }
 
-  /** The texts that others took the place of, until they are taken back or dropped; the newest is the last. */
-  get aside() {
-    const kept = parsed(this.#content(`${this.#name}, aside`));
-    return [kept].flat().filter((one) => typeof one?.text === 'string');
+  /** The texts that others took the place of, until they are dropped; the newest is the last. */
+  get earlier() {
+    const kept = parsed(content(EARLIER));
+    return [kept].flat().filter((one) => typeof one?.text === 'string').map((one) => ({ ...one, form: formOf(one.form) }));
   }
 
-  putAside({ text, form }) {
-    if (text.trim() === '') return;
-    const others = this.aside.filter((one) => one.text !== text);
-    this.#write(`${this.#name}, aside`, [...others, { text, form }].slice(-MOST_ASIDE));
+  /** Puts a text aside, with the slot that it belongs to and why it was put aside. */
+  putEarlier(entry) {
+    if (entry.text.trim() === '') return;
+    const others = this.earlier.filter((one) => one.text !== entry.text || one.slot !== entry.slot);
+    const all = newest([...others, { ...entry, time: Date.now() }]);
+    let size = all.reduce((sum, one) => sum + one.text.length, 0);
+    while (all.length > 1 && size > MOST_EARLIER_CHARACTERS) size -= all.shift().text.length;
+    this.#write(EARLIER, all);
   }
 
-  /** Takes the newest of them out, and returns it. */
-  takeAside() {
-    const { aside } = this;
-    this.#write(`${this.#name}, aside`, aside.slice(0, -1));
-    return aside.at(-1);
+  /** Takes one of them out, by its place, and returns it. */
+  takeEarlier(place) {
+    const { earlier } = this;
+    const [taken] = earlier.splice(place, 1);
+    this.#write(EARLIER, earlier);
+    return taken;
   }
 }
 
-function parsed(content) {
+/** The newest of the texts, and of those that a save took the place of. */
+function newest(entries) {
+  const isSave = ({ kind }) => kind === 'save';
+  const kept = new Set([...entries.filter(isSave).slice(-MOST_SAVES), ...entries.filter((entry) => !isSave(entry)).slice(-MOST_EARLIER)]);
+  return entries.filter((entry) => kept.has(entry));
+}
+
+function content(name) {
   try {
-    return JSON.parse(content);
+    return localStorage.getItem(name);
   } catch {
     return null;
   }
 }
+
+function parsed(text) {
+  try {
+    return JSON.parse(text);
+  } catch {
+    return null;
+  }
+}
+
+function formOf(form) {
+  return { encoding: form?.encoding === 'latin-1' ? 'latin-1' : 'utf-8', lineEnd: form?.lineEnd === '\r\n' ? '\r\n' : '\n' };
+}
+
+function keysOf(text) {
+  try {
+    return readKeys(text);
+  } catch {
+    return new KeyScript();
+  }
+}
+
+function optionsOf(options) {
+  if (typeof options !== 'object' || options === null) return {};
+  return Object.fromEntries(Object.entries(options).filter(([, value]) => typeof value === 'string' && /^\w{1,8192}$/.test(value)));
+}
+
+/** What a tab shows of which start of the bridge: a reload of the tab comes back to it. */
+export const tabDocument = {
+  read(start) {
+    try {
+      const kept = parsed(sessionStorage.getItem(`${PREFIX}document`));
+      return kept?.start === start && typeof kept.name === 'string' ? kept : null;
+    } catch {
+      return null;
+    }
+  },
+  write(kept) {
+    try {
+      sessionStorage.setItem(`${PREFIX}document`, JSON.stringify(kept));
+    } catch {
+      // the tab then comes back to SOURCE
+    }
+  },
+};

@@ -57,7 +57,7 @@ export class Timeline {
       if (event.button !== 0) return;
       track.setPointerCapture(event.pointerId);
       this.#grabbed = track === this.#closeUp ? this.#eventNear(event) : null;
-      this.#dragging = true;
+      this.#move = `move ${Date.now()}`;
       if (this.#grabbed === null) this.#model.setStep(stepAt(event));
       else this.#model.setStep(this.#grabbed.step);
     });
@@ -70,7 +70,6 @@ export class Timeline {
       else this.#moveEvent(stepAt(event));
     });
     const done = () => {
-      this.#dragging = false;
       this.#grabbed = null;
       this.#draw();
     };
@@ -78,8 +77,7 @@ export class Timeline {
     track.addEventListener('pointercancel', done);
   }
 
-  #dragging = false;
-  #moves = 0;
+  #move = '';
 
   /** The event whose edge is under the pointer, or null. */
   #eventNear(event) {
@@ -94,7 +92,6 @@ export class Timeline {
       .filter((one) => one.key === lanes[lane] && Math.abs(x(one.step) - (event.clientX - box.left)) <= GRAB_PIXELS)
       .sort((one, other) => Math.abs(x(one.step) - (event.clientX - box.left)) - Math.abs(x(other.step) - (event.clientX - box.left)));
     if (near.length === 0) return null;
-    this.#moves += 1;
     return near[0];
   }
 
@@ -107,7 +104,7 @@ export class Timeline {
     const place = Math.max(low, Math.min(high, wanted));
     if (place === step) return;
     this.#grabbed = { step: place, key, down };
-    this.#model.setKeys(this.#model.keys.without(step, key).with(place, key, down), `move ${this.#moves}`);
+    this.#model.setKeys(this.#model.keys.without(step, key).with(place, key, down), { move: this.#move });
     this.#model.setStep(place);
   }
 

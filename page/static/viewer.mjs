@@ -1,15 +1,18 @@
-// Keeps what is shown up with the model: it asks about the newest step and text, and drops what came between.
+// Keeps what is shown up with the model: it asks about the newest step and text, and drops what came between. All that is shown
+// of a step is of one text, one script and one step: the answers are shown together, once they all are there.
 
 import { readBytes, readFaults, readListing, readRegisters, readScreen, readSymbols, readWords, refusal } from './answers.mjs';
+import { Names } from './names.mjs';
 import { SourceMap } from './source_map.mjs';
 
 const MEMORY = 4096;
-const FIRST_WORDS = 510;
+const IMAGE_START = 512;
+const MOST_WORDS = 400;
+const WORDS_PAST_IMAGE = 8;
 const WORDS_BEFORE = 5;
 const WORDS_SHOWN = 15;
-const WORDS_MILLISECONDS = 100;
+const ABOUT_TEXT = ['list', 'faults', 'syms', 'image'];
 
-/** What is known of the machine at a step; `code` is that of the refusal where there is no such machine. */
 export class Viewer extends EventTarget {
   #model;
   #workbench;
@@ -17,14 +20,13 @@ export class Viewer extends EventTarget {
   #asked = null;
   #running = false;
   #listed = null;
-  #wordsFrom = FIRST_WORDS;
-  #wordsAsked = 0;
+  #words = { from: IMAGE_START, count: WORDS_SHOWN };
 
-  /** The machine at the step that was asked last. */
+  /** The machine at the step that was asked last; `code` is that of the refusal where there is no such machine. */
   machine = null;
-  /** The listing, the faults, the names, the image and the map of the lines that were asked last. */
-  assembled = { listing: [], faults: new Map(), symbols: [], image: null, map: new SourceMap() };
-  /** How long the answer about the machine took, in milliseconds, from the change on. */
+  /** The listing, the faults, the names, the image and the map of the lines, of the text that was asked last. */
+  assembled = { listing: [], faults: new Map(), symbols: [], names: new Names(), image: null, map: new SourceMap() };
+  /** How long the answers took, in milliseconds, from the change on. */
   took = 0;
 
   constructor(model, workbench) {
@@ -67,68 +69,72 @@ export class Viewer extends EventTarget {
   }
 
   async #look(asked) {
-    const wanted = this.#model.wanted;
-    const { step } = this.#model;
-    const machine = await this.#machineAt(wanted, step);
-    this.took = performance.now() - asked;
+    const { wanted, step } = this.#model;
+    const isNew = this.#listed !== wanted.lines;
+    const about = isNew ? ABOUT_TEXT : [];
+    const answers = await this.#workbench.answers(wanted, [...about, ...this.#questions(step)]);
+    const assembled = isNew ? assembledOf(answers.splice(0, about.length)) : this.assembled;
+    const machine = machineOf(wanted, step, answers);
+    if (machine.code === null) await this.#findWords(machine);
     this.machine = machine;
-    this.#model.setLastStep(this.#workbench.lastStep);
-    this.#tell('machine');
-    if (this.#listed !== wanted.lines) await this.#assemble(wanted);
-    // while steps pass by quickly, not each has its words shown
-    const hurried = this.#again && performance.now() - this.#wordsAsked < WORDS_MILLISECONDS;
-    if (machine.code === null && machine.words === null && !hurried) await this.#askWords(machine);
-    this.#tell('words');
-  }
-
-  async #machineAt(wanted, step) {
-    // the step before comes first: a question in order goes on from the state before
-    const steps = step > 0 ? [step - 1, step] : [step];
-    const questions = [...steps.flatMap((at) => [`regs ${at}`, `mem ${at} 0 ${MEMORY}`]), `screen ${step}`, this.#wordsQuestion(step)];
-    const answers = await this.#workbench.answers(wanted, questions);
-    const code = refusal(answers[0]) ?? refusal(answers.at(-2));
-    if (code !== null) return { step, code, wanted };
-    const [registers, memory, screen, words] = answers.slice(-4);
-    const machine = {
-      step,
-      code: null,
-      wanted,
-      registers: readRegisters(registers),
-      memory: readBytes(memory),
-      screen: readScreen(screen),
-      before: step > 0 ? { registers: readRegisters(answers[0]), memory: readBytes(answers[1]) } : null,
-      words: null,
-    };
-    // the words that were shown last are asked for again: most often pc is still among them
-    if (this.#shows(machine.registers.pc)) machine.words = readWords(words);
-    return machine;
-  }
-
-  #wordsQuestion(step) {
-    const count = Math.min(WORDS_SHOWN, (MEMORY - this.#wordsFrom) >> 1);
-    return `dis ${step} ${this.#wordsFrom} ${count}`;
-  }
-
-  #shows(pc) {
-    const place = (pc - this.#wordsFrom) / 2;
-    return Number.isInteger(place) && place >= 1 && place < WORDS_SHOWN - 2;
-  }
-
-  async #askWords(machine) {
-    const { pc } = machine.registers;
-    this.#wordsAsked = performance.now();
-    this.#wordsFrom = Math.max(pc & 1, Math.min(pc, MEMORY - 2) - 2 * WORDS_BEFORE);
-    const [words] = await this.#workbench.answers(machine.wanted, [this.#wordsQuestion(machine.step)]);
-    if (refusal(words) === null) machine.words = readWords(words);
-  }
-
-  async #assemble(wanted) {
-    const [list, faults, symbols, image] = await this.#workbench.answers(wanted, ['list', 'faults', 'syms', 'image']);
-    const listing = readListing(list);
-    const bytes = refusal(image) === null ? readBytes(image) : null;
-    const map = new SourceMap(listing, bytes === null ? 0 : bytes.length);
-    this.assembled = { listing, faults: readFaults(faults), symbols: readSymbols(symbols), image: bytes, map };
+    this.assembled = assembled;
     this.#listed = wanted.lines;
-    this.#tell('assembled');
+    if (assembled.image !== null) this.#words = wordsOf(assembled.image, machine.words);
+    this.took = performance.now() - asked;
+    this.#model.setLastStep(this.#workbench.lastStep);
+    this.#tell('shown', { isNew });
   }
+
+  /** All of a step: the step before comes first, so that the program goes on from there. */
+  #questions(step) {
+    const steps = step > 0 ? [step - 1, step] : [step];
+    const { from, count } = this.#words;
+    return [...steps.flatMap((at) => [`regs ${at}`, `mem ${at} 0 ${MEMORY}`]), `screen ${step}`, `dis ${step} ${from} ${count}`];
+  }
+
+  /** The words around pc, of those that were asked for; asked for anew where pc isn't among them. */
+  async #findWords(machine) {
+    const { pc } = machine.registers;
+    if (!machine.words.some(({ address }) => address === pc)) {
+      const from = Math.max(pc & 1, Math.min(pc, MEMORY - 2) - 2 * WORDS_BEFORE);
+      const count = Math.min(WORDS_SHOWN, (MEMORY - from) >> 1);
+      const [words] = await this.#workbench.answers(machine.wanted, [`dis ${machine.step} ${from} ${count}`]);
+      machine.words = refusal(words) === null ? readWords(words) : [];
+    }
+    const place = machine.words.findIndex(({ address }) => address === pc);
+    const first = Math.max(0, Math.min(place - WORDS_BEFORE, machine.words.length - WORDS_SHOWN));
+    machine.words = machine.words.slice(first, first + WORDS_SHOWN);
+  }
+}
+
+/** The words to ask for at the next step: the whole image, or, where that is long, the words that were shown last. */
+function wordsOf(image, words) {
+  const count = (image.length >> 1) + WORDS_PAST_IMAGE;
+  if (count <= MOST_WORDS) return { from: IMAGE_START, count: Math.min(count, (MEMORY - IMAGE_START) >> 1) };
+  const from = words?.[0]?.address ?? IMAGE_START;
+  return { from, count: Math.min(WORDS_SHOWN, (MEMORY - from) >> 1) };
+}
+
+function machineOf(wanted, step, answers) {
+  const code = refusal(answers[0]) ?? refusal(answers.at(-2));
+  if (code !== null) return { step, code, wanted };
+  const [registers, memory, screen, words] = answers.slice(-4);
+  return {
+    step,
+    code: null,
+    wanted,
+    registers: readRegisters(registers),
+    memory: readBytes(memory),
+    screen: readScreen(screen),
+    before: step > 0 ? { registers: readRegisters(answers[0]), memory: readBytes(answers[1]) } : null,
+    words: refusal(words) === null ? readWords(words) : [],
+  };
+}
+
+function assembledOf([list, faults, symbols, image]) {
+  const listing = readListing(list);
+  const bytes = refusal(image) === null ? readBytes(image) : null;
+  const read = readSymbols(symbols);
+  const map = new SourceMap(listing, bytes === null ? 0 : bytes.length);
+  return { listing, faults: readFaults(faults), symbols: read, names: new Names(read, listing), image: bytes, map };
 }

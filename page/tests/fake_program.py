@@ -14,6 +14,10 @@ HELP = "Usage: chipbench debug [OPTIONS] [SOURCE]\n\n  --rate <N>\n  --seed <N>\
 WORDS_HELP = "Commands:\n  debug    Answers a script\n  dis      Prints a source of an image\n"
 
 
+def numeral(text: str) -> int:
+    return int(text[1:], 16) if text.startswith("#") else int(text)
+
+
 def answer(command: str, lines: list[str], events: dict[tuple[int, int], str]) -> str:
     word, _, rest = command.partition(" ")
     if word in ("ins", "rep", "del"):
@@ -27,7 +31,7 @@ def answer(command: str, lines: list[str], events: dict[tuple[int, int], str]) -
         return "ok\n"
     if word in ("kins", "krep", "kdel"):
         step, key, *down = rest.split()
-        at = (int(step), int(key))
+        at = (numeral(step), numeral(key))
         if at[0] > 5000:
             return "no N5\n"
         if at[1] > 15:
@@ -55,6 +59,9 @@ def answer(command: str, lines: list[str], events: dict[tuple[int, int], str]) -
 
 
 def debug(words: list[str]) -> int:
+    if "--rate=99999" in words:
+        sys.stderr.write("error: 99999 is not in 1..=1000\n\nUsage: chipbench debug\n")
+        return 2
     lines = []
     for word in words:
         if not word.startswith("--"):
@@ -65,7 +72,7 @@ def debug(words: list[str]) -> int:
         return 1
     events: dict[tuple[int, int], str] = {}
     for raw in sys.stdin.buffer:
-        command = raw.decode("latin-1").rstrip("\n")
+        command = raw.decode("latin-1").removesuffix("\n").removesuffix("\r")
         if command.startswith("die "):
             sys.stderr.write("chipbench: out of memory\n")
             return int(command[4:])

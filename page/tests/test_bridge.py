@@ -6,12 +6,17 @@ import http.client
 import json
 import os
 import re
+import resource
+import signal
+import socket
 import stat
 import subprocess
 import sys
 import tempfile
 import threading
+import time
 import unittest
+import unittest.mock
 from pathlib import Path
 from typing import Any
 
@@ -20,6 +25,10 @@ TOP = FOLDER.parent.parent
 sys.path.insert(0, str(FOLDER.parent))
 
 import bridge  # noqa: E402
+import connections  # noqa: E402
+import files  # noqa: E402
+import page_requests  # noqa: E402
+import program  # noqa: E402
 
 PROVED = TOP / "crates/chipbench/out/chipbench"
 
@@ -43,7 +52,7 @@ class Running(unittest.TestCase):
         self.folder = Path(folder.name)
         self.path = self.folder / "game.asm"
         self.path.write_bytes(self.text)
-        self.bridge = bridge.Bridge(self.program(), bridge.SourceFile(self.path), {"rate": "7"})
+        self.bridge = bridge.Bridge(self.program(), files.Files(self.path), {"rate": "7"})
         self.addCleanup(self.bridge.close)
         self.server = bridge.Server(0, self.bridge)
         thread = threading.Thread(target=self.server.serve_forever, kwargs={"poll_interval": 0.01}, daemon=True)
@@ -66,14 +75,17 @@ class Running(unittest.TestCase):
         finally:
             connection.close()
 
-    def ask(self, name: str, **body: Any) -> tuple[int, Any]:
-        status, _, content = self.send("POST", name, json.dumps(body).encode(), Origin=f"http://{self.host}")
+    def ask(self, request: str, /, **body: Any) -> tuple[int, Any]:
+        status, _, content = self.send("POST", request, json.dumps(body).encode(), Origin=f"http://{self.host}")
         return status, json.loads(content) if status == 200 else content.decode()
 
-    def good(self, name: str, **body: Any) -> Any:
-        status, reply = self.ask(name, **body)
+    def good(self, request: str, /, **body: Any) -> Any:
+        status, reply = self.ask(request, **body)
         self.assertEqual(status, 200, reply)
         return reply
+
+    def saved(self, text: str, known: str | None, name: str = "game.asm") -> tuple[int, Any]:
+        return self.ask("save", name=name, text=text, known=known)
 
     def opened(self, source: str = "CLS\n", commands: list[str] | None = None) -> Any:
         return self.good("open", source=source, options={}, commands=commands or [])
@@ -124,6 +136,19 @@ class Care(Running):
         for site in ("cross-site", "same-site"):
             self.assertEqual(self.send("GET", "", Sec_Fetch_Site=site)[0], 403)
 
+    def test_the_page_is_opened_from_a_file(self) -> None:
+        """A browser that comes from a file comes from another site; only the page itself may be opened so."""
+        came = {"Sec_Fetch_Site": "cross-site", "Sec_Fetch_Mode": "navigate", "Sec_Fetch_Dest": "document"}
+        self.assertEqual(self.send("GET", "", **came)[0], 200)
+        self.assertEqual(self.send("GET", "main.mjs", **came)[0], 403)
+        self.assertEqual(self.send("GET", "", **{**came, "Sec_Fetch_Dest": "iframe"})[0], 403)
+        self.assertEqual(self.send("GET", "/x/", **came)[0], 403)
+
+    def test_address_without_its_last_slash(self) -> None:
+        status, headers, _ = self.send("GET", f"/{self.server.token}")
+        self.assertEqual((status, headers.get("Location")), (307, f"/{self.server.token}/"))
+        self.assertEqual(self.send("GET", f"/{self.server.token[:-1]}")[0], 403)
+
     def test_only_loopback(self) -> None:
         self.assertEqual(self.server.server_address[0], "127.0.0.1")
 
@@ -146,13 +171,65 @@ class Care(Running):
 
     def test_commands_that_would_break_the_count(self) -> None:
         self.opened()
-        for commands in (["image\nimage"], [""], ["   "], ["\r"], [5], ["é€"], "image", None, ["image"] * (bridge.MAX_COMMANDS + 1)):
-            self.assertEqual(self.ask("ask", session=1, commands=commands)[0], 400)
+        for commands in (["image\nimage"], [""], ["   "], ["\r"], [5], ["é€"], "image", None, ["image"] * (page_requests.MAX_COMMANDS + 1), ["list\r"], ["ins 1 A\r"], [" \r\r"]):
+            self.assertEqual(self.ask("ask", session=1, commands=commands)[0], 400, commands)
         self.assertEqual(self.good("ask", session=1, commands=["mem 0 0 1"])["answers"], ["00\n"])
 
     def test_options(self) -> None:
         for options in ({"rate": "1 --x"}, {"program": "x"}, {"tape": "--x"}, {"rate": 5}, {"profile": "../x"}, [], None):
             self.assertEqual(self.ask("open", source="", options=options, commands=[])[0], 400, options)
+
+
+class ManyConnections(Running):
+    """Connections that are idle or slow shut nobody out, and neither do threads that can't start."""
+
+    def connect(self, sent: bytes = b"") -> socket.socket:
+        peer = socket.create_connection(("127.0.0.1", self.server.server_port), timeout=10)
+        self.addCleanup(peer.close)
+        peer.sendall(sent)
+        return peer
+
+    def test_a_hundred_idle_and_slow_ones(self) -> None:
+        """The page is answered at once, whatever a hundred others wait for."""
+        for number in range(100):
+            self.connect([b"", b"G", b"GET / HTTP/1.1\r\nHost: x\r\n"][number % 3])
+        began = time.monotonic()
+        self.assertEqual(self.good("about")["name"], "game.asm")
+        self.assertLess(time.monotonic() - began, 5)
+
+    def test_strangers_make_room_first(self) -> None:
+        """A connection of the page that waits stays, as long as there is one that never showed the token."""
+        page = http.client.HTTPConnection("127.0.0.1", self.server.server_port, timeout=10)
+        self.addCleanup(page.close)
+        page.request("GET", f"/{self.server.token}/icon.svg")
+        page.getresponse().read()
+        own = page.sock
+        for _ in range(connections.MAX_CONNECTIONS + 10):
+            self.connect()
+        self.assertEqual(self.good("about")["name"], "game.asm")
+        page.request("GET", f"/{self.server.token}/icon.svg")
+        self.assertEqual(page.getresponse().status, 200)
+        self.assertIs(page.sock, own)
+
+    def test_one_that_is_answered_stays(self) -> None:
+        here, there = socket.socketpair()
+        self.addCleanup(here.close)
+        self.addCleanup(there.close)
+        open_now = connections.Connections(1)
+        self.assertTrue(open_now.admit(here))
+        open_now.is_answered(here)
+        self.assertFalse(open_now.admit(there))
+        open_now.waits(here)
+        self.assertTrue(open_now.admit(there))
+
+    def test_threads_that_cannot_start(self) -> None:
+        """Each gives its place back."""
+        with unittest.mock.patch("threading.Thread.start", side_effect=RuntimeError("can't start new thread")):
+            for _ in range(connections.MAX_CONNECTIONS + 5):
+                peer = self.connect()
+                self.assertEqual(peer.recv(1), b"")
+        self.assertEqual(len(self.server.connections._open), 0)
+        self.assertEqual(self.good("about")["name"], "game.asm")
 
 
 class PassingThrough(Running):
@@ -222,22 +299,33 @@ class PassingThrough(Running):
         self.assertEqual(reply["ended"], {"status": 1, "text": "no O1"})
 
     def test_a_program_that_hangs(self) -> None:
-        self.addCleanup(setattr, bridge, "ANSWER_SECONDS", bridge.ANSWER_SECONDS)
+        self.addCleanup(setattr, program, "ANSWER_SECONDS", program.ANSWER_SECONDS)
         self.opened()
-        bridge.ANSWER_SECONDS = 0.2
+        program.ANSWER_SECONDS = 0.2
         reply = self.good("ask", session=1, commands=["mem 0 0 1", "hang"])
         self.assertEqual(reply["answers"], ["00\n"])
         self.assertLess(reply["ended"]["status"], 0)
 
     def test_a_program_that_cannot_run(self) -> None:
         with self.assertRaises(OSError):
-            bridge.Bridge(str(self.folder / "none"), bridge.SourceFile(None), {})
+            bridge.Bridge(str(self.folder / "none"), files.Files(None), {})
+
+    def test_answers_are_bounded(self) -> None:
+        """A request whose answers have no end in sight is refused, and its program ended; the next one is answered anew."""
+        self.addCleanup(setattr, program, "MAX_ANSWERS", program.MAX_ANSWERS)
+        program.MAX_ANSWERS = 1_000_000
+        self.opened()
+        status, reason = self.ask("ask", session=1, commands=["slow 400000"] * 300)
+        self.assertEqual(status, 413)
+        self.assertIn("answers", reason)
+        self.assertIn("ended", self.good("ask", session=1, commands=["image"]))
+        self.assertEqual(self.opened("A\n", ["slow 900000", "image"])["answers"][1], "41\n")
 
     def test_words(self) -> None:
-        self.assertEqual(self.good("word", word="dis", image="\x60\x05")["output"], "DW #6005\n")
+        self.assertEqual(self.good("word", word="dis", content="\x60\x05")["output"], "DW #6005\n")
         self.assertEqual(self.good("word", word="explain", code="F4")["status"], 2)
         self.assertEqual(self.ask("word", word="explain", code="-h")[0], 400)
-        self.assertEqual(self.ask("word", word="asm", image="")[0], 400)
+        self.assertEqual(self.ask("word", word="asm", content="")[0], 400)
 
     def test_many_windows_at_once(self) -> None:
         self.opened()
@@ -269,7 +357,7 @@ class Saving(Running):
 
     def test_save(self) -> None:
         self.path.chmod(0o640)
-        reply = self.good("save", text="CLS\r\n\xff", known=self.digest())
+        reply = self.good("save", name="game.asm", text="CLS\r\n\xff", known=self.digest())
         self.assertEqual(reply["saved"], True)
         self.assertEqual(self.path.read_bytes(), b"CLS\r\n\xff")
         self.assertEqual(stat.S_IMODE(self.path.stat().st_mode), 0o640)
@@ -279,38 +367,149 @@ class Saving(Running):
     def test_a_changed_file_stays(self) -> None:
         known = self.digest()
         self.path.write_bytes(b"OTHER\n")
-        reply = self.good("save", text="MINE\n", known=known)
+        reply = self.good("save", name="game.asm", text="MINE\n", known=known)
         self.assertEqual(reply["saved"], False)
         self.assertEqual(self.path.read_bytes(), b"OTHER\n")
-        self.assertEqual(self.good("save", text="MINE\n", known=reply["digest"])["saved"], True)
+        self.assertEqual(self.good("save", name="game.asm", text="MINE\n", known=reply["digest"])["saved"], True)
         self.assertEqual(self.path.read_bytes(), b"MINE\n")
 
     def test_a_new_file(self) -> None:
         self.path.unlink()
         self.assertIsNone(self.good("about")["text"])
-        self.assertEqual(self.good("save", text="CLS\n", known=None)["saved"], True)
+        self.assertEqual(self.good("save", name="game.asm", text="CLS\n", known=None)["saved"], True)
         self.assertEqual(self.path.read_bytes(), b"CLS\n")
 
     def test_a_link_stays(self) -> None:
         other = self.folder / "other.asm"
         self.path.rename(other)
         self.path.symlink_to(other)
-        self.assertEqual(self.good("save", text="CLS\n", known=self.digest())["saved"], True)
+        self.assertEqual(self.good("save", name="game.asm", text="CLS\n", known=self.digest())["saved"], True)
         self.assertTrue(self.path.is_symlink())
         self.assertEqual(other.read_bytes(), b"CLS\n")
 
     def test_a_file_that_cannot_be_written(self) -> None:
-        known = self.digest()
-        self.bridge._file.path = self.folder / "none" / "game.asm"
-        status, reason = self.ask("save", text="CLS\n", known=None)
+        self.bridge._files.source = self.folder / "none" / "game.asm"
+        status, reason = self.saved("CLS\n", None)
         self.assertEqual(status, 500)
         self.assertIn("can't be written", reason)
-        self.assertIsNotNone(known)
+
+    def test_a_full_disk(self) -> None:
+        """What can't be written whole leaves the file as it was, and nothing beside it."""
+        other = self.folder / "other.asm"
+        other.hardlink_to(self.path)
+        for name in ("game.asm", "other.asm", "new.asm"):
+            known = self.good("read", name=name)["digest"]
+            limit = resource.getrlimit(resource.RLIMIT_FSIZE)
+            before = signal.signal(signal.SIGXFSZ, signal.SIG_IGN)
+            resource.setrlimit(resource.RLIMIT_FSIZE, (1000, limit[1]))
+            try:
+                status, reason = self.saved("; " + "x" * 2000, known, name)
+            finally:
+                resource.setrlimit(resource.RLIMIT_FSIZE, limit)
+                signal.signal(signal.SIGXFSZ, before)
+            self.assertEqual(status, 500)
+            self.assertIn("can't be written", reason)
+        self.assertEqual(self.path.read_bytes(), self.text)
+        self.assertEqual(sorted(os.listdir(self.folder)), ["chipbench", "game.asm", "other.asm"])
+
+    def test_hard_links_stay(self) -> None:
+        other = self.folder / "other.asm"
+        other.hardlink_to(self.path)
+        for text in ("CLS\n; and a longer text than before\n", "CLS\n"):
+            self.assertEqual(self.saved(text, self.digest())[1]["saved"], True)
+            self.assertEqual(other.read_text(), text)
+        self.assertEqual(self.path.stat().st_nlink, 2)
+
+    @unittest.skipIf(os.geteuid() != 0, "only the administrator gives files away")
+    def test_the_owner_stays(self) -> None:
+        os.chown(self.path, 12345, 54321)
+        self.path.chmod(0o640)
+        self.assertEqual(self.saved("CLS\n", self.digest())[1]["saved"], True)
+        status = self.path.stat()
+        self.assertEqual((status.st_uid, status.st_gid, stat.S_IMODE(status.st_mode)), (12345, 54321, 0o640))
+        self.assertEqual(self.path.read_bytes(), b"CLS\n")
+        self.assertEqual(sorted(os.listdir(self.folder)), ["chipbench", "game.asm"])
+
+    def test_a_pipe_is_told(self) -> None:
+        """A pipe in the place of SOURCE, or of another file, is neither waited for nor written."""
+        self.path.unlink()
+        os.mkfifo(self.path)
+        for name, body in (("about", {}), ("read", {"name": "game.asm"}), ("save", {"name": "game.asm", "text": "CLS\n", "known": None})):
+            status, reason = self.ask(name, **body)
+            self.assertEqual((status, "is not a file" in reason), (409, True), reason)
+        self.assertTrue(stat.S_ISFIFO(self.path.stat().st_mode))
+
+    def test_a_folder_is_told(self) -> None:
+        self.path.unlink()
+        self.path.mkdir()
+        for name, body in (("about", {}), ("save", {"name": "game.asm", "text": "CLS\n", "known": None})):
+            status, reason = self.ask(name, **body)
+            self.assertEqual((status, "is not a file" in reason), (409, True), reason)
 
     def test_without_a_file(self) -> None:
-        self.bridge._file.path = None
-        self.assertEqual(self.ask("save", text="CLS\n", known=None)[0], 409)
-        self.assertIsNone(self.good("about")["name"])
+        self.bridge._files.source = None
+        about = self.good("about")
+        self.assertEqual((about["name"], about["text"], about["digest"]), (None, None, None))
+        self.assertEqual(self.saved("CLS\n", None, "another.asm")[1]["saved"], True)
+        self.assertEqual((self.folder / "another.asm").read_bytes(), b"CLS\n")
+
+
+class OtherFiles(Running):
+    """Files beside SOURCE: listed, read, and saved to by their plain names alone."""
+
+    def test_files_are_listed(self) -> None:
+        for name in ("other.asm", "Game.KEYS", "image.ch8", ".hidden.asm", "notes.md"):
+            (self.folder / name).write_bytes(b"12345")
+        (self.folder / "folder.asm").mkdir()
+        reply = self.good("files")
+        self.assertEqual([file["name"] for file in reply["files"]], ["game.asm", "Game.KEYS", "image.ch8", "other.asm"])
+        self.assertEqual(reply["files"][3]["size"], 5)
+        self.assertEqual(reply["folder"], str(self.folder))
+
+    def test_another_file_is_read_and_saved(self) -> None:
+        (self.folder / "other.asm").write_bytes(b"CLS\r\n\xff")
+        reply = self.good("read", name="other.asm")
+        self.assertEqual((reply["text"], reply["path"]), ("CLS\r\n\xff", str((self.folder / "other.asm").resolve())))
+        self.assertEqual(self.saved("RET\n", reply["digest"], "other.asm")[1]["saved"], True)
+        self.assertEqual((self.folder / "other.asm").read_bytes(), b"RET\n")
+        self.assertEqual(self.path.read_bytes(), self.text)
+
+    def test_a_file_that_is_there_is_told_before_it_is_written_over(self) -> None:
+        (self.folder / "other.asm").write_bytes(b"THEIRS\n")
+        status, reply = self.saved("MINE\n", None, "other.asm")
+        self.assertEqual((status, reply["saved"], reply["text"]), (200, False, "THEIRS\n"))
+        self.assertEqual((self.folder / "other.asm").read_bytes(), b"THEIRS\n")
+        self.assertEqual(self.saved("MINE\n", reply["digest"], "other.asm")[1]["saved"], True)
+
+    def test_names_with_a_way_in_them(self) -> None:
+        for name in ("../game.asm", "a/b.asm", "/etc/passwd", ".hidden", "", ".", "..", "a\0b", "a\nb", "x" * 256, 5, None):
+            for request in ("read", "save"):
+                self.assertEqual(self.ask(request, name=name, text="", known=None)[0], 400, name)
+
+    def test_a_name_that_is_no_text(self) -> None:
+        """Names are bytes: each comes to the page and back as it is."""
+        name = os.fsdecode(b"g\xe4me\xff.asm")
+        self.path = self.folder / name
+        self.path.write_bytes(b"CLS\n")
+        self.bridge._files.source = self.path
+        about = self.good("about")
+        self.assertEqual((about["name"], about["text"]), (name, "CLS\n"))
+        self.assertIn(name, [file["name"] for file in self.good("files")["files"]])
+        self.assertEqual(self.saved("RET\n", about["digest"], about["name"])[1]["saved"], True)
+        self.assertEqual(self.path.read_bytes(), b"RET\n")
+
+
+class KeyFiles(Running):
+    """Whether the program takes a file of key events; here one without `--keys`, which is asked line by line."""
+
+    def test_what_is_refused(self) -> None:
+        for text, refused in (
+            ("; a comment\n\n10 5 down ; held\r\n  20 #5 up\n#1f 5 down", None),
+            ("10 5 down\n\n10 16 down\n", {"line": 3, "code": "N6"}),
+            ("10 5 down\n10 5 up\n", {"line": 2, "code": "N7"}),
+            ("", None),
+        ):
+            self.assertEqual(self.good("keys", text=text)["refused"], refused, text)
 
 
 class TheScript(unittest.TestCase):
@@ -344,17 +543,51 @@ class TheScript(unittest.TestCase):
             self.assertEqual(running.wait(10), 0)
         self.assertEqual(sorted(os.listdir(self.folder)), ["chipbench", "game.asm"])
 
-    def test_faulty_words(self) -> None:
-        program = fake_program(self.folder)
-        for words, status in (
-            (["--program", program, "--rate", "x"], 2),
-            (["--program", program, "--nothing"], 2),
-            (["--program", program, "a.asm", "b.asm"], 2),
-            (["--program", program, str(self.folder)], 2),
-            (["--program", str(self.folder / "none")], 3),
-            (["--help"], 0),
+    def test_faulty_arguments(self) -> None:
+        """Each ends with a sentence before anything starts."""
+        own = ["--program", fake_program(self.folder)]
+        for arguments, status, said in (
+            ([*own, "--rate", "x"], 2, "--rate can't be x"),
+            ([*own, "--rate", "99999"], 2, "99999 is not in 1..=1000"),
+            ([*own, "--port", "99999"], 2, "--port is a number from 0 to 65535"),
+            ([*own, "--port", "-1"], 2, "--port"),
+            ([*own, "--port", "x"], 2, "--port"),
+            ([*own, "--nothing"], 2, "--nothing"),
+            ([*own, "a.asm", "b.asm"], 2, "b.asm"),
+            ([*own, str(self.folder)], 2, "is not a file"),
+            (["--program", str(self.folder / "none")], 3, "cannot run"),
+            (["--help"], 0, ""),
         ):
-            self.assertEqual(self.run_script(*words).returncode, status, words)
+            run = self.run_script("--no-open", *arguments)
+            self.assertEqual(run.returncode, status, arguments)
+            self.assertIn(said, run.stderr)
+            self.assertNotIn("Traceback", run.stderr)
+            self.assertNotIn("http", run.stdout if status else "")
+
+    def test_the_token_is_in_no_command_line(self) -> None:
+        """The browser is given a file that only this user can read, and which leads on to the address."""
+        browser, told = self.folder / "browser", self.folder / "told"
+        browser.write_text(f'#!/bin/sh\nprintf "%s\\n" "$*" > "{told}.part" && mv "{told}.part" "{told}"\n')
+        browser.chmod(0o755)
+        environment = {**os.environ, "DISPLAY": ":0", "BROWSER": f"{browser} %s", "TMPDIR": str(self.folder)}
+        with subprocess.Popen(
+            [str(TOP / "chipbench-page"), "--program", fake_program(self.folder), "--port", "0"],
+            stdout=subprocess.PIPE, stderr=subprocess.DEVNULL, text=True, env=environment, cwd=self.folder,
+        ) as running:  # fmt: skip
+            assert running.stdout is not None
+            address = running.stdout.readline().split()[1]
+            deadline = time.monotonic() + 10
+            while not told.exists() and time.monotonic() < deadline:
+                time.sleep(0.02)
+            arguments = told.read_text().strip()
+            self.assertNotIn(address.split("/")[3], arguments)
+            place = Path(arguments.removeprefix("file://"))
+            self.assertEqual(stat.S_IMODE(place.stat().st_mode), 0o600)
+            self.assertEqual(stat.S_IMODE(place.parent.stat().st_mode), 0o700)
+            self.assertIn(f"url={address}", place.read_text())
+            running.terminate()
+            self.assertEqual(running.wait(10), 0)
+        self.assertFalse(place.exists())
 
 
 class AnswerEnds(unittest.TestCase):
@@ -377,7 +610,7 @@ class AnswerEnds(unittest.TestCase):
         for command, answer in rows:
             whole = b"ok\n" + answer + b"next\n"
             for cut in range(len(whole) + 1):
-                found = bridge.answer_end(command, bytearray(whole[:cut]), 3)
+                found = program.answer_end(command, bytearray(whole[:cut]), 3)
                 self.assertEqual(found, 3 + len(answer) if cut >= 3 + len(answer) else -1, (command, cut))
 
 

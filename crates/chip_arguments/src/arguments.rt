@@ -21,15 +21,20 @@ pub(crate) fn source_argument<'a>(alloc: Global) -> Arg<'a>
     ensures rule { rule_of result ≡ line.source }
     ensures local { result.global ≡ false }
 {
-    place(alloc, "source", "SOURCE", "The source, a file of text")
+    place(
+        alloc,
+        "source",
+        "SOURCE",
+        "The source to begin with [default: the empty source]",
+    )
 }
 
-#[tactic(auto, unfolding(crate::specs::CommandLine::needed_source))]
+#[tactic(auto, unfolding(crate::specs::CommandLine::needed_source, crate::specs::CommandLine::source))]
 pub(crate) fn needed_source_argument<'a>(alloc: Global) -> Arg<'a>
     ensures rule { rule_of result ≡ line.needed_source }
     ensures local { result.global ≡ false }
 {
-    source_argument(alloc).required(true)
+    place(alloc, "source", "SOURCE", "The source, a file of text").required(true)
 }
 
 #[tactic(auto, unfolding(crate::specs::CommandLine::image))]
@@ -42,6 +47,20 @@ pub(crate) fn image_argument<'a>(alloc: Global) -> Arg<'a>
         "image",
         "IMAGE",
         "The file to write, as a whole or not at all",
+    )
+    .required(true)
+}
+
+#[tactic(auto, unfolding(crate::specs::CommandLine::image))]
+pub(crate) fn given_image_argument<'a>(alloc: Global) -> Arg<'a>
+    ensures rule { rule_of result ≡ line.image }
+    ensures local { result.global ≡ false }
+{
+    place(
+        alloc,
+        "image",
+        "IMAGE",
+        "The image, a file of at most 3584 bytes",
     )
     .required(true)
 }

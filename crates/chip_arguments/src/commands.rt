@@ -5,9 +5,9 @@ ghost use Rattle.chip_arguments.specs.CommandLine as line;
 ghost use Rattle.chip_arguments.specs.inner.Built.{Makes};
 
 use crate::arguments::{
-    ascii_argument, code_argument, every_argument, image_argument, keys_argument,
-    needed_source_argument, pbm_argument, png_argument, profile_argument, rate_argument,
-    seed_argument, source_argument, steps_argument, tape_argument,
+    ascii_argument, code_argument, every_argument, given_image_argument, image_argument,
+    keys_argument, needed_source_argument, pbm_argument, png_argument, profile_argument,
+    rate_argument, seed_argument, source_argument, steps_argument, tape_argument,
 };
 use clap::Command;
 use std::alloc::{AllocError, Global};
@@ -72,10 +72,10 @@ fn with_debug_to_dis<'a>(alloc: Global, command: Command<'a>) -> Result<Command<
     ensures { IfOk result (λ with. app_of with ≡ line.with_commands (app_of command.entry)
         (line.debug ∷ line.asm ∷ line.list ∷ line.dis ∷ [])) }
 {
-    let command = with_debug(alloc, command)?;
-    let command = with_asm(alloc, command)?;
-    let command = with_list(alloc, command)?;
-    with_dis(alloc, command)
+    let command = added(command, debug_command(alloc))?;
+    let command = added(command, asm_command(alloc))?;
+    let command = added(command, list_command(alloc))?;
+    added(command, dis_command(alloc))
 }
 
 // Adds the second half of the commands.
@@ -83,81 +83,33 @@ fn with_run_to_explain<'a>(alloc: Global, command: Command<'a>) -> Result<Comman
     ensures { IfOk result (λ with. app_of with ≡ line.with_commands (app_of command.entry)
         (line.run ∷ line.picture ∷ line.check ∷ line.explain ∷ [])) }
 {
-    let command = with_run(alloc, command)?;
-    let command = with_picture(alloc, command)?;
-    let command = with_check(alloc, command)?;
-    with_explain(alloc, command)
+    let command = added(command, run_command(alloc))?;
+    let command = added(command, picture_command(alloc))?;
+    let command = added(command, check_command(alloc))?;
+    added(command, explain_command(alloc))
 }
 
-fn with_debug<'a>(alloc: Global, command: Command<'a>) -> Result<Command<'a>, AllocError>
-    ensures { IfOk result (λ with. app_of with ≡ with_subcommand (app_of command.entry)
-        (line.debug).top) }
+// Adds a command, if there was memory to make it.
+fn added<'a>(
+    command: Command<'a>,
+    made: Result<Command<'a>, AllocError>,
+) -> Result<Command<'a>, AllocError>
+    ensures { (below : App) → IfOk made.entry (Makes below) → IfOk result (λ with. app_of with
+        ≡ with_subcommand (app_of command.entry) below.top) }
 {
-    command.subcommand(debug_command(alloc)?)
-}
-
-fn with_asm<'a>(alloc: Global, command: Command<'a>) -> Result<Command<'a>, AllocError>
-    ensures { IfOk result (λ with. app_of with ≡ with_subcommand (app_of command.entry)
-        (line.asm).top) }
-{
-    command.subcommand(asm_command(alloc)?)
-}
-
-fn with_list<'a>(alloc: Global, command: Command<'a>) -> Result<Command<'a>, AllocError>
-    ensures { IfOk result (λ with. app_of with ≡ with_subcommand (app_of command.entry)
-        (line.list).top) }
-{
-    command.subcommand(list_command(alloc)?)
-}
-
-fn with_dis<'a>(alloc: Global, command: Command<'a>) -> Result<Command<'a>, AllocError>
-    ensures { IfOk result (λ with. app_of with ≡ with_subcommand (app_of command.entry)
-        (line.dis).top) }
-{
-    command.subcommand(dis_command(alloc)?)
-}
-
-fn with_run<'a>(alloc: Global, command: Command<'a>) -> Result<Command<'a>, AllocError>
-    ensures { IfOk result (λ with. app_of with ≡ with_subcommand (app_of command.entry)
-        (line.run).top) }
-{
-    command.subcommand(run_command(alloc)?)
-}
-
-fn with_picture<'a>(alloc: Global, command: Command<'a>) -> Result<Command<'a>, AllocError>
-    ensures { IfOk result (λ with. app_of with ≡ with_subcommand (app_of command.entry)
-        (line.picture).top) }
-{
-    command.subcommand(picture_command(alloc)?)
-}
-
-fn with_check<'a>(alloc: Global, command: Command<'a>) -> Result<Command<'a>, AllocError>
-    ensures { IfOk result (λ with. app_of with ≡ with_subcommand (app_of command.entry)
-        (line.check).top) }
-{
-    command.subcommand(check_command(alloc)?)
-}
-
-fn with_explain<'a>(alloc: Global, command: Command<'a>) -> Result<Command<'a>, AllocError>
-    ensures { IfOk result (λ with. app_of with ≡ with_subcommand (app_of command.entry)
-        (line.explain).top) }
-{
-    command.subcommand(explain_command(alloc)?)
+    command.subcommand(made?)
 }
 
 fn debug_command<'a>(alloc: Global) -> Result<Command<'a>, AllocError>
     ensures { IfOk result (Makes line.debug) }
 {
-    let source = source_argument(alloc).help(
-        "The source to begin with [default: the empty source]",
-    );
     let command = new_command(
         alloc,
         "debug",
         "Answers the edits and questions on standard input, one a line",
         DEBUG_NOTES,
     )
-    .arg(source)?;
+    .arg(source_argument(alloc))?;
     with_settings(alloc, command)?.arg(every_argument(alloc))
 }
 
@@ -201,14 +153,13 @@ fn check_command<'a>(alloc: Global) -> Result<Command<'a>, AllocError>
 fn dis_command<'a>(alloc: Global) -> Result<Command<'a>, AllocError>
     ensures { IfOk result (Makes line.dis) }
 {
-    let image = image_argument(alloc).help("The image, a file of at most 3584 bytes");
     new_command(
         alloc,
         "dis",
         "Prints a source whose image is that of a file",
         "Example: chipbench dis game.ch8",
     )
-    .arg(image)
+    .arg(given_image_argument(alloc))
 }
 
 fn run_command<'a>(alloc: Global) -> Result<Command<'a>, AllocError>

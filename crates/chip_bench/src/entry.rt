@@ -15,6 +15,7 @@ ghost use Rattle.std.specs.IoError.{error_kind};
 
 use crate::counted::Counted;
 use crate::ending::{Ending, Failure};
+use crate::limits::KEY_FILE_BYTES;
 use crate::output::{
     KeyFile, answer_script, check_source, explain, image_or_faults, list_source, picture_source,
     print, print_source, print_version, run_source,
@@ -40,6 +41,9 @@ const INPUT: &str = "-";
 
 // A source of this length or more doesn't open.
 const MOST_SOURCE: u32 = SOURCE_BYTES as u32 + 1;
+
+// A file of key events of this length or more is refused.
+const MOST_KEYS: u32 = KEY_FILE_BYTES + 1;
 
 /// The program, with the words after its name. The answer is its status: 0 where it did what it was
 /// asked, 1 where the source has faults or doesn't open, 2 for words that it doesn't take, 3 where
@@ -230,7 +234,7 @@ fn debug<'a, F: Files, I: Read, O: Write>(
     let settings = settings_of(alloc, words)?;
     match source {
         Some(name) => {
-            let bytes = read_file(alloc, files, name)?;
+            let bytes = read_file(alloc, files, name, MOST_SOURCE)?;
             answer_script(alloc, &bytes, settings, input, output)
         }
         None => answer_script(alloc, b"", settings, input, output),
@@ -252,7 +256,7 @@ fn asm<'a, F: Files, I: Read, O: Write>(
     let Some(assembled) = image_or_faults(alloc, bytes, output)? else {
         return Ok(Ending::Faulty);
     };
-    write_image(alloc, files, source, image, &assembled)
+    write_image(alloc, files, &[file_name(source)], image, &assembled)
 }
 
 fn list<'a, F: Files, I: Read, O: Write>(
@@ -283,18 +287,22 @@ fn check<'a, F: Files, I: Read, O: Write>(
     check_source(alloc, source, &bytes, output)
 }
 
-// Writes a file whole, or leaves what was there.
+// The name of a source that is a file.
+fn file_name(source: &str) -> Option<&str> {
+    (source != INPUT).then_some(source)
+}
+
+// Writes a file whole, or leaves what was there. A file of the names that are taken stays.
 fn write_image<'a, F: Files>(
     alloc: Global,
     files: &F,
-    source: &'a str,
+    taken: &[Option<&str>],
     image: &'a str,
     bytes: &[u8],
 ) -> Result<Ending, Failure<'a>>
     ensures { IsFileWritten image.entry result }
 {
-    let source = (source != INPUT).then_some(source);
-    match write_file(alloc, files, source, image, bytes) {
+    match write_file(alloc, files, taken, image, bytes) {
         Ok(()) => Ok(Ending::Done),
         Err(error) if error.kind() == io::ErrorKind::OutOfMemory => Err(Failure::OutOfMemory),
         Err(error) => Err(Failure::CannotWrite(image, error)),
@@ -365,7 +373,11 @@ fn picture<'a, F: Files, I: Read, O: Write>(
 fn letters_of(ascii: bool) -> Letters
     ensures { result ≡ letters_of ascii }
 {
-    if ascii { Letters::Plain } else { Letters::Blocks }
+    if ascii {
+        Letters::Plain
+    } else {
+        Letters::Blocks
+    }
 }
 
 // The screen of a source's image after some steps.
@@ -416,13 +428,13 @@ impl<'a> Shot<'a> {
     {
         let mut picture = Counted::new(Vec::new(alloc));
         match self.print(alloc, form, &mut picture) {
-            Ok(Ending::Done) => write_image(
-                alloc,
-                files,
-                self.words.run.source,
-                name,
-                picture.get(),
-            ),
+            Ok(Ending::Done) => {
+                let source = file_name(self.words.run.source);
+                // Of two pictures the bitmap is written first.
+                let bitmap = self.words.bitmap.filter(|_| form == PictureForm::Png);
+                let taken = [source, self.words.run.keys, bitmap];
+                write_image(alloc, files, &taken, name, picture.get())
+            }
             Ok(Ending::Faulty) => print(picture.get(), Ending::Faulty, output),
             // A write to memory fails for want of it.
             Err(Failure::Output) => Err(Failure::OutOfMemory),
@@ -491,15 +503,28 @@ fn read_keys<'a, F: Files>(
     ensures err { IfErr result (IsKeysUnread name.entry) }
 {
     match name {
-        Some(name) => Ok(KeyFile {
-            name,
-            bytes: read_file(alloc, files, name)?,
-        }),
+        Some(name) => read_key_file(alloc, files, name),
         None => Ok(KeyFile {
             name: "",
             bytes: Vec::new(alloc),
         }),
     }
+}
+
+// A file of key events, unless it is too long.
+fn read_key_file<'a, F: Files>(
+    alloc: Global,
+    files: &F,
+    name: &'a str,
+) -> Result<KeyFile<'a>, Failure<'a>>
+    ensures { IfErr result (IsUnread name.entry) }
+{
+    let bytes = read_file(alloc, files, name, MOST_KEYS)?;
+    if bytes.len() > KEY_FILE_BYTES as usize {
+        let error = io::Error::new(io::ErrorKind::InvalidData, "it has over 10000000 bytes");
+        return Err(Failure::CannotRead(name, error));
+    }
+    Ok(KeyFile { name, bytes })
 }
 
 // The bytes of a file, or of the standard input where the name is `-`.
@@ -516,7 +541,7 @@ fn read_source<'a, F: Files, I: Read>(
     if name == INPUT {
         read_input(alloc, input)
     } else {
-        read_file(alloc, files, name)
+        read_file(alloc, files, name, MOST_SOURCE)
     }
 }
 
@@ -533,10 +558,16 @@ fn read_input<'a, I: Read>(alloc: Global, input: &mut Counted<I>) -> Result<Vec<
     }
 }
 
-fn read_file<'a, F: Files>(alloc: Global, files: &F, name: &'a str) -> Result<Vec<u8>, Failure<'a>>
+// The bytes of a file, up to a number.
+fn read_file<'a, F: Files>(
+    alloc: Global,
+    files: &F,
+    name: &'a str,
+    most: u32,
+) -> Result<Vec<u8>, Failure<'a>>
     ensures { IfErr result (IsUnread name.entry) }
 {
-    match chip_files::read_file(alloc, files, name, MOST_SOURCE) {
+    match chip_files::read_file(alloc, files, name, most) {
         Ok(bytes) => Ok(bytes),
         Err(error) if error.kind() == io::ErrorKind::OutOfMemory => Err(Failure::OutOfMemory),
         Err(error) => Err(Failure::CannotRead(name, error)),

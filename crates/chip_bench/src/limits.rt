@@ -8,3 +8,6 @@ pub const SCRIPT_BYTES: u32 = 50_000_000;
 
 /// How many lines a script has at most.
 pub const SCRIPT_LINES: u32 = 100_000;
+
+/// How many bytes a file of key events has at most.
+pub const KEY_FILE_BYTES: u32 = 10_000_000;

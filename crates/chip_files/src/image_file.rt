@@ -13,8 +13,8 @@ use std::{fs, io};
 // How many links are followed, one after another: as many as Linux follows.
 const MOST_LINKS: u32 = 40;
 
-/// Writes the file of a name whole. On an error it is as it was, or there is none, as before. What
-/// is the source isn't written, where the source is a file.
+/// Writes the file of a name whole. On an error it is as it was, or there is none, as before. A file
+/// of the names in `taken`, which the command reads or has written, isn't written.
 ///
 /// The bytes go to a new file in the same folder, `chipbench.part1`, say, which gets the name once
 /// they are on the disk, and which is taken away on an error. A file of that name is replaced if it
@@ -27,12 +27,12 @@ const MOST_LINKS: u32 = 40;
 pub fn write_file<F: Files>(
     alloc: Global,
     files: &F,
-    source: Option<&str>,
+    taken: &[Option<&str>],
     name: &str,
     bytes: &[u8],
 ) -> io::Result<()> {
     match OpenOptions::new().write(true).open(files, name) {
-        Ok(old) => write_over(alloc, files, source, old, name, bytes),
+        Ok(old) => write_over(alloc, files, taken, old, name, bytes),
         Err(error) if error.kind() == ErrorKind::NotFound => {
             let place = followed(alloc, files, name)?;
             let part = Part::new(alloc, files, place.as_str())?;
@@ -46,16 +46,15 @@ pub fn write_file<F: Files>(
 fn write_over<F: Files>(
     alloc: Global,
     files: &F,
-    source: Option<&str>,
+    taken: &[Option<&str>],
     mut old: F::File,
     name: &str,
     bytes: &[u8],
 ) -> io::Result<()> {
     let metadata = old.metadata()?;
-    if let Some(source) = source
-        && is_same(&metadata, &fs::metadata(files, source)?)
-    {
-        return Err(io::Error::new(ErrorKind::InvalidInput, "it is the source"));
+    if is_taken(files, taken, &metadata)? {
+        let why = "the command reads or writes it already";
+        return Err(io::Error::new(ErrorKind::InvalidInput, why));
     }
     if !metadata.is_file() {
         return write_down(&mut old, bytes);
@@ -71,6 +70,18 @@ fn write_over<F: Files>(
         part.take_away(files);
         write_in_place(old, bytes)
     }
+}
+
+// Whether this is told of a file of one of these names.
+fn is_taken<F: Files>(files: &F, taken: &[Option<&str>], open: &Metadata) -> io::Result<bool> {
+    for name in taken {
+        if let Some(name) = name
+            && is_same(open, &fs::metadata(files, *name)?)
+        {
+            return Ok(true);
+        }
+    }
+    Ok(false)
 }
 
 // Whether both tell of one file, by whatever names. A file system that isn't the system's has no
@@ -174,10 +185,11 @@ fn fill<F: OpenFile + Write + Drop>(
     permissions: Option<Permissions>,
     bytes: &[u8],
 ) -> io::Result<()> {
-    write_down(&mut file, bytes)?;
+    // Nobody may read the bytes who may not read the file.
     if let Some(permissions) = permissions {
         file.set_permissions(permissions)?;
     }
+    write_down(&mut file, bytes)?;
     file.sync_all()
 }
 

@@ -8,21 +8,12 @@ use std::rt::Files;
 use std::{fs, io};
 
 /// What the file of a name has, up to `most` bytes.
-pub fn read_file<F: Files>(
-    alloc: Global,
-    files: &F,
-    name: &str,
-    most: u32,
-) -> io::Result<Vec<u8>> {
+pub fn read_file<F: Files>(alloc: Global, files: &F, name: &str, most: u32) -> io::Result<Vec<u8>> {
     read_whole(alloc, fs::open(files, name)?, most)
 }
 
 // What a file has. Room for it is taken at once, where the file tells its length.
-fn read_whole<F: OpenFile + Read + Drop>(
-    alloc: Global,
-    file: F,
-    most: u32,
-) -> io::Result<Vec<u8>> {
+fn read_whole<F: OpenFile + Read + Drop>(alloc: Global, file: F, most: u32) -> io::Result<Vec<u8>> {
     let length = match file.metadata() {
         Ok(metadata) => metadata.len().min(u64::from(most)),
         Err(_) => 0,

@@ -126,15 +126,22 @@ fn push_head(
 {
     text.extend_from_slice(name)?;
     text.extend_from_slice(b":")?;
-    text.extend_from_slice(number.to_string(alloc)?.as_bytes())?;
+    push_decimal(alloc, text, number)?;
     text.extend_from_slice(b":")?;
-    text.extend_from_slice((span.start + 1).to_string(alloc)?.as_bytes())?;
+    push_decimal(alloc, text, span.start + 1)?;
     text.extend_from_slice(b": F")?;
-    text.extend_from_slice(fault.number().to_string(alloc)?.as_bytes())?;
+    push_decimal(alloc, text, usize::from(fault.number()))?;
     text.extend_from_slice(b": ")?;
     text.extend_from_slice(sentence)?;
     text.extend_from_slice(b"\n")?;
     Ok(())
+}
+
+/// Adds a number in decimal.
+fn push_decimal(alloc: Global, text: &mut Vec<u8>, number: usize) -> Result<(), AllocError>
+    ensures { OnOk result (text.new.items ≡ text.old.items ++ decimal number) }
+{
+    text.extend_from_slice(number.to_string(alloc)?.as_bytes())
 }
 
 /// Adds the marks below a line.

@@ -5,6 +5,7 @@ ghost use Rattle.std.specs.Str.Lines.{lines};
 ghost use Rattle.std.specs.List.{list_all};
 ghost use Rattle.std.specs.FinMap as map;
 ghost use Rattle.chip_lang.specs.Line.{reading_of};
+ghost use Rattle.chip_lang.specs.SeenLine.{seen_line};
 ghost use Rattle.chip_lang.specs.Show.{hex_digit, hex_word, hex_byte};
 ghost use Rattle.chip_asm.specs.Lines.{open_fault};
 ghost use Rattle.chip_asm.specs.Program.{image_of};
@@ -93,12 +94,23 @@ fn gives_word(alloc: Global, text: &[u8], word: u16) -> Result<bool, AllocError>
 {
     let mut meter = Meter::new();
     let line = read_line(alloc, &mut meter, text)?;
-    match &line {
+    line_gives_word(alloc, &mut meter, &line, word)
+}
+
+fn line_gives_word(
+    alloc: Global,
+    meter: &mut Meter,
+    line: &Line,
+    word: u16,
+) -> Result<bool, AllocError>
+    ensures { IfOk result (λ gives. gives ≡ gives_word word (seen_line line.now)) }
+{
+    match line {
         Line::Read {
             label: None,
             body: Body::Code(_, _),
         } => {
-            let coded = encode(alloc, &mut meter, &line, &NoNames)?;
+            let coded = encode(alloc, meter, line, &NoNames)?;
             Ok(is_word(&coded, word))
         }
         _ => Ok(false),

@@ -3,6 +3,7 @@
 ghost use Rattle.std.specs.Prelude.{◌≡◌, ◌≤◌, IfOk, IfSome, length};
 ghost use Rattle.std.specs.Option.{option_copied};
 ghost use Rattle.chip_lang.specs.Line.{reading_of};
+ghost use Rattle.chip_lang.specs.SeenLine.{seen_line};
 ghost use Rattle.chip_lang.specs.Scan.{AreTokens};
 ghost use Rattle.chip_asm.specs.Program.{symbols_of};
 ghost use Rattle.chip_views.specs.Place.{sees_earlier, last_seen, is_unknown_name, is_unknown, first_unknown, undefined_place, place_in};
@@ -72,12 +73,16 @@ fn sees_earlier(alloc: Global, line: &[u8]) -> Result<bool, AllocError>
 {
     let mut meter = Meter::new();
     let line = read_line(alloc, &mut meter, line)?;
-    match &line {
-        Line::Read {
-            body: Body::Equ(_) | Body::Org(_) | Body::Ds(_),
-            ..
-        } => Ok(true),
-        _ => Ok(false),
+    Ok(is_of_value(&line))
+}
+
+/// Whether a line is EQU, ORG or DS.
+fn is_of_value(line: &Line) -> bool
+    ensures { result ≡ sees_earlier (seen_line line.now) }
+{
+    match line {
+        Line::Read { body, .. } => matches!(body, Body::Equ(_) | Body::Org(_) | Body::Ds(_)),
+        Line::Bad(_) => false,
     }
 }
 

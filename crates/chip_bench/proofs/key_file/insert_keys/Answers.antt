@@ -13,7 +13,8 @@ returns-in-Some-clause-fault c =
     let refused : refusal_to s (key_command c.first_line.result.0.now) ≡ Some c.in-Some.code.now =
     sym c.in_ok-code.ensures.code ∙ ap option_copied c.in-Some.is in
     fault_is c.args.bench.now.session c.args.file.now _
-    (c.loop-rest.invariant.0 ∙ refused_here s (c.loop-rest.number + 1) c.loop-rest.rest.now _ _ c.first_line.ensures.first _ refused)
+    (c.loop-rest.invariant.0 ∙ refused_here s (c.loop-rest.number + 1) c.loop-rest.rest.now c.first_line.result.0.now c.first_line.result.1.now
+    c.first_line.ensures.first _ refused)
 
 pub loop-rest-preserved : goal.loop-rest-preserved
 loop-rest-preserved c =

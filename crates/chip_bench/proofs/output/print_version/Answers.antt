@@ -1,6 +1,6 @@
 use Rattle.std.proofs.Common.{◌∙◌, List, ℕ, codes, subst}
 use Rattle.chip_bench.specs.Printing.{Prints, printed}
-use Rattle.chip_arguments.specs.declared.command_line.TheConstants.{VERSION}
+use Rattle.chip_arguments.specs.declared.commands.TheConstants.{VERSION}
 use Rattle.chip_bench.specs.declared.ending.Ending.TheVariants.{Done}
 use Rattle.chip_bench.proofs.DoingLemmas.{three_parts}
 use Rattle.chip_bench.proofs.output.print_version.Goals as goal

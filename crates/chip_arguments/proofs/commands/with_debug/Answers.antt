@@ -1,6 +1,0 @@
-use Rattle.chip_arguments.proofs.CommandLemmas.{with_command_if_ok}
-use Rattle.chip_arguments.proofs.commands.with_debug.Goals as goal
-
-pub returns : goal.returns
-returns c =
-    with_command_if_ok c.args.command c.in_ok-debug_command.field-0 c.subcommand.result c.in_ok-debug_command.ensures c.subcommand.ensures

@@ -1,0 +1,194 @@
+//! Commands about key events and about the replay of a small machine: what chip_replay answers.
+//!
+//! - `keys`: no key events. `toy SPACING`: the replay of a small machine whose memory has zeros
+//!   alone, at the rate 10. `toy-image WAY`: such a one with the spacing 1000, which is asked for
+//!   the step 5000 and then has another image: `whole` and `within` make the first byte 5, the
+//!   second by saying that only this byte changed, and `same` changes none.
+//! - `insert STEP KEY down|up`, `replace STEP KEY down|up`, `delete STEP KEY`: edits of the key
+//!   events, answered with `ok` or the refusal. `fill STEP KEY down|up` inserts an event at each
+//!   step from 1 to that one. `held STEP`: the keys that are down, as a number.
+//! - `at STEP`: the sum of the small machine; `at-each STEP` asks for each step up to that one.
+//!   `counts`: the steps made, the last step that is known and how many checkpoints are kept.
+//!   `made`: the steps that the machine and its copies made. `is-counted`: whether the replay counts
+//!   as many.
+
+ghost use Rattle.std.specs.Prelude.{◌≡◌, ◌≤◌, [], drop, IfOk};
+ghost use Rattle.chip_replay.specs.Image.{padded};
+ghost use Rattle.chip_replay.specs.Limits.{image_start};
+
+use crate::text::{number, refuse, split_word};
+use crate::toy::Toy;
+use chip_replay::{KeyFault, Keys, LEAST_SPACING, MOST_SPACING, Replay, Traced};
+use std::alloc::{AllocError, Global};
+use std::cell::Cell;
+use std::rc::Rc;
+
+/// Key events, alone or those of a replay.
+#[derive(Drop)]
+pub(crate) enum Run {
+    Keys(Keys),
+    Toy(Replay<Toy>, Rc<Cell<u64>>),
+}
+
+impl Run {
+    /// Answers a command, and says whether it is one of these.
+    pub(crate) fn answer(
+        &mut self,
+        alloc: Global,
+        out: &mut String,
+        word: &str,
+        rest: &str,
+    ) -> Result<bool, AllocError> {
+        match word {
+            "keys" => *self = Run::Keys(Keys::new(alloc)),
+            "toy" => *self = toy_run(alloc, number(rest).unwrap_or(0))?,
+            "toy-image" => *self = toy_with_image(alloc, rest)?,
+            "insert" | "replace" | "delete" | "fill" => self.edit(out, word, rest)?,
+            "held" => self.push_held(out, rest)?,
+            _ => match self {
+                Run::Toy(replay, made) => return answer_toy(out, replay, made, word, rest),
+                Run::Keys(_) => return Ok(false),
+            },
+        }
+        Ok(true)
+    }
+
+    /// Makes an edit, and answers it.
+    fn edit(&mut self, out: &mut String, word: &str, rest: &str) -> Result<(), AllocError> {
+        let (step, rest) = split_word(rest);
+        let (key, state) = split_word(rest);
+        let (Some(step), Some(key)) = (number(step), number(key)) else {
+            return refuse(out);
+        };
+        let made = match self {
+            Run::Keys(keys) => edit_keys(keys, word, step, key, state == "down"),
+            Run::Toy(replay, _) => edit_replay(replay, word, step, key, state == "down"),
+        };
+        match made {
+            Ok(()) => out.push_str("ok"),
+            Err(fault) => write!(out, "{fault:?}"),
+        }
+    }
+
+    /// The keys that are down at a step.
+    fn push_held(&self, out: &mut String, rest: &str) -> Result<(), AllocError> {
+        let Some(step) = number(rest) else {
+            return refuse(out);
+        };
+        let keys = match self {
+            Run::Keys(keys) => keys,
+            Run::Toy(replay, _) => replay.keys(),
+        };
+        write!(out, "{}", keys.held(step))
+    }
+}
+
+/// Makes an edit of key events.
+fn edit_keys(keys: &mut Keys, word: &str, step: u32, key: u32, down: bool) -> Result<(), KeyFault> {
+    match word {
+        "insert" => keys.insert(step, key, down),
+        "replace" => keys.replace(step, key, down),
+        "delete" => keys.delete(step, key),
+        _ => {
+            for number in 1..=step {
+                keys.insert(number, key, down)?;
+            }
+            Ok(())
+        }
+    }
+}
+
+/// Makes an edit of the key events of a replay.
+pub(crate) fn edit_replay<M: Traced>(
+    replay: &mut Replay<M>,
+    word: &str,
+    step: u32,
+    key: u32,
+    down: bool,
+) -> Result<(), KeyFault> {
+    match word {
+        "insert" => replay.insert_key(step, key, down),
+        "replace" => replay.replace_key(step, key, down),
+        _ => replay.delete_key(step, key),
+    }
+}
+
+/// Answers a command about the small machine, and says whether it is one.
+fn answer_toy(
+    out: &mut String,
+    replay: &mut Replay<Toy>,
+    made: &Rc<Cell<u64>>,
+    word: &str,
+    rest: &str,
+) -> Result<bool, AllocError> {
+    let answered = match (word, number(rest)) {
+        ("at", Some(step)) => push_sum(out, replay, step, step),
+        ("at-each", Some(last)) => push_sum(out, replay, 0, last),
+        ("made", _) => write!(out, "{}", made.get()),
+        ("is-counted", _) => write!(out, "{}", replay.ran() == made.get()),
+        ("counts", _) => {
+            let (ran, reach, kept) = (replay.ran(), replay.reach(), replay.kept());
+            write!(out, "{ran} {reach} {kept}")
+        }
+        _ => return Ok(false),
+    };
+    answered?;
+    Ok(true)
+}
+
+/// The sum at the last of these steps, or the first error at one of them.
+fn push_sum(
+    out: &mut String,
+    replay: &mut Replay<Toy>,
+    first: u32,
+    last: u32,
+) -> Result<(), AllocError> {
+    let mut sum = 0;
+    for step in first..=last {
+        match replay.at(step) {
+            Ok(state) => sum = state.sum(),
+            Err(error) => return write!(out, "{error:?}"),
+        }
+    }
+    write!(out, "{sum}")
+}
+
+/// The replay of a small machine with checkpoints after so many steps each, or the nearest number
+/// that is allowed.
+fn toy_run(alloc: Global, spacing: u32) -> Result<Run, AllocError> {
+    let made = Rc::new(alloc, Cell::new(0))?;
+    let toy = Toy::new(alloc, made.clone()?)?;
+    let spacing = spacing.max(LEAST_SPACING).min(MOST_SPACING);
+    Ok(Run::Toy(Replay::new(alloc, toy, 10, spacing)?, made))
+}
+
+/// A replay that was asked about the step 5000; an error where the sum there is not 0.
+fn asked(alloc: Global, made: Rc<Cell<u64>>) -> Result<Replay<Toy>, AllocError>
+    ensures { IfOk result (λ replay. drop image_start replay.start.bytes ≡ padded []) }
+{
+    let toy = Toy::new(alloc, made)?;
+    let mut replay = Replay::new(alloc, toy, 10, LEAST_SPACING)?;
+    match replay.at(5000) {
+        Ok(state) if state.sum() == 0 => Ok(replay),
+        _ => Err(AllocError),
+    }
+}
+
+/// Changes an image without bytes, in one of the three ways.
+fn change_image(replay: &mut Replay<Toy>, way: &str)
+    requires { drop image_start replay.old.start.bytes ≡ padded [] }
+{
+    match way {
+        "whole" => replay.image_changed(&[], &[5]),
+        "within" => replay.image_changed_within(0..1, &[], &[5]),
+        _ => replay.image_changed_within(0..0, &[], &[]),
+    }
+}
+
+/// A replay that was asked and then has another image.
+fn toy_with_image(alloc: Global, way: &str) -> Result<Run, AllocError> {
+    let made = Rc::new(alloc, Cell::new(0))?;
+    let mut replay = asked(alloc, made.clone()?)?;
+    change_image(&mut replay, way);
+    Ok(Run::Toy(replay, made))
+}

@@ -1,0 +1,103 @@
+//! Commands about words of instructions.
+//!
+//! - `decode WORD`: the word of the instruction that a word is, or `none`. `show WORD`: its source
+//!   text, once as a new text and once added to another.
+//! - `decode-all`: how many words are instructions; each has to be the word of its instruction.
+//! - `show-all`: how many lines were read and encoded, where the source text of each word is; each
+//!   has to have the word as its code, and to be one of data where the word is no instruction.
+
+use crate::language::NoNames;
+use crate::text::{hex_number, refuse};
+use chip_lang::{Coded, Line, Meter, decode, encode, push_shown, read_line, show, word as word_of};
+use std::alloc::{AllocError, Global};
+
+/// Answers a command, and says whether it is one of these.
+pub(crate) fn answer(
+    alloc: Global,
+    out: &mut String,
+    word: &str,
+    rest: &str,
+) -> Result<bool, AllocError> {
+    let answered = match word {
+        "decode" => push_decoded(out, rest),
+        "show" => push_texts(alloc, out, rest),
+        "decode-all" => decode_all(out),
+        "show-all" => show_all(alloc, out),
+        _ => return Ok(false),
+    };
+    answered?;
+    Ok(true)
+}
+
+/// The word of the instruction that a word is.
+fn decoded(word: u16) -> Option<u16> {
+    match decode(word) {
+        Some(instr) => Some(word_of(instr)),
+        None => None,
+    }
+}
+
+fn push_decoded(out: &mut String, rest: &str) -> Result<(), AllocError> {
+    let Some(word) = hex_number(rest) else {
+        return refuse(out);
+    };
+    match decoded(word) {
+        Some(word) => write!(out, "{word:04x}"),
+        None => out.push_str("none"),
+    }
+}
+
+fn decode_all(out: &mut String) -> Result<(), AllocError> {
+    let mut count = 0u32;
+    for word in 0..=65535u16 {
+        if let Some(found) = decoded(word) {
+            if found != word {
+                return write!(out, "{word:04x} is decoded as {found:04x}");
+            }
+            count = count.saturating_add(1);
+        }
+    }
+    write!(out, "{count} instructions")
+}
+
+/// The source text of a word.
+fn shown(alloc: Global, word: u16) -> Result<String, AllocError> {
+    show(alloc, word)
+}
+
+fn push_texts(alloc: Global, out: &mut String, rest: &str) -> Result<(), AllocError> {
+    let Some(word) = hex_number(rest) else {
+        return refuse(out);
+    };
+    out.push_str(shown(alloc, word)?.as_str())?;
+    out.push('\n')?;
+    push_shown(out, word)
+}
+
+fn show_all(alloc: Global, out: &mut String) -> Result<(), AllocError> {
+    let mut meter = Meter::new();
+    for word in 0..=65535u16 {
+        if !gives_back(alloc, &mut meter, word)? {
+            return write!(out, "not {word:04x}");
+        }
+    }
+    let (parsed, encoded) = (meter.parsed, meter.encoded);
+    write!(out, "{parsed} parsed, {encoded} encoded")
+}
+
+/// Whether the source text of a word is one of data where it has to be, and has the word as its
+/// code.
+fn gives_back(alloc: Global, meter: &mut Meter, word: u16) -> Result<bool, AllocError> {
+    let text = shown(alloc, word)?;
+    let is_data = text.as_str().starts_with("DW");
+    let line = read_line(alloc, meter, text.as_bytes())?;
+    Ok(is_data == decoded(word).is_none() && has_code(alloc, meter, &line, word)?)
+}
+
+/// Whether a line has a word as its code.
+fn has_code(alloc: Global, meter: &mut Meter, line: &Line, word: u16) -> Result<bool, AllocError> {
+    match encode(alloc, meter, line, &NoNames)? {
+        Coded::Bytes(bytes) => Ok(bytes.get() == word.to_be_bytes().as_slice()),
+        Coded::Faulty(_) => Ok(false),
+    }
+}

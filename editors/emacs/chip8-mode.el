@@ -1,0 +1,127 @@
+;;; chip8-mode.el --- CHIP-8 and SUPER-CHIP sources  -*- lexical-binding: t -*-
+
+;; Package-Requires: ((emacs "28.1"))
+;; Keywords: languages
+
+;;; Commentary:
+
+;; A mode for sources of chipbench: colours, columns, and the language server by eglot.
+;;
+;;     (add-to-list 'load-path "FOLDER/editors/emacs")
+;;     (require 'chip8-mode)
+;;     (add-hook 'chip8-mode-hook #'eglot-ensure)
+;;
+;; Files *.ch8asm have the mode; for an *.asm say M-x chip8-mode, or -*- mode: chip8 -*- in its
+;; first line after a `;'.  `chip8-run-to-line' (C-c C-r) shows the machine at the first step on
+;; the line of the cursor.
+
+;;; Code:
+
+(require 'chip8-words)
+
+(declare-function eglot-current-server "eglot")
+(declare-function eglot--signal-textDocument/didChange "eglot")
+(declare-function jsonrpc-request "jsonrpc")
+(defvar eglot-server-programs)
+
+(defgroup chip8 nil
+  "CHIP-8 sources."
+  :group 'languages)
+
+(defcustom chip8-server '("chipbench-lsp")
+  "The language server and its arguments."
+  :type '(repeat string))
+
+(defcustom chip8-settings nil
+  "Settings of the language server.
+A property list of :profile, :rate, :tape, :seed, :every, :program."
+  :type 'plist)
+
+(defconst chip8-statement-column 8)
+(defconst chip8-comment-column 28)
+
+(defvar chip8-mode-syntax-table
+  (let ((table (make-syntax-table)))
+    (modify-syntax-entry ?\; "<" table)
+    (modify-syntax-entry ?\n ">" table)
+    (modify-syntax-entry ?_ "w" table)
+    (modify-syntax-entry ?\\ "." table)
+    (modify-syntax-entry ?' "\"" table)
+    table))
+
+(defvar chip8-font-lock-keywords
+  (let ((words (lambda (texts) (concat "\\_<" (regexp-opt texts) "\\_>"))))
+    `(("^[ \t]*\\([A-Za-z_][A-Za-z0-9_]*\\)[ \t]*:" 1 font-lock-function-name-face)
+      ("^[ \t]*\\([A-Za-z_][A-Za-z0-9_]*\\)[ \t]*\\(?:=\\|EQU\\_>\\)" 1 font-lock-variable-name-face)
+      (,(funcall words chip8-mnemonics) . font-lock-keyword-face)
+      (,(funcall words chip8-directives) . font-lock-preprocessor-face)
+      (,(funcall words chip8-switches) . font-lock-constant-face)
+      ("\\_<V[0-9A-F]\\_>" . font-lock-builtin-face)
+      (,(funcall words chip8-parts) . font-lock-builtin-face)
+      ("#[0-9A-F]+\\|@[0-7]+\\|\\$[01.]+\\|\\_<[0-9]+\\_>" . font-lock-constant-face))))
+
+(defun chip8-indent-line ()
+  "Put a label or a definition at the edge, and a statement in its column."
+  (interactive)
+  (let* ((case-fold-search t)
+         (column (save-excursion
+                   (back-to-indentation)
+                   (cond ((looking-at "[A-Za-z_][A-Za-z0-9_]*[ \t]*\\(?::\\|=\\|EQU\\_>\\)") 0)
+                         ((looking-at ";") (current-column))
+                         (t chip8-statement-column)))))
+    (if (<= (current-column) (current-indentation))
+        (indent-line-to column)
+      (save-excursion (indent-line-to column)))))
+
+;;;###autoload
+(define-derived-mode chip8-mode prog-mode "CHIP-8"
+  "A mode for CHIP-8 and SUPER-CHIP sources."
+  (setq-local comment-start "; ")
+  (setq-local comment-start-skip ";+[ \t]*")
+  (setq-local comment-column chip8-comment-column)
+  (setq-local indent-tabs-mode nil)
+  (setq-local tab-width chip8-statement-column)
+  (setq-local indent-line-function #'chip8-indent-line)
+  (setq-local font-lock-defaults '(chip8-font-lock-keywords nil t)))
+
+(define-key chip8-mode-map (kbd "C-c C-r") #'chip8-run-to-line)
+
+;;;###autoload
+(add-to-list 'auto-mode-alist '("\\.ch8asm\\'" . chip8-mode))
+
+;; The language server
+
+(defun chip8-contact (&optional _interactive)
+  "The language server, as eglot takes it."
+  `(,@chip8-server :initializationOptions (:showsRuns t ,@chip8-settings)))
+
+(with-eval-after-load 'eglot
+  (add-to-list 'eglot-server-programs '(chip8-mode . chip8-contact)))
+
+(defun chip8-run-to-line ()
+  "Show the machine at the first step at which pc is on the line of the cursor."
+  (interactive)
+  (let ((server (eglot-current-server))
+        (line (1- (line-number-at-pos nil t))))
+    (unless server
+      (user-error "The language server isn't running here (M-x eglot)"))
+    (eglot--signal-textDocument/didChange)
+    (let ((found (jsonrpc-request server :workspace/executeCommand
+                                  (list :command "chipbench.runTo"
+                                        :arguments (vector (chip8-document-uri) line)))))
+      (with-current-buffer (get-buffer-create "*chipbench*")
+        (let ((inhibit-read-only t))
+          (erase-buffer)
+          (insert (plist-get found :text))
+          (goto-char (point-min)))
+        (special-mode)
+        (display-buffer (current-buffer))))))
+
+(defun chip8-document-uri ()
+  "The name of the document, as eglot names it to the server."
+  (plist-get (eglot--TextDocumentIdentifier) :uri))
+
+(declare-function eglot--TextDocumentIdentifier "eglot")
+
+(provide 'chip8-mode)
+;;; chip8-mode.el ends here

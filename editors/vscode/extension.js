@@ -1,0 +1,239 @@
+// The extension: keeps one language server, sends it what is typed, and passes its answers to VS Code.
+'use strict';
+
+const vscode = require('vscode');
+const { Connection } = require('./connection.js');
+const convert = require('./convert.js');
+
+const LANGUAGE = 'chip8';
+const RUN_TO = 'chipbench.runTo';
+// A server that ends more often than this in a minute is left alone.
+const MOST_STARTS = 4;
+const MINUTE = 60_000;
+
+const documentOf = (document) => ({ textDocument: { uri: document.uri.toString() } });
+const placeOf = (document, position) => ({ ...documentOf(document), position: convert.toPosition(position) });
+
+class Server {
+  #connection = null;
+  #ready = null;
+  #isReady = false;
+  #starts = [];
+  #output;
+  #diagnostics;
+
+  constructor(output, diagnostics) {
+    this.#output = output;
+    this.#diagnostics = diagnostics;
+  }
+
+  get processId() {
+    return this.#connection?.processId;
+  }
+
+  start() {
+    const settings = vscode.workspace.getConfiguration('chipbench');
+    this.#starts.push(Date.now());
+    const connection = new Connection(settings.get('server') || 'chipbench-lsp', [], {
+      onNotification: (method, params) => this.#told(method, params),
+      onEnd: (reason) => this.#ended(connection, reason),
+    });
+    this.#connection = connection;
+    this.#isReady = false;
+    const options = { ...this.#options(settings), program: settings.get('program') || undefined, showsRuns: true };
+    const snippets = { textDocument: { completion: { completionItem: { snippetSupport: true } } } };
+    const params = { processId: process.pid, rootUri: null, capabilities: snippets, initializationOptions: options };
+    this.#ready = connection.ask('initialize', params).then(() => {
+      connection.tell('initialized', {});
+      this.#isReady = true;
+      for (const document of vscode.workspace.textDocuments) this.#open(connection, document);
+    });
+    this.#ready.catch(() => {});
+  }
+
+  #options(settings) {
+    return { profile: settings.get('profile'), rate: settings.get('rate'), tape: settings.get('tape') };
+  }
+
+  #ended(connection, reason) {
+    if (connection !== this.#connection) return;
+    this.#connection = null;
+    this.#diagnostics.clear();
+    this.#output.appendLine(`the language server ended: ${reason}`);
+    this.#starts = this.#starts.filter((at) => at > Date.now() - MINUTE);
+    if (this.#starts.length < MOST_STARTS) this.start();
+    else vscode.window.showErrorMessage('chipbench: the language server keeps ending; see the output of chipbench.');
+  }
+
+  #told(method, params) {
+    if (method === 'textDocument/publishDiagnostics') {
+      this.#diagnostics.set(vscode.Uri.parse(params.uri), params.diagnostics.map(convert.diagnostic));
+    } else if (method === 'window/showMessage') {
+      this.#output.appendLine(params.message);
+    }
+  }
+
+  #open(connection, document) {
+    if (document.languageId !== LANGUAGE) return;
+    const { uri, version } = document;
+    const item = { uri: uri.toString(), languageId: LANGUAGE, version, text: document.getText() };
+    connection.tell('textDocument/didOpen', { textDocument: item });
+  }
+
+  /** Notifies the server. One that isn't ready yet gets all open documents when it is. */
+  #tell(document, method, params) {
+    if (document.languageId === LANGUAGE && this.#isReady) this.#connection?.tell(`textDocument/${method}`, params);
+  }
+
+  didOpen(document) {
+    if (this.#isReady && this.#connection !== null) this.#open(this.#connection, document);
+  }
+
+  didChange({ document, contentChanges }) {
+    if (contentChanges.length === 0) return;
+    const changes = contentChanges.map((change) => ({ range: convert.toRange(change.range), text: change.text }));
+    const textDocument = { uri: document.uri.toString(), version: document.version };
+    this.#tell(document, 'didChange', { textDocument, contentChanges: changes });
+  }
+
+  didClose(document) {
+    this.#tell(document, 'didClose', documentOf(document));
+  }
+
+  didConfigure(change) {
+    if (change.affectsConfiguration('chipbench.server') || change.affectsConfiguration('chipbench.program')) this.restart();
+    else if (change.affectsConfiguration('chipbench')) {
+      const settings = this.#options(vscode.workspace.getConfiguration('chipbench'));
+      this.#connection?.tell('workspace/didChangeConfiguration', { settings: { chipbench: settings } });
+    }
+  }
+
+  async ask(method, params, token) {
+    if (this.#connection === null) return null;
+    await this.#ready;
+    return this.#connection.ask(method, params, token);
+  }
+
+  async restart() {
+    this.#starts = [];
+    await this.close();
+    this.start();
+  }
+
+  async close() {
+    const connection = this.#connection;
+    this.#connection = null;
+    await connection?.close();
+  }
+}
+
+/** Providers for a place in a document. */
+function placeProviders(ask) {
+  const at = (method, make) => async (document, position, token) => make(await ask(method, placeOf(document, position), token));
+  const lists = (make) => (found) => convert.list(found, make);
+  return {
+    Hover: { provideHover: at('hover', convert.hover) },
+    Definition: { provideDefinition: at('definition', lists(convert.place)) },
+    DocumentHighlight: { provideDocumentHighlights: at('documentHighlight', lists(convert.highlight)) },
+    CompletionItem: { provideCompletionItems: at('completion', lists(convert.completion)) },
+    Reference: {
+      provideReferences: async (document, position, context, token) =>
+        convert.list(await ask('references', { ...placeOf(document, position), context }, token), convert.place),
+    },
+    Rename: {
+      provideRenameEdits: async (document, position, newName, token) =>
+        convert.workspaceEdit(await ask('rename', { ...placeOf(document, position), newName }, token)),
+      prepareRename: async (document, position, token) => {
+        const found = await ask('prepareRename', placeOf(document, position), token);
+        if (found === null) throw new Error('There is no name here.');
+        return { range: convert.range(found.range), placeholder: found.placeholder };
+      },
+    },
+  };
+}
+
+/** Providers for a whole document. */
+function documentProviders(ask) {
+  const all = (method, make) => async (document, token) => convert.list(await ask(method, documentOf(document), token), make);
+  const folds = all('foldingRange', convert.fold);
+  return {
+    DocumentSymbol: { provideDocumentSymbols: all('documentSymbol', convert.symbol) },
+    CodeLens: { provideCodeLenses: all('codeLens', convert.lens) },
+    FoldingRange: { provideFoldingRanges: (document, _, token) => folds(document, token) },
+    DocumentFormattingEdit: {
+      provideDocumentFormattingEdits: async (document, options, token) =>
+        convert.list(await ask('formatting', { ...documentOf(document), options }, token), convert.edit),
+    },
+  };
+}
+
+/** Providers for a range of a document. */
+function rangeProviders(ask) {
+  const within = async (method, make, document, where, more, token) =>
+    convert.list(await ask(method, { ...documentOf(document), range: convert.toRange(where), ...more }, token), make);
+  const context = { diagnostics: [] };
+  return {
+    CodeActions: {
+      provideCodeActions: (document, where, _, token) => within('codeAction', convert.action, document, where, { context }, token),
+    },
+    InlayHints: {
+      provideInlayHints: (document, where, token) => within('inlayHint', convert.hint, document, where, {}, token),
+    },
+    DocumentRangeFormattingEdit: {
+      provideDocumentRangeFormattingEdits: (document, where, options, token) =>
+        within('rangeFormatting', convert.edit, document, where, { options }, token),
+    },
+  };
+}
+
+function providers(server) {
+  const ask = (method, params, token) => server.ask(`textDocument/${method}`, params, token);
+  return { ...placeProviders(ask), ...documentProviders(ask), ...rangeProviders(ask) };
+}
+
+/** Asks for the machine at the first step on a line, and shows it in the output. */
+async function runTo(server, output, uri, line) {
+  const options = { location: vscode.ProgressLocation.Notification, title: 'chipbench: run to here', cancellable: true };
+  const result = await vscode.window.withProgress(options, (_, token) =>
+    server.ask('workspace/executeCommand', { command: RUN_TO, arguments: [uri, line] }, token),
+  );
+  if (!result) return;
+  output.appendLine(result.text);
+  output.show(true);
+}
+
+function activate(context) {
+  const output = vscode.window.createOutputChannel('chipbench');
+  const diagnostics = vscode.languages.createDiagnosticCollection('chipbench');
+  const server = new Server(output, diagnostics);
+  const selector = { language: LANGUAGE };
+  const shown = (work) => async (...args) => {
+    try {
+      await work(...args);
+    } catch (error) {
+      vscode.window.showErrorMessage(`chipbench: ${error.message}`);
+    }
+  };
+  context.subscriptions.push(
+    output,
+    diagnostics,
+    vscode.workspace.onDidOpenTextDocument((document) => server.didOpen(document)),
+    vscode.workspace.onDidChangeTextDocument((change) => server.didChange(change)),
+    vscode.workspace.onDidCloseTextDocument((document) => server.didClose(document)),
+    vscode.workspace.onDidChangeConfiguration((change) => server.didConfigure(change)),
+    vscode.commands.registerCommand(RUN_TO, shown((uri, line) => runTo(server, output, uri, line))),
+    vscode.commands.registerCommand('chipbench.restart', shown(() => server.restart())),
+    vscode.commands.registerCommand('chipbench.runToCursor', shown(async () => {
+      const editor = vscode.window.activeTextEditor;
+      if (editor) await runTo(server, output, editor.document.uri.toString(), editor.selection.active.line);
+    })),
+    { dispose: () => server.close() },
+  );
+  for (const [kind, provider] of Object.entries(providers(server))) {
+    context.subscriptions.push(vscode.languages[`register${kind}Provider`](selector, provider));
+  }
+  server.start();
+  return server;
+}
+
+module.exports = { activate };

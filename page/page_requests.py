@@ -1,0 +1,261 @@
+"""What the page asks of the bridge, one request at a time: answers of the program, and files."""
+
+from __future__ import annotations
+
+import re
+import secrets
+import tempfile
+import threading
+from pathlib import Path
+from typing import Any
+
+from files import MAX_FILE, Files, Refused, digest_of, shown
+from program import MAX_ANSWERS, Ended, Program, TooMuch, run_once
+
+MAX_BODY = 8_000_000
+MAX_COMMANDS = 25_000
+
+OPTION_VALUES = {
+    "rate": re.compile(r"[0-9]{1,9}"),
+    "tape": re.compile(r"[0-9a-fA-F]{2,8192}"),
+    "seed": re.compile(r"[0-9]{1,20}"),
+    "profile": re.compile(r"[a-z0-9]{1,20}"),
+    "every": re.compile(r"[0-9]{1,9}"),
+}
+WORDS = ("dis", "explain", "check")
+NAMES = ("about", "open", "ask", "word", "keys", "files", "read", "save")
+TAKEN = "another window has started the program anew"
+
+
+def bytes_of(value: Any, most: int) -> bytes:
+    """The bytes of a text in which each character stands for one byte."""
+    if not isinstance(value, str) or len(value) > most:
+        raise Refused(400, "a text is missing or too long")
+    try:
+        return value.encode("latin-1")
+    except UnicodeEncodeError:
+        raise Refused(400, "a character that is no byte") from None
+
+
+def commands_of(value: Any) -> list[bytes]:
+    """The commands of a request. Each is one line that isn't blank and has no CR at its end, which the program would drop: so
+    each has one answer, whose end is known by its first word."""
+    if not isinstance(value, list) or len(value) > MAX_COMMANDS:
+        raise Refused(400, "the commands are missing or too many")
+    commands = [bytes_of(command, MAX_BODY) for command in value]
+    for command in commands:
+        if b"\n" in command or command.endswith(b"\r") or not command.strip(b" "):
+            raise Refused(400, "a command is blank, has several lines or ends in CR")
+    return commands
+
+
+def option_arguments(options: Any) -> list[str]:
+    if not isinstance(options, dict):
+        raise Refused(400, "the options are missing")
+    arguments = []
+    for name, value in options.items():
+        if name not in OPTION_VALUES or not isinstance(value, str) or not OPTION_VALUES[name].fullmatch(value):
+            raise Refused(400, f"the option {name!r} has no such value")
+        arguments.append(f"--{name}={value}")
+    return arguments
+
+
+class Bridge:
+    """The program that runs, the files, and the requests of the page, one at a time."""
+
+    def __init__(self, program: str, files: Files, settings: dict[str, str]) -> None:
+        self._program = program
+        self._files = files
+        self._settings = settings
+        self._running: Program | None = None
+        self._session = 0
+        self._start = secrets.token_hex(8)
+        self._lock = threading.Lock()
+        self._options = [name for name in OPTION_VALUES if name in self._options_of("debug")]
+        self._takes_keys = "keys" in self._options_of("run")
+        self._words = self._known_words()
+        self._folder = tempfile.TemporaryDirectory(prefix="chipbench-page-")
+        self.place = Path(self._folder.name)
+
+    def _options_of(self, word: str) -> set[str]:
+        """Which options a word of the program takes, by its own help."""
+        _, output, _ = run_once([self._program, word, "--help"])
+        return set(re.findall(r"--([a-z]+)", output.decode("utf-8", "replace")))
+
+    def _known_words(self) -> list[str]:
+        _, output, _ = run_once([self._program, "--help"])
+        text = output.decode("utf-8", "replace")
+        return [word for word in WORDS if re.search(rf"^\s+{word}\b", text, re.MULTILINE)]
+
+    def refusal(self) -> str | None:
+        """What the program says against the settings at the start, or none."""
+        place = self.place / "empty.asm"
+        place.write_bytes(b"")
+        status, _, errors = run_once([self._program, "debug", *option_arguments(self._settings), str(place)])
+        return errors.strip().split("\n\n")[0] if status == 2 else None
+
+    # Files ---------------------------------------------------------------------------------------------------------------
+
+    def about(self, _: dict[str, Any]) -> dict[str, Any]:
+        """What the page was opened on, and what the program takes."""
+        source = self._files.source
+        opened = {"name": None, "path": None, "text": None, "digest": None} if source is None else self._read(source.name)
+        return {
+            **opened,
+            "start": self._start,
+            "folder": str(self._files.folder),
+            "settings": self._settings,
+            "options": self._options,
+            "words": self._words,
+        }
+
+    def files(self, _: dict[str, Any]) -> dict[str, Any]:
+        """The files of the folder that the page can open."""
+        try:
+            return {"folder": str(self._files.folder), "files": self._files.names()}
+        except OSError as error:
+            raise Refused(409, f"{shown(self._files.folder)} can't be read: {error.strerror}") from None
+
+    def read(self, request: dict[str, Any]) -> dict[str, Any]:
+        """A file of the folder."""
+        return self._read(request.get("name"))
+
+    def _read(self, name: Any) -> dict[str, Any]:
+        content = self._files.read(name)
+        text = None if content is None else content.decode("latin-1")
+        return {"name": name, "path": str(self._files.path_of(name).resolve()), "text": text, "digest": digest_of(content)}
+
+    def save(self, request: dict[str, Any]) -> dict[str, Any]:
+        """Writes a file of the folder, since the author asked for it."""
+        content = bytes_of(request.get("text"), MAX_FILE)
+        name, known = request.get("name"), request.get("known")
+        self._files.path_of(name)
+        with self._lock:
+            try:
+                saved = self._files.save(name, content, known if isinstance(known, str) else None)
+            except OSError as error:
+                raise Refused(500, f"the file can't be written: {error.strerror}") from None
+            found = self._read(name)
+        return {"saved": saved, **(found if not saved else {**found, "text": None})}
+
+    # The program that runs -----------------------------------------------------------------------------------------------
+
+    def open(self, request: dict[str, Any]) -> dict[str, Any]:
+        """Starts the program on a source, in place of the one that runs, and gives it the first commands. A window that has a
+        session says which, and doesn't take the program from another one unasked."""
+        source = bytes_of(request.get("source"), MAX_FILE)
+        commands = commands_of(request.get("commands"))
+        arguments = option_arguments(request.get("options"))
+        with self._lock:
+            if request.get("session") not in (None, self._session):
+                raise Refused(409, TAKEN)
+            self._close()
+            self._session += 1
+            place = self.place / f"source-{self._session % 2}.asm"
+            try:
+                place.write_bytes(source)
+                self._running = Program([self._program, "debug", *arguments, str(place)])
+            except OSError as error:
+                raise Refused(500, f"the program can't be started: {error.strerror}") from None
+            return self._exchange(commands)
+
+    def ask(self, request: dict[str, Any]) -> dict[str, Any]:
+        """Gives commands to the program that runs."""
+        commands = commands_of(request.get("commands"))
+        with self._lock:
+            if request.get("session") != self._session or self._session == 0:
+                raise Refused(409, TAKEN)
+            if self._running is None:
+                return {"session": self._session, "answers": [], "ended": {"status": 0, "text": "it isn't running"}}
+            return self._exchange(commands)
+
+    def _exchange(self, commands: list[bytes]) -> dict[str, Any]:
+        assert self._running is not None
+        reply: dict[str, Any] = {"session": self._session}
+        try:
+            answers = self._running.exchange(commands)
+        except Ended as ended:
+            answers = ended.answers
+            reply["ended"] = {"status": ended.status, "text": ended.text}
+            self._running = None
+        except TooMuch:
+            self._close()
+            raise Refused(413, f"the answers of one request have over {MAX_ANSWERS:,} bytes") from None
+        except BaseException:
+            # the answers that weren't read would be taken for those of the next commands
+            self._close()
+            raise
+        reply["answers"] = [answer.decode("latin-1") for answer in answers]
+        return reply
+
+    def _close(self) -> None:
+        if self._running is not None:
+            self._running.close()
+            self._running = None
+
+    def close(self) -> None:
+        with self._lock:
+            self._close()
+        self._folder.cleanup()
+
+    # Words of the program that are run once ------------------------------------------------------------------------------
+
+    def word(self, request: dict[str, Any]) -> dict[str, Any]:
+        """Runs `dis` on an image, `check` on a source, or `explain` on a code."""
+        word = request.get("word")
+        if word in ("dis", "check"):
+            status, output, errors = self._run_on(word, bytes_of(request.get("content"), MAX_FILE))
+        elif word == "explain":
+            code = request.get("code")
+            if not isinstance(code, str) or not re.fullmatch(r"[A-Z][0-9]{1,2}", code):
+                raise Refused(400, "no such code")
+            status, output, errors = run_once([self._program, "explain", code])
+        else:
+            raise Refused(400, "no such word")
+        return {"status": status, "output": output.decode("latin-1"), "errors": errors}
+
+    def _run_on(self, word: str, content: bytes) -> tuple[int, bytes, str]:
+        place = self._new_file(content)
+        try:
+            return run_once([self._program, word, str(place)])
+        finally:
+            place.unlink()
+
+    def _new_file(self, content: bytes) -> Path:
+        place = self.place / f"file-{secrets.token_hex(8)}"
+        place.write_bytes(content)
+        return place
+
+    def keys(self, request: dict[str, Any]) -> dict[str, Any]:
+        """Whether the program takes a file of key events: the first line that it refuses, and its code."""
+        content = bytes_of(request.get("text"), MAX_FILE)
+        return {"refused": self._refused_by_run(content) if self._takes_keys else self._refused_by_debug(content)}
+
+    def _refused_by_run(self, content: bytes) -> dict[str, Any] | None:
+        empty, place = self._new_file(b""), self._new_file(content)
+        try:
+            status, _, errors = run_once([self._program, "run", str(empty), "--steps", "0", "--keys", str(place)])
+        finally:
+            empty.unlink()
+            place.unlink()
+        found = re.search(r" line (\d+): ([A-Z]\d+)$", errors.strip())
+        if status == 0:
+            return None
+        if found is None:
+            raise Refused(409, errors.strip() or f"the program ended with status {status}")
+        return {"line": int(found[1]), "code": found[2]}
+
+    def _refused_by_debug(self, content: bytes) -> dict[str, Any] | None:
+        """For a program without `--keys`: each line is what follows `kins` in a script."""
+        lines = [line.removesuffix(b"\r").split(b";")[0] for line in content.split(b"\n")]
+        numbers = [number for number, line in enumerate(lines, 1) if line.strip(b" ")]
+        script = b"".join(b"kins " + lines[number - 1] + b"\n" for number in numbers)
+        empty = self._new_file(b"")
+        try:
+            _, output, _ = run_once([self._program, "debug", str(empty)], script)
+        finally:
+            empty.unlink()
+        for number, answer in zip(numbers, output.decode("latin-1").splitlines()):
+            if answer != "ok":
+                return {"line": number, "code": answer.removeprefix("no ")}
+        return None

@@ -1,0 +1,100 @@
+// What is said of the cursor's line and of the word under the pointer: the address, the fault, a name's value, an instruction.
+
+import { byId, element, setText } from './dom.mjs';
+import { hex } from './answers.mjs';
+import { placeOf } from './columns.mjs';
+import { rowsOf, tokensOf } from './language.mjs';
+
+export class AboutLine {
+  #editor;
+  #assembled;
+  #explains;
+  #explain;
+  #state = byId('line-state');
+  #count = byId('fault-count');
+  #next = byId('next-fault');
+  #hover = byId('hover');
+  #told = '';
+
+  /** `assembled()` is what is known of the text; `explain(code)` tells more of a code, where `explains`. */
+  constructor(editor, { assembled, explains, explain }) {
+    this.#editor = editor;
+    this.#assembled = assembled;
+    this.#explains = explains;
+    this.#explain = explain;
+    const text = byId('source-text');
+    editor.addEventListener('cursor', () => this.#tellLine());
+    text.addEventListener('pointermove', (event) => this.#pointed(event));
+    for (const name of ['pointerleave', 'keydown', 'pointerdown']) text.addEventListener(name, () => this.#hide());
+    byId('editor').addEventListener('scroll', () => this.#hide(), { passive: true });
+    this.#next.addEventListener('click', () => editor.goToFault(true));
+  }
+
+  /** How many faults there are. */
+  showFaults() {
+    const lines = this.#editor.faultLines;
+    this.#count.classList.toggle('some', lines.length > 0);
+    setText(this.#count, lines.length === 0 ? 'no faults' : `${lines.length} ${lines.length === 1 ? 'fault' : 'faults'}, the first in line ${lines[0]}`);
+    this.#next.hidden = lines.length === 0;
+  }
+
+  #tellLine() {
+    const { line, fault } = this.#editor;
+    const { address, field } = this.#editor.listing[line - 1] ?? {};
+    const bytes = field && fault === null ? `, ${field}` : '';
+    const said = fault === null ? '' : `${fault}: ${this.#editor.faultText(line)} `;
+    const text = `line ${line}${address === null || address === undefined ? '' : `, #${hex(address, 3)}`}${bytes}`;
+    const about = this.#aboutWord();
+    if (`${text}${said}${about}` === this.#told) return;
+    this.#told = `${text}${said}${about}`;
+    this.#state.textContent = said === '' && about !== '' ? `${text}; ${about}` : text;
+    if (said === '') return;
+    this.#state.append(`; ${said}`);
+    if (!this.#explains) return;
+    const button = element('button', { type: 'button', textContent: 'Explain', title: 'F1' });
+    button.addEventListener('click', () => this.#explain(fault));
+    this.#state.append(button);
+  }
+
+  /** What stands at the cursor, in one line. */
+  #aboutWord() {
+    const text = byId('source-text');
+    const start = text.value.lastIndexOf('\n', text.selectionStart - 1) + 1;
+    return this.#about(this.#editor.lines[this.#editor.line - 1] ?? '', text.selectionStart - start).join('; ');
+  }
+
+  /** What is known of the token at a place of a line: a row of text each; none where there is nothing to say. */
+  #about(line, place) {
+    const token = tokensOf(line).find(({ start, text }) => start <= place && place <= start + text.length);
+    if (token?.kind === 'mnemonic' || token?.kind === 'directive') return rowsOf(token.text);
+    if (token?.kind !== 'name') return [];
+    const symbol = this.#assembled().symbols.find(({ name }) => name === token.text.toUpperCase());
+    return symbol === undefined ? [] : [`${symbol.name} = ${symbol.value} (#${hex(symbol.value < 0 ? 2 ** 32 + symbol.value : symbol.value, 3)}), line ${symbol.line}`];
+  }
+
+  #pointed(event) {
+    const { line, column } = this.#editor.placeAt(event);
+    const text = this.#editor.lines[line - 1];
+    const place = text === undefined ? 0 : placeOf(text, column);
+    const isOnText = text !== undefined && column >= 0 && place < text.length;
+    const rows = isOnText ? [...this.#faultAt(line, place), ...this.#about(text, place)] : [];
+    if (rows.length === 0) {
+      this.#hide();
+      return;
+    }
+    setText(this.#hover, rows.join('\n'));
+    this.#hover.hidden = false;
+    const box = this.#hover.getBoundingClientRect();
+    this.#hover.style.left = `${Math.max(4, Math.min(event.clientX, innerWidth - box.width - 4))}px`;
+    this.#hover.style.top = `${event.clientY + 18 + box.height > innerHeight ? event.clientY - box.height - 10 : event.clientY + 18}px`;
+  }
+
+  #faultAt(line, place) {
+    const found = this.#editor.faultPlace(line);
+    return found !== null && found.start <= place && place < found.end ? [`${found.code}: ${found.sentence}`] : [];
+  }
+
+  #hide() {
+    this.#hover.hidden = true;
+  }
+}

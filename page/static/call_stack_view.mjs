@@ -1,0 +1,30 @@
+// The call stack: where the run is, and where each call returns to, with names.
+
+import { byId, element } from './dom.mjs';
+import { hex } from './answers.mjs';
+
+export class CallStackView {
+  #place = byId('call-stack');
+  #goToLine;
+  #told = '';
+
+  constructor(goToLine) {
+    this.#goToLine = goToLine;
+  }
+
+  show({ code, registers }, { names, map }) {
+    if (code !== null) return;
+    const told = [registers.pc, ...registers.stack.toReversed()].map((address, place) => [address, names.told(address), map.lineAt(address), place]);
+    if (JSON.stringify(told) === this.#told) return;
+    this.#told = JSON.stringify(told);
+    this.#place.replaceChildren(...told.map((row) => this.#row(...row)));
+  }
+
+  #row(address, name, line, place) {
+    const text = element('span', { textContent: `${place === 0 ? 'at' : 'returns to'} ${name ?? `#${hex(address, 3)}`}` });
+    if (line === null) return element('li', {}, text);
+    const button = element('button', { type: 'button', textContent: `line ${line}` });
+    button.addEventListener('click', () => this.#goToLine(line));
+    return element('li', {}, text, button);
+  }
+}

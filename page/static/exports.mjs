@@ -1,0 +1,104 @@
+// Pictures of the screen, animations of a part of the run, and scripts with their answers, as downloads.
+
+import { readScreen, refusal } from './answers.mjs';
+import { byId, colour } from './dom.mjs';
+import { download } from './files.mjs';
+import { encodeGif } from './gif.mjs';
+import { keyCommands, KeyScript } from './key_script.mjs';
+import { notice, takeAway } from './notices.mjs';
+import { pixelsOf } from './screen_view.mjs';
+
+const WIDTH = 128;
+const HEIGHT = 64;
+const PICTURE_SCALE = 8;
+const ANIMATION_SCALE = 4;
+const MOST_PICTURES = 1500;
+/** A picture for each two ticks: a GIF counts hundredths of a second, and 3 are nearest to two of sixty ticks. */
+const TICKS_A_PICTURE = 2;
+const HUNDREDTHS = 3;
+const BATCH = 500;
+
+export class Exports {
+  #model;
+  #workbench;
+  #documents;
+  #breakpoints;
+
+  constructor({ model, workbench, documents, breakpoints }) {
+    this.#model = model;
+    this.#workbench = workbench;
+    this.#documents = documents;
+    this.#breakpoints = breakpoints;
+    byId('download-picture').addEventListener('click', () => this.#picture());
+    byId('show-animation').addEventListener('click', () => this.#askSpan());
+    byId('download-script').addEventListener('click', () => this.#script());
+  }
+
+  get #name() {
+    return this.#documents.name.replace(/\.[^.]*$/, '');
+  }
+
+  async #answers(questions) {
+    const answers = await this.#workbench.answers(this.#model.wanted, questions);
+    takeAway('export');
+    if (answers.some((answer) => refusal(answer) !== null)) {
+      notice('export', 'There is no run, since some line has a fault.');
+      return null;
+    }
+    return answers;
+  }
+
+  async #picture() {
+    const { step } = this.#model;
+    const answers = await this.#answers([`screen ${step}`]);
+    if (answers === null) return;
+    const canvas = new OffscreenCanvas(WIDTH * PICTURE_SCALE, HEIGHT * PICTURE_SCALE);
+    const pen = canvas.getContext('2d');
+    const colours = ['--screen-dark', '--screen-lit'].map(colour);
+    pixelsOf(readScreen(answers[0]).rows).forEach((pixel, place) => {
+      pen.fillStyle = colours[pixel];
+      pen.fillRect((place % WIDTH) * PICTURE_SCALE, Math.floor(place / WIDTH) * PICTURE_SCALE, PICTURE_SCALE, PICTURE_SCALE);
+    });
+    const blob = await canvas.convertToBlob({ type: 'image/png' });
+    download(`${this.#name}-${step}.png`, new Uint8Array(await blob.arrayBuffer()));
+  }
+
+  #askSpan() {
+    const dialog = byId('animation');
+    const { first, last } = dialog.querySelector('form').elements;
+    const { step, rate, lastStep } = this.#model;
+    [first.max, last.max] = [lastStep, lastStep];
+    [first.value, last.value] = [Math.max(0, step - 300 * rate), step];
+    dialog.returnValue = '';
+    dialog.showModal();
+    dialog.addEventListener('close', () => {
+      if (dialog.returnValue === 'save') this.#animation(Number(first.value), Number(last.value));
+    }, { once: true });
+  }
+
+  async #animation(from, to) {
+    const [first, last] = [Math.min(from, to), Math.max(from, to)];
+    const every = TICKS_A_PICTURE * this.#model.rate;
+    const count = Math.min(MOST_PICTURES, Math.floor((last - first) / every) + 1);
+    const steps = Array.from({ length: count }, (_, place) => first + place * every);
+    const frames = [];
+    for (let start = 0; start < count; start += BATCH) {
+      const answers = await this.#answers(steps.slice(start, start + BATCH).map((step) => `screen ${step}`));
+      if (answers === null) return;
+      frames.push(...answers.map((answer) => pixelsOf(readScreen(answer).rows)));
+    }
+    const colours = ['--screen-dark', '--screen-lit'].map(colour);
+    download(`${this.#name}-${first}-${last}.gif`, encodeGif({ frames, width: WIDTH, height: HEIGHT, scale: ANIMATION_SCALE, colours, hundredths: HUNDREDTHS }));
+  }
+
+  /** What `debug` is asked about the keys and the step, and what it answers: a script and its transcript. */
+  async #script() {
+    const { keys, step } = this.#model;
+    const events = keyCommands(new KeyScript(), keys);
+    const questions = [`regs ${step}`, `screen ${step}`];
+    const answers = await this.#answers(questions);
+    if (answers === null) return;
+    download(`${this.#name}.script`, [...events, ...questions].map((command) => `${command}\n`).join(''));
+    download(`${this.#name}.out`, [...events.map(() => 'ok\n'), ...answers].join(''));
+  }
+}

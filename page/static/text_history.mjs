@@ -1,0 +1,125 @@
+// What was typed, to be undone and made again: by words, and by pauses.
+
+const PAUSE_MILLISECONDS = 1000;
+const MOST_CHANGES = 1000;
+const MOST_CHARACTERS = 400_000;
+
+/**
+ * Changes of a text, the newest last. A change says where, what was removed and what was inserted, and the selection before and
+ * after it.
+ */
+export class TextHistory {
+  #done = [];
+  #undone = [];
+  #time = -Infinity;
+
+  /** Of what was kept beside a text; empty where it isn't one of that text. */
+  static of(kept, text) {
+    const history = new TextHistory();
+    if (!Array.isArray(kept?.done) || !Array.isArray(kept.undone)) return history;
+    if (![...kept.done, ...kept.undone].every(isChange)) return history;
+    const fits = kept.done.every((change, place) => place < kept.done.length - 1 || holds(text, change.at, change.inserted));
+    if (!fits) return history;
+    history.#done = kept.done;
+    history.#undone = kept.undone;
+    return history;
+  }
+
+  toJSON() {
+    return { done: this.#done, undone: this.#undone };
+  }
+
+  get canUndo() {
+    return this.#done.length > 0;
+  }
+
+  get canRedo() {
+    return this.#undone.length > 0;
+  }
+
+  /** A text became another one. `isTyped` says that it may be one change with the typing before. */
+  record(before, after, { selectionBefore, selectionAfter, time, isTyped }) {
+    const change = { ...difference(before, after), selectionBefore, selectionAfter };
+    if (change.removed === '' && change.inserted === '') return;
+    this.#undone = [];
+    const joined = isTyped && time - this.#time < PAUSE_MILLISECONDS ? joinedChange(this.#done.at(-1), change) : null;
+    if (joined === null) this.#done.push(change);
+    else this.#done[this.#done.length - 1] = joined;
+    this.#time = isTyped ? time : -Infinity;
+    this.#trim();
+  }
+
+  #trim() {
+    let size = this.#done.reduce((sum, { removed, inserted }) => sum + removed.length + inserted.length, 0);
+    while (this.#done.length > 1 && (size > MOST_CHARACTERS || this.#done.length > MOST_CHANGES)) {
+      const { removed, inserted } = this.#done.shift();
+      size -= removed.length + inserted.length;
+    }
+  }
+
+  /** The text and the selection before the last change, or null where there is none. */
+  undo(text) {
+    const change = this.#move(this.#done, this.#undone);
+    if (change === null) return null;
+    if (!holds(text, change.at, change.inserted)) return this.#forget();
+    return { text: replaced(text, change.at, change.inserted.length, change.removed), selection: change.selectionBefore };
+  }
+
+  /** The text and the selection after the change that was undone last, or null. */
+  redo(text) {
+    const change = this.#move(this.#undone, this.#done);
+    if (change === null) return null;
+    if (!holds(text, change.at, change.removed)) return this.#forget();
+    return { text: replaced(text, change.at, change.removed.length, change.inserted), selection: change.selectionAfter };
+  }
+
+  #move(from, to) {
+    this.#time = -Infinity;
+    const change = from.pop() ?? null;
+    if (change !== null) to.push(change);
+    return change;
+  }
+
+  /** The changes are not of this text: none of them is to be undone. */
+  #forget() {
+    this.#done = [];
+    this.#undone = [];
+    return null;
+  }
+}
+
+const holds = (text, at, part) => text.slice(at, at + part.length) === part;
+const replaced = (text, at, length, part) => text.slice(0, at) + part + text.slice(at + length);
+
+function difference(before, after) {
+  let front = 0;
+  const shorter = Math.min(before.length, after.length);
+  while (front < shorter && before[front] === after[front]) front += 1;
+  let back = 0;
+  while (back < shorter - front && before[before.length - 1 - back] === after[after.length - 1 - back]) back += 1;
+  return { at: front, removed: before.slice(front, before.length - back), inserted: after.slice(front, after.length - back) };
+}
+
+/** One change for two, where the second goes on with the typing or the deleting of the first within a word; else null. */
+function joinedChange(last, next) {
+  if (last === undefined) return null;
+  const { selectionAfter } = next;
+  const goesOn = next.removed === '' && next.at === last.at + last.inserted.length && last.inserted !== '';
+  if (goesOn && next.inserted.length === 1 && !beginsWord(last.inserted.at(-1), next.inserted)) {
+    return { ...last, inserted: last.inserted + next.inserted, selectionAfter };
+  }
+  const deletes = next.inserted === '' && last.inserted === '' && next.removed.length === 1;
+  if (!deletes || next.removed === '\n') return null;
+  if (next.at + 1 === last.at) return { ...last, at: next.at, removed: next.removed + last.removed, selectionAfter };
+  return next.at === last.at ? { ...last, removed: last.removed + next.removed, selectionAfter } : null;
+}
+
+const beginsWord = (before, character) => character === '\n' || (/\s/.test(before) && !/\s/.test(character));
+
+function isChange(one) {
+  const isSelection = (selection) => Array.isArray(selection) && selection.length === 2 && selection.every(Number.isSafeInteger);
+  return (
+    Number.isSafeInteger(one?.at) && typeof one.removed === 'string' && typeof one.inserted === 'string' &&
+    isSelection(one.selectionBefore) && isSelection(one.selectionAfter)
+  );
+}

@@ -1,0 +1,406 @@
+"""Files: what is kept, saved, opened, downloaded; windows, and programs that end."""
+
+from __future__ import annotations
+
+import json
+import os
+import signal
+import subprocess
+import sys
+import time
+from pathlib import Path
+
+from browser_page import SETTLED, PageTests, wait_for
+from driver import CONTROL
+
+
+class FileTests(PageTests):
+    def test_reload(self) -> None:
+        text = self.example("guess")
+        with self.page(text) as browser:
+            self.put_line(1, "; mine")
+            browser.value("chipbenchPage.model.setKeys(chipbenchPage.model.keys.with(20, 3, true).with(40, 3, false)); chipbenchPage.model.setStep(777)")
+            self.rest()
+            self.reload()
+            self.rest()
+            assert browser.value("document.getElementById('source-text').value").startswith("; mine\n")
+            assert browser.value("chipbenchPage.model.keys.size") == 2
+            assert browser.value("chipbenchPage.model.step") == 777
+            assert "kept by the browser" in self.text_of("#notices")
+            self.check_step(text, 777, ["kins 20 3 down", "kins 40 3 up"])
+            # the file changes meanwhile: its text is shown, and mine is offered
+            self.path.write_text("CLS\n")
+            self.reload()
+            assert self.source() == "CLS\n"
+            time.sleep(0.5)
+            self.reload()
+            assert self.source() == "CLS\n"
+            self.notice_button("Take it back")
+            assert self.source().startswith("; mine\n")
+            assert self.path.read_text() == "CLS\n"
+
+    def source(self) -> str:
+        return self.browser.value("document.getElementById('source-text').value")
+
+    def test_save(self) -> None:
+        with self.page("CLS\r\nLD V0, 5\r\n") as browser:
+            self.path.write_bytes(b"CLS\r\nLD V0, 5\r\n")
+            self.reload()
+            self.put_line(2, "LD V0, 6")
+            browser.press("s", "KeyS", CONTROL)
+            browser.wait("document.getElementById('file-state').textContent === 'saved'")
+            assert self.path.read_bytes() == b"CLS\r\nLD V0, 6\r\n"
+            self.path.write_bytes(b"another\n")
+            self.put_line(2, "LD V0, 7")
+            browser.press("s", "KeyS", CONTROL)
+            browser.wait("document.querySelector('.notice') !== null")
+            assert self.path.read_bytes() == b"another\n"
+            browser.value("[...document.querySelectorAll('.notice button')].find((button) => /over/.test(button.textContent)).click()")
+            browser.wait("document.getElementById('file-state').textContent === 'saved'")
+            assert self.path.read_bytes() == b"CLS\r\nLD V0, 7\r\n"
+
+    def test_downloads_and_uploads(self) -> None:
+        text = self.example("guess")
+        place = self.folder / "downloads"
+        place.mkdir(exist_ok=True)
+        with self.page(text, "guess.asm") as browser:
+            browser.downloads(place)
+            browser.value("chipbenchPage.model.setKeys(chipbenchPage.model.keys.with(20, 3, true))")
+            for kind in ("source", "keys", "image"):
+                browser.value(f"document.getElementById('download-{kind}').click()")
+            for name in ("guess.asm", "guess.keys", "guess.ch8"):
+                wait_for(lambda: (place / name).exists(), name)
+            assert (place / "guess.asm").read_text() == text
+            assert (place / "guess.keys").read_text() == "20 3 down\n"
+            assert (place / "guess.ch8").read_bytes().hex() + "\n" == self.said(text, ["image"])
+            other = self.folder / "elsewhere.asm"
+            other.write_text("LD V3, 9\n")
+            self.upload(other)
+            browser.wait("document.getElementById('source-text').value === 'LD V3, 9\\n'")
+            self.step(1)
+            assert self.registers()["V3"] == "09"
+            self.open_named("guess.asm")
+            assert self.source() == text
+            assert browser.value("chipbenchPage.model.keys.size") == 1
+            keys = self.folder / "other.keys"
+            keys.write_text("40 5 down\n")
+            self.upload(keys)
+            browser.wait("chipbenchPage.model.keys.at(40, 5)?.down === true && chipbenchPage.model.keys.size === 1")
+            self.upload(place / "guess.ch8")
+            if browser.value("fetch('about', { method: 'POST', body: '{}' }).then((reply) => reply.json()).then(({ words }) => words.includes('dis'))"):
+                browser.wait("document.getElementById('source-text').value.includes('RND V0')")
+                assert self.said(browser.value("document.getElementById('source-text').value"), ["image"]) == self.said(text, ["image"])
+                self.check_an_edited_image(place)
+            else:
+                browser.wait("/no word `dis`/.test(document.getElementById('notices').textContent)")
+                assert browser.value("document.getElementById('source-text').value") == text
+
+    def check_an_edited_image(self, place: Path) -> None:
+        """What `dis` made of an image is edited, and assembled to what the program itself makes of it."""
+        self.put_line(1, "RND V0, 7")
+        self.rest()
+        (place / "guess.ch8").unlink()
+        self.browser.value("document.getElementById('download-image').click()")
+        wait_for(lambda: (place / "guess.ch8").exists(), "the edited image")
+        assert (place / "guess.ch8").read_bytes().hex() + "\n" == self.said(self.browser.value("document.getElementById('source-text').value"), ["image"])
+        assert (place / "guess.ch8").read_bytes()[:2] == b"\xc0\x07"
+        large = self.folder / "large.ch8"
+        large.write_bytes(bytes(3585))
+        self.upload(large)
+        self.browser.wait("/over 3584 bytes/.test(document.getElementById('notices').textContent)")
+        assert str(self.folder.parent) not in self.text_of("#notices"), self.text_of("#notices")
+
+    def open_named(self, name: str) -> None:
+        """Opens a file of the folder in the dialog."""
+        self.browser.click("#upload")
+        self.browser.wait(f"[...document.querySelectorAll('#open-files button')].some((button) => button.firstChild.textContent === {json.dumps(name)})")
+        self.browser.value(f"[...document.querySelectorAll('#open-files button')].find((button) => button.firstChild.textContent === {json.dumps(name)}).click()")
+        self.browser.wait(f"document.getElementById('file-name').textContent === {json.dumps(name)}")
+
+    def test_open_takes_the_title(self) -> None:
+        """Save writes the file of the title, and no other."""
+        with self.page("CLS\n", "first.asm") as browser:
+            first = self.path
+            second = self.folder / "second.asm"
+            second.write_text("LD V0, 2\n")
+            elsewhere = self.folder / "elsewhere"
+            elsewhere.mkdir(exist_ok=True)
+            third = elsewhere / "third.asm"
+            third.write_text("LD V0, 3\n")
+            # one that the browser was handed, from wherever it lies: saving asks for a name
+            self.upload(third)
+            browser.wait("document.getElementById('source-text').value === 'LD V0, 3\\n'")
+            browser.press("s", "KeyS", CONTROL)
+            time.sleep(0.3)
+            assert first.read_text() == "CLS\n"
+            assert self.text_of("#file-name") == "third.asm"
+            assert browser.value("document.title").startswith("third.asm")
+            browser.wait("document.getElementById('save-as').open")
+            browser.click("#save-as [value=save]")
+            browser.wait("document.getElementById('file-state').textContent === 'saved'")
+            assert (self.folder / "third.asm").read_text() == "LD V0, 3\n"
+            assert third.read_text() == "LD V0, 3\n"
+            # one of the folder
+            self.put_line(1, "LD V0, 33")
+            self.open_named("second.asm")
+            assert self.source() == "LD V0, 2\n"
+            self.put_line(1, "LD V0, 22")
+            browser.press("s", "KeyS", CONTROL)
+            browser.wait("document.getElementById('file-state').textContent === 'saved'")
+            assert (first.read_text(), second.read_text()) == ("CLS\n", "LD V0, 22\n")
+            # a reload stays with it, and what wasn't saved of the others is kept
+            self.reload()
+            assert (self.text_of("#file-name"), self.source()) == ("second.asm", "LD V0, 22\n")
+            self.open_named("third.asm")
+            assert self.source() == "LD V0, 33\n"
+            assert (self.folder / "third.asm").read_text() == "LD V0, 3\n"
+
+    def test_save_as(self) -> None:
+        """A file that is there already is told of before it is written over, and its text is kept."""
+        with self.page("CLS\n", "first.asm") as browser:
+            other = self.folder / "taken.asm"
+            other.write_text("LD V0, 9 ; theirs\n")
+            self.save_as("taken.asm")
+            browser.wait("/taken.asm already/.test(document.getElementById('notices').textContent)")
+            assert other.read_text() == "LD V0, 9 ; theirs\n"
+            self.notice_button("Write mine over it")
+            browser.wait("document.getElementById('file-name').textContent === 'taken.asm'")
+            assert (other.read_text(), self.path.read_text()) == ("CLS\n", "CLS\n")
+            browser.value("document.getElementById('show-earlier').click()")
+            assert "theirs" in self.text_of("#earlier-texts"), self.text_of("#earlier-texts")
+            browser.value("document.querySelector('#earlier-texts button').click()")
+            browser.wait("document.getElementById('source-text').value === 'LD V0, 9 ; theirs\\n'")
+            self.save_as("a/b.asm")
+            browser.wait("/no slash/.test(document.getElementById('notices').textContent)")
+            assert other.read_text() == "CLS\n"
+            self.browser.console = [line for line in self.browser.console if "400" not in line]
+
+    def save_as(self, name: str) -> None:
+        self.browser.value("document.getElementById('save-as-button').click()")
+        self.browser.wait("document.getElementById('save-as').open")
+        self.browser.value(f"document.querySelector('#save-as [name=name]').value = {json.dumps(name)}")
+        self.browser.click("#save-as [value=save]")
+
+    def test_text_before_a_save(self) -> None:
+        with self.page("CLS ; first\n") as browser:
+            self.put_line(1, "CLS ; second")
+            browser.press("s", "KeyS", CONTROL)
+            browser.wait("document.getElementById('file-state').textContent === 'saved'")
+            assert self.path.read_text() == "CLS ; second\n"
+            browser.value("document.getElementById('show-earlier').click()")
+            assert "first" in self.text_of("#earlier-texts"), self.text_of("#earlier-texts")
+            browser.value("document.querySelector('#earlier-texts button').click()")
+            browser.wait("document.getElementById('source-text').value === 'CLS ; first\\n'")
+            assert self.path.read_text() == "CLS ; second\n"
+
+    def test_a_file_that_changes_on_the_disk(self) -> None:
+        """It is told when the author comes back to the window, and before it is written over."""
+        with self.page("CLS\n") as browser:
+            self.put_line(1, "LD V0, 1 ; mine")
+            self.path.write_text("LD V0, 2 ; theirs\n")
+            browser.value("dispatchEvent(new Event('focus'))")
+            browser.wait("/changed by another program/.test(document.getElementById('notices').textContent)")
+            self.notice_button("Keep mine")
+            browser.press("s", "KeyS", CONTROL)
+            browser.wait("/It wasn't saved/.test(document.getElementById('notices').textContent)")
+            assert self.path.read_text() == "LD V0, 2 ; theirs\n"
+            self.notice_button("Leave it")
+            self.path.write_text("LD V0, 3 ; theirs\n")
+            browser.value("dispatchEvent(new Event('focus'))")
+            browser.wait("/changed by another program/.test(document.getElementById('notices').textContent)")
+            self.notice_button("Take its text")
+            assert self.source() == "LD V0, 3 ; theirs\n"
+            assert self.text_of("#file-state") == "saved"
+            browser.value("document.getElementById('source-text').focus()")
+            browser.press("z", "KeyZ", CONTROL)
+            assert self.source() == "LD V0, 1 ; mine\n"
+
+    def test_a_file_that_cannot_be_saved(self) -> None:
+        """Nothing is lost, and it is told."""
+        with self.page("CLS\n") as browser:
+            self.put_line(1, "LD V0, 1 ; mine")
+            self.path.unlink()
+            self.path.mkdir()
+            browser.press("s", "KeyS", CONTROL)
+            browser.wait("/It wasn't saved: .*is not a file/.test(document.getElementById('notices').textContent)")
+            assert self.source() == "LD V0, 1 ; mine\n"
+            self.path.rmdir()
+            browser.press("s", "KeyS", CONTROL)
+            browser.wait("/Write mine over it/.test(document.getElementById('notices').textContent)")
+            self.notice_button("Write mine over it")
+            browser.wait("document.getElementById('file-state').textContent === 'saved'")
+            assert self.path.read_text() == "LD V0, 1 ; mine\n"
+            self.browser.console = [line for line in self.browser.console if "409" not in line]
+
+    def test_key_files(self) -> None:
+        """Files of key events are read as the program reads them, comments and all; what it refuses is told with the line."""
+        text = self.example("guess")
+        with self.page(text) as browser:
+            keys = self.folder / "play.keys"
+            keys.write_bytes(b"; a play, as the guide writes one\n\n  100 #5 down ; press\r\n#78 5 up\n200 12 down")
+            self.upload(keys)
+            browser.wait("chipbenchPage.model.keys.size === 3")
+            self.check_step(text, 300, ["kins 100 5 down", "kins 120 5 up", "kins 200 12 down"])
+            for line, code in (("100 16 down", "N6"), ("100 5 down", "N7"), ("1 2 3", "C1"), ("5 5 down now", "C1")):
+                keys.write_text(f"; a comment\n100 5 down\n{line}\n")
+                self.upload(keys)
+                browser.wait(f"/line 3 of the keys: {code}/.test(document.getElementById('notices').textContent)")
+                assert browser.value("chipbenchPage.model.keys.size") == 3
+
+    def test_source_with_keys(self) -> None:
+        """One file that assembles as it is, and opens again."""
+        text = self.example("guess")
+        place = self.folder / "games"
+        place.mkdir(exist_ok=True)
+        with self.page(text, "guess.asm") as browser:
+            browser.downloads(place)
+            browser.value("chipbenchPage.model.setKeys(chipbenchPage.model.keys.with(20, 3, true).with(44, 3, false)); chipbenchPage.model.setStep(77)")
+            browser.value("document.getElementById('download-game').click()")
+            wait_for(lambda: (place / "guess.game.asm").exists(), "the game")
+            assert self.said((place / "guess.game.asm").read_text(), ["image"]) == self.said(text, ["image"])
+            browser.value("chipbenchPage.model.setKeys(chipbenchPage.model.keys.without(20, 3).with(5, 5, true)); chipbenchPage.model.setStep(3)")
+            self.upload(place / "guess.game.asm")
+            browser.wait("document.getElementById('file-name').textContent === 'guess.game.asm' && chipbenchPage.model.keys.size === 2")
+            assert self.source() == text
+            self.rest()
+            assert browser.value("chipbenchPage.model.step") == 77
+            self.check_step(text, 77, ["kins 20 3 down", "kins 44 3 up"])
+
+    def test_pictures_and_scripts(self) -> None:
+        text = self.example("bounce")
+        place = self.folder / "exports"
+        place.mkdir(exist_ok=True)
+        with self.page(text, "bounce.asm") as browser:
+            browser.downloads(place)
+            browser.value("chipbenchPage.model.setKeys(chipbenchPage.model.keys.with(20, 3, true))")
+            self.step(400)
+            for name in ("picture", "script"):
+                browser.value(f"document.getElementById('download-{name}').click()")
+            browser.value("document.getElementById('show-animation').click()")
+            browser.value("{ const { elements } = document.querySelector('#animation form'); elements.first.value = 0; elements.last.value = 400; }")
+            browser.click("#animation [value=save]")
+            for name in ("bounce-400.png", "bounce.script", "bounce.out", "bounce-0-400.gif"):
+                wait_for(lambda: (place / name).exists(), name)
+            assert (place / "bounce-400.png").read_bytes()[16:24] == bytes([0, 0, 4, 0, 0, 0, 2, 0])
+            script = (place / "bounce.script").read_text().splitlines()
+            assert script[0] == "kins 20 3 down"
+            assert (place / "bounce.out").read_text() == self.said(text, script)
+            animation = (place / "bounce-0-400.gif").read_bytes()
+            assert animation[:10] == b"GIF89a\x00\x02\x00\x01" and animation[-1:] == b";"
+            size = "new Promise((done, fail) => { const image = new Image(); image.onload = () => done([image.width, image.height]); image.onerror = fail; image.src = URL.createObjectURL(new Blob([new Uint8Array(%s)], { type: 'image/gif' })); })"
+            browser.open("about:blank")
+            assert browser.value(size % list(animation)) == [512, 256]
+
+    def test_addresses_and_arguments(self) -> None:
+        """An address without its last slash is the page; faulty arguments end with a sentence before anything starts."""
+        with self.page("LD V0, 5\n") as browser:
+            browser.open(self.address.removesuffix("/"))
+            browser.wait(f"location.pathname.endsWith('/') && {SETTLED}")
+            self.step(1)
+            assert self.registers()["V0"] == "05"
+        for faulty in (("--port", "99999"), ("--seed", "99999999999999999999"), ("--rate", "99999"), ("--profile", "foo")):
+            words = [sys.executable, "-B", str(self.page_folder / "bridge.py"), "--program", self.program, "--no-open", *faulty, str(self.path)]
+            run = subprocess.run(words, capture_output=True, text=True, timeout=20)
+            assert (run.returncode, run.stdout) == (2, ""), (faulty, run)
+            assert faulty[1] in run.stderr and "Traceback" not in run.stderr, run.stderr
+
+    def test_the_file_that_a_browser_is_given(self) -> None:
+        """It leads on to the page, from a file of mode 0600."""
+        with self.page("LD V0, 5\n") as browser:
+            place = self.folder / "open.html"
+            place.write_text(f'<!doctype html><meta http-equiv="refresh" content="0; url={self.address}">')
+            browser.open(place.as_uri())
+            browser.wait(f"location.protocol === 'http:' && {SETTLED}")
+            browser.requests.clear()
+
+    def test_garbage_in_the_storage(self) -> None:
+        """What the browser kept may be anything: the page comes up, and shows the text that there is."""
+        with self.page("CLS\n") as browser:
+            browser.wait("Object.keys(localStorage).some((key) => key.endsWith('game.asm'))")
+            name = "Object.keys(localStorage).find((key) => key.endsWith('game.asm'))"
+            good = {"text": "LD V0, 7 ; mine\n", "known": browser.value(f"JSON.parse(localStorage[{name}]).known")}
+            for kept, shown in (
+                ("{{{", "CLS\n"),
+                ("null", "CLS\n"),
+                ("[1, 2]", "CLS\n"),
+                (json.dumps({"text": 5}), "CLS\n"),
+                (json.dumps({**good, "keys": 5, "form": 7, "step": "x", "options": [1]}), "LD V0, 7 ; mine\n"),
+                (json.dumps({**good, "keys": "nonsense", "form": {"encoding": "x"}, "step": -5, "options": {"rate": "abc", "x": "y"}}), "LD V0, 7 ; mine\n"),
+                (json.dumps({**good, "options": {"rate": "99999"}, "step": 1e300}), "LD V0, 7 ; mine\n"),
+            ):
+                browser.value(
+                    f"{{ const name = {name}; addEventListener('pagehide', () => {{ localStorage[name] = {json.dumps(kept)}; localStorage[`${{name}}, history`] = '{{\"text\":{{\"done\":[5]}}}}';"
+                    "localStorage['chipbench-page, earlier'] = '[7, {}]'; localStorage['chipbench-page, appearance'] = '5'; }); }"
+                )
+                self.reload()
+                assert self.source() == shown, (kept, self.source())
+                self.step(1)
+                assert self.registers()["pc"] == "0202"
+                self.browser.console = [line for line in self.browser.console if "400" not in line]
+
+    def test_texts_of_two_windows(self) -> None:
+        """What another window keeps of a text isn't lost to what this one keeps."""
+        kept = "localStorage[Object.keys(localStorage).find((key) => key.endsWith('game.asm'))]"
+        with self.page("CLS\n") as browser:
+            browser.wait("Object.keys(localStorage).some((key) => key.endsWith('game.asm'))")
+            other = "{ const kept = JSON.parse(%s); kept.text = 'LD V0, 1 ; theirs\\n'; %s = JSON.stringify(kept); }" % (kept, kept)
+            browser.value(other)
+            self.step(5)
+            time.sleep(0.5)
+            assert "theirs" in browser.value(kept)
+            self.put_line(1, "LD V0, 2 ; mine")
+            browser.wait(f"{kept}.includes('mine')")
+            assert "Another window" in self.text_of("#notices")
+            self.put_line(1, "LD V0, 3 ; mine")
+            browser.wait(f"{kept}.includes('V0, 3')")
+            self.notice_button("Take it back")
+            assert browser.value("document.getElementById('source-text').value") == "LD V0, 1 ; theirs\n"
+            self.notice_button("Take it back")
+            assert browser.value("document.getElementById('source-text').value") == "LD V0, 3 ; mine\n"
+
+    def test_two_windows(self) -> None:
+        with self.page("LD V0, 5\n") as browser:
+            browser.value(
+                "fetch('open', { method: 'POST', body: JSON.stringify({ source: '', options: {}, commands: [] }) }).then((reply) => reply.json())"
+            )
+            browser.value("chipbenchPage.model.setStep(1)")
+            browser.wait("/Another window/.test(document.getElementById('notices').textContent)")
+            browser.value("document.querySelector('.notice button').click()")
+            browser.wait("document.querySelector('.notice') === null")
+            self.rest()
+            assert self.registers()["V0"] == "05"
+            self.browser.console = [line for line in self.browser.console if "409" not in line]
+
+    def test_a_program_that_is_killed(self) -> None:
+        text = self.example("guess")
+        with self.page(text) as browser:
+            browser.value("chipbenchPage.model.setKeys(chipbenchPage.model.keys.with(20, 3, true))")
+            self.rest()
+            assert self.bridge is not None
+            children = Path(f"/proc/{self.bridge.pid}/task/{self.bridge.pid}/children").read_text().split()
+            threads = [Path(f"/proc/{self.bridge.pid}/task/{thread}/children") for thread in os.listdir(f"/proc/{self.bridge.pid}/task")]
+            children = [child for place in threads for child in place.read_text().split()]
+            assert len(children) == 1, children
+            os.kill(int(children[0]), signal.SIGKILL)
+            self.put_line(1, "; mine")
+            browser.wait("/signal 9/.test(document.getElementById('notices').textContent)")
+            self.picture("killed")
+            self.check_step(text, 90, ["kins 20 3 down"])
+            assert browser.value("document.getElementById('source-text').value").startswith("; mine\n")
+
+    def test_a_bridge_that_is_gone(self) -> None:
+        with self.page("LD V0, 5\n") as browser:
+            assert self.bridge is not None
+            self.bridge.send_signal(signal.SIGSTOP)
+            browser.offline(True)
+            try:
+                self.put_line(1, "LD V0, 7")
+                browser.wait("/gives no answer/.test(document.getElementById('notices').textContent)")
+            finally:
+                self.bridge.send_signal(signal.SIGCONT)
+                browser.offline(False)
+            browser.value("document.querySelector('.notice button').click()")
+            self.step(1)
+            assert self.registers()["V0"] == "07"
+            assert browser.value("document.querySelector('.notice') === null")
+            self.browser.console = [line for line in self.browser.console if "ERR_INTERNET_DISCONNECTED" not in line]

@@ -1,0 +1,428 @@
+"""The machine at a step: examples, time, keys, searches, settings."""
+
+from __future__ import annotations
+
+import json
+import time
+
+from browser_page import EXAMPLES, REGISTERS, PageTests
+from driver import CONTROL, SHIFT
+
+
+class RunTests(PageTests):
+    def test_each_example(self) -> None:
+        for name in EXAMPLES:
+            text = self.example(name)
+            with self.page(text, f"{name}.asm") as browser:
+                assert browser.value("document.getElementById('source-text').value") == text
+                for step in (0, 6, 100, 207, 1000, 3):
+                    self.check_step(text, step, [])
+                listing = self.said(text, ["list"]).splitlines()[:-1]
+                rows = browser.value("[...document.querySelectorAll('#gutter .row')].map((row) => [...row.children].map((part) => part.textContent))")
+                for line, (number, address, field) in zip(listing, rows):
+                    assert (line[:4].strip(), line[5:9], line[10:23].strip()) == (number, address, field), line
+                assert self.text_of("#fault-count") == "no faults"
+                self.step({"bounce": 204, "guess": 3, "profiles": 100, "scroller": 30}[name])
+                self.picture(f"page-{name}")
+
+    def test_dragging(self) -> None:
+        text = self.example("bounce")
+        with self.page(text) as browser:
+            last = browser.value("chipbenchPage.model.lastStep")
+            browser.value("globalThis.shown = []; chipbenchPage.viewer.addEventListener('shown', () => shown.push(chipbenchPage.viewer.machine.step))")
+            # other work on this machine may slow a try down
+            rate, share = max(self.drag(last) for _ in range(3))
+            assert rate > 30 or share > 0.9, (rate, share)
+            assert browser.value("chipbenchPage.viewer.machine.step") == browser.value("chipbenchPage.model.step")
+            self.check_step(text, browser.value("chipbenchPage.model.step"), [])
+
+    def drag(self, last: int) -> tuple[float, float]:
+        """Drags over the whole run, and returns how many places were shown in a second, and of those that were dragged to."""
+        x, y, width, height = self.browser.value(
+            "(() => { shown.length = 0; const b = document.getElementById('overview').getBoundingClientRect(); return [b.x, b.y, b.width, b.height]; })()"
+        )
+        self.browser.mouse("mousePressed", x + 2, y + height / 2)
+        began = time.monotonic()
+        moves = 120
+        for move in range(1, moves + 1):
+            self.browser.mouse("mouseMoved", x + 2 + (width - 4) * move / moves, y + height / 2)
+        took = time.monotonic() - began
+        self.browser.mouse("mouseReleased", x + width - 2, y + height / 2, 0)
+        self.rest()
+        shown = self.browser.value("shown")
+        print(f"    dragging: {len(shown)} of {moves} places shown in {took:.2f} s, {len(shown) / took:.0f} a second")
+        assert len({place // (last // 20) for place in shown}) >= 18
+        return len(shown) / took, len(shown) / moves
+
+    def test_speed(self) -> None:
+        """From typing to the picture, at step 100,000: where the run is kept, and where it is made anew."""
+        text = self.example("bounce")
+        with self.page(text) as browser:
+            self.step(100_000)
+            for name, line, change, most in (
+                ("kept", 1, "; {}", 50),
+                ("made anew", 7, "        LD I, BALL {}", 1000),
+                ("made anew", 5, "        LD V2, {}", 1000),
+            ):
+                times, took = [], []
+                for count in range(8):
+                    self.browser.value(
+                        "globalThis.answered = new Promise((done) => chipbenchPage.viewer.addEventListener('shown', () => done(performance.now()), { once: true }));"
+                        "document.addEventListener('input', () => { globalThis.typed = performance.now(); }, { once: true, capture: true });"
+                    )
+                    self.put_line(line, change.format(("; " + str(count)) if line == 7 else count + 2))
+                    times.append(self.browser.value("answered.then((at) => at - typed)"))
+                    took.append(self.browser.value("chipbenchPage.viewer.took"))
+                    self.rest()
+                times.sort()
+                took.sort()
+                print(f"    {name}, line {line}: {times[0]:.1f} to {times[-1]:.1f} ms, the middle {times[len(times) // 2]:.1f} ms, of which {took[len(took) // 2]:.1f} ms for the answers")
+                assert times[len(times) // 2] < most, times
+
+    def test_keys_while_it_plays(self) -> None:
+        """Guess is played by the keyboard; what is recorded is what the program answers for."""
+        text = self.example("guess")
+        words = ("--tape", "05")
+        with self.page(text, "guess.asm", words) as browser:
+            browser.value("document.getElementById('close-up').focus()")
+            browser.press(" ", "Space")
+            browser.wait("chipbenchPage.model.step > 60")
+            for code, key, name in (("KeyE", 6, "e"), ("KeyX", 0, "x"), ("KeyW", 5, "w")):
+                browser.key_down(name, code)
+                browser.wait(f"chipbenchPage.model.keys.events.some((event) => event.key === {key})")
+                time.sleep(0.12)
+                browser.key_up(name, code)
+                time.sleep(0.15)
+            # the hit ends the program, and so the play
+            browser.wait("chipbenchPage.player.direction === 0")
+            self.rest()
+            events = browser.value("chipbenchPage.model.keys.events")
+            assert [(event["key"], event["down"]) for event in events] == [(key, down) for key in (6, 0, 5) for down in (True, False)], events
+            script = [f"kins {event['step']} {event['key']} {'down' if event['down'] else 'up'}" for event in events]
+            last = browser.value("chipbenchPage.model.step")
+            for step in (events[0]["step"] + 9, events[2]["step"] + 9, last):
+                self.check_step(text, step, script, words)
+            assert self.registers()["V5"] == "03"
+            assert self.registers()["state"] == "S1"
+            assert "S1" in self.text_of("#machine-state")
+            self.picture("page-guess")
+            # the second guess becomes the hit: drag the first event of key 0 away
+            browser.click("#undo-play")
+            assert browser.value("chipbenchPage.model.keys.size") == 0
+
+    def test_keys_by_the_pointer(self) -> None:
+        text = self.example("guess")
+        with self.page(text, words=("--tape", "05")) as browser:
+            x, y = browser.center('[aria-label="Key 7"]')
+            browser.click("#play")
+            browser.wait("chipbenchPage.model.step > 50")
+            browser.mouse("mousePressed", x, y)
+            time.sleep(0.15)
+            browser.mouse("mouseReleased", x, y, 0)
+            time.sleep(0.1)
+            browser.click("#play")
+            self.rest()
+            events = browser.value("chipbenchPage.model.keys.events")
+            assert [(event["key"], event["down"]) for event in events] == [(7, True), (7, False)], events
+            script = [f"kins {event['step']} 7 {'down' if event['down'] else 'up'}" for event in events]
+            self.check_step(text, events[1]["step"] + 5, script, ("--tape", "05"))
+            # at rest a press turns the key from this step on
+            self.step(2000)
+            browser.mouse("mousePressed", x, y)
+            browser.mouse("mouseReleased", x, y, 0)
+            assert browser.value("chipbenchPage.model.keys.at(2000, 7)?.down") is True
+            assert browser.value("document.querySelector('[aria-label=\"Key 7\"]').ariaPressed") == "true"
+
+    def test_events_past_the_last_step(self) -> None:
+        """What a browser kept for a program with more steps is told."""
+        with self.page("LD V0, K\n") as browser:
+            browser.value("chipbenchPage.model.setKeys(chipbenchPage.model.keys.with(3, 5, true)); globalThis.dispatchEvent(new Event('pagehide'))")
+            browser.value(
+                "{ const name = Object.keys(localStorage).find((key) => key.endsWith('game.asm')); const kept = JSON.parse(localStorage[name]);"
+                "kept.keys += '900000000 5 up\\n'; kept.step = 900000000; const text = JSON.stringify(kept); addEventListener('pagehide', () => { localStorage[name] = text; }); }"
+            )
+            self.reload()
+            assert "were left out: 1" in self.text_of("#notices"), self.text_of("#notices")
+            assert browser.value("chipbenchPage.model.step") == browser.value("chipbenchPage.model.lastStep")
+            self.check_step("LD V0, K\n", 4, ["kins 3 5 down"])
+
+    def test_profile(self) -> None:
+        """Where the program has profiles and a spacing of checkpoints, they can be chosen; else that is said."""
+        text = "LD V0, #81\nLD V1, 6\nSHR V0, V1\n"
+        with self.page(text) as browser:
+            browser.click("#show-settings")
+            if browser.value("document.querySelector('[data-option=profile]').hidden"):
+                assert "--profile" in self.text_of("#settings-lack")
+                return
+            browser.value("{ const { elements } = document.querySelector('#settings form'); elements.profile.value = 'vip'; elements.every.value = '5000'; }")
+            browser.click("#settings [value=apply]")
+            self.rest()
+            self.check_step(text, 3, [], ("--profile", "vip", "--every", "5000"))
+            assert self.registers()["V0"] == "03"
+            assert self.text_of("#settings-state") == "vip, rate 10", self.text_of("#settings-state")
+        text = self.example("profiles")
+        for profile, digit, stop in (("schip", "00", "S1: the program ended, by EXIT"), ("vip", "01", "S2: no instruction of vip at pc")):
+            with self.page(text, "profiles.asm", ("--profile", profile)):
+                self.check_step(text, 30, [], ("--profile", profile))
+                self.check_step(text, 100, [], ("--profile", profile))
+                assert [self.registers()[f"V{name}"] for name in "89ABCD"] == 6 * [digit]
+                assert self.text_of("#machine-state") == stop, self.text_of("#machine-state")
+                self.picture(f"profiles-{profile}")
+
+    def test_settings_that_the_program_refuses(self) -> None:
+        with self.page("LD V0, 5\n", words=("--rate", "7")) as browser:
+            browser.value("chipbenchPage.model.setOptions({ rate: '2000' })")
+            browser.wait("/2000/.test(document.getElementById('notices').textContent)")
+            assert "--help" not in self.text_of("#notices"), self.text_of("#notices")
+            assert browser.value("document.body.hasAttribute('data-stale')")
+            browser.value("chipbenchPage.model.setOptions({ rate: '7' })")
+            browser.wait("document.querySelector('.notice') === null")
+            self.check_step("LD V0, 5\n", 1, [], ("--rate", "7"))
+            assert not browser.value("document.body.hasAttribute('data-stale')")
+
+    def test_search(self) -> None:
+        text = self.example("bounce")
+        with self.page(text) as browser:
+            def search(subject: str, relation: str, value: str, direction: str, address: str = "#300") -> str:
+                browser.value(
+                    "{ const form = document.getElementById('search');"
+                    f"form.elements.subject.value = {json.dumps(subject)}; form.elements.relation.value = {json.dumps(relation)};"
+                    f"form.elements.value.value = {json.dumps(value)}; form.elements.address.value = {json.dumps(address)};"
+                    "form.dispatchEvent(new Event('change', { bubbles: true }));"
+                    f"form.querySelector('[value={direction}]').click(); }}"
+                )
+                browser.wait("document.getElementById('search-stop').hidden", 90.0)
+                return self.text_of("#search-result")
+
+            self.step(0)
+            assert search("pc", "is", "BALL", "next").startswith("no such step")
+            found = int(search("v2", "is", "255", "next").removeprefix("step ").replace(",", ""))
+            said = self.said(text, [f"regs {found - 1}", f"regs {found}"]).split()
+            assert (said[3], said[said.index("v", 1) + 3]) == ("01", "ff"), said
+            assert browser.value("chipbenchPage.model.step") == found
+            back = int(search("v2", "not", "#ff", "last").removeprefix("step ").replace(",", ""))
+            assert back == found - 1
+            line = int(search("pc", "is", "FLOOR", "next").removeprefix("step ").replace(",", ""))
+            assert self.said(text, [f"regs {line}"]).split()[18] == "0220"
+            # Enter in a field looks on, with Shift back
+            browser.value("document.getElementById('search').elements.value.select()")
+            for modifiers, answer in ((0, lambda place: place > line), (SHIFT, lambda place: place == line)):
+                browser.value("document.getElementById('search-result').textContent = ''")
+                browser.press("Enter", "Enter", modifiers, "\r")
+                browser.wait("/^step/.test(document.getElementById('search-result').textContent)")
+                assert answer(browser.value("chipbenchPage.model.step")), line
+            # a search that finds nothing is stopped
+            browser.value("document.getElementById('search').elements.value.value = '#fff'; document.querySelector('#search [value=next]').click()")
+            browser.wait("!document.getElementById('search-stop').hidden || document.getElementById('search-result').textContent !== ''")
+            browser.value("document.getElementById('search-stop').click()")
+            browser.wait("/stopped|no such/.test(document.getElementById('search-result').textContent)")
+            browser.value("chipbenchPage.editor.goToLine(20); document.getElementById('search-line').click()")
+            browser.wait("/^step/.test(document.getElementById('search-result').textContent)")
+            self.rest()
+            assert self.registers()["pc"] == "0222"
+
+    def test_events_are_dragged_and_edited(self) -> None:
+        text = self.example("guess")
+        with self.page(text, words=("--tape", "05")) as browser:
+            browser.value("chipbenchPage.model.setKeys(chipbenchPage.model.keys.with(500, 5, true).with(1500, 5, false)); chipbenchPage.model.setStep(2000)")
+            self.rest()
+            box = browser.value("(() => { const b = document.getElementById('close-up').getBoundingClientRect(); return [b.x, b.y, b.width, b.height]; })()")
+            def x(step: int) -> float:
+                return box[0] + 16 + step / 4000 * (box[2] - 16)
+
+            browser.mouse("mouseMoved", x(500), box[1] + 6, 0)
+            browser.mouse("mousePressed", x(500), box[1] + 6)
+            for step in (600, 800, 1000):
+                browser.mouse("mouseMoved", x(step), box[1] + 6)
+            browser.mouse("mouseReleased", x(1000), box[1] + 6, 0)
+            self.rest()
+            events = browser.value("chipbenchPage.model.keys.events")
+            assert len(events) == 2 and abs(events[0]["step"] - 1000) < 15 and events[1]["step"] == 1500, events
+            self.check_step(text, 1200, [f"kins {events[0]['step']} 5 down", "kins 1500 5 up"], ("--tape", "05"))
+            browser.value("{ const field = document.querySelector('#event-rows input'); field.value = '700'; field.dispatchEvent(new Event('change')); }")
+            self.check_step(text, 1200, ["kins 700 5 down", "kins 1500 5 up"], ("--tape", "05"))
+            browser.value("document.querySelector('#event-rows tr:nth-child(2) td:last-child button:last-child').click()")
+            assert browser.value("chipbenchPage.model.keys.size") == 1
+            # what is pressed in the list keeps the focus
+            browser.value("document.querySelector('#event-rows tr td:nth-child(3) button').focus()")
+            for is_down in (False, True):
+                browser.press("Enter", text="\r")
+                browser.wait(f"chipbenchPage.model.keys.at(700, 5).down === {str(is_down).lower()}")
+                browser.wait(f"document.activeElement.textContent === {json.dumps('down' if is_down else 'up')}")
+            browser.value("{ const { elements } = document.getElementById('add-event'); elements.step.value = 90; elements.key.value = '12'; document.getElementById('add-event').requestSubmit(); }")
+            self.check_step(text, 95, ["kins 700 5 down", "kins 90 12 down"], ("--tape", "05"))
+            assert browser.value("chipbenchPage.workbench.starts") == 1
+
+    def test_settings(self) -> None:
+        text = "RND V0, 255\nLD V1, 60\nLD DT, V1\nLOOP: LD V2, DT\nJP LOOP\n"
+        with self.page(text, words=("--seed", "1")) as browser:
+            self.check_step(text, 90, [], ("--seed", "1"))
+            browser.click("#show-settings")
+            assert browser.value("document.querySelector('#settings [name=seed]').value") == "1"
+            self.picture("settings")
+            browser.value(
+                "{ const { elements } = document.querySelector('#settings form'); elements.rate.value = '3'; elements.seed.value = '18446744073709551615'; elements.random.value = 'seed'; }"
+            )
+            browser.click("#settings [value=apply]")
+            self.rest()
+            self.check_step(text, 90, [], ("--rate", "3", "--seed", "18446744073709551615"))
+
+    def test_long_sessions_are_started_anew(self) -> None:
+        text = self.example("bounce")
+        with self.page(text) as browser:
+            browser.value(
+                "(async () => { const { workbench, model } = chipbenchPage;"
+                "for (let round = 0; round < 26; round += 1) await workbench.answers(model.wanted, Array.from({ length: 5000 }, (_, step) => `regs ${step}`)); })()"
+            )
+            assert browser.value("chipbenchPage.workbench.starts") == 2
+            self.check_step(text, 1000, [])
+
+    def test_parts_agree(self) -> None:
+        """While the run plays and while it is dragged, all that is shown is of one step."""
+        text = self.example("bounce")
+        with self.page(text) as browser:
+            listing = [line.split() for line in self.said(text, ["list"]).splitlines()[:-1]]
+            lines = {words[1]: words[0] for words in listing if len(words) > 2 and words[2][:1] in "0123456789abcdef"}
+            browser.value(
+                "globalThis.samples = []; globalThis.sample = () => { const text = (name) => document.querySelector(name)?.textContent ?? '';"
+                "const registers = %s; samples.push([registers.pc, text('#disassembly tr.here td:nth-child(2)'), text('#gutter .here .number'),"
+                "document.getElementById('step').value]); if (samples.length < 400) requestAnimationFrame(sample); }" % REGISTERS
+            )
+            browser.click("#play")
+            browser.value("sample()")
+            browser.wait("samples.length >= 90")
+            browser.click("#play")
+            x, y, width = browser.value("(() => { const b = document.getElementById('overview').getBoundingClientRect(); return [b.x, b.y + b.height / 2, b.width]; })()")
+            browser.mouse("mousePressed", x + 2, y)
+            for move in range(60):
+                browser.mouse("mouseMoved", x + 2 + move * (width - 4) / 60, y)
+            browser.mouse("mouseReleased", x + 9, y, 0)
+            self.rest()
+            samples = browser.value("samples")
+            assert len({sample[3] for sample in samples}) > 40, len(samples)
+            apart = [sample for sample in samples if sample[0] != sample[1] or lines[sample[0]] != sample[2]]
+            assert apart == [], (len(apart), len(samples), apart[:3])
+            said = dict(zip([sample[3] for sample in samples], [sample[0] for sample in samples]))
+            for step, pc in list(said.items())[:: max(1, len(said) // 12)]:
+                assert self.said(text, [f"regs {step}"]).split()[18] == pc, step
+
+    def test_undo_of_keys(self) -> None:
+        """One event, or one play, forth and back, and across a reload."""
+        with self.page(self.example("guess"), words=("--tape", "05")) as browser:
+            size = "chipbenchPage.model.keys.size"
+            browser.value("document.getElementById('close-up').focus()")
+            browser.press(" ", "Space")
+            browser.wait("chipbenchPage.model.step > 60")
+            for code, name in (("KeyE", "e"), ("KeyX", "x")):
+                browser.press(name, code, hold=0.12)
+                time.sleep(0.15)
+            browser.press("k", "KeyK")
+            self.rest()
+            assert browser.value(size) == 4
+            browser.press("t", "KeyT")
+            browser.press("z", "KeyZ", CONTROL)
+            assert browser.value(size) == 3
+            browser.press("y", "KeyY", CONTROL)
+            assert browser.value(size) == 4
+            events = browser.value("chipbenchPage.model.keys.events")
+            time.sleep(0.5)
+            self.reload()
+            self.rest()
+            browser.click("#undo-play")
+            assert browser.value(size) == 0
+            for _ in range(4):
+                browser.click("#redo-keys")
+            assert browser.value("chipbenchPage.model.keys.events") == events
+            assert browser.value("document.getElementById('redo-keys').disabled")
+            browser.click("#undo-keys")
+            assert browser.value(size) == 3
+            script = [f"kins {event['step']} {event['key']} {'down' if event['down'] else 'up'}" for event in events[:3]]
+            self.check_step(self.example("guess"), events[2]["step"] + 9, script, ("--tape", "05"))
+
+    def test_search_for_what_cannot_be(self) -> None:
+        """A value that no step can have, and one that no step of a run that repeats itself has, are told at once."""
+        text = self.example("bounce")
+        with self.page(text) as browser:
+            for value, most, told in (("#fff", 5.0, "the run repeats"), ("#7000", 1.0, "never above 4350")):
+                began = time.monotonic()
+                assert told in self.searched(value, "next"), self.text_of("#search-result")
+                assert time.monotonic() - began < most, (value, time.monotonic() - began)
+            browser.value("chipbenchPage.model.setStep(chipbenchPage.model.lastStep)")
+            self.rest()
+            began = time.monotonic()
+            assert self.searched("#fff", "last").startswith("no such step before")
+            assert time.monotonic() - began < 5.0, time.monotonic() - began
+
+    def searched(self, value: str, direction: str) -> str:
+        self.browser.value(
+            "{ const { elements } = document.getElementById('search'); elements.subject.value = 'pc'; elements.relation.value = 'is';"
+            f"elements.value.value = {json.dumps(value)}; document.getElementById('search-result').textContent = '';"
+            f"document.querySelector('#search [value={direction}]').click(); }}"
+        )
+        self.browser.wait("document.getElementById('search-result').textContent !== '' && document.getElementById('search-stop').hidden", 120.0)
+        return self.text_of("#search-result")
+
+    def test_progress_and_stop_of_a_search(self) -> None:
+        """In a run that never repeats itself: both directions, with progress and a stop."""
+        text = "LOOP: RND V0, 255\nADD V1, 1\nJP LOOP\n"
+        with self.page(text, words=("--seed", "1")) as browser:
+            for direction, step in (("next", 0), ("last", browser.value("chipbenchPage.model.lastStep"))):
+                self.step(step)
+                browser.value(
+                    "{ const { elements } = document.getElementById('search'); elements.subject.value = 'pc'; elements.relation.value = 'is'; elements.value.value = '#300';"
+                    f"document.querySelector('#search [value={direction}]').click(); }}"
+                )
+                browser.wait("document.getElementById('search-progress').value > 0")
+                browser.click("#search-stop")
+                browser.wait("document.getElementById('search-result').textContent === 'stopped'", 10.0)
+                assert browser.value("chipbenchPage.model.step") == step
+
+    def test_breakpoints_and_calls(self) -> None:
+        """To lines, over calls and out of them, forwards and back."""
+        text = "LD V0, 5\nLOOP: CALL TWICE\nADD V0, 1\nJP LOOP\nTWICE: CALL ONCE\nCALL ONCE\nRET\nONCE: ADD V1, 1\nRET\n"
+        with self.page(text) as browser:
+            states = [self.said(text, [f"regs {step}"]).splitlines() for step in range(40)]
+            pcs = [state[1].split()[1] for state in states]
+            depths = [len(state[2].split("stack")[1].split()) for state in states]
+
+            def run(name: str) -> int:
+                before = browser.value("chipbenchPage.model.step")
+                browser.click(f"[data-run={name}]")
+                browser.wait(f"chipbenchPage.model.step !== {before}")
+                self.rest()
+                return browser.value("chipbenchPage.model.step")
+
+            self.step(1)
+            assert run("over") == next(step for step in range(2, 40) if depths[step] == 0)
+            assert run("over-back") == 1
+            self.step(3)
+            assert depths[3] == 2
+            assert run("out") == next(step for step in range(4, 40) if depths[step] == 1)
+            assert "TWICE+2" in self.text_of("#call-stack"), self.text_of("#call-stack")
+            assert run("out-back") == 1
+            number = browser.value("(() => { const b = document.querySelectorAll('#gutter .number')[7].getBoundingClientRect(); return [b.x + b.width / 2, b.y + 9]; })()")
+            browser.mouse("mousePressed", *number)
+            browser.mouse("mouseReleased", *number, 0)
+            assert browser.value("chipbenchPage.editor.breakpoints.lines") == [8]
+            stops = [step for step, pc in enumerate(pcs) if pc == "020e"]
+            assert [run("break-on"), run("break-on"), run("break-back")] == [stops[0], stops[1], stops[0]], stops
+            # lines that are put in before it move it
+            browser.value("chipbenchPage.editor.goToLine(3)")
+            browser.press("Enter", text="\r")
+            assert browser.value("chipbenchPage.editor.breakpoints.lines") == [9]
+            self.rest()
+            self.step(0)
+            assert run("break-on") == stops[0]
+
+    def test_coverage(self) -> None:
+        text = "LD V0, 5\nJP LOOP\nCLS\nLOOP: ADD V0, 1\nJP LOOP\n"
+        with self.page(text) as browser:
+            browser.click("#coverage")
+            self.step(7)
+            rows = "[...document.querySelectorAll('#gutter .covered')].map((row) => [row.children[0].textContent, row.title])"
+            browser.wait(f"{rows}.length === 4")
+            assert browser.value(rows) == [
+                ["1", "executed, last at step 0"], ["2", "executed, last at step 1"], ["4", "executed, last at step 6"], ["5", "executed, last at step 7, this one"],
+            ], browser.value(rows)  # fmt: skip
+            browser.click("#coverage")
+            assert browser.value(rows) == []

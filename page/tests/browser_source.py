@@ -1,0 +1,198 @@
+"""What an author types: edits, faults, undo, colours, completions."""
+
+from __future__ import annotations
+
+import re
+import subprocess
+import time
+
+from browser_page import PageTests
+from driver import CONTROL, SHIFT
+
+
+class SourceTests(PageTests):
+    def test_edit_of_a_line(self) -> None:
+        text = self.example("bounce")
+        with self.page(text) as browser:
+            self.step(1000)
+            assert self.registers()["V0"] == "1f"
+            self.put_line(5, "        LD V2, 255")
+            self.rest()
+            changed = text.replace("LD V2, 1\n", "LD V2, 255\n", 1)
+            assert browser.value("document.getElementById('source-text').value") == changed
+            assert "V0" in self.text_of("#edit-effect"), self.text_of("#edit-effect")
+            assert self.text_of("#file-state").startswith("not saved")
+            assert self.path.read_text() == text
+            self.check_step(changed, 1000, [])
+            assert browser.value("chipbenchPage.workbench.starts") == 1
+            browser.press("z", "KeyZ", CONTROL)
+            self.check_step(text, 1000, [])
+
+    def test_fault(self) -> None:
+        text = self.example("bounce")
+        with self.page(text) as browser:
+            self.step(1000)
+            self.put_line(11, "        ADD V1")
+            self.rest()
+            assert self.text_of("#fault-count") == "1 fault, the first in line 11"
+            assert self.text_of("#marks .told").startswith("F4: "), self.text_of("#marks .told")
+            assert self.text_of("#machine-state").startswith("Q1")
+            assert "F4" in self.text_of("#line-state")
+            assert self.registers()["V0"] == "1f"
+            browser.value("chipbenchPage.editor.goToLine(1)")
+            browser.press("F8")
+            assert browser.value("chipbenchPage.editor.line") == 11
+            self.picture("fault")
+            browser.press("F1")
+            browser.wait("document.getElementById('explanation').open")
+            assert self.text_of("#explanation-title") == "F4"
+            browser.press("Escape")
+            self.put_line(11, "        ADD V1, V3")
+            self.rest()
+            assert self.text_of("#fault-count") == "no faults"
+            self.check_step(text, 1000, [])
+
+    def test_long_lines_are_told(self) -> None:
+        with self.page("LD V0, 5\nLD V1, 6\n") as browser:
+            self.put_line(1, "; " + "é" * 150)
+            self.rest()
+            assert "N2" in self.text_of("#marks .told"), self.text_of("#marks .told")
+            self.step(1)
+            assert self.registers()["V1"] == "06"
+            assert browser.value("chipbenchPage.workbench.starts") == 1
+
+    def test_typing(self) -> None:
+        """Indents, and what Ctrl and Enter look for."""
+        with self.page("") as browser:
+            browser.value("document.getElementById('source-text').focus()")
+            for line in ("START:  LD V0, 5", "LD V1, 6", "<LOOP:   ADD V0, 1", "SE V0, 9", "JP LOOP", "<HERE:JP HERE"):
+                if line.startswith("<"):
+                    browser.press("Backspace")
+                browser.type(line.removeprefix("<"))
+                browser.press("Enter", text="\r")
+            text = "START:  LD V0, 5\n        LD V1, 6\nLOOP:   ADD V0, 1\n        SE V0, 9\n        JP LOOP\nHERE:JP HERE\n        "
+            assert browser.value("document.getElementById('source-text').value") == text
+            browser.press("Backspace")
+            browser.press("Tab")
+            browser.press("Tab")
+            browser.press("Backspace")
+            assert browser.value("document.getElementById('source-text').value") == text
+            browser.value("document.getElementById('source-text').setSelectionRange(3, 34)")
+            browser.press("Tab")
+            assert browser.value("document.getElementById('source-text').value").startswith("        START:  LD V0, 5\n                LD V1, 6\nLOOP:")
+            browser.press("z", "KeyZ", CONTROL)
+            assert browser.value("document.getElementById('source-text').value") == text
+            browser.value("chipbenchPage.editor.goToLine(6)")
+            browser.press("Enter", "Enter", CONTROL)
+            browser.wait("/^step/.test(document.getElementById('search-result').textContent)")
+            found = browser.value("chipbenchPage.model.step")
+            self.check_step(text, found, [])
+            assert self.registers()["V0"] == "09" and self.registers()["pc"] == "020a"
+            browser.value("chipbenchPage.editor.goToLine(3)")
+            browser.press("Enter", "Enter", CONTROL | SHIFT)
+            browser.wait(f"chipbenchPage.model.step < {found}")
+            self.rest()
+            assert self.registers()["V0"] == "08" and self.registers()["pc"] == "0204"
+            assert browser.value("document.getElementById('source-text').value") == text
+
+    def test_a_long_source(self) -> None:
+        text = "".join(f"L{number}: LD V{number % 16:X}, {number % 200}\n" for number in range(1700)) + "; end\n" * 2300
+        with self.page(text) as browser:
+            self.step(1500)
+            began = time.monotonic()
+            self.put_line(800, "L799: LD V7, 3")
+            self.rest()
+            print(f"    an edit in 4,000 lines: shown in {1000 * (time.monotonic() - began):.0f} ms, the machine in {browser.value('chipbenchPage.viewer.took'):.0f} ms")
+            assert browser.value("chipbenchPage.workbench.starts") == 1
+            browser.value("chipbenchPage.editor.goToLine(1700)")
+            browser.wait("[...document.querySelectorAll('#gutter .number')].some((one) => one.textContent === '1700')")
+            assert browser.value("document.querySelectorAll('#gutter .row').length") < 120
+
+    def source(self) -> str:
+        return self.browser.value("document.getElementById('source-text').value")
+
+    def test_undo_of_typing(self) -> None:
+        """By words and by pauses, forth and back, and across a reload."""
+        with self.page("CLS\n") as browser:
+            browser.value("chipbenchPage.editor.goToLine(2)")
+            for character in "LD V0, 5":
+                self.type_character(character)
+            time.sleep(1.1)
+            self.type_character("5")
+            seen = [self.source()]
+            while seen[-1] != "CLS\n":
+                browser.press("z", "KeyZ", CONTROL)
+                seen.append(self.source())
+                assert len(seen) < 9, seen
+            assert seen == ["CLS\nLD V0, 55", "CLS\nLD V0, 5", "CLS\nLD V0, ", "CLS\nLD ", "CLS\n"], seen
+            browser.press("y", "KeyY", CONTROL)
+            browser.press("Z", "KeyZ", CONTROL | SHIFT)
+            assert self.source() == "CLS\nLD V0, "
+            time.sleep(0.5)
+            self.reload()
+            assert self.source() == "CLS\nLD V0, "
+            browser.value("document.getElementById('source-text').focus()")
+            browser.press("y", "KeyY", CONTROL)
+            assert self.source() == "CLS\nLD V0, 5"
+            for _ in range(3):
+                browser.press("z", "KeyZ", CONTROL)
+            assert self.source() == "CLS\n"
+            browser.press("z", "KeyZ", CONTROL)
+            assert self.source() == "CLS\n"
+            self.check_step("CLS\n", 1, [])
+
+    def type_character(self, character: str) -> None:
+        self.browser.press(character, "", 0, character)
+
+    def test_colours_and_words(self) -> None:
+        """Colours over the text as it is, completions, and what is told of a word."""
+        with self.page("LOOP:   LD V0, 5 ; five\n        JP LOOP\n") as browser:
+            kinds = "[...document.querySelectorAll('#colours div:first-child span')].map((part) => [part.className, part.textContent])"
+            assert browser.value(kinds) == [["mnemonic", "LD"], ["register", "V0"], ["number", "5"], ["comment", "; five"]]
+            assert browser.value("[...document.querySelectorAll('#colours div')].map((row) => row.textContent).join('\\n')") == self.source()
+            browser.value("chipbenchPage.editor.goToLine(3)")
+            for character in "JP LO":
+                self.type_character(character)
+            browser.wait("!document.getElementById('completions').hidden")
+            assert "514" not in self.text_of("#completions") and "LOOP" in self.text_of("#completions"), self.text_of("#completions")
+            browser.press("Tab")
+            assert self.source().endswith("\nJP LOOP"), self.source()
+            assert browser.value("document.getElementById('completions').hidden")
+            self.rest()
+            browser.value("chipbenchPage.editor.goToLine(2)")
+            x, y = browser.value("(() => { const b = document.querySelectorAll('#colours div')[1].getBoundingClientRect(); return [b.x, b.y]; })()")
+            width = browser.value("document.querySelector('#marks .measure').getBoundingClientRect().width / 100")
+            browser.mouse("mouseMoved", x + 12.5 * width, y + 10, 0)
+            browser.wait("/^LOOP = 512 .*line 1$/.test(document.getElementById('hover').textContent)")
+            browser.mouse("mouseMoved", x + 9.5 * width, y + 10, 0)
+            browser.wait("/JP a {2}.1NNN.: goes to a/.test(document.getElementById('hover').textContent)")
+
+    def test_faults_are_underlined(self) -> None:
+        """At their tokens, with the program's own sentence, by its word `check`."""
+        said = "game.asm:2:12: F9: undefined name\n        JP LOOPS\n           ^~~~~\n"
+        program = self.program
+        self.program = self.with_check(said)
+        try:
+            with self.page("LOOP:   LD V0, 5\n        JP LOOPS\n") as browser:
+                browser.wait("document.querySelector('#marks .underline') !== null")
+                place = browser.value("[...document.querySelectorAll('#marks .underline')].map((one) => [one.style.left, one.style.width])")
+                assert place == [["11ch", "5ch"]], place
+                assert self.text_of("#marks .told") == "F9: undefined name", self.text_of("#marks .told")
+                self.put_line(2, "        JP LOOP")
+                self.rest()
+                assert browser.value("document.querySelector('#marks .underline')") is None
+        finally:
+            self.program = program
+
+    def with_check(self, said: str) -> str:
+        """The program; where it lacks the word `check`, one that has it, with this answer."""
+        if re.search(r"^\s+check\b", subprocess.run([self.program, "--help"], capture_output=True, text=True).stdout, re.MULTILINE):
+            return self.program
+        place, answer = self.folder / "with-check", self.folder / "with-check.out"
+        answer.write_text(said)
+        place.write_text(
+            f'#!/bin/sh\ncase "$1" in\ncheck) cat "{answer}"; exit 1 ;;\n--help) "{self.program}" --help; echo "  check  Prints the faults" ;;\n'
+            f'*) exec "{self.program}" "$@" ;;\nesac\n'
+        )
+        place.chmod(0o755)
+        return str(place)

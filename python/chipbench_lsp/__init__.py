@@ -1,0 +1,1 @@
+"""A language server for sources of chipbench, over the module chipbench."""

@@ -1,0 +1,246 @@
+"""A document of the editor, and the session of the program that follows it."""
+
+from __future__ import annotations
+
+from collections.abc import Callable, Sequence
+from typing import Any
+
+from chipbench import Bench, ChipbenchError, ListingLine, Symbol, join_lines, read_listing_line, to_bytes
+
+from .language import Line, read_line
+from .positions import Columns
+
+LINE_BYTES = 200
+MOST_LINES = 4000
+# More edits than this are slower than a restart of the session.
+MOST_EDITS = 500
+
+OpenBench = Callable[[bytes], Bench]
+
+
+class OverLimits(Exception):
+    """The document is no source: the lines that pass a limit, each with a code and a sentence. Lines are counted from 0."""
+
+    def __init__(self, lines: list[tuple[int, str, str]]) -> None:
+        super().__init__("the document is over the limits of a source")
+        self.lines = lines
+
+
+def over_limits(lines: Sequence[bytes]) -> list[tuple[int, str, str]]:
+    """The lines over 200 bytes, and the first line over 4,000."""
+    found = [
+        (number, "O1", f"the line has {len(line)} bytes; a source's line has at most {LINE_BYTES}")
+        for number, line in enumerate(lines)
+        if len(line) > LINE_BYTES
+    ]
+    if len(lines) > MOST_LINES:
+        found.append((MOST_LINES, "O2", f"the source has {len(lines)} lines; at most {MOST_LINES} are allowed"))
+    return found
+
+
+def line_edits(old: Sequence[bytes], new: Sequence[bytes]) -> list[bytes]:
+    """Commands that make the new lines of the old ones: what is equal at both ends stays.
+
+    >>> line_edits([b"A", b"B", b"C"], [b"A", b"X", b"Y", b"C"])
+    [b'rep 2 X', b'ins 3 Y']
+    >>> line_edits([b"A", b"B", b"C"], [b"C"])
+    [b'del 2', b'del 1']
+    """
+    least = min(len(old), len(new))
+    first = 0
+    while first < least and old[first] == new[first]:
+        first += 1
+    last = 0
+    while last < least - first and old[-1 - last] == new[-1 - last]:
+        last += 1
+    old_end, new_end = len(old) - last, len(new) - last
+    both = min(old_end, new_end)
+    edits = [b"rep %d %s" % (place + 1, new[place]) for place in range(first, both) if old[place] != new[place]]
+    edits += [b"del %d" % (place + 1) for place in range(old_end - 1, both - 1, -1)]
+    edits += [b"ins %d %s" % (place + 1, new[place]) for place in range(both, new_end)]
+    return edits
+
+
+class Session:
+    """One `chipbench debug` that follows the lines of a document."""
+
+    def __init__(self, open_bench: OpenBench) -> None:
+        self._open = open_bench
+        self._bench: Bench | None = None
+        self.starts = 0
+
+    def follow(self, lines: list[bytes]) -> Bench:
+        """The session on these lines: edited where it can be, restarted where it can't, or where the program has ended."""
+        if self._bench is not None and self._edit(self._bench, lines):
+            return self._bench
+        self.close()
+        self.starts += 1
+        self._bench = self._open(join_lines(lines))
+        return self._bench
+
+    @staticmethod
+    def _edit(bench: Bench, lines: list[bytes]) -> bool:
+        edits = line_edits(bench.lines, lines)
+        # a command can't hold a CR
+        if len(edits) > MOST_EDITS or any(b"\r" in edit for edit in edits):
+            return False
+        try:
+            answers = bench.exchange(edits)
+        except ChipbenchError:
+            return False
+        return all(answer == b"ok\n" for answer in answers) and bench.process_id is not None
+
+    def close(self) -> None:
+        if self._bench is not None:
+            self._bench.close()
+            self._bench = None
+
+
+class Document:
+    """The text of a document as lines without their LF, what the program answers about it, and positions in it."""
+
+    def __init__(self, uri: str, version: int | None, text: str, columns: Columns, open_bench: OpenBench) -> None:
+        self.uri = uri
+        self.version = version
+        self.columns = columns
+        self.session = Session(open_bench)
+        self.edition = 0
+        self._lines: list[str] = []
+        self._known: dict[str, tuple[int, Any]] = {}
+        self.set_text(text)
+
+    # -- the text
+
+    def set_text(self, text: str) -> None:
+        self._lines = text.split("\n")
+        self.edition += 1
+
+    @property
+    def text(self) -> str:
+        return "\n".join(self._lines)
+
+    @property
+    def line_count(self) -> int:
+        """The lines that a client sees, the empty one after the last LF among them."""
+        return len(self._lines)
+
+    def line(self, number: int) -> str:
+        """A line without its end, counted from 0. There is none beyond the last: that is empty."""
+        if not 0 <= number < len(self._lines):
+            return ""
+        line = self._lines[number]
+        is_ended = number + 1 < len(self._lines)
+        return line[:-1] if is_ended and line.endswith("\r") else line
+
+    def end_of_line(self, number: int) -> str:
+        return "\r\n" if self._lines[number].endswith("\r") else "\n"
+
+    def read(self, number: int) -> Line:
+        return read_line(self.line(number))
+
+    @property
+    def lines(self) -> list[str]:
+        """The lines of the source: without the empty one after the last LF."""
+        lines = [line[:-1] if line.endswith("\r") else line for line in self._lines[:-1]]
+        return lines + self._lines[-1:] if self._lines[-1] else lines
+
+    @property
+    def source(self) -> list[bytes]:
+        return [to_bytes(line) for line in self.lines]
+
+    def change(self, changes: list[dict[str, Any]]) -> None:
+        """Makes changes in their order: all or none of them."""
+        before = list(self._lines)
+        try:
+            for change in changes:
+                self._change(change)
+        except Exception:
+            self._lines = before
+            raise
+
+    def _change(self, change: dict[str, Any]) -> None:
+        """Makes one change of the protocol: of a range, or of the whole text."""
+        text = change["text"]
+        if not isinstance(text, str):
+            raise TypeError("the text of a change is missing")
+        if change.get("range") is None:
+            self.set_text(text)
+            return
+        first, start = self._place(change["range"]["start"])
+        last, end = self._place(change["range"]["end"])
+        if (last, end) < (first, start):
+            first, start, last, end = last, end, first, start
+        made = self._lines[first][:start] + text + self._lines[last][end:]
+        self._lines[first : last + 1] = made.split("\n")
+        self.edition += 1
+
+    def _place(self, position: dict[str, int]) -> tuple[int, int]:
+        """The line of a position, and the place in it. One past the end of a line is before its CR."""
+        number, column = position["line"], position["character"]
+        if number < 0 or column < 0:
+            raise ValueError("a position is negative")
+        if number >= len(self._lines):
+            return len(self._lines) - 1, len(self._lines[-1])
+        line = self._lines[number]
+        place = self.columns.index(line, column)
+        if place == len(line) and column > self.columns.width(line):
+            place = len(self.line(number))
+        return number, place
+
+    def place(self, position: Any) -> tuple[int, int]:
+        """The line and the place in it of a request's position."""
+        number, place = self._place(position)
+        return number, min(place, len(self.line(number)))
+
+    # -- what the program answers
+
+    def bench(self) -> Bench:
+        """The session on the current text. `OverLimits` where the text can't be a source."""
+        if self.line_count > MOST_LINES + 1:
+            raise OverLimits([(MOST_LINES, "O2", f"the source has over {MOST_LINES} lines")])
+        source = self.source
+        passed = over_limits(source)
+        if passed:
+            raise OverLimits(passed)
+        return self.session.follow(source)
+
+    def _answer(self, name: str, ask: Callable[[Bench], Any]) -> Any:
+        """What the program answers about the current text. It is asked once."""
+        edition, answer = self._known.get(name, (-1, None))
+        if edition != self.edition:
+            answer = ask(self.bench())
+            self._known[name] = self.edition, answer
+        return answer
+
+    @property
+    def symbols(self) -> dict[str, Symbol]:
+        found: dict[str, Symbol] = self._answer("syms", lambda bench: bench.symbols)
+        return found
+
+    def listing(self, number: int) -> ListingLine | None:
+        """The listing's line of a line of the document."""
+        rows: list[bytes] = self._answer("list", lambda bench: bench.exchange([b"list"])[0].split(b"\n")[:-2])
+        return read_listing_line(rows[number]) if 0 <= number < len(rows) else None
+
+    @property
+    def faults(self) -> list[tuple[int, str]]:
+        """The lines with a fault, counted from 0, with its code."""
+        rows: bytes = self._answer("faults", lambda bench: bench.exchange([b"faults"])[0])
+        pairs = (row.split() for row in rows.decode("ascii").split("\n")[:-2])
+        return [(int(number) - 1, code) for number, code in pairs]
+
+    def code_of(self, number: int) -> bytes:
+        """The bytes of a line: all where there is an image, else the first six."""
+        row = self.listing(number)
+        if row is None or row.address is None or not row.more:
+            return row.code if row is not None else b""
+        image: str = self._answer("image", lambda bench: bench.exchange([b"image"])[0].decode("ascii").strip())
+        following = self.listing(number + 1)
+        if image.startswith("no ") or (following is not None and following.address is None):
+            return row.code
+        content = bytes.fromhex(image)
+        end = following.address - 512 if following is not None and following.address else len(content)
+        return content[row.address - 512 : end]
+
+    def close(self) -> None:
+        self.session.close()

@@ -1,0 +1,156 @@
+"""Lines of a source as an editor sees them: tokens, what a line defines, which names it uses.
+
+Whether a line is right is for the program to say: this reads just enough to find the names and the columns.
+"""
+
+from __future__ import annotations
+
+import functools
+import re
+from collections.abc import Iterator
+from dataclasses import dataclass
+
+from .tables import DIRECTIVES, MNEMONICS, RESERVED
+
+BLANKS = " \t\f\r\x1a"
+TOKEN = re.compile(
+    r"""(?P<blank>[ \t\f\r\x1a]+)
+    | (?P<comment>;.*)
+    | (?P<word>[A-Za-z_][A-Za-z0-9_]*)
+    | (?P<number>[0-9][A-Za-z0-9_]*|\#[A-Za-z0-9_]+|@[A-Za-z0-9_]+|\$[A-Za-z0-9_.]+)
+    | (?P<text>'[^']*'|"[^"]*")
+    | (?P<sign>[,:=\[\]()+\-*/&|^~<>\\])
+    | (?P<bad>['"].*|.)""",
+    re.VERBOSE | re.DOTALL,
+)
+NUMBERS = (
+    (re.compile(r"[0-9]+"), 0, 10),
+    (re.compile(r"#[0-9A-Fa-f]+"), 1, 16),
+    (re.compile(r"@[0-7]+"), 1, 8),
+    (re.compile(r"\$[01.]+"), 1, 2),
+)
+DEFINERS = ("EQU", "=")
+# What stands after these isn't an expression.
+WITHOUT_NAMES = frozenset({"ALIGN", "OPTION", "INCLUDE"})
+
+
+@dataclass(frozen=True)
+class Token:
+    kind: str
+    text: str
+    start: int
+    end: int
+
+    @property
+    def upper(self) -> str:
+        return self.text.upper()
+
+
+@dataclass(frozen=True)
+class Line:
+    """A line: its tokens without blanks and comment, the token that it defines, and its statement.
+
+    `form` is `label`, `value` (EQU and `=`), `define` or `plain`; `head` is the statement's first token, the EQU or `=` of a
+    definition, and `operands` are the tokens after it.
+    """
+
+    text: str
+    tokens: tuple[Token, ...]
+    comment: Token | None
+    form: str
+    defined: Token | None
+    head: Token | None
+    operands: tuple[Token, ...]
+
+    @property
+    def is_bad(self) -> bool:
+        return any(token.kind == "bad" for token in self.tokens)
+
+    @property
+    def mnemonic(self) -> str | None:
+        """The instruction's name, in upper case."""
+        return self.head.upper if self.head is not None and self.head.upper in MNEMONICS else None
+
+    @property
+    def directive(self) -> str | None:
+        return self.head.upper if self.head is not None and self.head.upper in DIRECTIVES else None
+
+    @property
+    def code_end(self) -> int:
+        """Where the last token ends."""
+        return self.tokens[-1].end if self.tokens else 0
+
+    def token_at(self, place: int) -> Token | None:
+        """The token that a place is in, or that ends there."""
+        touching = [token for token in self.tokens if token.start <= place <= token.end]
+        inside = [token for token in touching if place < token.end]
+        return next(iter(inside + touching), None)
+
+    def names(self) -> Iterator[Token]:
+        """The names that the line defines or mentions."""
+        if self.defined is not None and self.form != "define":
+            yield self.defined
+        if self.directive in WITHOUT_NAMES:
+            return
+        yield from (token for token in self.operands if token.kind == "word" and token.upper not in RESERVED)
+
+
+def scan(text: str) -> tuple[tuple[Token, ...], Token | None]:
+    tokens: list[Token] = []
+    for found in TOKEN.finditer(text):
+        kind = found.lastgroup or "bad"
+        if kind == "blank":
+            continue
+        token = Token(kind, found.group(), found.start(), found.end())
+        if kind == "comment":
+            return tuple(tokens), token
+        tokens.append(token)
+    return tuple(tokens), None
+
+
+@functools.lru_cache(maxsize=20_000)
+def read_line(text: str) -> Line:
+    """Reads a line, without its end.
+
+    >>> line = read_line("LOOP: ADD V0, STEP ; on")
+    >>> line.form, line.defined.text, line.mnemonic, [name.text for name in line.names()]
+    ('label', 'LOOP', 'ADD', ['LOOP', 'STEP'])
+    """
+    tokens, comment = scan(text)
+
+    def made(form: str, defined: Token | None, statement: tuple[Token, ...]) -> Line:
+        return Line(text, tokens, comment, form, defined, statement[0] if statement else None, statement[1:])
+
+    if not tokens or tokens[0].kind != "word":
+        return made("plain", None, tokens)
+    colon = len(tokens) > 1 and tokens[1].text == ":"
+    rest = tokens[2:] if colon else tokens[1:]
+    if rest and rest[0].upper in DEFINERS:
+        return made("value", tokens[0], rest)
+    if colon:
+        return made("label", tokens[0], rest)
+    if tokens[0].upper == "DEFINE" and rest and rest[0].kind == "word":
+        return made("define", rest[0], tokens)
+    return made("plain", None, tokens)
+
+
+def read_number(text: str) -> int | None:
+    """The value of a number token, or None.
+
+    >>> [read_number(text) for text in ("10", "#1f", "@17", "$1..1", "12A")]
+    [10, 31, 15, 9, None]
+    """
+    for form, sign, base in NUMBERS:
+        if form.fullmatch(text):
+            return int(text[sign:].replace(".", "0"), base)
+    return None
+
+
+def in_all_bases(value: int) -> str:
+    """A value as the language writes it in each base.
+
+    >>> in_all_bases(10)
+    '10 = #A = @12 = $1010'
+    """
+    sign, size = ("-", -value) if value < 0 else ("", value)
+    return f"{value} = {sign}#{size:X} = {sign}@{size:o} = {sign}${size:b}"

@@ -1,0 +1,136 @@
+"""Names: where they are defined and used, renaming, and the symbols of a document."""
+
+from __future__ import annotations
+
+from collections.abc import Iterator
+from typing import Any
+
+from chipbench import Bench, ChipbenchError, Refused, join_lines, to_bytes
+
+from .document import Document, OpenBench, OverLimits, over_limits
+from .language import Token
+from .tables import name_fault
+from .wire import REQUEST_FAILED, Failed
+
+CONSTANT, FUNCTION = 14, 12
+
+
+def name_at(document: Document, number: int, place: int) -> Token | None:
+    """The name at a place."""
+    line = document.read(number)
+    token = line.token_at(place)
+    return token if token is not None and token in list(line.names()) else None
+
+
+def uses(document: Document, name: str) -> Iterator[tuple[int, Token]]:
+    """Each place of a name in the document, in upper case: definitions, uses, and mentions in lines that aren't active."""
+    for number in range(document.line_count):
+        # a line that holds the name holds it as a text
+        if name in document.line(number).upper():
+            yield from ((number, token) for token in document.read(number).names() if token.upper == name)
+
+
+def definitions(document: Document, name: str) -> list[tuple[int, Token]]:
+    """The lines that define a name, the one that counts first."""
+    found = [(number, token) for number, token in uses(document, name) if document.read(number).defined == token]
+    try:
+        symbol = document.symbols.get(name)
+    except (OverLimits, ChipbenchError):
+        symbol = None
+    first = symbol.line - 1 if symbol is not None else None
+    return sorted(found, key=lambda use: use[0] != first)
+
+
+def definition_of(document: Document, name: str) -> tuple[int, Token] | None:
+    return next(iter(definitions(document, name)), None)
+
+
+def location(document: Document, number: int, token: Token) -> dict[str, Any]:
+    return {"uri": document.uri, "range": document.columns.range(number, document.line(number), token.start, token.end)}
+
+
+def definition(document: Document, number: int, place: int) -> list[dict[str, Any]]:
+    token = name_at(document, number, place)
+    return [] if token is None else [location(document, *found) for found in definitions(document, token.upper)[:1]]
+
+
+def references(document: Document, number: int, place: int, with_definitions: bool) -> list[dict[str, Any]]:
+    token = name_at(document, number, place)
+    if token is None:
+        return []
+    found = uses(document, token.upper)
+    return [location(document, at, use) for at, use in found if with_definitions or document.read(at).defined != use]
+
+
+def highlights(document: Document, number: int, place: int) -> list[dict[str, Any]]:
+    return [{"range": found["range"]} for found in references(document, number, place, True)]
+
+
+def prepare_rename(document: Document, number: int, place: int) -> dict[str, Any] | None:
+    token = name_at(document, number, place)
+    if token is None:
+        return None
+    return {"range": location(document, number, token)["range"], "placeholder": token.text}
+
+
+def rename(document: Document, number: int, place: int, new_name: str, open_bench: OpenBench) -> dict[str, Any]:
+    """One edit of all uses. It is refused where the new name can't be one, is taken, or the source would assemble otherwise."""
+    token = name_at(document, number, place)
+    if token is None:
+        raise Failed(REQUEST_FAILED, "there is no name here")
+    fault = name_fault(new_name)
+    if fault is not None:
+        raise Failed(REQUEST_FAILED, fault)
+    is_other = new_name.upper() != token.upper
+    if is_other and next(uses(document, new_name.upper()), None) is not None:
+        raise Failed(REQUEST_FAILED, f"{new_name.upper()} is already used in the source")
+    places = list(uses(document, token.upper))
+    lines = document.lines
+    for at, use in reversed(places):
+        lines[at] = lines[at][: use.start] + new_name + lines[at][use.end :]
+    check_same(document, lines, open_bench)
+    edits = [{"range": location(document, at, use)["range"], "newText": new_name} for at, use in places]
+    return {"changes": {document.uri: edits}}
+
+
+def outcome(bench: Bench) -> tuple[bytes, ...]:
+    """What a source assembles to: its image or `no Q1`, its faults, and its names' values and lines in order."""
+    image, faults, symbols = bench.exchange([b"image", b"faults", b"syms"])
+    values = b"\n".join(row.split(b" ", 1)[1] for row in symbols.split(b"\n")[:-2])
+    return image, faults, values
+
+
+def check_same(document: Document, lines: list[str], open_bench: OpenBench) -> None:
+    """Assembles the changed lines, and refuses the change where they give another image, other faults or other values."""
+    source = [to_bytes(line) for line in lines]
+    if over_limits(source):
+        raise Failed(REQUEST_FAILED, "the change makes a line longer than 200 bytes")
+    try:
+        before = outcome(document.bench())
+        with open_bench(join_lines(source)) as bench:
+            after = outcome(bench)
+    except OverLimits as over:
+        raise Failed(REQUEST_FAILED, str(over)) from None
+    except Refused as refused:
+        raise Failed(REQUEST_FAILED, f"the changed source is refused: {refused}") from None
+    if before != after:
+        raise Failed(REQUEST_FAILED, "the changed source assembles to something else")
+
+
+def symbols(document: Document) -> list[dict[str, Any]]:
+    """The names that the lines define, each up to the line before the next label."""
+    found = []
+    for number in range(document.line_count):
+        line = document.read(number)
+        if line.defined is None:
+            continue
+        span = document.columns.range(number, line.text, line.defined.start, line.defined.end)
+        is_label = line.form == "label"
+        found.append({
+            "name": line.defined.text,
+            "kind": FUNCTION if is_label else CONSTANT,
+            "detail": "" if is_label else line.text[line.defined.end : line.code_end].strip(": \t"),
+            "range": document.columns.range(number, line.text, 0, len(line.text)),
+            "selectionRange": span,
+        })
+    return found

@@ -1,0 +1,65 @@
+"""Columns of lines in the units that the client counts in, and ranges of the protocol."""
+
+from __future__ import annotations
+
+from typing import Any
+
+UNITS = ("utf-16", "utf-8", "utf-32")
+
+Range = dict[str, dict[str, int]]
+
+
+class Columns:
+    """Columns in the units of one client: `utf-16`, which all clients know, `utf-8` or `utf-32`."""
+
+    def __init__(self, unit: str = "utf-16") -> None:
+        self.unit = unit
+
+    def width(self, text: str) -> int:
+        """How many units a text has.
+
+        >>> Columns().width("a\U0001f600"), Columns("utf-8").width("a\U0001f600"), Columns("utf-32").width("a\U0001f600")
+        (3, 5, 2)
+        """
+        if text.isascii() or self.unit == "utf-32":
+            return len(text)
+        if self.unit == "utf-8":
+            return len(text.encode("utf-8", "surrogatepass"))
+        return len(text) + sum(character > "\uffff" for character in text)
+
+    def index(self, line: str, column: int) -> int:
+        """The place in a line of a column; a column inside a character is before it, one past the end is the end.
+
+        >>> [Columns().index("a\U0001f600b", column) for column in range(6)]
+        [0, 1, 1, 2, 3, 3]
+        """
+        if line.isascii() or self.unit == "utf-32":
+            return min(column, len(line))
+        for place, character in enumerate(line):
+            column -= self.width(character)
+            if column < 0:
+                return place
+        return len(line)
+
+    def position(self, number: int, line: str, place: int) -> dict[str, int]:
+        return {"line": number, "character": self.width(line[:place])}
+
+    def range(self, number: int, line: str, start: int, end: int) -> Range:
+        """The range of a part of one line; lines are counted from 0."""
+        return {"start": self.position(number, line, start), "end": self.position(number, line, end)}
+
+
+def choose_unit(capabilities: Any) -> str:
+    """The unit for a client: UTF-16, unless it can count characters, which is cheapest here."""
+    general = capabilities.get("general") if isinstance(capabilities, dict) else None
+    offered = general.get("positionEncodings") if isinstance(general, dict) else None
+    if isinstance(offered, list) and "utf-32" in offered:
+        return "utf-32"
+    return "utf-16"
+
+
+def byte_to_place(line: str, content: bytes, offset: int) -> int:
+    """The place in a line of an offset in its bytes."""
+    if len(line) == len(content):
+        return min(offset, len(line))
+    return min(len(content[:offset].decode("utf-8", "replace")), len(line))

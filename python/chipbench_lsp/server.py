@@ -1,0 +1,498 @@
+"""The server: takes messages in their order, keeps the documents, and answers.
+
+One thread reads messages, so that a cancelled request is known before its turn. The main thread alone touches documents.
+`check` and `run to here` take longer; they run in threads of their own, on copies, and report to the main one.
+"""
+
+from __future__ import annotations
+
+import contextlib
+import os
+import queue
+import sys
+import threading
+import time
+from collections.abc import Callable
+from typing import Any, BinaryIO, NoReturn
+
+import chipbench
+from chipbench import Bench, ChipbenchError, Fault
+
+from . import completion, diagnostics, fixes, hover, layout, names, runs
+from .document import Document, OverLimits
+from .positions import Columns, choose_unit
+from .wire import (
+    INTERNAL_ERROR,
+    INVALID_PARAMS,
+    INVALID_REQUEST,
+    METHOD_NOT_FOUND,
+    NOT_INITIALIZED,
+    PARSE_ERROR,
+    REQUEST_CANCELLED,
+    REQUEST_FAILED,
+    BadMessage,
+    Failed,
+    Writer,
+    read_message,
+)
+
+# How long no key is pressed before `check` is run.
+PAUSE_SECONDS = 0.25
+WARNING, INFO = 2, 3
+OPTIONS = ("profile", "rate", "tape", "seed", "every")
+END = object()
+
+Message = dict[str, Any]
+
+
+class Checked:
+    """What `check` found in a text of a document."""
+
+    def __init__(self, uri: str, edition: int, lines: list[str], faults: list[Fault]) -> None:
+        self.uri = uri
+        self.edition = edition
+        self.lines = lines
+        self.faults = faults
+
+
+def bench_options(settings: Any) -> dict[str, Any]:
+    """The options of a bench from the client's settings. Other settings are ignored."""
+    if not isinstance(settings, dict):
+        return {}
+    found: dict[str, Any] = {name: settings[name] for name in OPTIONS if isinstance(settings.get(name), (str, int))}
+    if "tape" in found:
+        try:
+            found["tape"] = bytes.fromhex(str(found["tape"]))
+        except ValueError:
+            del found["tape"]
+    return found
+
+
+class Server:
+    def __init__(self, reader: BinaryIO, writer: BinaryIO, program: str | None) -> None:
+        self._reader = reader
+        self.writer = Writer(writer)
+        self._queue: queue.Queue[Any] = queue.Queue()
+        self._named = program
+        self.program: str | None = None
+        self.options: dict[str, Any] = {}
+        self.columns = Columns()
+        self.documents: dict[str, Document] = {}
+        self.places: dict[str, diagnostics.Places] = {}
+        self._shown: dict[str, list[Any]] = {}
+        self._unshown: set[str] = set()
+        self._unchecked: dict[str, float] = {}
+        self._is_checking = False
+        self._has_check = True
+        self.has_snippets = False
+        self.shows_runs = False
+        self._state = "new"
+        self._is_shut_down = False
+        self._lock = threading.Lock()
+        self._pending: set[Any] = set()
+        self._cancelled: set[Any] = set()
+        self._running: dict[Any, threading.Event] = {}
+
+    # -- the loop
+
+    def serve(self) -> int:
+        """Serves until the client ends it. The status is 0 where it was shut down first."""
+        threading.Thread(target=self._read, daemon=True).start()
+        try:
+            while self._state != "ended":
+                self._turn()
+        except BrokenPipeError:
+            return 1
+        finally:
+            for document in self.documents.values():
+                document.close()
+        return 0 if self._is_shut_down else 1
+
+    def _read(self) -> None:
+        while True:
+            try:
+                message = read_message(self._reader)
+            except BadMessage as bad:
+                self._queue.put(bad)
+                continue
+            except (OSError, ValueError, MemoryError):
+                message = None
+            if message is None:
+                self._queue.put(END)
+                return
+            if message.get("method") == "$/cancelRequest":
+                self._cancel(message.get("params"))
+            elif is_request(message):
+                with self._lock:
+                    self._pending.add(message["id"])
+            self._queue.put(message)
+
+    def _cancel(self, params: Any) -> None:
+        request = dig(params, "id")
+        with self._lock:
+            if not isinstance(request, (int, str)):
+                return
+            if request in self._running:
+                self._running[request].set()
+            elif request in self._pending:
+                self._cancelled.add(request)
+
+    def _turn(self) -> None:
+        """Takes one message; where none waits, shows what has changed and checks what is due."""
+        try:
+            message = self._queue.get_nowait()
+        except queue.Empty:
+            self._show_changed()
+            try:
+                message = self._queue.get(timeout=self._wait())
+            except queue.Empty:
+                self._check_next()
+                return
+        self._take(message)
+
+    def _wait(self) -> float | None:
+        if not self._unchecked or self._is_checking:
+            return None
+        return max(0.0, min(self._unchecked.values()) - time.monotonic())
+
+    def _take(self, message: Any) -> None:
+        if message is END:
+            self._state = "ended"
+        elif isinstance(message, BadMessage):
+            self.writer.fail(None, PARSE_ERROR, str(message))
+        elif isinstance(message, Checked):
+            self._take_checked(message)
+        elif callable(message):
+            message()
+        elif not isinstance(message.get("method"), str):
+            if "result" not in message and "error" not in message:
+                self.writer.fail(message.get("id"), INVALID_REQUEST, "the message has no method")
+        elif is_request(message):
+            self._take_request(message)
+        elif "id" in message:
+            self.writer.fail(None, INVALID_REQUEST, "the id of a request is a number or a text")
+        else:
+            self._take_notification(message)
+
+    # -- requests and notifications
+
+    def _take_request(self, message: Message) -> None:
+        request, method = message["id"], message["method"]
+        with self._lock:
+            is_cancelled = request in self._cancelled
+            self._pending.discard(request)
+            self._cancelled.discard(request)
+        try:
+            if is_cancelled:
+                raise Failed(REQUEST_CANCELLED, "cancelled")
+            answer = self._answer(method, message.get("params"), request)
+        except Failed as failed:
+            self.writer.fail(request, failed.code, failed.text)
+        except (KeyError, TypeError, ValueError, AttributeError) as error:
+            self.writer.fail(request, INVALID_PARAMS, f"the parameters of {method} are wrong: {error!r}")
+        except (ChipbenchError, OverLimits) as error:
+            self.writer.fail(request, REQUEST_FAILED, str(error))
+        except Exception as error:
+            self.writer.fail(request, INTERNAL_ERROR, f"{method} failed: {error!r}")
+        else:
+            if answer is not LATER:
+                self.writer.answer(request, answer)
+
+    def _answer(self, method: str, params: Any, request: Any) -> Any:
+        if method == "initialize":
+            return self._initialize(params)
+        if self._state == "new":
+            raise Failed(NOT_INITIALIZED, "the server isn't initialized")
+        if self._is_shut_down:
+            raise Failed(INVALID_REQUEST, "the server is shut down")
+        if method == "shutdown":
+            self._is_shut_down = True
+            return None
+        if method == "workspace/executeCommand":
+            return self._execute(params, request)
+        handler = REQUESTS.get(method)
+        if handler is None:
+            raise Failed(METHOD_NOT_FOUND, f"no such request: {method}")
+        document = self.documents.get(params["textDocument"]["uri"])
+        if document is None:
+            raise Failed(INVALID_PARAMS, "the document isn't open")
+        return handler(self, document, params)
+
+    def _take_notification(self, message: Message) -> None:
+        method = message["method"]
+        if method == "exit":
+            self._state = "ended"
+            return
+        handler = NOTIFICATIONS.get(method)
+        if handler is None or self._state == "new":
+            return
+        try:
+            handler(self, message.get("params"))
+        except Exception as error:
+            self.say(WARNING, f"{method} is ignored: {error!r}")
+
+    def say(self, kind: int, text: str) -> None:
+        self.writer.notify("window/showMessage", {"type": kind, "message": f"chipbench-lsp: {text}"})
+
+    # -- start
+
+    def _initialize(self, params: Any) -> dict[str, Any]:
+        if self._state != "new":
+            raise Failed(INVALID_REQUEST, "the server is initialized already")
+        given = params if isinstance(params, dict) else {}
+        capabilities = given.get("capabilities") or {}
+        self.columns = Columns(choose_unit(capabilities))
+        item = dig(capabilities, "textDocument", "completion", "completionItem")
+        self.has_snippets = bool(dig(item, "snippetSupport"))
+        settings = given.get("initializationOptions")
+        self.shows_runs = bool(dig(settings, "showsRuns"))
+        self._set_program(settings)
+        self._state = "running"
+        return {"capabilities": self._capabilities(), "serverInfo": {"name": "chipbench-lsp"}}
+
+    def _set_program(self, settings: Any) -> None:
+        self.options = bench_options(settings)
+        named = dig(settings, "program")
+        try:
+            self.program = self._named or (named if isinstance(named, str) and named else None) or chipbench.find_program()
+        except ChipbenchError:
+            self.program = None
+        self._has_check = self.program is not None and bool(chipbench.sentences(self.program))
+
+    def _capabilities(self) -> dict[str, Any]:
+        return {
+            "positionEncoding": self.columns.unit,
+            "textDocumentSync": {"openClose": True, "change": 2, "save": True},
+            "hoverProvider": True,
+            "completionProvider": {"triggerCharacters": []},
+            "definitionProvider": True,
+            "referencesProvider": True,
+            "documentHighlightProvider": True,
+            "renameProvider": {"prepareProvider": True},
+            "documentSymbolProvider": True,
+            "inlayHintProvider": True,
+            "foldingRangeProvider": True,
+            "documentFormattingProvider": True,
+            "documentRangeFormattingProvider": True,
+            "codeLensProvider": {},
+            "codeActionProvider": {"codeActionKinds": ["quickfix", "source"]},
+            "executeCommandProvider": {"commands": [runs.COMMAND]},
+        }
+
+    def open_bench(self, source: bytes) -> Bench:
+        if self.program is None:
+            raise ChipbenchError("no program chipbench was found; name it by --program or by the setting chipbench.program")
+        return Bench(source, program=self.program, **self.options)
+
+    # -- documents
+
+    def did_open(self, params: Any) -> None:
+        item = params["textDocument"]
+        uri, text = item["uri"], item["text"]
+        if not isinstance(uri, str) or not isinstance(text, str):
+            raise TypeError("the document has no name or no text")
+        if uri in self.documents:
+            self.documents[uri].set_text(text)
+        else:
+            self.documents[uri] = Document(uri, item.get("version"), text, self.columns, self.open_bench)
+            self.places[uri] = diagnostics.Places()
+        self._changed(uri)
+
+    def did_change(self, params: Any) -> None:
+        uri = params["textDocument"]["uri"]
+        document = self.documents[uri]
+        document.change(params["contentChanges"])
+        document.version = params["textDocument"].get("version")
+        self._changed(uri)
+
+    def did_save(self, params: Any) -> None:
+        if params["textDocument"]["uri"] in self.documents:
+            self._changed(params["textDocument"]["uri"])
+
+    def did_close(self, params: Any) -> None:
+        uri = params["textDocument"]["uri"]
+        document = self.documents.pop(uri, None)
+        if document is None:
+            return
+        document.close()
+        del self.places[uri]
+        self._unshown.discard(uri)
+        self._unchecked.pop(uri, None)
+        self._shown.pop(uri, None)
+        self.writer.notify("textDocument/publishDiagnostics", {"uri": uri, "diagnostics": []})
+
+    def did_change_settings(self, params: Any) -> None:
+        settings = dig(params, "settings", "chipbench")
+        if not isinstance(settings, dict):
+            return
+        self._set_program(settings)
+        for uri, document in self.documents.items():
+            document.session.close()
+            document.edition += 1
+            self._changed(uri)
+
+    def _changed(self, uri: str) -> None:
+        self._unshown.add(uri)
+        self._unchecked[uri] = time.monotonic() + PAUSE_SECONDS
+
+    # -- diagnostics
+
+    def _show_changed(self) -> None:
+        while self._unshown:
+            uri = self._unshown.pop()
+            if uri in self.documents:
+                self._show(uri)
+
+    def _show(self, uri: str) -> None:
+        document = self.documents[uri]
+        found = diagnostics.diagnostics(document, self.places[uri], self.program)
+        # the same faults are published again for a new version
+        self._shown[uri] = found
+        params: dict[str, Any] = {"uri": uri, "diagnostics": found}
+        if isinstance(document.version, int):
+            params["version"] = document.version
+        self.writer.notify("textDocument/publishDiagnostics", params)
+
+    def _check_next(self) -> None:
+        """Starts `check` on a document whose time has come."""
+        now = time.monotonic()
+        due = next((uri for uri, at in self._unchecked.items() if at <= now), None)
+        if due is None or self._is_checking:
+            return
+        del self._unchecked[due]
+        document = self.documents[due]
+        shown = self._shown.get(due)
+        program = self.program
+        if not shown or not self._has_check or program is None or shown[0]["code"] in ("O1", "O2", "program"):
+            return
+        uri, edition, lines, source = due, document.edition, document.lines, document.source
+
+        def work() -> None:
+            faults = []
+            with contextlib.suppress(Exception):
+                faults = chipbench.check(chipbench.join_lines(source), program)
+            self._queue.put(Checked(uri, edition, lines, faults))
+
+        self._is_checking = True
+        threading.Thread(target=work, daemon=True).start()
+
+    def _take_checked(self, checked: Checked) -> None:
+        self._is_checking = False
+        document = self.documents.get(checked.uri)
+        if document is None:
+            return
+        self.places[checked.uri].learn(checked.lines, checked.faults)
+        if document.edition == checked.edition:
+            self._show(checked.uri)
+
+    # -- run to here
+
+    def _execute(self, params: Any, request: Any) -> Any:
+        if params["command"] != runs.COMMAND:
+            raise Failed(INVALID_PARAMS, f"no such command: {params['command']}")
+        uri, number = params["arguments"][:2]
+        document = self.documents.get(uri)
+        if document is None or not isinstance(number, int):
+            raise Failed(INVALID_PARAMS, "the command needs an open document and a line")
+        address, source = runs.address_of(document, number), chipbench.join_lines(document.source)
+        cancelled = threading.Event()
+        with self._lock:
+            self._running[request] = cancelled
+        threading.Thread(target=self._run_to, args=(request, source, address, cancelled), daemon=True).start()
+        return LATER
+
+    def _run_to(self, request: Any, source: bytes, address: int, cancelled: threading.Event) -> None:
+        try:
+            with self.open_bench(source) as bench:
+                result = runs.run_to(bench, address, cancelled)
+        except Failed as failed:
+            self.writer.fail(request, failed.code, failed.text)
+        except Exception as error:
+            self.writer.fail(request, REQUEST_FAILED, str(error))
+        else:
+            if not self.shows_runs:
+                self.say(INFO, result["text"])
+            self.writer.answer(request, result)
+        finally:
+            with self._lock:
+                self._running.pop(request, None)
+
+
+LATER = object()
+
+
+def is_request(message: Message) -> bool:
+    return isinstance(message.get("method"), str) and type(message.get("id")) in (int, str)
+
+
+def dig(value: Any, *keys: str) -> Any:
+    """The value under some keys, or None where one is missing."""
+    for key in keys:
+        value = value.get(key) if isinstance(value, dict) else None
+    return value
+
+
+Handler = Callable[[Server, Document, Any], Any]
+
+
+def placed(feature: Callable[..., Any]) -> Handler:
+    """A feature at a position."""
+    return lambda server, document, params: feature(document, *document.place(params["position"]))
+
+
+def whole(feature: Callable[..., Any]) -> Handler:
+    return lambda server, document, params: feature(document)
+
+
+def lines_of(params: Any) -> tuple[int, int]:
+    """The lines of a range; one that ends at a line's start doesn't have that line."""
+    first, last = params["range"]["start"], params["range"]["end"]
+    is_past = last["character"] == 0 and last["line"] > first["line"]
+    return first["line"], last["line"] - is_past
+
+
+REQUESTS: dict[str, Handler] = {
+    "textDocument/hover": placed(hover.hover),
+    "textDocument/definition": placed(names.definition),
+    "textDocument/documentHighlight": placed(names.highlights),
+    "textDocument/prepareRename": placed(names.prepare_rename),
+    "textDocument/documentSymbol": whole(names.symbols),
+    "textDocument/foldingRange": whole(layout.folds),
+    "textDocument/codeLens": whole(runs.lenses),
+    "textDocument/codeAction": lambda server, document, params: [
+        *fixes.fixes(document, params["range"]["start"]["line"]),
+        *runs.actions(document, params["range"]["start"]["line"]),
+    ],
+    "textDocument/inlayHint": lambda server, document, params: layout.hints(document, *lines_of(params)),
+    "textDocument/formatting": lambda server, document, params: layout.format_lines(
+        document, 0, document.line_count, server.open_bench
+    ),
+    "textDocument/rangeFormatting": lambda server, document, params: layout.format_lines(
+        document, *lines_of(params), server.open_bench
+    ),
+    "textDocument/references": lambda server, document, params: names.references(
+        document, *document.place(params["position"]), bool(dig(params, "context", "includeDeclaration"))
+    ),
+    "textDocument/rename": lambda server, document, params: names.rename(
+        document, *document.place(params["position"]), str(params["newName"]), server.open_bench
+    ),
+    "textDocument/completion": lambda server, document, params: completion.complete(
+        document, *document.place(params["position"]), server.has_snippets
+    ),
+}
+NOTIFICATIONS: dict[str, Callable[[Server, Any], None]] = {
+    "textDocument/didOpen": Server.did_open,
+    "textDocument/didChange": Server.did_change,
+    "textDocument/didSave": Server.did_save,
+    "textDocument/didClose": Server.did_close,
+    "workspace/didChangeConfiguration": Server.did_change_settings,
+}
+
+
+def serve(program: str | None) -> NoReturn:
+    """Serves on standard input and output, and ends the process. What is printed by mistake goes to standard error."""
+    output = os.fdopen(os.dup(1), "wb")
+    os.dup2(2, 1)
+    status = Server(sys.stdin.buffer, output, program).serve()
+    # the thread that reads may still wait for a message: Python can't end it
+    os._exit(status)
