@@ -61,11 +61,6 @@ def entries(layout):
     return [Entry(*line.split(" ")) for line in lines]
 
 
-def is_listed(source):
-    """Whether a file of the repository is installed."""
-    return any(entry.source == source for entry in entries("debian"))
-
-
 def version():
     return run(TOP / "packaging/version").decode().strip()
 

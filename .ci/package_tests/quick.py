@@ -10,7 +10,7 @@ import tarfile
 import tempfile
 import unittest
 
-from common import DOCUMENTS, STAND_IN, TOP, Page, answers_initialize, contents, entries, image_of, is_listed
+from common import DOCUMENTS, STAND_IN, TOP, Page, answers_initialize, contents, entries, image_of
 from common import is_repository, named_documents, package, program, run, version
 
 # The folders whose every file is either installed or left out by name.
@@ -204,8 +204,6 @@ class TestLaunchers(unittest.TestCase):
             page.check(self)
 
     def test_language_server_answers(self):
-        if not is_listed("chipbench-lsp"):
-            self.skipTest("no language server")
         answers_initialize(self, self.link(self.folder / "prefix/bin/chipbench-lsp"))
 
     def test_page_says_that_python_is_missing(self):
@@ -270,13 +268,7 @@ class TestPackages(unittest.TestCase):
         self.assertEqual({(member.uid, member.gid) for member in members}, {(0, 0)})
         files = {member.name for member in members if not member.isdir()}
         compressed = re.compile(r"share/man/|share/doc/chipbench/changelog$")
-        listed = entries("debian")
-        sources = {entry.source for entry in listed}
-        targets = {
-            entry.target + (".gz" if compressed.match(entry.target) else "")
-            for entry in listed
-            if entry.kind != "link" or entry.source.replace("../", "").replace("share/chipbench/", "") in sources
-        }
+        targets = {entry.target + (".gz" if compressed.match(entry.target) else "") for entry in entries("debian")}
         self.assertEqual(files, {f"./usr/{target}" for target in targets})
 
     def test_note(self):
