@@ -7,7 +7,7 @@ import tempfile
 import unittest
 
 import common
-from common import DOCUMENTS, Page, answers_initialize, entries, image_of, is_listed, named_documents, package, run, version
+from common import DOCUMENTS, Page, answers_initialize, entries, image_of, named_documents, package, run, version
 
 MIRROR = "http://deb.debian.org/debian"
 TOOLS = {"debootstrap": "debootstrap", "lintian": "lintian"}
@@ -193,15 +193,11 @@ class TestRootWithPython(unittest.TestCase):
         self.assertEqual([line.split("\t")[0] for line in shown.splitlines()], ["asm"])
 
     def test_python_module(self):
-        if not is_listed("python/chipbench.py"):
-            self.skipTest("no module for Python")
         self.assertEqual(self.root.shell(f"python3 -c '{MODULE_TRIAL}'").strip(), "00e0")
         # what root's Python keeps of the module has to go with it
         self.root.run("python3", "-c", "import chipbench")
 
     def test_language_server(self):
-        if not is_listed("chipbench-lsp"):
-            self.skipTest("no language server")
         # what root's Python keeps of the server's modules has to go with them
         for user in (USER, None):
             answers_initialize(self, *self.root.command("chipbench-lsp", user=user))
@@ -239,12 +235,8 @@ class TestArchive(unittest.TestCase):
             self.root.run("test", "-s", f"{self.top}/{document}")
 
     def test_python_module(self):
-        if not is_listed("python/chipbench.py"):
-            self.skipTest("no module for Python")
         shown = self.root.shell(f"PYTHONPATH={self.top}/share/chipbench/python python3 -B -c '{MODULE_TRIAL}'")
         self.assertEqual(shown.strip(), "00e0")
 
     def test_language_server(self):
-        if not is_listed("chipbench-lsp"):
-            self.skipTest("no language server")
         answers_initialize(self, *self.root.command(f"/home/{USER}/bin/chipbench-lsp", user=USER))

@@ -15,7 +15,7 @@ BUILT = TOP / "crates/chipbench/out/chipbench"
 # A program that needs the C library alone, for tests that place a program and don't run it.
 STAND_IN = pathlib.Path("/bin/true")
 DOCUMENTS = "share/doc/chipbench"
-SECONDS = 120
+SECONDS = 600
 
 _chosen = None
 
@@ -59,11 +59,6 @@ def entries(layout):
     """The files of packaging/files, for `plain` or `debian`."""
     lines = run(TOP / "packaging/place-files", "--list", layout).decode().splitlines()
     return [Entry(*line.split(" ")) for line in lines]
-
-
-def is_listed(source):
-    """Whether a file of the repository is installed."""
-    return any(entry.source == source for entry in entries("debian"))
 
 
 def version():
