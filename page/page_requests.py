@@ -71,6 +71,7 @@ class Bridge:
         self._session = 0
         self._start = secrets.token_hex(8)
         self._lock = threading.Lock()
+        self._saving = threading.Lock()
         self._options = [name for name in OPTION_VALUES if name in self._options_of("debug")]
         self._takes_keys = "keys" in self._options_of("run")
         self._words = self._known_words()
@@ -130,7 +131,7 @@ class Bridge:
         content = bytes_of(request.get("text"), MAX_FILE)
         name, known = request.get("name"), request.get("known")
         self._files.path_of(name)
-        with self._lock:
+        with self._saving:
             try:
                 saved = self._files.save(name, content, known if isinstance(known, str) else None)
             except OSError as error:

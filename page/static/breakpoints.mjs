@@ -36,6 +36,6 @@ export class Breakpoints extends EventTarget {
       if (line > was.length - back) return [line + is.length - was.length];
       return line <= is.length - back ? [line] : [];
     });
-    this.#lines = new Set(moved);
+    this.set(moved);
   }
 }

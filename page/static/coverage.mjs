@@ -3,7 +3,31 @@
 import { byId, grouped } from './dom.mjs';
 import { subject } from './finder.mjs';
 
-const BATCH = 5000;
+const BATCH = 2000;
+
+/** When each address was pc last, up to a step. */
+class LastSteps {
+  #pcs = [];
+  #last = new Map();
+  #upTo = -1;
+
+  /** How many steps are known. */
+  get count() {
+    return this.#pcs.length;
+  }
+
+  add(pcs) {
+    for (const pc of pcs) this.#pcs.push(pc);
+  }
+
+  /** The last step at each address, of the steps up to this one. */
+  upTo(step) {
+    if (step < this.#upTo) [this.#last, this.#upTo] = [new Map(), -1];
+    for (let at = this.#upTo + 1; at <= step && at < this.#pcs.length; at += 1) this.#last.set(this.#pcs[at], at);
+    this.#upTo = Math.min(step, this.#pcs.length - 1);
+    return this.#last;
+  }
+}
 
 export class Coverage {
   #model;
@@ -12,12 +36,12 @@ export class Coverage {
   #show;
   #button = byId('coverage');
   #pc = subject('pc');
-  /** The last step at each pc, of the steps before `#known`, of this text and these keys. */
-  #last = new Map();
-  #known = 0;
+  #steps = new LastSteps();
+  /** What the model wanted when these steps were asked. */
   #of = null;
   #running = false;
 
+  /** `ask(questions)` answers, `map()` is the map of the lines, `show(covered)` shows what is told of each line. */
   constructor(model, { ask, map, show }) {
     this.#model = model;
     this.#ask = ask;
@@ -51,7 +75,7 @@ export class Coverage {
     try {
       while (this.#isOn && !(await this.#isWhole()));
     } catch {
-      // a fault is told by what is shown of the machine
+      // what went wrong is told where the machine is shown
     } finally {
       this.#running = false;
     }
@@ -60,28 +84,29 @@ export class Coverage {
   /** Asks about some of the steps that are lacking; whether none is lacking any more. */
   async #isWhole() {
     const { wanted, step } = this.#model;
-    if (this.#of !== wanted || step < this.#known - 1) [this.#last, this.#known, this.#of] = [new Map(), 0, wanted];
-    const end = Math.min(step + 1, this.#known + BATCH);
-    if (end > this.#known) {
-      const steps = Array.from({ length: end - this.#known }, (_, place) => this.#known + place);
-      const answers = await this.#ask(steps.map(this.#pc.question));
+    if (this.#of !== wanted) [this.#steps, this.#of] = [new LastSteps(), wanted];
+    const steps = this.#steps;
+    const first = steps.count;
+    const count = Math.min(BATCH, step + 1 - first);
+    if (count > 0) {
+      const answers = await this.#ask(Array.from({ length: count }, (_, place) => this.#pc.question(first + place)));
       if (answers[0].startsWith('no ')) return true;
-      if (this.#of !== wanted) return false;
-      answers.forEach((answer, place) => this.#last.set(this.#pc.value(answer), steps[place]));
-      this.#known = end;
+      if (this.#steps !== steps || this.#of !== wanted) return false;
+      steps.add(answers.map(this.#pc.value));
     }
     this.#tell(step);
-    return this.#known > this.#model.step && this.#of === this.#model.wanted;
+    return steps.count > this.#model.step && this.#of === this.#model.wanted && step === this.#model.step;
   }
 
   #tell(step) {
     const covered = new Map();
-    for (const [pc, last] of this.#last) {
+    for (const [pc, last] of this.#steps.upTo(step)) {
       const line = this.#map().lineAt(pc);
       if (line !== null && (covered.get(line) ?? -1) < last) covered.set(line, last);
     }
     const told = [...covered].map(([line, last]) => [line, `executed, last at step ${grouped(last)}${last === step ? ', this one' : ''}`]);
     this.#show(new Map(told));
-    this.#button.title = this.#known > step ? `${grouped(covered.size)} lines are executed up to step ${grouped(step)}` : `looked at up to step ${grouped(this.#known)}`;
+    const isWhole = this.#steps.count > step;
+    this.#button.title = isWhole ? `${grouped(covered.size)} lines are executed up to step ${grouped(step)}` : `looked at up to step ${grouped(this.#steps.count)}`;
   }
 }

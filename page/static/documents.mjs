@@ -94,9 +94,10 @@ export class Documents {
     return kept;
   }
 
-  #take({ text, form, encoding, lineEnd, keys = new KeyScript(), textHistory = new TextHistory(), keyHistory = new KeyHistory() }) {
+  #take({ text, form, encoding, lineEnd, keys = new KeyScript(), breakLines = [], textHistory = new TextHistory(), keyHistory = new KeyHistory() }) {
     this.#model.startWith({ text, form: form ?? { encoding, lineEnd }, keys, textHistory, keyHistory });
     this.#editor.text = text;
+    this.#editor.breakpoints.set(breakLines);
     this.tellState();
   }
 

@@ -12,7 +12,7 @@ const WIDTH = 128;
 const HEIGHT = 64;
 const PICTURE_SCALE = 8;
 const ANIMATION_SCALE = 4;
-const MOST_PICTURES = 1500;
+const MOST_PICTURES = 900;
 /** A picture for each two ticks: a GIF counts hundredths of a second, and 3 are nearest to two of sixty ticks. */
 const TICKS_A_PICTURE = 2;
 const HUNDREDTHS = 3;

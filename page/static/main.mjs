@@ -156,6 +156,7 @@ class Page {
 
   #listen() {
     this.editor.addEventListener('edit', () => this.model.setText(this.editor.text));
+    this.editor.breakpoints.addEventListener('change', () => this.model.setBreakLines(this.editor.breakpoints.lines));
     this.editor.addEventListener('run', ({ detail }) => this.search.toLine(detail));
     this.model.addEventListener('change', ({ detail }) => this.#changed(detail));
     this.viewer.addEventListener('shown', ({ detail }) => this.#show(detail));
@@ -204,7 +205,7 @@ class Page {
     if (what === 'text') this.documents.tellState();
     if (what === 'keys') this.keypad.show(this.model.keys, this.model.step);
     if (what === 'lastStep') byId('step').max = this.model.lastStep;
-    else if (this.#begun) this.viewer.refresh();
+    else if (this.#begun && what !== 'breakpoints') this.viewer.refresh();
   }
 
   #act(name) {

@@ -15,6 +15,8 @@ export class Model extends EventTarget {
   step = 0;
   lastStep = 100_000;
   withheld = new Map();
+  /** The lines with breakpoints. */
+  breakLines = [];
   textHistory = new TextHistory();
   keyHistory = new KeyHistory();
 
@@ -76,6 +78,11 @@ export class Model extends EventTarget {
     this.keys = keys;
     if (this.#wanted !== null) this.#wanted = { ...this.#wanted, keys };
     this.#changed('keys');
+  }
+
+  setBreakLines(lines) {
+    this.breakLines = lines;
+    this.#changed('breakpoints');
   }
 
   setOptions(options) {

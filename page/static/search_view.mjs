@@ -50,7 +50,7 @@ export class SearchView {
     this.#stop.addEventListener('click', () => this.stop());
     byId('search-line').addEventListener('click', () => this.toLine(true));
     model.addEventListener('change', ({ detail }) => {
-      if (detail !== 'step' && detail !== 'lastStep') this.stop();
+      if (detail !== 'step' && detail !== 'lastStep' && detail !== 'breakpoints') this.stop();
     });
     this.#shape();
   }

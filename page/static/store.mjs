@@ -44,6 +44,18 @@ export class Store {
     this.#seen = undefined;
     this.#work = null;
     this.#text = null;
+    this.#takeOver(`${PREFIX}${slot}, aside`);
+  }
+
+  /** Texts that an earlier version of the page put aside for this document are earlier texts like the others. */
+  #takeOver(name) {
+    const texts = [parsed(content(name))].flat().filter((one) => typeof one?.text === 'string');
+    for (const { text, form } of texts) this.putEarlier({ text, form: formOf(form), slot: this.#slot, why: 'put aside before' });
+    try {
+      localStorage.removeItem(name);
+    } catch {
+      // they are taken over again the next time
+    }
   }
 
   /** Keeps what the author has; but where another window has kept its own since, only once something is changed in this one. */
@@ -51,7 +63,7 @@ export class Store {
     clearTimeout(this.#timer);
     this.#timer = null;
     if (this.#slot === null) return;
-    const { text, form, keys, options, step, textHistory, keyHistory } = this.#model;
+    const { text, form, keys, options, step, breakLines, textHistory, keyHistory } = this.#model;
     const work = { text, form, keys: writeKeys(keys), known: this.#known() };
     const isChanged = JSON.stringify(work) !== this.#work;
     const kept = content(PREFIX + this.#slot);
@@ -60,7 +72,7 @@ export class Store {
     if (isOther) this.#putOtherAside(parsed(kept), text);
     this.#work = JSON.stringify(work);
     this.#text = text;
-    this.#seen = this.#write(PREFIX + this.#slot, { ...work, options, step });
+    this.#seen = this.#write(PREFIX + this.#slot, { ...work, options, step, breakLines });
     this.#write(`${PREFIX}${this.#slot}, history`, { text: textHistory, keys: keyHistory });
   }
 
@@ -93,6 +105,7 @@ export class Store {
       keys: keysOf(kept.keys),
       options: optionsOf(kept.options),
       step: Number.isSafeInteger(kept.step) ? kept.step : 0,
+      breakLines: Array.isArray(kept.breakLines) ? kept.breakLines.filter((line) => Number.isSafeInteger(line) && line > 0) : [],
       textHistory: TextHistory.of(history?.text, kept.text),
       keyHistory: KeyHistory.of(history?.keys),
     };

@@ -15,6 +15,7 @@ from browser_run import RunTests
 from browser_shape import ShapeTests
 from browser_source import SourceTests
 from chromium import Chromium
+from driver import Browser
 from firefox import Firefox
 
 BROWSERS = {"chromium": Chromium, "firefox": Firefox}
@@ -29,6 +30,7 @@ def main(arguments: list[str]) -> int:
     parser.add_argument("--program", default=str(PROVED), help="the chipbench to run (default: the proved one)")
     parser.add_argument("--browser", choices=sorted(BROWSERS), default="chromium", help="the browser (default: chromium)")
     parser.add_argument("--page", type=Path, default=TOP / "page", metavar="FOLDER", help="another page to try, such as an older one")
+    parser.add_argument("--patience", type=float, default=1.0, metavar="N", help="wait N times longer, on a busy machine (default: 1)")
     parser.add_argument("--pictures", type=Path, help="a folder for pictures to look at")
     parser.add_argument("--documents", type=Path, metavar="FOLDER", help="make the pictures of the examples there, and no test")
     parser.add_argument("names", nargs="*", help="parts of the names of the tests to run (default: all)")
@@ -38,6 +40,7 @@ def main(arguments: list[str]) -> int:
         return 2
     if words.pictures is not None:
         words.pictures.mkdir(parents=True, exist_ok=True)
+    Browser.patience = words.patience
     tests = Tests(BROWSERS[words.browser](), words.program, words.page, words.pictures)
     try:
         if words.documents is not None:

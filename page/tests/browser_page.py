@@ -98,7 +98,7 @@ class PageTests:
         finally:
             self.browser.open("about:blank")
             self.bridge.terminate()
-            self.bridge.wait(5.0)
+            self.bridge.wait(5.0 * self.browser.patience)
 
     def example(self, name: str) -> str:
         return (TOP / f"examples/{name}.asm").read_text()
@@ -190,7 +190,7 @@ class PageTests:
 
 
 def wait_for(condition: Callable[[], bool], name: str) -> None:
-    deadline = time.monotonic() + 10
+    deadline = time.monotonic() + 10 * Browser.patience
     while not condition():
         if time.monotonic() > deadline:
             raise TimeoutError(name)

@@ -47,7 +47,7 @@ class Chromium(Browser):
 
     def _port(self) -> int:
         place = Path(self._folder) / "DevToolsActivePort"
-        deadline = time.monotonic() + START_SECONDS
+        deadline = time.monotonic() + START_SECONDS * self.patience
         while time.monotonic() < deadline:
             with contextlib.suppress(FileNotFoundError, IndexError, ValueError):
                 return int(place.read_text().splitlines()[0])

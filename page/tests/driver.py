@@ -15,6 +15,8 @@ class Browser:
     """A headless browser with one page. `console` holds what the page complained of, `requests` what it asked of the network."""
 
     name = ""
+    #: How many times longer than on an idle machine something may take.
+    patience = 1.0
 
     def __init__(self) -> None:
         self.console: list[str] = []
@@ -44,7 +46,7 @@ class Browser:
         raise NotImplementedError
 
     def wait(self, condition: str, seconds: float = 15.0) -> None:
-        deadline = time.monotonic() + seconds
+        deadline = time.monotonic() + seconds * self.patience
         while time.monotonic() < deadline:
             with contextlib.suppress(RuntimeError):
                 if self.value(condition):

@@ -79,7 +79,7 @@ class Firefox(Browser):
         self.call("browsingContext.activate", context=self._context)
 
     def _address(self) -> str:
-        deadline = time.monotonic() + START_SECONDS
+        deadline = time.monotonic() + START_SECONDS * self.patience
         while time.monotonic() < deadline:
             found = re.search(rb"WebDriver BiDi listening on (ws://\S+)", (Path(self._folder) / "errors").read_bytes())
             if found is not None:

@@ -16,7 +16,7 @@ class WebSocket:
         assert found is not None
         host, port, path = found[1], int(found[2]), found[3]
         self._socket = socket.create_connection((host, port))
-        self._socket.settimeout(60.0)
+        self._socket.settimeout(300.0)
         self._read = bytearray()
         key = base64.b64encode(os.urandom(16)).decode()
         self._socket.sendall(
