@@ -69,15 +69,8 @@ impl Calls {
     /// Carries out a command that has no answer.
     fn prepare(&mut self, alloc: Global, word: &str, rest: &str) -> Result<(), Error> {
         match word {
-            "source" | "script" => {
-                let lines = if word == "source" {
-                    &mut self.source
-                } else {
-                    &mut self.script
-                };
-                lines.extend_from_slice(rest.as_bytes())?;
-                lines.push(b'\n')?;
-            }
+            "source" => add_line(&mut self.source, rest)?,
+            "script" => add_line(&mut self.script, rest)?,
             "repeat" => {
                 let (count, text) = rest.split_once(" ").unwrap_or((rest, ""));
                 let text = if text == "\\n" { "\n" } else { text };
@@ -92,6 +85,13 @@ impl Calls {
         }
         Ok(())
     }
+}
+
+/// Adds a line to a text.
+fn add_line(text: &mut Vec<u8>, line: &str) -> Result<(), Error> {
+    text.extend_from_slice(line.as_bytes())?;
+    text.push(b'\n')?;
+    Ok(())
 }
 
 /// Whether there are settings of a rate, a length of the tape, and a distance of checkpoints.
