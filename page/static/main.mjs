@@ -15,6 +15,7 @@ import { EventsView } from './events_view.mjs';
 import { Exports } from './exports.mjs';
 import { FaultPlaces } from './fault_places.mjs';
 import { askName, FileDialogs } from './file_dialogs.mjs';
+import { KeyScript } from './key_script.mjs';
 import { Keypad } from './keypad.mjs';
 import { MemoryView } from './memory_view.mjs';
 import { Model } from './model.mjs';
@@ -127,7 +128,8 @@ class Page {
   /** Which steps there are has to be known before a step or an event is taken. Settings that are refused are dropped once. */
   async #findLastStep(isAgain = false) {
     try {
-      await this.workbench.answers(this.model.wanted, []);
+      // without the kept events, which the program refuses where one is past its last step
+      await this.workbench.answers({ ...this.model.wanted, keys: new KeyScript() }, []);
       this.model.setLastStep(this.workbench.lastStep);
     } catch (fault) {
       const isRefused = (fault instanceof ProgramEnded || fault instanceof BridgeFault) && !isAgain && fault.status !== 0;
