@@ -10,10 +10,12 @@ from pathlib import Path
 from typing import Any
 
 from files import MAX_FILE, Files, Refused, digest_of, shown
-from program import MAX_ANSWERS, Ended, Program, TooMuch, run_once
+from program import Ended, Program, TooMuch, run_once
 
 MAX_BODY = 8_000_000
 MAX_COMMANDS = 25_000
+MAX_ANSWERS = 64_000_000
+ANSWER_SECONDS = 60.0
 
 OPTION_VALUES = {
     "rate": re.compile(r"[0-9]{1,9}"),
@@ -155,7 +157,7 @@ class Bridge:
             place = self.place / f"source-{self._session % 2}.asm"
             try:
                 place.write_bytes(source)
-                self._running = Program([self._program, "debug", *arguments, str(place)])
+                self._running = Program([self._program, "debug", *arguments, str(place)], MAX_ANSWERS)
             except OSError as error:
                 raise Refused(500, f"the program can't be started: {error.strerror}") from None
             return self._exchange(commands)
@@ -174,7 +176,7 @@ class Bridge:
         assert self._running is not None
         reply: dict[str, Any] = {"session": self._session}
         try:
-            answers = self._running.exchange(commands)
+            answers = self._running.exchange(commands, ANSWER_SECONDS)
         except Ended as ended:
             answers = ended.answers
             reply["ended"] = {"status": ended.status, "text": ended.text}

@@ -1,58 +1,42 @@
 // What was changed of the key events, to be undone and made again: one change, or one play as a whole.
 
+import { History } from './history.mjs';
+
 const MOST_CHANGES = 5000;
 
 /** Changes of a script, the newest last: which events became what, and of which play they are, if of one. */
-export class KeyHistory {
-  #done = [];
-  #undone = [];
-
+export class KeyHistory extends History {
   /** Of what was kept; empty where that can't be read. */
   static of(kept) {
     const history = new KeyHistory();
-    if (!Array.isArray(kept?.done) || !Array.isArray(kept.undone)) return history;
-    if (![...kept.done, ...kept.undone].every(isChange)) return history;
-    history.#done = kept.done;
-    history.#undone = kept.undone;
+    history.take(kept, isChange);
     return history;
-  }
-
-  toJSON() {
-    return { done: this.#done, undone: this.#undone };
-  }
-
-  get canUndo() {
-    return this.#done.length > 0;
-  }
-
-  get canRedo() {
-    return this.#undone.length > 0;
   }
 
   /** How many changes the last play has, where the last change is of one; else 0. */
   get lastPlay() {
-    return groupAtEnd(this.#done);
+    return groupAtEnd(this.done);
   }
 
   /** A script became another: `play` names the play that the change is of, `move` a movement whose changes are one. */
   record(before, after, { play = null, move = null } = {}) {
     const events = differences(before, after);
     if (events.length === 0) return;
-    this.#undone = [];
-    const last = this.#done.at(-1);
-    if (move !== null && last?.move === move) this.#done[this.#done.length - 1] = { ...last, events: joined(last.events, events) };
-    else this.#done.push({ events, play, move });
-    if (this.#done.length > MOST_CHANGES) this.#done.shift();
+    this.undone = [];
+    const last = this.done.at(-1);
+    if (move !== null && last?.move === move) this.done[this.done.length - 1] = { ...last, events: joined(last.events, events) };
+    else this.done.push({ events, play, move });
+    if (this.done.length > MOST_CHANGES) this.done.shift();
   }
 
   /** The script before the last change, or, with `wholePlay`, before the play that it is of. */
   undo(keys, wholePlay = false) {
-    return this.#move(keys, this.#done, this.#undone, 'before', wholePlay);
+    return this.#move(keys, this.done, this.undone, 'before', wholePlay);
   }
 
   /** The script after the change, or the play, that was undone last. */
   redo(keys, wholePlay = false) {
-    return this.#move(keys, this.#undone, this.#done, 'after', wholePlay);
+    return this.#move(keys, this.undone, this.done, 'after', wholePlay);
   }
 
   #move(keys, from, to, side, wholePlay) {

@@ -1,5 +1,7 @@
 // What was typed, to be undone and made again: by words, and by pauses.
 
+import { History } from './history.mjs';
+
 const PAUSE_MILLISECONDS = 1000;
 const MOST_CHANGES = 1000;
 const MOST_CHARACTERS = 400_000;
@@ -8,58 +10,41 @@ const MOST_CHARACTERS = 400_000;
  * Changes of a text, the newest last. A change says where, what was removed and what was inserted, and the selection before and
  * after it.
  */
-export class TextHistory {
-  #done = [];
-  #undone = [];
+export class TextHistory extends History {
   #time = -Infinity;
 
   /** Of what was kept beside a text; empty where it isn't one of that text. */
   static of(kept, text) {
     const history = new TextHistory();
-    if (!Array.isArray(kept?.done) || !Array.isArray(kept.undone)) return history;
-    if (![...kept.done, ...kept.undone].every(isChange)) return history;
-    const fits = kept.done.every((change, place) => place < kept.done.length - 1 || holds(text, change.at, change.inserted));
-    if (!fits) return history;
-    history.#done = kept.done;
-    history.#undone = kept.undone;
+    history.take(kept, isChange);
+    const last = history.done.at(-1);
+    if (last !== undefined && !holds(text, last.at, last.inserted)) history.#forget();
     return history;
-  }
-
-  toJSON() {
-    return { done: this.#done, undone: this.#undone };
-  }
-
-  get canUndo() {
-    return this.#done.length > 0;
-  }
-
-  get canRedo() {
-    return this.#undone.length > 0;
   }
 
   /** A text became another one. `isTyped` says that it may be one change with the typing before. */
   record(before, after, { selectionBefore, selectionAfter, time, isTyped }) {
     const change = { ...difference(before, after), selectionBefore, selectionAfter };
     if (change.removed === '' && change.inserted === '') return;
-    this.#undone = [];
-    const joined = isTyped && time - this.#time < PAUSE_MILLISECONDS ? joinedChange(this.#done.at(-1), change) : null;
-    if (joined === null) this.#done.push(change);
-    else this.#done[this.#done.length - 1] = joined;
+    this.undone = [];
+    const joined = isTyped && time - this.#time < PAUSE_MILLISECONDS ? joinedChange(this.done.at(-1), change) : null;
+    if (joined === null) this.done.push(change);
+    else this.done[this.done.length - 1] = joined;
     this.#time = isTyped ? time : -Infinity;
     this.#trim();
   }
 
   #trim() {
-    let size = this.#done.reduce((sum, { removed, inserted }) => sum + removed.length + inserted.length, 0);
-    while (this.#done.length > 1 && (size > MOST_CHARACTERS || this.#done.length > MOST_CHANGES)) {
-      const { removed, inserted } = this.#done.shift();
+    let size = this.done.reduce((sum, { removed, inserted }) => sum + removed.length + inserted.length, 0);
+    while (this.done.length > 1 && (size > MOST_CHARACTERS || this.done.length > MOST_CHANGES)) {
+      const { removed, inserted } = this.done.shift();
       size -= removed.length + inserted.length;
     }
   }
 
   /** The text and the selection before the last change, or null where there is none. */
   undo(text) {
-    const change = this.#move(this.#done, this.#undone);
+    const change = this.#move(this.done, this.undone);
     if (change === null) return null;
     if (!holds(text, change.at, change.inserted)) return this.#forget();
     return { text: replaced(text, change.at, change.inserted.length, change.removed), selection: change.selectionBefore };
@@ -67,7 +52,7 @@ export class TextHistory {
 
   /** The text and the selection after the change that was undone last, or null. */
   redo(text) {
-    const change = this.#move(this.#undone, this.#done);
+    const change = this.#move(this.undone, this.done);
     if (change === null) return null;
     if (!holds(text, change.at, change.removed)) return this.#forget();
     return { text: replaced(text, change.at, change.removed.length, change.inserted), selection: change.selectionAfter };
@@ -82,8 +67,8 @@ export class TextHistory {
 
   /** The changes are not of this text: none of them is to be undone. */
   #forget() {
-    this.#done = [];
-    this.#undone = [];
+    this.done = [];
+    this.undone = [];
     return null;
   }
 }

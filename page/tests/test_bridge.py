@@ -28,7 +28,6 @@ import bridge  # noqa: E402
 import connections  # noqa: E402
 import files  # noqa: E402
 import page_requests  # noqa: E402
-import program  # noqa: E402
 
 PROVED = TOP / "crates/chipbench/out/chipbench"
 
@@ -299,9 +298,9 @@ class PassingThrough(Running):
         self.assertEqual(reply["ended"], {"status": 1, "text": "no O1"})
 
     def test_a_program_that_hangs(self) -> None:
-        self.addCleanup(setattr, program, "ANSWER_SECONDS", program.ANSWER_SECONDS)
+        self.addCleanup(setattr, page_requests, "ANSWER_SECONDS", page_requests.ANSWER_SECONDS)
         self.opened()
-        program.ANSWER_SECONDS = 0.2
+        page_requests.ANSWER_SECONDS = 0.2
         reply = self.good("ask", session=1, commands=["mem 0 0 1", "hang"])
         self.assertEqual(reply["answers"], ["00\n"])
         self.assertLess(reply["ended"]["status"], 0)
@@ -312,8 +311,8 @@ class PassingThrough(Running):
 
     def test_answers_are_bounded(self) -> None:
         """A request whose answers have no end in sight is refused, and its program ended; the next one is answered anew."""
-        self.addCleanup(setattr, program, "MAX_ANSWERS", program.MAX_ANSWERS)
-        program.MAX_ANSWERS = 1_000_000
+        self.addCleanup(setattr, page_requests, "MAX_ANSWERS", page_requests.MAX_ANSWERS)
+        page_requests.MAX_ANSWERS = 1_000_000
         self.opened()
         status, reason = self.ask("ask", session=1, commands=["slow 400000"] * 300)
         self.assertEqual(status, 413)
@@ -588,30 +587,6 @@ class TheScript(unittest.TestCase):
             running.terminate()
             self.assertEqual(running.wait(10), 0)
         self.assertFalse(place.exists())
-
-
-class AnswerEnds(unittest.TestCase):
-    """Where an answer ends, however it is cut."""
-
-    def test_cut_at_every_byte(self) -> None:
-        rows = [
-            (b"image", b"6005\n"),
-            (b"mem 0 0 0", b"\n"),
-            (b"regs 0", b"v 00\npc 0200\nflags stack\n"),
-            (b"regs 0", b"no Q1\n"),
-            (b"list", b".\n"),
-            (b"list", b"   1 0200              .\n.\n"),
-            (b"list", b"   1 0200              no\n   2 0200              .\n.\n"),
-            (b"screen 0", b"low\n.\n"),
-            (b"syms", b"NO 5 1\n.\n"),
-            (b"ins 1 list", b"ok\n"),
-            (b" image", b"no C1\n"),
-        ]
-        for command, answer in rows:
-            whole = b"ok\n" + answer + b"next\n"
-            for cut in range(len(whole) + 1):
-                found = program.answer_end(command, bytearray(whole[:cut]), 3)
-                self.assertEqual(found, 3 + len(answer) if cut >= 3 + len(answer) else -1, (command, cut))
 
 
 class TheProgram(Running):

@@ -267,6 +267,30 @@ class Words(NeedsWords):
                 bench.delete(9)
 
 
+class AnswerEnds(unittest.TestCase):
+    """Where an answer ends, however it is cut."""
+
+    def test_cut_at_every_byte(self) -> None:
+        rows = [
+            (b"image", b"6005\n"),
+            (b"mem 0 0 0", b"\n"),
+            (b"regs 0", b"v 00\npc 0200\nflags stack\n"),
+            (b"regs 0", b"no Q1\n"),
+            (b"list", b".\n"),
+            (b"list", b"   1 0200              .\n.\n"),
+            (b"list", b"   1 0200              no\n   2 0200              .\n.\n"),
+            (b"screen 0", b"low\n.\n"),
+            (b"syms", b"NO 5 1\n.\n"),
+            (b"ins 1 list", b"ok\n"),
+            (b" image", b"no C1\n"),
+        ]
+        for command, answer in rows:
+            whole = b"ok\n" + answer + b"next\n"
+            for cut in range(len(whole) + 1):
+                found = chipbench.answer_end(command, bytearray(whole[:cut]), 3)
+                self.assertEqual(found, 3 + len(answer) if cut >= 3 + len(answer) else -1, (command, cut))
+
+
 class WithoutProgram(unittest.TestCase):
     def test_what_check_prints(self) -> None:
         printed = b"-:1:1: F3: unknown word\n-:2:1: F9: a line that looks so\n^\nhelp: did you mean CLS\n-:2:4: F4: operands\nDB \n   ^\n"
