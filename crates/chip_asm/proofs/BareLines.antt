@@ -1,43 +1,33 @@
 -- What the first pass finds of a line of which it asks only the size.
-use Rattle.std.proofs.Common.{◌≡◌, ℕ, ◌+◌, ℤ, pos, Bool, true, false, cond, ◌&&◌, ◌||◌, is_none, is_some, subst, if◌then◌else◌, List, [], ◌∷◌, ◌++◌, refl, ap, sym, ◌∙◌, arith, Option, None, Some, nat_lt, option_to_list, length, unsigned_abs}
+use Rattle.std.proofs.Common.{◌≡◌, ℕ, ◌+◌, ℤ, pos, Bool, true, false, cond, ◌&&◌, ◌||◌, is_none, subst, if◌then◌else◌, List, [], ◌∷◌, ◌++◌, refl, ap, sym, ◌∙◌, Option, None, Some, nat_lt, option_to_list, length, unsigned_abs}
 use Rattle.chip_lang.specs.declared.fault.Fault.TheVariants.{DefinedTwice, PastMemory}
 use Rattle.chip_lang.specs.declared.fault.Fault.{Fault}
 use Rattle.chip_lang.specs.declared.limits.TheConstants.{MEMORY_BYTES}
 use Rattle.chip_lang.specs.Uses.{name_defined}
-use Rattle.chip_lang.specs.Line.{Body, empty, code, Reading, bad, read}
+use Rattle.chip_lang.specs.Line.{Body, empty, code, Reading, read}
 use Rattle.chip_asm.specs.declared.pass.Pass.{Pass}
 use Rattle.chip_asm.specs.declared.placement.Placement.{Placement}
 use Rattle.chip_asm.specs.declared.table.Symbol.{Symbol}
 use Rattle.chip_asm.specs.Names.{Name}
 use Rattle.chip_asm.specs.inner.Bare.{is_bare, IsBare, fault_of_bare}
-use Rattle.chip_asm.specs.Layout.{Placed, body_of, full_size, own_size, value_at, value_or_zero, is_if_body, is_redefinition, is_side_or_end, symbol_given, value_given}
+use Rattle.chip_asm.specs.Layout.{Placed, body_of, full_size, own_size, value_at, value_or_zero, is_if_body, is_redefinition, symbol_given, value_given}
 use Rattle.chip_asm.specs.computed.Walk.{place, placed, is_live, first_fault, fault_of_value, symbols, is_aligning, address}
 use Rattle.chip_asm.specs.inner.Follows.{Follows, placement_of}
 use Rattle.chip_asm.specs.inner.Placements.{is_placed}
-use Rattle.chip_asm.specs.inner.Recode.{has_code}
-use Rattle.chip_asm.specs.inner.Traits.{is_bare_line}
+use Rattle.chip_asm.specs.inner.Infos.{IsNumberOf}
+use Rattle.chip_asm.specs.inner.Tables.{IsNumber}
+use Rattle.chip_asm.specs.declared.table.NameId.{NameId}
 use Rattle.chip_asm.proofs.Placing.{length-placed}
 use Rattle.chip_asm.proofs.NextLine.{placement-at, follows-push, Advances}
 
--- such a line is an instruction where it has bytes, and else empty
-pub bare-coded : (line : Reading) → is_bare_line line ≡ true → has_code (body_of line) ≡ true → IsBare line (name_defined line) 2
-bare-coded (bad fault) b c = cc
-bare-coded (read name (code form operands)) b c = record { named = refl; bare = refl; sized = refl; small = omega arith }
-bare-coded (read name empty) b c = cc
-bare-coded (read name _) b c = cc
+-- what is kept beside a line says whether it has a name
+pub bare-unnamed : (keys : List Name) (defines : Option NameId) (line : Reading) (size : ℕ) → IsNumberOf keys defines (name_defined line) → defines ≡ None → IsBare line (name_defined line) size → IsBare line None size
+bare-unnamed keys defines line size n e b = subst (λ name. IsBare line name size) (subst (λ (d : Option NameId). IsNumberOf keys d (name_defined line)) e n) b
 
-pub bare-empty : (line : Reading) → is_bare_line line ≡ true → has_code (body_of line) ≡ false → IsBare line (name_defined line) 0
-bare-empty (bad fault) b c = cc
-bare-empty (read name empty) b c = record { named = refl; bare = refl; sized = refl; small = omega arith }
-bare-empty (read name (code form operands)) b c = cc
-bare-empty (read name _) b c = cc
-
-pub unnamed : (line : Reading) (size : ℕ) → IsBare line (name_defined line) size → is_some (name_defined line) ≡ false → IsBare line None size
-unnamed line size b n = subst (λ name. IsBare line name size) (none (name_defined line) n) b
-  where
-    none : (name : Option Name) → is_some name ≡ false → name ≡ None
-    none None h = refl
-    none (Some name) h = cc
+pub record IsLabelled (keys : List Name) (id : NameId) (line : Reading) (size : ℕ) : Type 0 where
+  pub name : Name
+  pub number : IsNumber keys id name
+  pub bare : IsBare line (Some name) size
 
 -- such a line isn't padded
 pub bare-size : (aligning : Bool) (here : ℕ) (body : Body) → is_bare body ≡ true → full_size aligning here body (pos 0) ≡ own_size body (pos 0)
@@ -71,11 +61,6 @@ no-if empty b = refl
 no-if (code form operands) b = refl
 no-if _ b = cc
 
-pub no-side : (body : Body) → is_bare body ≡ true → is_side_or_end body ≡ false
-no-side empty b = refl
-no-side (code form operands) b = refl
-no-side _ b = cc
-
 pub live-elsewhere : (before : List Placed) (body : Body) → is_bare body ≡ true → is_live before empty ≡ is_live before body
 unfolding is_live
 live-elsewhere before empty b = refl
@@ -84,7 +69,7 @@ live-elsewhere before _ b = cc
 
 -- the placement of such a line
 pub bare-placed : (pass : Pass) (lines : List Reading) (line : Reading) (name : Option Name) (number size : ℕ) (live twice : Bool) → IsBare line name size → number ≡ length lines + 1
-    → Follows pass (placed lines) → live ≡ is_live (placed lines) empty → twice ≡ is_redefinition pass.names name
+    → Follows pass (placed lines) → live ≡ is_live (placed lines) empty → twice ≡ is_redefinition pass.names.symbols name
     → (let made : Placement
     = record {
       number = number;
@@ -146,7 +131,7 @@ label-given true number here size value line name b = rw b.named (ap (λ v. Some
 pub bare-next : (pass next : Pass) (lines : List Reading) (line : Reading) (name : Option Name) (number size : ℕ) (q : Placement) → IsBare line name size → number ≡ length lines + 1
     → Follows pass (placed lines) → q ≡ placement_of (place (placed lines) line) → next.here ≡ pass.here + q.size
     → next.aligning ≡ pass.aligning → next.ended ≡ pass.ended → next.blocks ≡ pass.blocks
-    → next.names ≡ pass.names ++ option_to_list (if is_placed q then symbol_given number pass.here q.value line else None) → next.live ≡ pass.live
+    → next.names.symbols ≡ pass.names.symbols ++ option_to_list (if is_placed q then symbol_given number pass.here q.value line else None) → next.live ≡ pass.live
     → Follows next (placed (lines ++ line ∷ []))
 bare-next pass next lines line name number size q b n f e here aligning ended blocks names live =
     follows-push pass next lines line number q n f e (advances (body_of line) b.bare refl)
@@ -166,7 +151,7 @@ bare-next pass next lines line name number size q b n f e here aligning ended bl
       ended = rw is (ended ∙ live_same q.live);
       names = names;
       open_blocks = λ nearest e. rw is (ap (λ v. v.items) blocks ∙ e);
-      live = live ∙ f.live ∙ (rw (ended, blocks) refl);
+      live = λ nearest same nested. (live ∙ f.live ∙ (rw (ended, blocks) refl));
     }
     advances (code form operands) h is = record {
       at_address = rw is (here ∙ address_same (is_placed q));
@@ -174,6 +159,6 @@ bare-next pass next lines line name number size q b n f e here aligning ended bl
       ended = rw is (ended ∙ live_same q.live);
       names = names;
       open_blocks = λ nearest e. rw is (ap (λ v. v.items) blocks ∙ e);
-      live = live ∙ f.live ∙ (rw (ended, blocks) refl);
+      live = λ nearest same nested. (live ∙ f.live ∙ (rw (ended, blocks) refl));
     }
     advances _ h is = cc

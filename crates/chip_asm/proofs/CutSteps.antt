@@ -69,18 +69,6 @@ lines-next bytes some = by (ltb (position_or_len is_newline bytes) (length bytes
     by true e = cut-found bytes (grind (arith, nat_tests))
     by false e = cut-last bytes some (grind (arith, nat_tests))
 
-pub after-shorter : (bytes : List ℕ) → 0 < length bytes → length (after_first is_newline bytes) < length bytes
-after-shorter bytes some = by bytes (position_or_len is_newline bytes) some
-  where
-    by : (xs : List ℕ) (n : ℕ) → 0 < length xs → length (drop (n + 1) xs) < length xs
-    by [] n h = absurd (omega arith)
-    by (x ∷ xs) n h = let e : n + 1 ≡ suc n = omega arith in rw e (let k = length-drop-le xs n in omega arith)
-      where
-        length-drop-le : (xs : List ℕ) (n : ℕ) → length (drop n xs) ≤ length xs
-        length-drop-le xs zero = omega arith
-        length-drop-le [] (suc n) = omega arith
-        length-drop-le (x ∷ xs) (suc n) = let k = length-drop-le xs n in omega arith
-
 -- no text is too long
 abbrev pub AllShort : List (List ℕ) → Type 0
 AllShort texts = All (λ t. is_long t ≡ false) texts

@@ -1,15 +1,17 @@
 -- An edit of the kept lines is the edit of their texts.
-use Rattle.std.proofs.Common.{◌≡◌, ◌<◌, ℕ, Bool, true, false, cond, not, Some, None, arith, nat_le, ◌+◌, suc, List, [], ◌∷◌, ◌++◌, map, length, take, drop, set, insert, remove, refl, ap, sym, ◌∙◌}
+use Rattle.std.proofs.Common.{◌≡◌, ◌<◌, ℕ, Bool, true, false, cond, not, Some, None, arith, nat_le, ◌+◌, suc, List, ◌∷◌, ◌++◌, map, length, length-set, get_or, take, drop, set, insert, remove, refl, ap, sym, subst, ◌∙◌}
 use Rattle.std.proofs.lemmas.Bool.Decides.{nat_tests}
-use Rattle.std.proofs.lemmas.List.{map-append, take-map, drop-map, map-set, length-map}
+use Rattle.std.proofs.lemmas.List.{get_or-map, get_or-set_same, map-append, take-map, drop-map, map-set, length-map}
+use Rattle.std.proofs.lemmas.List.Elements.{All-append, All-cons, All-drop, All-get_or, All-set, All-take}
 use Rattle.chip_lang.specs.Line.{reading_of}
 use Rattle.chip_asm.specs.Edits.{has_line_break, insert_refusal, is_number_to}
 use Rattle.chip_asm.specs.Lines.{is_long}
-use Rattle.chip_asm.specs.declared.kept_line.KeptLine.{KeptLine}
+use Rattle.chip_asm.specs.Names.{Name}
+use Rattle.chip_asm.specs.inner.Infos.{AreInfos, IsInfo}
+use Rattle.chip_asm.specs.inner.KeptLine.{KeptLine}
 use Rattle.chip_asm.specs.declared.limits.TheConstants.{MOST_LINES}
 use Rattle.chip_asm.specs.declared.refusal.Refusal.TheVariants.{LineBreak, NoSuchLine, TextTooLong, TooManyLines}
 use Rattle.chip_asm.specs.inner.Records.{reading_in, readings_in, texts_in}
-use Rattle.chip_asm.specs.inner.Traits.{traits_of}
 
 pub map-insert : {X Y : Type 0} (f : X → Y) (xs : List X) (i : ℕ) (x : X) → map f (insert xs i x) ≡ insert (map f xs) i (f x)
 map-insert f xs i x =
@@ -47,18 +49,41 @@ read-remove lines at e =
 pub count-texts : (lines : List KeptLine) (texts : List (List ℕ)) → texts_in lines ≡ texts → length lines ≡ length texts
 count-texts lines texts e = sym (length-map lines (λ (k : KeptLine). k.text)) ∙ ap length e
 
-pub traits-insert : (lines : List KeptLine) (at : ℕ) (kept : KeptLine) → map traits_of (readings_in (insert lines at kept)) ≡ insert (map traits_of (readings_in lines)) at (traits_of (reading_in kept))
-traits-insert lines at kept = ap (map traits_of) (map-insert reading_in lines at kept) ∙ map-insert traits_of (readings_in lines) at (reading_in kept)
+-- what is kept beside the lines stays right
 
-pub traits-set : (lines : List KeptLine) (at : ℕ) (kept : KeptLine) → map traits_of (readings_in (set lines at kept)) ≡ set (map traits_of (readings_in lines)) at (traits_of (reading_in kept))
-traits-set lines at kept = ap (map traits_of) (map-set reading_in lines at kept) ∙ map-set traits_of (readings_in lines) at (reading_in kept)
+pub infos-insert : (keys : List Name) (lines : List KeptLine) (at : ℕ) (kept : KeptLine) → AreInfos keys lines → IsInfo keys kept.info (reading_in kept) → AreInfos keys (insert lines at kept)
+infos-insert keys lines at kept all one =
+    let P : KeptLine → Type 0 = λ k. IsInfo keys k.info (reading_in k) in
+    All-append P (take at lines) (kept ∷ drop at lines) (All-take P at lines all) (All-cons P kept (drop at lines) one (All-drop P at lines all))
 
-pub traits-remove : (lines : List KeptLine) (at : ℕ) → map traits_of (readings_in (remove lines at)) ≡ remove (map traits_of (readings_in lines)) at
-traits-remove lines at = ap (map traits_of) (map-remove reading_in lines at) ∙ map-remove traits_of (readings_in lines) at
+pub infos-set : (keys : List Name) (lines : List KeptLine) (at : ℕ) (kept : KeptLine) → AreInfos keys lines → IsInfo keys kept.info (reading_in kept) → AreInfos keys (set lines at kept)
+infos-set keys lines at kept all one = All-set (λ (k : KeptLine). IsInfo keys k.info (reading_in k)) lines at kept one all
 
-pub traits-all : (lines : List KeptLine) → map (λ (kept : KeptLine). traits_of (reading_in kept)) lines ≡ map traits_of (readings_in lines)
-traits-all [] = refl
-traits-all (kept ∷ lines) = ap (λ ts. traits_of (reading_in kept) ∷ ts) (traits-all lines)
+pub infos-remove : (keys : List Name) (lines : List KeptLine) (at : ℕ) → AreInfos keys lines → AreInfos keys (remove lines at)
+infos-remove keys lines at all =
+    let P : KeptLine → Type 0 = λ k. IsInfo keys k.info (reading_in k) in
+    All-append P (take at lines) (drop (suc at) lines) (All-take P at lines all) (All-drop P (suc at) lines all)
+
+-- the readings after the swap
+pub readings-set : (lines : List KeptLine) (at : ℕ) (added : KeptLine) → readings_in (set lines at added) ≡ set (readings_in lines) at (reading_in added)
+readings-set lines at added = map-set reading_in lines at added
+
+-- the line in the place was read from its text
+pub read-added : (lines : List KeptLine) (at : ℕ) (added : KeptLine) → at < length lines → readings_in (set lines at added) ≡ map reading_of (texts_in (set lines at added)) → reading_in added ≡ reading_of added.text
+read-added lines at added inside e =
+    let made : List KeptLine = set lines at added in
+    let within : at < length made = omega (arith, length-set lines at added) in
+    let there : get_or made at added ≡ added = get_or-set_same lines at added added inside in
+    let texts : at < length (texts_in made) = omega (arith, length-map made (λ (k : KeptLine). k.text)) in
+    sym (get_or-map reading_in made at added (reading_in added) within ∙ ap reading_in there)
+    ∙ ap (λ rs. get_or rs at (reading_in added)) e
+    ∙ get_or-map reading_of (texts_in made) at added.text (reading_in added) texts
+    ∙ ap reading_of (get_or-map (λ (k : KeptLine). k.text) made at added added.text within ∙ ap (λ (k : KeptLine). k.text) there)
+
+pub info-added : (keys : List Name) (lines : List KeptLine) (at : ℕ) (added : KeptLine) → at < length lines → AreInfos keys (set lines at added) → IsInfo keys added.info (reading_in added)
+info-added keys lines at added inside all =
+    let P : KeptLine → Type 0 = λ k. IsInfo keys k.info (reading_in k) in
+    subst P (get_or-set_same lines at added added inside) (All-get_or P (set lines at added) at added (omega (arith, inside, length-set lines at added)) all)
 
 -- an insertion that isn't refused has room
 by-rows : (a b c d : Bool) → cond (not a) (Some NoSuchLine) (cond b (Some TextTooLong) (cond c (Some TooManyLines) (cond d (Some LineBreak) None))) ≡ None → c ≡ false

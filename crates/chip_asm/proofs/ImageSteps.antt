@@ -1,31 +1,19 @@
--- The bytes and the faults of lines, from what is kept of them.
-use Rattle.std.proofs.Common.{◌≡◌, ℕ, ◌+◌, ◌-◌, ◌<◌, ◌≤◌, Bool, true, false, cond, ◌&&◌, eqb, ltb, leb, List, [], reverse, length, set, get_or, slice_get, refl, ap, sym, ◌∙◌, arith, Option, Some, None, is_none, is_some, option_map, Result, Ok, Err, ne_eqb, nat_eq, ◌⊎◌, inl, inr}
-use Rattle.std.specs.Option.{option_map_or}
-use Rattle.std.proofs.lemmas.Bool.{and_from, eqb-true, eqb-false, false≢true}
+-- A line that is written into an image, byte by byte; and the code of a line.
+use Rattle.std.proofs.Common.{◌≡◌, ℕ, ◌+◌, ◌-◌, ◌*◌, ◌<◌, ◌≤◌, Bool, true, false, cond, ◌&&◌, eqb, ltb, leb, List, [], ◌∷◌, ◌++◌, length, set, get_or, refl, ap, ◌∙◌, arith, Result, Ok, Err, ℤ, length-append}
+use Rattle.std.proofs.lemmas.Bool.{eqb-true, eqb-false}
 use Rattle.std.proofs.lemmas.Bool.Decides.{nat_tests}
-use Rattle.std.proofs.lemmas.List.{get_or-map, length-map, get_or-set_same, get_or-set_other}
-use Rattle.std.proofs.lemmas.Option.{slice_get-get_or, slice_get-map}
+use Rattle.std.proofs.lemmas.List.{get_or-set_same, get_or-set_other}
 use Rattle.chip_lang.specs.declared.limits.TheConstants.{IMAGE_START}
 use Rattle.chip_lang.specs.declared.fault.Fault.{Fault}
-use Rattle.chip_lang.specs.declared.code.Coded.{Coded}
-use Rattle.chip_lang.specs.Line.{Body, db, dw, da, code, ifdef, ifund, Reading}
-use Rattle.chip_lang.specs.Value.{Symbols}
-use Rattle.chip_lang.specs.Code.{own_bytes, coded}
-use Rattle.chip_asm.specs.declared.kept_line.KeptLine.{KeptLine}
-use Rattle.chip_asm.specs.declared.layout.Layout.{Layout}
-use Rattle.chip_asm.specs.declared.placement.Placement.{Placement}
-use Rattle.chip_asm.specs.Names.{values_of}
-use Rattle.chip_asm.specs.Layout.{Placed, body_of, is_if, is_if_body, takes_effect}
-use Rattle.chip_asm.specs.computed.Walk.{placed, place, symbols}
-use Rattle.chip_asm.specs.inner.Layouts.{IsLayoutOf, placements_of, final_placement}
-use Rattle.chip_asm.specs.inner.Placements.{is_placed}
-use Rattle.chip_asm.specs.Program.{fault_of, fault_of_line, first_pass_fault, code_under, fault_in_code, bytes_in_code, names_of_lines}
-use Rattle.chip_asm.specs.inner.Records.{reading_in, readings_in}
-use Rattle.chip_asm.specs.inner.Recode.{has_code, is_placed_at, code_among}
-use Rattle.chip_asm.specs.inner.Kept.{AreCurrent}
-use Rattle.chip_asm.specs.inner.KeptCodes.{kept_fault, kept_bytes, coded_fault, coded_bytes}
-use Rattle.chip_asm.proofs.NeedsSteps.{lines-placed, length-numbered}
-use Rattle.chip_asm.proofs.Bounds.{IsWithinMemory, within-memory}
+use Rattle.chip_lang.specs.Line.{Body, db, dw, da, code, ifdef, ifund, Reading, bad, read}
+use Rattle.chip_lang.specs.Tree.{Tree}
+use Rattle.chip_lang.specs.Value.{◌>>=◌, Symbols}
+use Rattle.chip_lang.specs.Encoding.{word_of_form}
+use Rattle.chip_lang.specs.Code.{own_bytes, coded, code_of, data_bytes, datum_of, byte_of, word_bytes}
+use Rattle.chip_asm.specs.Layout.{body_of, is_if_body, own_size}
+use Rattle.chip_asm.specs.Program.{fault_in_code, bytes_in_code}
+use Rattle.chip_asm.specs.inner.Recode.{has_code}
+use Rattle.chip_asm.specs.inner.Codes.{coded_fault, coded_bytes}
 
 -- writing a line, byte by byte
 
@@ -62,7 +50,7 @@ write-none image bytes here k = rw (no_bytes here k) refl
 
 -- codes
 
-no-code : (b : Body) (names : Symbols) → has_code b ≡ false → own_bytes b names ≡ Ok []
+pub no-code : (b : Body) (names : Symbols) → has_code b ≡ false → own_bytes b names ≡ Ok []
 unfolding own_bytes
 no-code (db es) names h = cc
 no-code (dw es) names h = cc
@@ -70,121 +58,58 @@ no-code (da bytes) names h = cc
 no-code (code f os) names h = cc
 no-code _ names h = refl
 
-fault-coded : (r : Result (List ℕ) Fault) → coded_fault (coded r) ≡ fault_in_code r
+pub code-no_if : (b : Body) → has_code b ≡ true → is_if_body b ≡ false
+code-no_if (ifdef n) h = cc
+code-no_if (ifund n) h = cc
+code-no_if _ h = refl
+
+pub fault-coded : (r : Result (List ℕ) Fault) → coded_fault (coded r) ≡ fault_in_code r
 fault-coded (Ok bytes) = refl
 fault-coded (Err f) = refl
 
-bytes-coded : (r : Result (List ℕ) Fault) → coded_bytes (coded r) ≡ bytes_in_code r
+pub bytes-coded : (r : Result (List ℕ) Fault) → coded_bytes (coded r) ≡ bytes_in_code r
 bytes-coded (Ok bytes) = refl
 bytes-coded (Err f) = refl
 
-fault-by : (live : Bool) (fault : Option Fault) (has : Bool) (kept : Coded) (r : Result (List ℕ) Fault) → (live ≡ true → is_none fault ≡ true → has ≡ true → kept ≡ coded r) → (has ≡ false → r ≡ Ok [])
-    → cond live (cond (is_some fault) fault (cond has (coded_fault kept) None)) None ≡ cond live (cond (is_some fault) fault (fault_in_code r)) None
-fault-by false fault has kept r k n = refl
-fault-by true (Some f) has kept r k n = refl
-fault-by true None true kept r k n = ap coded_fault (k refl refl refl) ∙ fault-coded r
-fault-by true None false kept r k n = sym (ap fault_in_code (n refl))
+coded-same : (r s : Result (List ℕ) Fault) → coded r ≡ coded s → r ≡ s
+coded-same (Ok a) (Ok b) e = cc
+coded-same (Err a) (Err b) e = cc
+coded-same (Ok a) (Err b) e = cc
+coded-same (Err a) (Ok b) e = cc
 
-bytes-by : (has : Bool) (kept : Coded) (r : Result (List ℕ) Fault) → (has ≡ true → kept ≡ coded r) → (has ≡ false → r ≡ Ok []) → cond has (coded_bytes kept) [] ≡ bytes_in_code r
-bytes-by true kept r k n = ap coded_bytes (k refl) ∙ bytes-coded r
-bytes-by false kept r k n = sym (ap bytes_in_code (n refl))
+-- tables under which a line has one code give its statement the same bytes
+pub same-bytes : (r : Reading) (S T : Symbols) → code_of r S ≡ code_of r T → own_bytes (body_of r) S ≡ own_bytes (body_of r) T
+unfolding own_bytes
+same-bytes (bad f) S T e = refl
+same-bytes (read label body) S T e = coded-same (own_bytes body S) (own_bytes body T) e
 
--- what is kept of one line
-pub record About (lines : List KeptLine) (q : Placement) (kept : KeptLine) (i : ℕ) : Type 0 where
-  pub x : Placed
-  pub at : slice_get (reverse (placed (readings_in lines))) i ≡ Some x
-  pub placement : q ≡ final_placement (placed (readings_in lines)) x
-  pub line : reading_in kept ≡ x.line
-  pub code : is_placed q ≡ true → has_code (body_of (reading_in kept)) ≡ true → kept.code ≡ coded (code_under (placed (readings_in lines)) x)
-  pub within : IsWithinMemory x
+datum-short : (r : Result ℕ Fault) (width : ℕ) (shown : ℕ → List ℕ) → ((n : ℕ) → length (shown n) ≡ width) → (rest : Result (List ℕ) Fault) (m : ℕ) → length (bytes_in_code rest) ≤ m
+    → length (bytes_in_code (r >>= λ n. rest >>= λ tail. Ok (shown n ++ tail))) ≤ width + m
+datum-short (Err f) width shown each rest m h = omega arith
+datum-short (Ok n) width shown each (Err f) m h = omega arith
+datum-short (Ok n) width shown each (Ok tail) m h = omega (arith, each n, length-append (shown n) tail)
 
-code-opened : (lines : List Reading) (r : Reading) → code_among lines r ≡ coded (own_bytes (body_of r) (values_of (names_of_lines lines)))
-unfolding code_among
-code-opened lines r = refl
+bytes-short : (es : List Tree) (S : Symbols) → length (bytes_in_code (data_bytes 256 byte_of es S)) ≤ length es
+bytes-short [] S = omega arith
+bytes-short (e ∷ es) S =
+    let more = datum-short (datum_of 256 e S) 1 byte_of (λ n. refl) (data_bytes 256 byte_of es S) (length es) (bytes-short es S) in
+    omega arith
 
-pub about : (lines : List KeptLine) (layout : Layout) → IsLayoutOf layout (readings_in lines) → AreCurrent lines → (i : ℕ) (q : Placement) (kept : KeptLine) → i < length lines
-    → q ≡ get_or layout.placements.items i q → kept ≡ get_or lines i kept → About lines q kept i
-unfolding placements_of
-about lines layout laid current i q kept inside is_q is_kept =
-    let rs : List Reading = readings_in lines in
-    let xs : List Placed = reverse (placed (readings_in lines)) in
-    let d : Placed = place [] (reading_in kept) in
-    let x : Placed = get_or (reverse (placed (readings_in lines))) i d in
-    let there : i < length (reverse (placed (readings_in lines))) = omega (arith, length-numbered (readings_in lines), length-map lines reading_in) in
-    let at : slice_get (reverse (placed (readings_in lines))) i ≡ Some x = slice_get-get_or (reverse (placed (readings_in lines))) i d there in
-    let q_is : q ≡ final_placement (placed (readings_in lines)) x
-    = is_q ∙ ap (λ ps. get_or ps i q) laid.placements ∙ get_or-map (final_placement (placed (readings_in lines))) (reverse (placed (readings_in lines))) i d q there in
-    let line_is : reading_in kept ≡ x.line
-    = ap reading_in is_kept ∙ sym (get_or-map reading_in lines i kept (reading_in kept) inside) ∙ ap (λ rs. get_or rs i (reading_in kept)) (sym (lines-placed (readings_in lines))) ∙ get_or-map (λ (y : Placed). y.line) (reverse (placed (readings_in lines))) i d (reading_in kept) there in
-    record {
-      x = x;
-      at = at;
-      placement = q_is;
-      line = line_is;
-      code = λ p c.
-          (let taken : is_placed_at (placements_of (readings_in lines)) i ≡ true
-          = ap (λ o. option_map_or is_placed o false) (slice_get-map (final_placement (placed (readings_in lines))) (reverse (placed (readings_in lines))) i ∙ ap (option_map (final_placement (placed (readings_in lines)))) at) ∙ ap is_placed (sym q_is) ∙ p in
-          ap (λ (z : KeptLine). z.code) is_kept
-          ∙ current.each i kept inside (rw (← is_kept) c) taken
-          ∙ code-opened (readings_in lines) (reading_in (get_or lines i kept))
-          ∙ ap (λ r. coded (own_bytes (body_of r) (values_of (names_of_lines (readings_in lines))))) (ap reading_in (sym is_kept) ∙ line_is));
-      within = within-memory (readings_in lines) i d there;
-    }
+words-short : (es : List Tree) (S : Symbols) → length (bytes_in_code (data_bytes 65536 word_bytes es S)) ≤ 2 * length es
+words-short [] S = omega arith
+words-short (e ∷ es) S =
+    let more = datum-short (datum_of 65536 e S) 2 word_bytes (λ n. refl) (data_bytes 65536 word_bytes es S) (2 * length es) (words-short es S) in
+    omega arith
 
-fault-under : (all : List Placed) (x : Placed) (kept : KeptLine) → reading_in kept ≡ x.line
-    → (is_placed (final_placement all x) ≡ true → has_code (body_of (reading_in kept)) ≡ true → kept.code ≡ coded (code_under all x))
-    → kept_fault (final_placement all x) kept ≡ fault_of all x
-fault-under all x kept e k =
-    fault-by x.live (first_pass_fault all x) (has_code (body_of (reading_in kept))) kept.code (code_under all x)
-    (λ l f h. k (and_from _ _ l f) h)
-    (λ n. no-code (body_of x.line) (values_of (symbols all)) (ap (λ r. has_code (body_of r)) (sym e) ∙ n))
+word-short : (r : Result ℕ Fault) → length (bytes_in_code (r >>= λ w. Ok (word_bytes w))) ≤ 2
+word-short (Ok w) = omega arith
+word-short (Err f) = omega arith
 
--- the kept fault is the line's
-pub fault-kept : (lines : List KeptLine) (q : Placement) (kept : KeptLine) (i : ℕ) (a : About lines q kept i) → kept_fault q kept ≡ fault_of (placed (readings_in lines)) a.x
-fault-kept lines q kept i a =
-    ap (λ p. kept_fault p kept) a.placement ∙ fault-under (placed (readings_in lines)) a.x kept a.line (λ p c. a.code (ap is_placed a.placement ∙ p) c)
-
-pub fault-at : (lines : List KeptLine) (q : Placement) (kept : KeptLine) (i : ℕ) → About lines q kept i → kept_fault q kept ≡ fault_of_line (readings_in lines) (i + 1)
-fault-at lines q kept i a =
-    let not_zero : nat_eq (i + 1) 0 ≡ false = ne_eqb (i + 1) 0 (λ e. omega arith) in
-    let minus : i + 1 - 1 ≡ i = omega arith in
-    rw (not_zero, minus, a.at) (fault-kept lines q kept i a)
-
-coded-no_if : (b : Body) → has_code b ≡ true → is_if_body b ≡ false
-coded-no_if (ifdef n) h = cc
-coded-no_if (ifund n) h = cc
-coded-no_if _ h = refl
-
-placed-accepted : (all : List Placed) (x : Placed) → is_if x ≡ false → is_placed (final_placement all x) ≡ takes_effect x
-placed-accepted all x e = rw e refl
-
--- the kept bytes are the line's, or the line has no size
-pub bytes-kept : (lines : List KeptLine) (q : Placement) (kept : KeptLine) (i : ℕ) (a : About lines q kept i)
-    → (kept_bytes kept ≡ bytes_in_code (code_under (placed (readings_in lines)) a.x)) ⊎ (a.x.size ≡ 0)
-bytes-kept lines q kept i a = by (has_code (body_of (reading_in kept))) (is_placed q) refl refl
-  where
-    none : has_code (body_of (reading_in kept)) ≡ false → code_under (placed (readings_in lines)) a.x ≡ Ok []
-    none n = no-code (body_of a.x.line) (values_of (symbols (placed (readings_in lines)))) (ap (λ r. has_code (body_of r)) (sym a.line) ∙ n)
-
-    by : (has accepted : Bool) → has_code (body_of (reading_in kept)) ≡ has → is_placed q ≡ accepted
-        → (kept_bytes kept ≡ bytes_in_code (code_under (placed (readings_in lines)) a.x)) ⊎ (a.x.size ≡ 0)
-    by has true h p = inl (bytes-by (has_code (body_of (reading_in kept))) kept.code (code_under (placed (readings_in lines)) a.x) (λ c. a.code p c) none)
-    by false false h p =
-        inl (bytes-by (has_code (body_of (reading_in kept))) kept.code (code_under (placed (readings_in lines)) a.x) (λ c. absurd (false≢true (sym h ∙ c))) none)
-    by true false h p =
-        let no_if : is_if a.x ≡ false = coded-no_if (body_of a.x.line) (ap (λ r. has_code (body_of r)) (sym a.line) ∙ h) in
-        inr (a.within.2 (sym (placed-accepted (placed (readings_in lines)) a.x no_if) ∙ ap is_placed (sym a.placement) ∙ p))
-
-no-first_fault : (live : Bool) (fault : Option Fault) (o : Option Fault) → cond live (cond (is_some fault) fault o) None ≡ None → live ≡ true → is_none fault ≡ true
-no-first_fault true None o e l = refl
-no-first_fault true (Some f) o e l = cc
-no-first_fault false fault o e l = cc
-
--- of a live line without a fault the kept bytes are the line's
-pub bytes-live : (lines : List KeptLine) (q : Placement) (kept : KeptLine) (i : ℕ) (a : About lines q kept i) → fault_of (placed (readings_in lines)) a.x ≡ None → a.x.live ≡ true
-    → kept_bytes kept ≡ bytes_in_code (code_under (placed (readings_in lines)) a.x)
-bytes-live lines q kept i a none live =
-    let placed_now : is_placed q ≡ true = ap is_placed a.placement ∙ and_from _ _ live (no-first_fault a.x.live (first_pass_fault (placed (readings_in lines)) a.x) _ none live) in
-    bytes-by (has_code (body_of (reading_in kept))) kept.code (code_under (placed (readings_in lines)) a.x)
-    (λ h. a.code placed_now h)
-    (λ n. no-code (body_of a.x.line) (values_of (symbols (placed (readings_in lines)))) (ap (λ r. has_code (body_of r)) (sym a.line) ∙ n))
+-- a statement has no more bytes than its size
+pub own-short : (b : Body) (S : Symbols) (v : ℤ) → length (bytes_in_code (own_bytes b S)) ≤ own_size b v
+unfolding own_bytes
+own-short (db es) S v = bytes-short es S
+own-short (dw es) S v = words-short es S
+own-short (da bytes) S v = omega arith
+own-short (code form operands) S v = word-short (word_of_form form operands S)
+own-short _ S v = omega arith

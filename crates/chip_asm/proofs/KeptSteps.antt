@@ -1,77 +1,53 @@
 -- What is kept of a source as a whole.
-use Rattle.std.proofs.Common.{◌≡◌, ℕ, zero, suc, ◌+◌, ◌<◌, ◌≤◌, List, [], ◌∷◌, map, length, get_or, refl, ◌∙◌, ap, sym, arith, vec_len}
-use Rattle.chip_asm.specs.declared.limits.TheConstants.{MOST_LINES}
-use Rattle.chip_lang.specs.declared.limits.TheConstants.{IMAGE_BYTES, IMAGE_START}
+use Rattle.std.proofs.Common.{◌≡◌, ◌≤◌, List, [], length, map, refl, ◌∙◌, ap, sym, arith}
+use Rattle.std.proofs.lemmas.List.Elements.{All-nil}
 use Rattle.chip_lang.specs.Line.{reading_of}
 use Rattle.chip_asm.specs.declared.kept.Kept.{Kept}
-use Rattle.chip_asm.specs.declared.kept_line.KeptLine.{KeptLine}
-use Rattle.chip_asm.specs.computed.Walk.{placed, address}
-use Rattle.chip_asm.specs.inner.Records.{readings_in, texts_in}
-use Rattle.chip_asm.specs.inner.Layouts.{IsLayoutOf, IsSpareFor}
-use Rattle.chip_asm.specs.declared.layout.Layout.{Layout}
-use Rattle.chip_asm.specs.declared.table.Symbol.{Symbol}
+use Rattle.chip_asm.specs.declared.limits.TheConstants.{MOST_LINES}
 use Rattle.chip_asm.specs.Names.{Name}
-use Rattle.chip_asm.specs.Program.{byte_at, faults_of_lines}
-use Rattle.chip_asm.specs.inner.Kept.{AreCurrent, IsKept}
-use Rattle.chip_asm.specs.inner.Hints.{names_in, hint_in}
-use Rattle.chip_asm.specs.inner.Traits.{traits_of}
-use Rattle.chip_asm.proofs.Bounds.{end-high}
+use Rattle.chip_asm.specs.Program.{names_of_lines}
+use Rattle.chip_asm.specs.computed.Walk.{placed, symbols}
+use Rattle.chip_asm.specs.inner.Codes.{AreCodesOf}
+use Rattle.chip_asm.specs.inner.Infos.{AreInfos, IsInfo}
+use Rattle.chip_asm.specs.inner.Kept.{IsKept}
+use Rattle.chip_asm.specs.inner.KeptLine.{KeptLine}
+use Rattle.chip_asm.specs.inner.Layouts.{IsLayoutOf}
+use Rattle.chip_asm.specs.inner.Records.{reading_in, readings_in, texts_in}
+use Rattle.chip_asm.specs.inner.Tables.{Extends, key_at}
+use Rattle.chip_asm.proofs.InfoSteps.{infos-extend}
 
-no-lines : (lines : List KeptLine) → length lines ≡ 0 → address (placed (readings_in lines)) ≡ IMAGE_START
-unfolding placed address
-no-lines [] e = refl
-no-lines (l ∷ lines) e = absurd (omega arith)
-
--- the kept image reaches up to the address after the last line
-pub image-room : (kept : Kept) → IsKept kept → kept.layout.end ≤ vec_len kept.image + IMAGE_START
-image-room kept k = by (length kept.lines.items) refl
-  where
-    by : (n : ℕ) → length kept.lines.items ≡ n → kept.layout.end ≤ vec_len kept.image + IMAGE_START
-    by zero e = omega (arith, k.laid_out.end_address, no-lines kept.lines.items e)
-    by (suc n) e = omega (arith, k.laid_out.end_address, end-high (readings_in kept.lines.items), k.long (omega arith))
-
-no-names : (names : List (Name × Symbol)) → length names ≡ 0 → names_in names ≡ []
-no-names [] e = refl
-no-names (e ∷ names) h = absurd (omega (arith, h))
-
--- a layout without names is a spare one for any other
-pub spare-none : (layout spare : Layout) → spare.names ≡ [] → IsSpareFor layout spare
-spare-none layout spare none = λ long. ap names_in none ∙ sym (no-names layout.names (sym long ∙ ap length none))
-
--- what is kept stays right where all but the room for more stays
-pub kept-same : (old new : Kept) → IsKept old → new.lines.items ≡ old.lines.items → new.layout ≡ old.layout → new.faults ≡ old.faults
-    → ((index : ℕ) → get_or new.image.items index 0 ≡ get_or old.image.items index 0) → vec_len new.image ≤ IMAGE_BYTES → (vec_len old.image ≡ IMAGE_BYTES → vec_len new.image ≡ IMAGE_BYTES)
-    → new.traits ≡ old.traits → new.hints ≡ old.hints → IsSpareFor new.layout new.spare → IsKept new
-kept-same old new k lines layout faults image short long traits hints spare = record {
-  few = rw lines k.few;
-  are_read = rw lines k.are_read;
-  laid_out = rw (lines, layout) k.laid_out;
-  current = rw lines k.current;
-  imaged = λ index h. image index ∙ k.imaged index h ∙ (rw lines refl);
-  short = short;
-  long = λ some. long (k.long (omega (arith, ap length lines)));
-  counted = rw lines (faults ∙ k.counted);
-  traits = rw lines (ap (λ v. v.items) traits ∙ k.traits);
-  hints = rw (lines, layout) (ap (λ v. v.items) hints ∙ k.hints);
-  spare = spare;
-}
+pub same-keys : (old new : List Name) → new ≡ old → Extends old new
+same-keys old new e = record { longer = omega (arith, ap length e); same = λ number h. ap (λ keys. key_at keys number) e }
 
 -- what was made for these lines is right for them
-pub kept-by : (kept : Kept) (lines : List KeptLine) → kept.lines.items ≡ lines → length lines ≤ MOST_LINES → readings_in lines ≡ map reading_of (texts_in lines)
-    → IsLayoutOf kept.layout (readings_in lines) → AreCurrent lines
-    → ((index : ℕ) → index < IMAGE_BYTES → get_or kept.image.items index 0 ≡ byte_at (placed (readings_in lines)) (IMAGE_START + index)) → vec_len kept.image ≡ IMAGE_BYTES
-    → kept.faults ≡ length (faults_of_lines (readings_in lines)) → kept.traits.items ≡ map traits_of (readings_in lines) → kept.hints.items ≡ map (hint_in (names_in kept.layout.names)) (readings_in lines)
-    → IsSpareFor kept.layout kept.spare → IsKept kept
-kept-by kept lines e few are_read laid_out current imaged long counted traits hints spare = record {
+pub kept-by : (kept : Kept) (lines : List KeptLine) → kept.lines.items ≡ lines → length lines ≤ MOST_LINES → readings_in lines ≡ map reading_of (texts_in lines) → AreInfos kept.names.keys lines
+    → kept.names.symbols ≡ names_of_lines (readings_in lines) → IsLayoutOf kept.layout (readings_in lines) → AreCodesOf kept.codes (readings_in lines) → IsKept kept
+kept-by kept lines e few are_read infos symbols laid_out codes = record {
   few = rw e few;
   are_read = rw e are_read;
+  infos = rw e infos;
+  symbols = rw e symbols;
   laid_out = rw e laid_out;
-  current = rw e current;
-  imaged = λ index h. imaged index h ∙ (rw e refl);
-  short = omega arith;
-  long = λ some. long;
-  counted = rw e counted;
-  traits = rw e traits;
-  hints = rw e hints;
-  spare = spare;
+  codes = rw e codes;
 }
+
+-- what is kept stays right where names are added
+pub kept-same : (old new : Kept) → IsKept old → new.lines.items ≡ old.lines.items → new.layout ≡ old.layout → new.codes ≡ old.codes → Extends old.names.keys new.names.keys
+    → new.names.symbols ≡ old.names.symbols → IsKept new
+kept-same old new k lines layout codes keys symbols =
+    kept-by new old.lines.items lines k.few k.are_read (infos-extend old.names.keys new.names.keys old.lines.items keys k.infos) (symbols ∙ k.symbols) (rw layout k.laid_out) (rw codes k.codes)
+
+pub no-names : names_of_lines [] ≡ []
+unfolding placed symbols
+no-names = refl
+
+-- of no lines all is right
+pub kept-none : (kept : Kept) → kept.lines.items ≡ [] → kept.names.symbols ≡ [] → IsLayoutOf kept.layout [] → AreCodesOf kept.codes [] → IsKept kept
+kept-none kept none symbols laid_out codes =
+    kept-by kept [] none (omega arith) refl (All-nil (λ (k : KeptLine). IsInfo kept.names.keys k.info (reading_in k))) (symbols ∙ sym no-names) laid_out codes
+
+-- what is kept stays right under another numbering of the names
+pub kept-renumbered : (old new : Kept) (lines : List KeptLine) → IsKept old → new.lines.items ≡ lines → texts_in lines ≡ texts_in old.lines.items → readings_in lines ≡ readings_in old.lines.items → length lines ≡ length old.lines.items
+    → AreInfos new.names.keys lines → new.names.symbols ≡ old.names.symbols → new.layout ≡ old.layout → new.codes ≡ old.codes → IsKept new
+kept-renumbered old new lines k e texts readings long infos symbols layout codes =
+    kept-by new lines e (omega (arith, k.few, long)) (readings ∙ k.are_read ∙ ap (map reading_of) (sym texts)) infos (symbols ∙ k.symbols ∙ ap names_of_lines (sym readings)) (rw (layout, readings) k.laid_out) (rw (codes, readings) k.codes)

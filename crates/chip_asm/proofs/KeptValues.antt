@@ -3,31 +3,27 @@ use Rattle.std.proofs.Common.{◌≡◌, ℕ, ◌<◌, ℤ, Bool, true, false, c
 use Rattle.std.specs.List.{list_all}
 use Rattle.std.specs.Str.{bytes_eq}
 use Rattle.std.proofs.lemmas.List.{get_or-map}
-use Rattle.std.proofs.lemmas.Option.{slice_get-get_or, slice_get-map, slice_get_within, get_or_from_slice_get}
+use Rattle.std.proofs.lemmas.Option.{slice_get_within, get_or_from_slice_get}
 use Rattle.chip_lang.specs.declared.fault.Fault.{Fault}
 use Rattle.chip_lang.specs.declared.fault.Fault.TheVariants.{UnclosedIf}
 use Rattle.chip_lang.specs.Tree.{Tree}
 use Rattle.chip_lang.specs.Line.{Body, equ, org, ds, Reading, bad, read}
 use Rattle.chip_lang.specs.Value.{Symbols, value, value_of_name}
 use Rattle.chip_lang.specs.Uses.{names_in, has_same_value, agree_on}
-use Rattle.chip_asm.specs.declared.edit.Edit.{Edit}
-use Rattle.chip_asm.specs.declared.kept_line.KeptLine.{KeptLine}
 use Rattle.chip_asm.specs.declared.layout.Layout.{Layout}
 use Rattle.chip_asm.specs.declared.placement.Placement.{Placement}
 use Rattle.chip_asm.specs.declared.table.Symbol.{Symbol}
 use Rattle.chip_asm.specs.Names.{Name, lookup_name, values_of}
 use Rattle.chip_asm.specs.Layout.{Placed, body_of, is_redefinition, value_at, value_or_zero}
-use Rattle.chip_asm.specs.Program.{is_unclosed}
+use Rattle.chip_asm.specs.Program.{is_unclosed, names_of_lines}
 use Rattle.chip_asm.specs.computed.Walk.{address, first_fault, fault_of_value, is_aligning, is_live, is_misplaced, place, placed, symbols}
 use Rattle.chip_asm.specs.inner.Layouts.{IsLayoutOf, final_placement, placements_of}
 use Rattle.chip_asm.specs.inner.Placements.{is_placed}
-use Rattle.chip_asm.specs.inner.Records.{IsPlaceWithin, count_after, lines_after, place_before, reading_in, readings_in}
 use Rattle.chip_asm.proofs.Bounds.{no_fault}
-use Rattle.chip_asm.proofs.NeedsSteps.{length-numbered}
+use Rattle.chip_asm.proofs.NameValues.{value-of-name}
 use Rattle.chip_asm.proofs.NextLine.{none_from}
 use Rattle.chip_asm.proofs.Resumed.{NamesSplit, names-split, next-placed}
-use Rattle.chip_asm.proofs.StayedCodes.{Stood, stood}
-use Rattle.chip_asm.proofs.TableSteps.{value-of-name}
+use Rattle.chip_asm.proofs.Placing.{length-numbered}
 
 -- laws of the language
 
@@ -112,27 +108,13 @@ still-read same old new (read label (org e)) h = same e (values_of old) (values_
 still-read same old new (read label (ds e)) h = same e (values_of old) (values_of new) h
 still-read same old new (read label body) h = refl
 
-pub value-kept : KeepsValue → SameValue → (layout : Layout) (lines : List Reading) (n : ℕ) (line : Reading) (q : Placement) (names : List (Name × Symbol)) → IsLayoutOf layout lines
-    → slice_get lines n ≡ Some line → slice_get layout.placements.items n ≡ Some q → is_placed q ≡ true
-    → agree_on (values_of layout.names) (values_of names) line ≡ true → value_at names (body_of line) ≡ Ok q.value
-value-kept keeps same layout lines n line q names laid at is accepted agree =
+pub value-kept : KeepsValue → SameValue → (layout : Layout) (lines : List Reading) (n : ℕ) (line : Reading) (q : Placement) (old new : List (Name × Symbol)) → IsLayoutOf layout lines
+    → old ≡ names_of_lines lines → slice_get lines n ≡ Some line → slice_get layout.placements.items n ≡ Some q → is_placed q ≡ true
+    → agree_on (values_of old) (values_of new) line ≡ true → value_at new (body_of line) ≡ Ok q.value
+value-kept keeps same layout lines n line q old new laid names at is accepted agree =
     let inside : n < length lines = slice_get_within lines n line at in
     let split : NamesSplit lines n = names-split lines n (omega arith) in
     let first = value-before lines n line q at (ap (λ qs. slice_get qs n) (sym laid.placements) ∙ is) accepted in
-    sym (still-read same layout.names names line agree)
-    ∙ ap (λ ns. value_at ns (body_of line)) (laid.names ∙ split.is)
+    sym (still-read same old new line agree)
+    ∙ ap (λ ns. value_at ns (body_of line)) (names ∙ split.is)
     ∙ still keeps (symbols (placed (take n lines))) split.later (body_of line) q.value first
-
--- a line that stood before an edit
-pub stood-at : (lines : List KeptLine) (edit : Edit) (n before : ℕ) (line : Reading) → IsPlaceWithin (length lines) edit → n < count_after (length lines) edit → place_before edit n ≡ Some before
-    → slice_get (readings_in (lines_after lines edit)) n ≡ Some line → slice_get (readings_in lines) before ≡ Some line
-stood-at lines edit n before line within inside origin at =
-    by (slice_get (lines_after lines edit) n) refl (sym (slice_get-map reading_in (lines_after lines edit) n) ∙ at)
-  where
-    by : (o : Option KeptLine) → slice_get (lines_after lines edit) n ≡ o → option_map reading_in o ≡ Some line → slice_get (readings_in lines) before ≡ Some line
-    by None e h = cc
-    by (Some kept) e h =
-        let s : Stood lines edit n before = stood lines edit n before within inside origin in
-        slice_get-map reading_in lines before
-        ∙ ap (option_map reading_in) (slice_get-get_or lines before kept s.inside ∙ ap Some (sym (s.line kept) ∙ get_or_from_slice_get (lines_after lines edit) n kept kept e))
-        ∙ h

@@ -14,13 +14,5 @@ unfolding first_placements
 placements-push lines line =
     rw (placed-push, reverse-cons, map-append) refl
 
-pub placed-empty : placed [] ≡ []
-unfolding placed
-placed-empty = refl
-
-pub placements-empty : first_placements [] ≡ []
-unfolding first_placements placed
-placements-empty = refl
-
 pub take-next : (xs : List Reading) (i : ℕ) (x : Reading) → i < length xs → slice_get xs i ≡ Some x → take (i + 1) xs ≡ take i xs ++ x ∷ []
 take-next xs i x h e = take_more xs i x h ∙ ap (λ y. take i xs ++ y ∷ []) (get_or_from_slice_get xs i x x e)

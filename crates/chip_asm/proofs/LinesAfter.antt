@@ -1,12 +1,19 @@
--- The lines after an edit, place by place.
-use Rattle.std.proofs.Common.{◌≡◌, ℕ, suc, ◌<◌, List, ◌∷◌, length, take, drop, map, get_or, slice_get, refl, ap, ◌∙◌, arith, Some, option_map, length-append, length-drop, length-set}
-use Rattle.std.proofs.lemmas.List.{length-take, length-map, get_or-map}
-use Rattle.std.proofs.lemmas.Option.{slice_get-get_or, slice_get-map, slice_get_within, get_or_from_slice_get}
+-- The lines after an edit, place by place: those that stood before, and the first ones, which stay.
+use Rattle.std.proofs.Common.{◌≡◌, ℕ, suc, ◌+◌, ◌-◌, ◌<◌, ◌≤◌, Bool, true, false, cond, nat_lt, nat_eq, List, ◌∷◌, ◌++◌, length, take, drop, get_or, slice_get, refl, ap, sym, subst, ◌∙◌, arith, Option, None, Some, option_map, length-append, length-drop, length-set}
+use Rattle.std.proofs.Math.Seq.{take-append_seam}
+use Rattle.std.proofs.lemmas.Bool.{ltb-true, ltb-false, eqb-false}
+use Rattle.std.proofs.lemmas.List.{length-take, length-take-le, length-map, take-map, take-set, get_or-set_other}
+use Rattle.std.proofs.lemmas.List.Elements.{All-get_or}
+use Rattle.std.proofs.lemmas.List.Edits.{get_or-insert_below, get_or-insert_above, get_or-remove_below, get_or-remove_above}
+use Rattle.std.proofs.lemmas.Option.{slice_get-get_or, slice_get-map, get_or_from_slice_get, slice_get_within}
 use Rattle.chip_lang.specs.Line.{Reading}
-use Rattle.chip_asm.specs.declared.kept_line.KeptLine.{KeptLine}
+use Rattle.chip_asm.specs.Names.{Name}
+use Rattle.chip_asm.specs.inner.Infos.{AreInfos, IsInfo}
+use Rattle.chip_asm.specs.inner.KeptLine.{KeptLine}
 use Rattle.chip_asm.specs.declared.edit.Edit.{Edit}
-use Rattle.chip_asm.specs.declared.edit.Edit.TheVariants.{Insert, Replace, Delete, Keep}
-use Rattle.chip_asm.specs.inner.Records.{reading_in, readings_in, IsPlaceWithin, lines_after, count_after}
+use Rattle.chip_asm.specs.declared.edit.Edit.TheVariants.{Insert, Replace, Delete, Open}
+use Rattle.chip_asm.specs.inner.Records.{reading_in, readings_in, IsPlaceWithin, lines_after, count_after, place_before}
+use Rattle.chip_asm.specs.inner.Resume.{first_changed}
 
 pub length-lines_after : (lines : List KeptLine) (edit : Edit) → IsPlaceWithin (length lines) edit → length (lines_after lines edit) ≡ count_after (length lines) edit
 length-lines_after lines (Insert at line) h =
@@ -14,21 +21,128 @@ length-lines_after lines (Insert at line) h =
 length-lines_after lines (Replace at line) h = length-set lines at line
 length-lines_after lines (Delete at) h =
     omega (arith, length-append (take at lines) (drop (suc at) lines), length-drop (suc at) lines, length-take at lines)
-length-lines_after lines Keep h = refl
+length-lines_after lines (Open all) h = refl
 
 pub length-readings_after : (lines : List KeptLine) (edit : Edit) → IsPlaceWithin (length lines) edit → length (readings_in (lines_after lines edit)) ≡ count_after (length lines) edit
 length-readings_after lines edit h = length-map (lines_after lines edit) reading_in ∙ length-lines_after lines edit h
 
-pub reading-at : (xs : List KeptLine) (i : ℕ) (x : KeptLine) → i < length xs → get_or xs i x ≡ x → slice_get (readings_in xs) i ≡ Some (reading_in x)
-reading-at xs i x h e = slice_get-map reading_in xs i ∙ ap (option_map reading_in) (slice_get-get_or xs i x h ∙ ap Some e)
+-- a line among those that are kept
+pub line-at : (xs : List KeptLine) (n : ℕ) (kept : KeptLine) → slice_get xs n ≡ Some kept → slice_get (readings_in xs) n ≡ Some (reading_in kept)
+line-at xs n kept e = slice_get-map reading_in xs n ∙ ap (option_map reading_in) e
 
--- the line at a place after the edit
-pub after-at : (lines : List KeptLine) (edit : Edit) (place : ℕ) (x y : KeptLine) → IsPlaceWithin (length lines) edit → place < count_after (length lines) edit
-    → get_or (lines_after lines edit) place x ≡ x → x ≡ y → slice_get (readings_in (lines_after lines edit)) place ≡ Some (reading_in y)
-after-at lines edit place x y within inside e same =
-    reading-at (lines_after lines edit) place x (let n = length-lines_after lines edit within in omega arith) e ∙ ap (λ (z : KeptLine). Some (reading_in z)) same
+pub read-at : (xs : List KeptLine) (n : ℕ) (kept : KeptLine) (line : Reading) → slice_get xs n ≡ Some kept → slice_get (readings_in xs) n ≡ Some line → reading_in kept ≡ line
+read-at xs n kept line e at = let both : Some (reading_in kept) ≡ Some line = sym (line-at xs n kept e) ∙ at in cc
 
--- what is kept of the line at a place
-pub mapped-at : {X : Type 0} (f : Reading → X) (all : List Reading) (kept : List X) (place : ℕ) (line : Reading) (other : X) → kept ≡ map f all → slice_get all place ≡ Some line → get_or kept place other ≡ f line
-mapped-at f all kept place line other e at =
-    ap (λ xs. get_or xs place other) e ∙ get_or-map f all place line other (slice_get_within all place line at) ∙ ap f (get_or_from_slice_get all place line line at)
+pub info-at : (keys : List Name) (xs : List KeptLine) (n : ℕ) (kept : KeptLine) (line : Reading) → AreInfos keys xs → slice_get xs n ≡ Some kept → slice_get (readings_in xs) n ≡ Some line → IsInfo keys kept.info line
+info-at keys xs n kept line infos e at =
+    let P : KeptLine → Type 0 = λ k. IsInfo keys k.info (reading_in k) in
+    let there : IsInfo keys kept.info (reading_in kept) = subst P (get_or_from_slice_get xs n kept kept e) (All-get_or P xs n kept (slice_get_within xs n kept e) infos) in
+    subst (λ (r : Reading). IsInfo keys kept.info r) (read-at xs n kept line e at) there
+
+some-same : (x y : ℕ) → Some x ≡ Some y → x ≡ y
+some-same x y e = cc
+
+-- a line that had a place before the edit
+pub record Stood (lines : List KeptLine) (edit : Edit) (place before : ℕ) : Type 0 where
+  pub inside : before < length lines
+  pub line : (d : KeptLine) → get_or (lines_after lines edit) place d ≡ get_or lines before d
+
+stood-insert : (lines : List KeptLine) (at : ℕ) (line : KeptLine) (place before : ℕ) (below here : Bool) → nat_lt place at ≡ below → nat_eq place at ≡ here
+    → at ≤ length lines → place < length lines + 1
+    → cond below (Some place) (cond here None (Some (place - 1))) ≡ Some before → Stood lines (Insert at line) place before
+stood-insert lines at line place before true here lt eq within inside e =
+    let same_place : place ≡ before = some-same place before e in
+    let k : place < at = ltb-true place at lt in
+    record {
+      inside = omega arith;
+      line = λ d. get_or-insert_below lines at line d place k within ∙ ap (λ i. get_or lines i d) same_place;
+    }
+stood-insert lines at line place before false true lt eq within inside e = cc
+stood-insert lines at line place before false false lt eq within inside e =
+    let same_place : place - 1 ≡ before = some-same (place - 1) before e in
+    let not_below : at ≤ place = ltb-false place at lt in
+    let not_here : place ≡ at → ⊥ = eqb-false place at eq in
+    let shifted : place ≡ before + 1 = (let k = later place at not_below not_here in omega arith) in
+    let above : at ≤ before = (let k = later place at not_below not_here in omega arith) in
+    record {
+      inside = omega arith;
+      line = λ d. rw shifted (get_or-insert_above lines at line d before above within);
+    }
+  where
+    later : (p a : ℕ) → a ≤ p → (p ≡ a → ⊥) → a < p
+    later p a h n = omega arith
+
+stood-replace : (lines : List KeptLine) (at : ℕ) (line : KeptLine) (place before : ℕ) (here : Bool) → nat_eq place at ≡ here → place < length lines
+    → cond here None (Some place) ≡ Some before → Stood lines (Replace at line) place before
+stood-replace lines at line place before true eq inside e = cc
+stood-replace lines at line place before false eq inside e =
+    let same_place : place ≡ before = some-same place before e in
+    record {
+      inside = omega arith;
+      line = λ d. get_or-set_other lines at place line d (eqb-false place at eq) ∙ ap (λ i. get_or lines i d) same_place;
+    }
+
+stood-delete : (lines : List KeptLine) (at place before : ℕ) (below : Bool) → nat_lt place at ≡ below → at < length lines → place < length lines - 1
+    → cond below (Some place) (Some (place + 1)) ≡ Some before → Stood lines (Delete at) place before
+stood-delete lines at place before true lt within inside e =
+    let same_place : place ≡ before = some-same place before e in
+    let k : place < at = ltb-true place at lt in
+    record {
+      inside = omega arith;
+      line = λ d. get_or-remove_below lines at d place k within ∙ ap (λ i. get_or lines i d) same_place;
+    }
+stood-delete lines at place before false lt within inside e =
+    let same_place : place + 1 ≡ before = some-same (place + 1) before e in
+    let k : at ≤ place = ltb-false place at lt in
+    record {
+      inside = omega arith;
+      line = λ d. get_or-remove_above lines at d place k within ∙ ap (λ i. get_or lines i d) same_place;
+    }
+
+pub stood : (lines : List KeptLine) (edit : Edit) (place before : ℕ) → IsPlaceWithin (length lines) edit → place < count_after (length lines) edit
+    → place_before edit place ≡ Some before → Stood lines edit place before
+stood lines (Insert at line) place before within inside e = stood-insert lines at line place before (nat_lt place at) (nat_eq place at) refl refl within inside e
+stood lines (Replace at line) place before within inside e = stood-replace lines at line place before (nat_eq place at) refl inside e
+stood lines (Delete at) place before within inside e = stood-delete lines at place before (nat_lt place at) refl within inside e
+stood lines (Open all) place before within inside e = cc
+
+-- a line that stood before an edit
+pub stood-at : (lines : List KeptLine) (edit : Edit) (n before : ℕ) (line : Reading) → IsPlaceWithin (length lines) edit → n < count_after (length lines) edit → place_before edit n ≡ Some before
+    → slice_get (readings_in (lines_after lines edit)) n ≡ Some line → slice_get (readings_in lines) before ≡ Some line
+stood-at lines edit n before line within inside origin at =
+    by (slice_get (lines_after lines edit) n) refl (sym (slice_get-map reading_in (lines_after lines edit) n) ∙ at)
+  where
+    by : (o : Option KeptLine) → slice_get (lines_after lines edit) n ≡ o → option_map reading_in o ≡ Some line → slice_get (readings_in lines) before ≡ Some line
+    by None e h = cc
+    by (Some kept) e h =
+        let s : Stood lines edit n before = stood lines edit n before within inside origin in
+        slice_get-map reading_in lines before
+        ∙ ap (option_map reading_in) (slice_get-get_or lines before kept s.inside ∙ ap Some (sym (s.line kept) ∙ get_or_from_slice_get (lines_after lines edit) n kept kept e))
+        ∙ h
+
+-- the lines before the place of an edit stay
+front : (lines rest : List KeptLine) (n : ℕ) → n ≤ length lines → take n lines ≡ take n (take n lines ++ rest)
+front lines rest n h =
+    let long : n ≡ length (take n lines) = sym (length-take-le n lines h) in
+    sym (ap (λ k. take k (take n lines ++ rest)) long ∙ take-append_seam (take n lines) rest)
+
+pub first-kept : (lines : List KeptLine) (edit : Edit) → IsPlaceWithin (length lines) edit → take (first_changed edit) lines ≡ take (first_changed edit) (lines_after lines edit)
+first-kept lines (Insert at line) h = front lines (line ∷ drop at lines) at h
+first-kept lines (Replace at line) h = sym (take-set lines at line)
+first-kept lines (Delete at) h = front lines (drop (suc at) lines) at (omega arith)
+first-kept lines (Open all) h = refl
+
+pub first-same : (lines : List KeptLine) (edit : Edit) → IsPlaceWithin (length lines) edit → take (first_changed edit) (readings_in lines) ≡ take (first_changed edit) (readings_in (lines_after lines edit))
+first-same lines edit within = take-map reading_in (first_changed edit) lines ∙ ap readings_in (first-kept lines edit within) ∙ sym (take-map reading_in (first_changed edit) (lines_after lines edit))
+
+pub first-within : (count : ℕ) (edit : Edit) → IsPlaceWithin count edit → first_changed edit ≤ count_after count edit
+first-within count (Insert at line) h = omega arith
+first-within count (Replace at line) h = omega arith
+first-within count (Delete at) h = omega arith
+first-within count (Open all) h = omega arith
+
+pub first-before : (count : ℕ) (edit : Edit) → IsPlaceWithin count edit → first_changed edit ≤ count
+first-before count (Insert at line) h = h
+first-before count (Replace at line) h = omega arith
+first-before count (Delete at) h = omega arith
+first-before count (Open all) h = omega arith

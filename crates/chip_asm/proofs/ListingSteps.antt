@@ -1,21 +1,22 @@
 -- The listing, line by line.
 use Rattle.std.proofs.Common.{◌≡◌, ℕ, suc, zero, ◌+◌, ◌<◌, ◌≤◌, ℤ, Bool, true, false, List, [], ◌∷◌, ◌++◌, map, reverse, length, take, get_or, slice_get, zip, refl, ap, sym, ◌∙◌, arith, add-one, Option, Some, None, option_map}
+use Rattle.std.specs.Prelude.{min}
 use Rattle.std.specs.List.{flat_map, range_with_len}
+use Rattle.std.proofs.Math.Nat.{min-le_right}
 use Rattle.std.proofs.lemmas.List.{map-append, append-nil, take_all, length-map}
 use Rattle.std.proofs.lemmas.Grind.{flat_map-append}
 use Rattle.std.proofs.lemmas.Option.{slice_get-get_or, slice_get-map}
 use Rattle.chip_lang.specs.declared.fault.Fault.{Fault}
 use Rattle.chip_lang.specs.Show.{hex_byte}
 use Rattle.chip_lang.specs.Line.{Body}
-use Rattle.chip_asm.specs.declared.kept_line.KeptLine.{KeptLine}
+use Rattle.chip_asm.specs.inner.KeptLine.{KeptLine}
 use Rattle.chip_asm.specs.declared.placement.Placement.{Placement}
 use Rattle.chip_asm.specs.Layout.{Placed, body_of}
 use Rattle.chip_asm.specs.computed.Walk.{placed}
 use Rattle.chip_asm.specs.Listing.{bytes_shown, field_shown, more_shown, shown, line_shown, lines_shown}
 use Rattle.chip_asm.specs.Program.{fault_of, code_under, bytes_in_code}
 use Rattle.chip_asm.specs.inner.Records.{reading_in, readings_in, texts_in}
-use Rattle.chip_asm.specs.inner.KeptCodes.{kept_fault, kept_bytes}
-use Rattle.chip_asm.proofs.ImageSteps.{About, fault-kept, bytes-live}
+use Rattle.chip_asm.proofs.LinesByPlace.{AtPlace}
 
 one-byte : (b : ℕ) → flat_map hex_byte (b ∷ []) ≡ hex_byte b
 one-byte b = append-nil (hex_byte b)
@@ -37,21 +38,36 @@ bytes-more n bytes =
     range-more : (n : ℕ) → range_with_len 0 (n + 1) ≡ range_with_len 0 n ++ n ∷ []
     range-more n = let e : 0 + n ≡ n = omega arith in ap (range_with_len 0) (add-one n) ∙ from 0 n ∙ ap (λ k. range_with_len 0 n ++ k ∷ []) e
 
-field-by : (fault : Option Fault) (live : Bool) (body : Body) (here : ℕ) (value : ℤ) (size : ℕ) (kept own : List ℕ) → (fault ≡ None → live ≡ true → kept ≡ own)
+-- the same bytes are shown the same
+shown-same : (n : ℕ) (a b : List ℕ) → ((k : ℕ) → k < n → get_or a k 0 ≡ get_or b k 0) → bytes_shown n a ≡ bytes_shown n b
+shown-same zero a b h = refl
+shown-same (suc n) a b h =
+    ap (λ m. bytes_shown m a) (sym (add-one n))
+    ∙ bytes-more n a
+    ∙ ap (λ l. l ++ hex_byte (get_or a n 0)) (shown-same n a b (λ k less. h k (omega arith)))
+    ∙ ap (λ c. bytes_shown n b ++ hex_byte c) (h n (omega arith))
+    ∙ sym (bytes-more n b)
+    ∙ ap (λ m. bytes_shown m b) (add-one n)
+
+field-by : (fault : Option Fault) (live : Bool) (body : Body) (here : ℕ) (value : ℤ) (size : ℕ) (kept own : List ℕ) → ((k : ℕ) → k < size → get_or kept k 0 ≡ get_or own k 0)
     → field_shown fault live body here value size kept ≡ field_shown fault live body here value size own
 field-by (Some f) live body here value size kept own k = refl
 field-by None false body here value size kept own k = refl
-field-by None true body here value size kept own k = rw (k refl refl) refl
+field-by None true body here value size kept own k =
+    let same : bytes_shown (min 6 size) kept ≡ bytes_shown (min 6 size) own = shown-same (min 6 size) kept own (λ i h. k i (let few = min-le_right 6 size in omega (arith, few, h))) in
+    rw same refl
 
-same-line : (lines : List KeptLine) (q : Placement) (kept : KeptLine) (i : ℕ) (a : About lines q kept i)
-    → shown q.number q.live q.here (field_shown (kept_fault q kept) q.live (body_of (reading_in kept)) q.here q.value q.size (kept_bytes kept)) (more_shown (kept_fault q kept) q.size) kept.text
+-- what is kept of a line gives its line of the listing
+same-line : (lines : List KeptLine) (q : Placement) (kept : KeptLine) (i : ℕ) (a : AtPlace (readings_in lines) i q) (fault : Option Fault) (bytes : List ℕ) → fault ≡ fault_of (placed (readings_in lines)) a.x
+    → ((k : ℕ) → k < a.x.size → get_or bytes k 0 ≡ get_or (bytes_in_code (code_under (placed (readings_in lines)) a.x)) k 0)
+    → reading_in kept ≡ a.x.line → shown q.number q.live q.here (field_shown fault q.live (body_of (reading_in kept)) q.here q.value q.size bytes) (more_shown fault q.size) kept.text
     ≡ line_shown (placed (readings_in lines)) a.x kept.text
-same-line lines q kept i a =
-    ap (λ (p : Placement). shown p.number p.live p.here (field_shown (kept_fault q kept) p.live (body_of (reading_in kept)) p.here p.value p.size (kept_bytes kept)) (more_shown (kept_fault q kept) p.size) kept.text) a.placement
-    ∙ ap (λ f. shown a.x.number a.x.live a.x.here (field_shown f a.x.live (body_of (reading_in kept)) a.x.here a.x.value a.x.size (kept_bytes kept)) (more_shown f a.x.size) kept.text) (fault-kept lines q kept i a)
-    ∙ ap (λ r. shown a.x.number a.x.live a.x.here (field_shown (fault_of (placed (readings_in lines)) a.x) a.x.live (body_of r) a.x.here a.x.value a.x.size (kept_bytes kept)) (more_shown (fault_of (placed (readings_in lines)) a.x) a.x.size) kept.text) a.line
-    ∙ ap (λ f. shown a.x.number a.x.live a.x.here f (more_shown (fault_of (placed (readings_in lines)) a.x) a.x.size) kept.text)
-    (field-by (fault_of (placed (readings_in lines)) a.x) a.x.live (body_of a.x.line) a.x.here a.x.value a.x.size (kept_bytes kept) (bytes_in_code (code_under (placed (readings_in lines)) a.x)) (λ n l. bytes-live lines q kept i a n l))
+same-line lines q kept i a fault bytes f own read =
+    ap (λ (p : Placement). shown p.number p.live p.here (field_shown fault p.live (body_of (reading_in kept)) p.here p.value p.size bytes) (more_shown fault p.size) kept.text) a.placement
+    ∙ ap (λ g. shown a.x.number a.x.live a.x.here (field_shown g a.x.live (body_of (reading_in kept)) a.x.here a.x.value a.x.size bytes) (more_shown g a.x.size) kept.text) f
+    ∙ ap (λ r. shown a.x.number a.x.live a.x.here (field_shown (fault_of (placed (readings_in lines)) a.x) a.x.live (body_of r) a.x.here a.x.value a.x.size bytes) (more_shown (fault_of (placed (readings_in lines)) a.x) a.x.size) kept.text) read
+    ∙ ap (λ g. shown a.x.number a.x.live a.x.here g (more_shown (fault_of (placed (readings_in lines)) a.x) a.x.size) kept.text)
+    (field-by (fault_of (placed (readings_in lines)) a.x) a.x.live (body_of a.x.line) a.x.here a.x.value a.x.size bytes (bytes_in_code (code_under (placed (readings_in lines)) a.x)) own)
 
 some-is : {X : Type 0} (x y : X) → Some x ≡ Some y → x ≡ y
 some-is x y e = cc
@@ -66,16 +82,18 @@ zip-more (p ∷ xs) (t ∷ ys) (suc i) x y a b = ap (λ l. (p, t) ∷ l) (zip-mo
 abbrev pub listed : List KeptLine → ℕ → List ℕ
 listed lines n = flat_map (λ e. line_shown (placed (readings_in lines)) e.0 e.1) (take n (zip (reverse (placed (readings_in lines))) (texts_in lines)))
 
-pub listed-more : (lines : List KeptLine) (q : Placement) (kept : KeptLine) (i : ℕ) (a : About lines q kept i) → i < length lines → kept ≡ get_or lines i kept
-    → listed lines (i + 1)
-    ≡ listed lines i ++ shown q.number q.live q.here (field_shown (kept_fault q kept) q.live (body_of (reading_in kept)) q.here q.value q.size (kept_bytes kept)) (more_shown (kept_fault q kept) q.size) kept.text
-listed-more lines q kept i a inside is =
+pub listed-more : (lines : List KeptLine) (q : Placement) (kept : KeptLine) (i : ℕ) (a : AtPlace (readings_in lines) i q) (fault : Option Fault) (bytes : List ℕ) → i < length lines → kept ≡ get_or lines i kept
+    → fault ≡ fault_of (placed (readings_in lines)) a.x
+    → ((k : ℕ) → k < a.x.size → get_or bytes k 0 ≡ get_or (bytes_in_code (code_under (placed (readings_in lines)) a.x)) k 0)
+    → reading_in kept ≡ a.x.line → listed lines (i + 1)
+    ≡ listed lines i ++ shown q.number q.live q.here (field_shown fault q.live (body_of (reading_in kept)) q.here q.value q.size bytes) (more_shown fault q.size) kept.text
+listed-more lines q kept i a fault bytes inside is f own read =
     let text : slice_get (texts_in lines) i ≡ Some kept.text
     = slice_get-map (λ (k : KeptLine). k.text) lines i ∙ ap (option_map (λ (k : KeptLine). k.text)) (slice_get-get_or lines i kept inside ∙ ap Some (sym is)) in
     rw add-one
     (ap (flat_map (λ e. line_shown (placed (readings_in lines)) e.0 e.1)) (zip-more (reverse (placed (readings_in lines))) (texts_in lines) i a.x kept.text a.at text)
     ∙ flat_map-append (λ e. line_shown (placed (readings_in lines)) e.0 e.1) (take i (zip (reverse (placed (readings_in lines))) (texts_in lines))) ((a.x, kept.text) ∷ [])
-    ∙ ap (λ l. listed lines i ++ l) (append-nil (line_shown (placed (readings_in lines)) a.x kept.text) ∙ sym (same-line lines q kept i a)))
+    ∙ ap (λ l. listed lines i ++ l) (append-nil (line_shown (placed (readings_in lines)) a.x kept.text) ∙ sym (same-line lines q kept i a fault bytes f own read)))
 
 length-zip-le : (xs : List Placed) (ys : List (List ℕ)) → length (zip xs ys) ≤ length ys
 length-zip-le [] ys = omega arith

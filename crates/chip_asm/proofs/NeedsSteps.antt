@@ -1,9 +1,9 @@
 -- What is encoded again is needed.
-use Rattle.std.proofs.Common.{◌≡◌, ℕ, ◌≤◌, Bool, true, false, cond, not, ◌&&◌, List, [], ◌∷◌, ◌++◌, map, reverse, length, count_by, slice_get, fold, refl, ap, sym, ◌∙◌, arith, Option, Some, None, option_map, append_assoc}
+use Rattle.std.proofs.Common.{◌≡◌, ℕ, ◌≤◌, Bool, true, false, cond, not, ◌&&◌, List, [], ◌∷◌, ◌++◌, map, reverse, count_by, slice_get, fold, refl, ap, sym, ◌∙◌, arith, Option, Some, None, option_map, append_assoc}
 use Rattle.std.specs.List.{enumerate_from}
 use Rattle.std.specs.Option.{option_map_or}
 use Rattle.std.proofs.lemmas.Bool.{and_parts, and_from, false≢true}
-use Rattle.std.proofs.lemmas.List.{map-append, append-nil, length-map}
+use Rattle.std.proofs.lemmas.List.{map-append, append-nil}
 use Rattle.std.proofs.lemmas.List.Sums.{sum_by-cons}
 use Rattle.std.proofs.lemmas.Option.{slice_get-map}
 use Rattle.chip_lang.specs.Line.{Reading}
@@ -46,9 +46,6 @@ lines-fold before (line ∷ lines) =
 pub lines-placed : (lines : List Reading) → map (λ (p : Placed). p.line) (reverse (placed lines)) ≡ lines
 unfolding placed
 lines-placed lines = lines-fold [] lines
-
-pub length-numbered : (lines : List Reading) → length (reverse (placed lines)) ≡ length lines
-length-numbered lines = sym (length-map (reverse (placed lines)) (λ (p : Placed). p.line)) ∙ ap length (lines-placed lines)
 
 -- what the pass keeps says which lines are accepted
 pub placed-at : (lines : List Reading) (i : ℕ) → is_placed_at (placements_of lines) i ≡ is_accepted_at lines i

@@ -6,12 +6,13 @@ use Rattle.chip_lang.specs.Line.{Body, Reading}
 use Rattle.chip_asm.specs.declared.block.Block.{Block}
 use Rattle.chip_asm.specs.declared.pass.Pass.{Pass}
 use Rattle.chip_asm.specs.declared.placement.Placement.{Placement}
-use Rattle.chip_asm.specs.Layout.{Placed, is_if_body, body_of, full_size, value_at, value_or_zero, is_end_body, condition_of, symbol_given}
+use Rattle.chip_asm.specs.Layout.{Placed, is_if_body, body_of, full_size, value_at, value_or_zero, is_end_body, condition_of, symbol_given, has_ended}
 use Rattle.chip_asm.specs.computed.Walk.{place, placed, is_live, first_fault, symbols, is_aligning, address, fault_of_value, enclosing}
 use Rattle.chip_asm.specs.inner.Follows.{Follows, block_of, placement_of, next_address, next_aligning}
 use Rattle.chip_asm.specs.inner.Placements.{is_placed}
-use Rattle.chip_asm.specs.inner.Turns.{moved}
+use Rattle.chip_asm.specs.inner.Turns.{moved, AreNested}
 use Rattle.chip_asm.proofs.Numbers.{IsNumbered, blocks-cons}
+use Rattle.chip_asm.proofs.NestedBlocks.{Nests, nested-placed}
 use Rattle.chip_asm.proofs.PlaceSteps.{address-cons, aligning-cons, has_ended-cons, symbols-cons}
 use Rattle.chip_asm.proofs.Placing.{placed-push, numbered-next, length-placed}
 
@@ -31,10 +32,11 @@ pub record Advances (pass next : Pass) (line : Reading) (q : Placement) (number 
   pub at_address : next.here ≡ next_address (is_placed q) pass.here (body_of line) q.value q.size
   pub aligning : next.aligning ≡ next_aligning (is_placed q) pass.aligning (body_of line)
   pub ended : next.ended ≡ ((q.live && is_end_body (body_of line)) || pass.ended)
-  pub names : next.names ≡ pass.names ++ option_to_list (if is_placed q then symbol_given number pass.here q.value line else None)
+  pub names : next.names.symbols ≡ pass.names.symbols ++ option_to_list (if is_placed q then symbol_given number pass.here q.value line else None)
   pub open_blocks : (nearest : List Block) → pass.blocks.items ≡ reverse nearest
-      → next.blocks.items ≡ reverse (moved (body_of line) (record { number = number; live = q.live; holds = condition_of pass.names (body_of line); has_else = false }) nearest)
-  pub live : next.live ≡ (not next.ended && list_all (λ b. b.holds) next.blocks.items)
+      → next.blocks.items ≡ reverse (moved (body_of line) (record { number = number; live = q.live; holds = condition_of pass.names.symbols (body_of line); has_else = false }) nearest)
+  pub live : (nearest : List Block) → next.blocks.items ≡ reverse nearest → (next.ended ≡ false → AreNested nearest)
+      → next.live ≡ (not next.ended && list_all (λ b. b.holds) next.blocks.items)
 
 number-at : (before : List Placed) (line : Reading) → (place before line).number ≡ length before + 1
 unfolding place
@@ -53,21 +55,23 @@ blocks-next : (pass next : Pass) (before : List Placed) (p : Placed) (number : �
     → next.blocks.items ≡ reverse (map (block_of (p ∷ before)) (enclosing (p ∷ before)))
 blocks-next pass next before p number numbered is_number at_condition f a =
     let turned_to = λ (holding : Bool). reverse (moved (body_of p.line) (record { number = number; live = p.live; holds = holding; has_else = false }) (map (block_of before) (enclosing before))) in
-    let e : next.blocks.items ≡ turned_to (condition_of pass.names (body_of p.line)) = a.open_blocks (map (block_of before) (enclosing before)) f.open_blocks in
-    let k : condition_of pass.names (body_of p.line) ≡ p.condition = ap (λ names. condition_of names (body_of p.line)) f.names ∙ sym at_condition in
+    let e : next.blocks.items ≡ turned_to (condition_of pass.names.symbols (body_of p.line)) = a.open_blocks (map (block_of before) (enclosing before)) f.open_blocks in
+    let k : condition_of pass.names.symbols (body_of p.line) ≡ p.condition = ap (λ names. condition_of names (body_of p.line)) f.names ∙ sym at_condition in
     e ∙ ap turned_to k ∙ (rw is_number (ap reverse (sym (blocks-cons p before numbered))))
 
-follows-next : (pass next : Pass) (before : List Placed) (p : Placed) (number : ℕ) → IsNumbered (p ∷ before) → p.here ≡ address before
+follows-next : (pass next : Pass) (before : List Placed) (p : Placed) (number : ℕ) → IsNumbered (p ∷ before) → Nests (p ∷ before) → p.here ≡ address before
     → p.condition ≡ condition_of (symbols before) (body_of p.line) → number ≡ p.number
     → Follows pass before → Advances pass next p.line (placement_of p) number → Follows next (p ∷ before)
-follows-next pass next before p number numbered at_here at_condition is_number f a =
+follows-next pass next before p number numbered nests at_here at_condition is_number f a =
+    let ended : next.ended ≡ has_ended (p ∷ before) = a.ended ∙ (rw f.ended (sym (has_ended-cons p before))) in
+    let open_blocks = blocks-next pass next before p number numbered is_number at_condition f a in
     record {
       at_address = a.at_address ∙ (rw f.at_address (sym (address-cons p before)));
       aligning = a.aligning ∙ (rw f.aligning (sym (aligning-cons p before)));
-      ended = a.ended ∙ (rw f.ended (sym (has_ended-cons p before)));
-      open_blocks = blocks-next pass next before p number numbered is_number at_condition f a;
+      ended = ended;
+      open_blocks = open_blocks;
       names = a.names ∙ (rw (f.names, f.at_address, ← at_here, is_number) (sym (symbols-cons p before)));
-      live = a.live;
+      live = a.live (map (block_of (p ∷ before)) (enclosing (p ∷ before))) open_blocks (λ yet. nests (sym ended ∙ yet));
     }
 
 line-at : (before : List Placed) (line : Reading) → (place before line).line ≡ line
@@ -82,7 +86,7 @@ follows-push pass next lines line number q n f e a =
     let here : Advances pass next (place (placed lines) line).line (placement_of (place (placed lines) line)) number
     = subst (λ (l : Reading). Advances pass next l (placement_of (place (placed lines) line)) number) (sym (line-at (placed lines) line)) found in
     rw placed-push
-    (follows-next pass next (placed lines) (place (placed lines) line) number (numbered-next lines line) (here-at (placed lines) line) (condition-at (placed lines) line)
+    (follows-next pass next (placed lines) (place (placed lines) line) number (numbered-next lines line) (subst Nests (placed-push lines line) (nested-placed (lines ++ line ∷ []))) (here-at (placed lines) line) (condition-at (placed lines) line)
     (n ∙ ap (λ k. k + 1) (sym (length-placed lines)) ∙ sym (number-at (placed lines) line)) f here)
 
 pub none_from : (o : Option Fault) → is_none o ≡ true → o ≡ None

@@ -1,5 +1,6 @@
 -- Lists of lines, and what is placed of them.
-use Rattle.std.proofs.Common.{◌≡◌, ◌+◌, List, [], ◌∷◌, ◌++◌, length, fold, refl, ap, arith, option_map}
+use Rattle.std.proofs.Common.{◌≡◌, ◌+◌, List, [], ◌∷◌, ◌++◌, length, reverse, fold, refl, ap, ◌∙◌, arith, option_map}
+use Rattle.std.proofs.lemmas.List.{length-reverse}
 use Rattle.chip_lang.specs.Line.{Reading}
 use Rattle.chip_asm.specs.Layout.{Placed, first_of}
 use Rattle.chip_asm.specs.computed.Walk.{place, placed}
@@ -17,7 +18,7 @@ pub placed-push : (lines : List Reading) (line : Reading) → placed (lines ++ l
 unfolding placed
 placed-push lines line = fold-append [] lines (line ∷ [])
 
-numbered-place : (before : List Placed) (line : Reading) → IsNumbered before → IsNumbered (place before line ∷ before)
+pub numbered-place : (before : List Placed) (line : Reading) → IsNumbered before → IsNumbered (place before line ∷ before)
 unfolding place
 numbered-place before line n = (refl, ap (λ os. option_map (λ (o : Placed). o.number) (first_of os)) (enclosing-open before), n)
 
@@ -39,3 +40,6 @@ length-fold before (line ∷ lines) = omega (arith, length-fold (onto before lin
 pub length-placed : (lines : List Reading) → length (placed lines) ≡ length lines
 unfolding placed
 length-placed lines = omega (arith, length-fold [] lines)
+
+pub length-numbered : (lines : List Reading) → length (reverse (placed lines)) ≡ length lines
+length-numbered lines = length-reverse (placed lines) ∙ length-placed lines

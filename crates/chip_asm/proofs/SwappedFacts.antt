@@ -1,21 +1,15 @@
 -- What a line in the place of one with the same effect changes: its bytes, and whether it has a
 -- fault.
-use Rattle.std.proofs.Common.{◌≡◌, ℕ, ◌+◌, ◌-◌, ◌<◌, ◌≤◌, Bool, true, false, cond, ◌&&◌, ltb, leb, List, [], ◌∷◌, ◌++◌, map, reverse, length, set, get_or, find, filter_map, refl, ap, sym, ◌∙◌, arith, Option, Some, None, option_map}
-use Rattle.std.specs.List.{cons_option}
+use Rattle.std.proofs.Common.{◌≡◌, ℕ, ◌+◌, ◌-◌, ◌<◌, ◌≤◌, Bool, true, false, cond, ◌&&◌, ltb, leb, List, [], ◌∷◌, ◌++◌, map, reverse, set, get_or, find, refl, ap, sym, ◌∙◌, arith, Option, Some, None}
 use Rattle.std.specs.Option.{option_map_or}
 use Rattle.std.proofs.lemmas.Bool.Decides.{nat_tests}
 use Rattle.std.proofs.lemmas.List.{map-append}
-use Rattle.chip_lang.specs.declared.fault.Fault.{Fault}
 use Rattle.chip_lang.specs.Line.{Reading}
-use Rattle.chip_asm.specs.declared.placement.Placement.{Placement}
-use Rattle.chip_asm.specs.inner.KeptCodes.{count_of}
 use Rattle.chip_asm.specs.Layout.{Placed}
 use Rattle.chip_asm.specs.computed.Walk.{placed, address, symbols}
 use Rattle.chip_asm.specs.inner.Layouts.{placements_of, final_placement}
-use Rattle.chip_asm.specs.Program.{names_of_lines, code_under, bytes_in_code, fault_of, numbered_fault, faults_of_lines, covers, byte_at}
+use Rattle.chip_asm.specs.Program.{names_of_lines, code_under, bytes_in_code, fault_of, covers, byte_at}
 use Rattle.chip_asm.proofs.BlockSteps.{reverse-cons}
-use Rattle.chip_asm.proofs.ImageWhole.{one-fault}
-use Rattle.chip_asm.proofs.Placing.{length-placed}
 use Rattle.chip_asm.proofs.QuietLines.{Same, Quiet, with_line, quiet-old, quiet-new}
 use Rattle.chip_asm.proofs.SwappedLine.{Swapped, AreAbove}
 
@@ -30,10 +24,10 @@ end-swapped lines at new s = ap address s.now ∙ sym s.same.at ∙ ap address (
 final-same : (xs ys : List Placed) (p : Placed) → Same xs ys → final_placement xs p ≡ final_placement ys p
 final-same xs ys p s = rw (s.ended, s.open_ifs) refl
 
-final-swapped : (xs ys : List Placed) (x : Placed) (new : Reading) → Quiet x → Quiet (with_line x new) → final_placement xs x ≡ final_placement ys (with_line x new)
+pub final-swapped : (xs ys : List Placed) (x : Placed) (new : Reading) → Quiet x → Quiet (with_line x new) → final_placement xs x ≡ final_placement ys (with_line x new)
 final-swapped xs ys x new a b = rw (a.no_if, b.no_if) refl
 
-map-swap : (f g : Placed → Placement) → ((p : Placed) → f p ≡ g p) → (later before : List Placed) (x y : Placed) → f x ≡ g y → map f (later ++ x ∷ before) ≡ map g (later ++ y ∷ before)
+pub map-swap : {Y : Type 0} (f g : Placed → Y) → ((p : Placed) → f p ≡ g p) → (later before : List Placed) (x y : Placed) → f x ≡ g y → map f (later ++ x ∷ before) ≡ map g (later ++ y ∷ before)
 map-swap f g same [] before x y e = rw e (ap (λ l. g y ∷ l) (maps before))
   where
     maps : (ps : List Placed) → map f ps ≡ map g ps
@@ -41,7 +35,7 @@ map-swap f g same [] before x y e = rw e (ap (λ l. g y ∷ l) (maps before))
     maps (p ∷ ps) = rw (same p, maps ps) refl
 map-swap f g same (p ∷ later) before x y e = rw (same p, map-swap f g same later before x y e) refl
 
-pub map-reverse : (f : Placed → Placement) (xs : List Placed) → map f (reverse xs) ≡ reverse (map f xs)
+pub map-reverse : {Y : Type 0} (f : Placed → Y) (xs : List Placed) → map f (reverse xs) ≡ reverse (map f xs)
 map-reverse f [] = refl
 map-reverse f (x ∷ xs) = ap (map f) (reverse-cons x xs) ∙ map-append f (reverse xs) (x ∷ []) ∙ ap (λ l. l ++ f x ∷ []) (map-reverse f xs) ∙ sym (reverse-cons (f x) (map f xs))
 
@@ -59,63 +53,8 @@ placements-swapped lines at new s =
 
 -- faults
 
-fault-same : (xs ys : List Placed) (p : Placed) → Same xs ys → fault_of xs p ≡ fault_of ys p
+pub fault-same : (xs ys : List Placed) (p : Placed) → Same xs ys → fault_of xs p ≡ fault_of ys p
 fault-same xs ys p s = rw (s.ended, s.open_ifs, s.names) refl
-
--- how many of these have a fault
-abbrev tally : (Placed → Option Fault) → List Placed → ℕ
-tally f [] = 0
-tally f (p ∷ ps) = count_of (f p) + tally f ps
-
-length-faults : (all xs : List Placed) → length (filter_map (numbered_fault all) xs) ≡ tally (fault_of all) xs
-length-faults all [] = refl
-length-faults all (p ∷ ps) = by (fault_of all p) (length-faults all ps)
-  where
-    by : (o : Option Fault) → length (filter_map (numbered_fault all) ps) ≡ tally (fault_of all) ps
-        → length (cons_option (option_map (λ f. (p.number, f)) o) (filter_map (numbered_fault all) ps)) ≡ count_of o + tally (fault_of all) ps
-    by None e = omega (arith, e)
-    by (Some f) e = omega (arith, e)
-
-tally-push : (f : Placed → Option Fault) (xs : List Placed) (p : Placed) → tally f (xs ++ p ∷ []) ≡ count_of (f p) + tally f xs
-tally-push f [] p = refl
-tally-push f (x ∷ xs) p = omega (arith, tally-push f xs p)
-
-tally-reverse : (f : Placed → Option Fault) (xs : List Placed) → tally f (reverse xs) ≡ tally f xs
-tally-reverse f [] = refl
-tally-reverse f (x ∷ xs) = ap (tally f) (reverse-cons x xs) ∙ tally-push f (reverse xs) x ∙ ap (λ n. count_of (f x) + n) (tally-reverse f xs)
-
-tally-same : (f g : Placed → Option Fault) → ((p : Placed) → f p ≡ g p) → (ps : List Placed) → tally f ps ≡ tally g ps
-tally-same f g same [] = refl
-tally-same f g same (p ∷ ps) = rw (same p, tally-same f g same ps) refl
-
-tally-swap : (f g : Placed → Option Fault) → ((p : Placed) → f p ≡ g p) → (later before : List Placed) (x y : Placed)
-    → tally g (later ++ y ∷ before) + count_of (f x) ≡ tally f (later ++ x ∷ before) + count_of (g y)
-tally-swap f g same [] before x y = omega (arith, tally-same f g same before)
-tally-swap f g same (p ∷ later) before x y =
-    let one : count_of (f p) ≡ count_of (g p) = ap count_of (same p) in
-    omega (arith, tally-swap f g same later before x y, one)
-
-count-faults : (lines : List Reading) (all : List Placed) → placed lines ≡ all → length (faults_of_lines lines) ≡ tally (fault_of all) all
-count-faults lines all e = ap (λ ps. length (filter_map (numbered_fault ps) (reverse ps))) e ∙ length-faults all (reverse all) ∙ tally-reverse (fault_of all) all
-
-pub faults-swapped : (lines : List Reading) (at : ℕ) (new : Reading) (s : Swapped lines at new)
-    → length (faults_of_lines (set lines at new)) + count_of (fault_of (placed lines) s.x) ≡ length (faults_of_lines lines) + count_of (fault_of (placed (set lines at new)) (with_line s.x new))
-faults-swapped lines at new s =
-    let old : List Placed = s.later ++ s.x ∷ s.before in
-    let now : List Placed = s.later ++ with_line s.x new ∷ s.before in
-    let before_count = count-faults lines old s.was in
-    let after_count = count-faults (set lines at new) now s.now in
-    let was : count_of (fault_of (placed lines) s.x) ≡ count_of (fault_of old s.x) = ap (λ ps. count_of (fault_of ps s.x)) s.was in
-    let is : count_of (fault_of (placed (set lines at new)) (with_line s.x new)) ≡ count_of (fault_of now (with_line s.x new)) = ap (λ ps. count_of (fault_of ps (with_line s.x new))) s.now in
-    omega (arith, before_count, after_count, was, is, tally-swap (fault_of old) (fault_of now) (λ p. fault-same old now p s.same) s.later s.before s.x (with_line s.x new))
-
-tally-few : (f : Placed → Option Fault) (ps : List Placed) → tally f ps ≤ length ps
-tally-few f [] = omega arith
-tally-few f (p ∷ ps) = omega (arith, one-fault (f p), tally-few f ps)
-
--- no more faults than lines
-pub faults-few : (lines : List Reading) → length (faults_of_lines lines) ≤ length lines
-faults-few lines = omega (arith, count-faults lines (placed lines) refl, tally-few (fault_of (placed lines)) (placed lines), length-placed lines)
 
 -- bytes
 

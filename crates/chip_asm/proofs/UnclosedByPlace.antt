@@ -1,5 +1,5 @@
 -- An IF without ENDIF, by place.
-use Rattle.std.proofs.Common.{◌≡◌, ℕ, ◌+◌, ◌<◌, Bool, true, false, not, ◌&&◌, eqb, List, reverse, length, slice_get, refl, ap, sym, subst, ◌∙◌, arith, Option, Some, None, Decides, eq-eqb, eqb-true}
+use Rattle.std.proofs.Common.{◌≡◌, ℕ, zero, suc, ◌+◌, ◌<◌, ◌≤◌, Bool, true, false, not, ◌&&◌, eqb, List, [], ◌∷◌, reverse, length, slice_get, refl, ap, sym, subst, ◌∙◌, arith, Option, Some, None, Decides, eq-eqb, eqb-true}
 use Rattle.std.specs.List.{list_any}
 use Rattle.std.proofs.lemmas.Bool.{and_parts}
 use Rattle.std.proofs.lemmas.List.{length-take-le}
@@ -11,10 +11,14 @@ use Rattle.chip_asm.specs.Places.{Encloses, ArePlaced, IsUnclosed}
 use Rattle.chip_asm.specs.Program.{is_unclosed}
 use Rattle.chip_asm.proofs.LastLine.{same-there, Enclosing, one_encloses, any-enclosing, enclosing-any}
 use Rattle.chip_asm.proofs.PlacesAgree.{agree, ended-turned}
-use Rattle.chip_asm.proofs.TableSteps.{past-end}
+
+pub past-end : {X : Type 0} (xs : List X) (i : ℕ) → slice_get xs i ≡ None → length xs ≤ i
+past-end [] i e = omega arith
+past-end (x ∷ xs) zero e = cc
+past-end (x ∷ xs) (suc i) e = (let rest = past-end xs i e in omega arith)
 
 -- the line at a place has the next number
-number-at : (lines : List Reading) (i : ℕ) (p : Placed) → slice_get (reverse (placed lines)) i ≡ Some p → p.number ≡ i + 1
+pub number-at : (lines : List Reading) (i : ℕ) (p : Placed) → slice_get (reverse (placed lines)) i ≡ Some p → p.number ≡ i + 1
 number-at lines i p there = by (slice_get lines i) refl (agree lines)
   where
     by : (o : Option Reading) → slice_get lines i ≡ o → ArePlaced lines (reverse (placed lines)) → p.number ≡ i + 1

@@ -1,11 +1,10 @@
 -- What the kept parts say of the texts.
-use Rattle.std.proofs.Common.{◌≡◌, ℕ, List, map, refl, ap, subst, ◌∙◌, Option}
+use Rattle.std.proofs.Common.{◌≡◌, ℕ, List, map, ap, ◌∙◌, Option}
 use Rattle.chip_lang.specs.Line.{Reading, reading_of}
-use Rattle.chip_asm.specs.declared.kept_line.KeptLine.{KeptLine}
+use Rattle.chip_asm.specs.inner.KeptLine.{KeptLine}
 use Rattle.chip_asm.specs.Program.{fault_of_line, fault_at, image_of_lines, image_of, names_of_lines, symbols_of, faults_of_lines, faults_of}
 use Rattle.chip_asm.specs.computed.Walk.{placed}
 use Rattle.chip_asm.specs.Listing.{lines_shown, listing_of}
-use Rattle.chip_asm.specs.Changes.{ChangesWithin}
 use Rattle.chip_asm.specs.inner.Records.{readings_in, texts_in}
 use Rattle.chip_asm.specs.Work.{needs_count, lines_to_encode, accepted_lines, accepted_of}
 
@@ -36,10 +35,3 @@ faults-view lines texts e t = ap faults_of_lines (e ∙ ap (map reading_of) t)
 pub listing-view : (lines : List KeptLine) (texts : List (List ℕ)) → readings_in lines ≡ map reading_of (texts_in lines) → texts_in lines ≡ texts → lines_shown (placed (readings_in lines)) (texts_in lines) ≡ listing_of texts
 unfolding listing_of
 listing-view lines texts e t = ap (λ rs. lines_shown (placed rs) (texts_in lines)) e ∙ ap (λ ts. lines_shown (placed (map reading_of ts)) ts) t
-
-pub changes-view : (first end : ℕ) (old new : List KeptLine) (texts : List (List ℕ)) → readings_in old ≡ map reading_of (texts_in old) → texts_in old ≡ texts → readings_in new ≡ map reading_of (texts_in new)
-    → ChangesWithin first end (image_of_lines (readings_in old)) (image_of_lines (readings_in new)) → ChangesWithin first end (image_of texts) (image_of (texts_in new))
-changes-view first end old new texts e t k h =
-    let was : image_of_lines (readings_in old) ≡ image_of texts = image-view old texts e t in
-    let now : image_of_lines (readings_in new) ≡ image_of (texts_in new) = image-view new (texts_in new) k refl in
-    subst (λ (o : Option (List ℕ)). ChangesWithin first end o (image_of (texts_in new))) was (subst (λ (o : Option (List ℕ)). ChangesWithin first end (image_of_lines (readings_in old)) o) now h)

@@ -28,7 +28,7 @@ pub record Placed : Type 0 where
 
 -- kinds of lines
 
--- what the line says; one with a reading fault says nothing
+-- what the line says; one with a reading fault defines and encodes nothing
 abbrev pub body_of : Reading → Body
 body_of (bad fault) = empty
 body_of (read label body) = body

@@ -8,13 +8,11 @@
 --     Program      names, faults and image of a source
 --     Listing      the listing
 --     Work         which lines an edit makes encode anew
---     Changes      which places of the image an edit changes
 --     Sources      what contracts see of a source
 --     computed     functions that find what Places states as a relation; laws say that the two
 --                  agree
 --     inner        what the functions inside say of what they keep; no public clause cites it, and
 --                  a reader may skip it
-pub mod Changes
 pub mod Edits
 pub mod Layout
 pub mod Lines

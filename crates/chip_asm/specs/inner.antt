@@ -1,29 +1,21 @@
 -- What the functions inside say: of the first pass in Turns, Follows, Bare, Placements, Marks,
--- Layouts, Resume, Shift and Edited; of kept lines and their codes in HeldText, HeldLine, Records,
--- Traits, Hints, Moves, Remaking, Recode, Effect, Kept, KeptEdits, Prepared and KeptCodes; of the
--- image after an edit in Span, Stood and Writing.
+-- Layouts and Resume; of symbols in Tables; of kept lines in HeldText, HeldLine, KeptLine, Infos,
+-- Records and Effect; of their codes in Recode, Recoding and Codes; of all of it in Kept.
 pub mod Bare
-pub mod Edited
+pub mod Codes
 pub mod Effect
 pub mod Follows
 pub mod HeldLine
 pub mod HeldText
-pub mod Hints
+pub mod Infos
 pub mod Kept
-pub mod KeptCodes
-pub mod KeptEdits
+pub mod KeptLine
 pub mod Layouts
 pub mod Marks
-pub mod Moves
 pub mod Placements
-pub mod Prepared
 pub mod Recode
+pub mod Recoding
 pub mod Records
-pub mod Remaking
 pub mod Resume
-pub mod Shift
-pub mod Span
-pub mod Stood
-pub mod Traits
+pub mod Tables
 pub mod Turns
-pub mod Writing

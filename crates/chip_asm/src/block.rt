@@ -1,7 +1,7 @@
 //! The open blocks.
 ghost use Rattle.std.specs.Prelude.{◌≡◌, List, OnOk, reverse};
 ghost use Rattle.std.specs.List.{list_all};
-ghost use Rattle.chip_asm.specs.inner.Turns.{turned as turned_block, moved};
+ghost use Rattle.chip_asm.specs.inner.Turns.{turned as turned_block, moved, AreNested};
 ghost use Rattle.chip_lang.specs.SeenLine.{seen_body};
 ghost use Rattle.chip_asm.specs.declared.block.Block.{Block};
 
@@ -18,11 +18,16 @@ pub(crate) struct Block {
     pub(crate) has_else: bool,
 }
 
-/// Whether every block holds on its side.
+/// Whether every block holds on its side. The last one tells, since it was opened live just where
+/// those around it hold.
 pub(crate) fn all_hold(blocks: &[Block]) -> bool
-    ensures { result ≡ list_all (λ b. b.holds) blocks.now }
+    ensures { (nearest : List Block) → blocks.now ≡ reverse nearest → AreNested nearest
+        → result ≡ list_all (λ b. b.holds) blocks.now }
 {
-    blocks.iter().all(|block| block.holds)
+    match blocks.last() {
+        Some(block) => block.live && block.holds,
+        None => true,
+    }
 }
 
 /// The other side of a block, once.

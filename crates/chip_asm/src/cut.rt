@@ -7,6 +7,7 @@ ghost use Rattle.chip_lang.specs.Meter.{one_more};
 ghost use Rattle.chip_asm.specs.Lines.{lines_of, open_fault, is_newline, first_text};
 ghost use Rattle.std.specs.Io.{StartsWith};
 ghost use Rattle.chip_asm.specs.inner.HeldText.{IsBack, SaysNothing, part_from};
+ghost use Rattle.chip_asm.specs.inner.Infos.{AreInfos};
 ghost use Rattle.chip_asm.specs.inner.Records.{readings_in, texts_in};
 ghost use Rattle.chip_asm.specs.declared.refusal.OpenError.{OpenError};
 
@@ -14,6 +15,7 @@ use crate::kept_line::{BoxedLine, read_part};
 use crate::limits::{LINE_BYTES, MOST_LINES};
 use crate::line_text::SharedSource;
 use crate::refusal::OpenError;
+use crate::table::Table;
 use chip_lang::Meter;
 use memchr::memchr;
 use std::alloc::{AllocError, Global};
@@ -73,6 +75,7 @@ fn after_line(bytes: &[u8], end: usize) -> &[u8]
 fn push_line(
     alloc: Global,
     meter: &mut Meter,
+    table: &mut Table,
     lines: &mut Vec<BoxedLine>,
     source: &Rc<SharedSource>,
     start: usize,
@@ -86,9 +89,12 @@ fn push_line(
     ensures readings { OnOk result (readings_in lines.new.items
         ≡ readings_in lines.old.items ++ reading_of text.now ∷ []) }
     ensures count { OnOk result (length lines.new.items ≡ length lines.old.items + 1) }
+    ensures infos { AreInfos table.old.keys lines.old.items
+        → OnOk result (AreInfos table.new.keys lines.new.items) }
     ensures counted { meter.new ≡ record meter.old { parsed = one_more meter.old.parsed } }
+    ensures symbols { table.new.symbols ≡ table.old.symbols }
 {
-    let kept = read_part(alloc, meter, source, start, text)?;
+    let kept = read_part(alloc, meter, table, source, start, text)?;
     lines.push(kept)?;
     Ok(())
 }
@@ -97,6 +103,7 @@ fn push_line(
 pub(crate) fn read_lines(
     alloc: Global,
     meter: &mut Meter,
+    table: &mut Table,
     source: Vec<u8>,
 ) -> Result<Vec<BoxedLine>, OpenError>
     requires { meter.old ≡ record { parsed = 0; encoded = 0 } }
@@ -104,6 +111,8 @@ pub(crate) fn read_lines(
         × (texts_in lines.items ≡ lines_of source.items)) }
     ensures read { IfOk result (λ lines. readings_in lines.items
         ≡ map reading_of (texts_in lines.items)) }
+    ensures infos { IfOk result (λ lines. AreInfos table.new.keys lines.items) }
+    ensures symbols { table.new.symbols ≡ table.old.symbols }
     ensures few { IfOk result (λ lines. length lines.items ≤ MOST_LINES) }
     ensures parsed { IfOk result (λ lines. meter.new.parsed ≡ length lines.items) }
     ensures encoded { meter.new.encoded ≡ 0 }
@@ -125,7 +134,7 @@ pub(crate) fn read_lines(
             return Err(OpenError::LineTooLong(lines.len() + 1));
         }
         let start = source.len() - rest.len();
-        push_line(alloc, meter, &mut lines, &shared, start, text)?;
+        push_line(alloc, meter, table, &mut lines, &shared, start, text)?;
         rest = after_line(rest, end);
     }
     Ok(lines)

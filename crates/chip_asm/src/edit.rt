@@ -1,13 +1,10 @@
 //! A change of one line, seen before it is made.
-ghost use Rattle.std.specs.Prelude.{◌≡◌, ◌<◌, ◌≤◌, length, slice_get, slice_set, insert, remove, IfOk, Some, vec_len, vec_capacity};
-ghost use Rattle.chip_asm.specs.inner.Records.{IsPlaceWithin, lines_after, reading_in, readings_in, count_after, place_before};
+ghost use Rattle.std.specs.Prelude.{◌≡◌, ◌<◌, ◌≤◌, length, slice_get, slice_set, Some, vec_len, vec_capacity};
+ghost use Rattle.chip_asm.specs.inner.Records.{IsPlaceWithin, lines_after, count_after, place_before};
 ghost use Rattle.chip_asm.specs.inner.Resume.{first_changed};
-ghost use Rattle.chip_lang.specs.SeenLine.{seen_line};
 
 use crate::kept_line::BoxedLine;
 use crate::limits::MOST_LINES;
-use chip_lang::Line;
-use std::alloc::{AllocError, Global};
 
 /// A change of one line; places count from 0.
 #[derive(Drop)]
@@ -18,16 +15,15 @@ pub(crate) enum Edit {
     Replace(usize, BoxedLine),
     /// The line at the place goes.
     Delete(usize),
-    /// All lines stay.
-    Keep,
+    /// There were no lines, and these come.
+    Open(Vec<BoxedLine>),
 }
 
 /// The line at a place after the edit.
 pub(crate) fn kept_after<'a>(lines: &'a [BoxedLine], edit: &'a Edit, place: usize) -> &'a BoxedLine
     requires within { IsPlaceWithin (length lines.now) edit.now }
     requires place { place < count_after (length lines.now) edit.now }
-    ensures { slice_get (readings_in (lines_after lines.now edit.now)) place
-        ≡ Some (reading_in result.now) }
+    ensures { slice_get (lines_after lines.now edit.now) place ≡ Some result.now }
 {
     match edit {
         Edit::Insert(at, added) => {
@@ -47,18 +43,8 @@ pub(crate) fn kept_after<'a>(lines: &'a [BoxedLine], edit: &'a Edit, place: usiz
                 &lines[place + 1]
             }
         }
-        Edit::Keep => &lines[place],
+        Edit::Open(all) => &all[place],
     }
-}
-
-/// The reading of the line at a place after the edit.
-pub(crate) fn line_after<'a>(lines: &'a [BoxedLine], edit: &'a Edit, place: usize) -> &'a Line
-    requires within { IsPlaceWithin (length lines.now) edit.now }
-    requires place { place < count_after (length lines.now) edit.now }
-    ensures { slice_get (readings_in (lines_after lines.now edit.now)) place
-        ≡ Some (seen_line result.now) }
-{
-    kept_after(lines, edit, place).line()
 }
 
 /// How many lines there are after the edit.
@@ -69,7 +55,8 @@ pub(crate) fn count_after(count: usize, edit: &Edit) -> usize
     match edit {
         Edit::Insert(_, _) => count + 1,
         Edit::Delete(_) => count.saturating_sub(1),
-        Edit::Replace(_, _) | Edit::Keep => count,
+        Edit::Replace(_, _) => count,
+        Edit::Open(all) => all.len(),
     }
 }
 
@@ -79,7 +66,7 @@ pub(crate) fn first_changed(edit: &Edit) -> usize
 {
     match edit {
         Edit::Insert(at, _) | Edit::Replace(at, _) | Edit::Delete(at) => *at,
-        Edit::Keep => 0,
+        Edit::Open(_) => 0,
     }
 }
 
@@ -106,7 +93,7 @@ pub(crate) fn place_before(edit: &Edit, place: usize) -> Option<usize>
                 Some(place + 1)
             }
         }
-        Edit::Keep => Some(place),
+        Edit::Open(_) => None,
     }
 }
 
@@ -124,7 +111,7 @@ pub(crate) fn make_edit(lines: &mut Vec<BoxedLine>, edit: Edit)
         Edit::Delete(at) => {
             let _ = lines.remove(at);
         }
-        Edit::Keep => {}
+        Edit::Open(all) => *lines = all,
     }
 }
 
@@ -134,36 +121,4 @@ pub(crate) fn replace_line(lines: &mut Vec<BoxedLine>, at: usize, added: BoxedLi
     ensures { lines.new.items ≡ slice_set lines.old.items at added }
 {
     lines[at] = added;
-}
-
-/// A copy of some items, with one more before the one at a place.
-pub(crate) fn with_item<T: Copy>(
-    alloc: Global,
-    items: &[T],
-    at: usize,
-    added: T,
-) -> Result<Vec<T>, AllocError>
-    requires { at ≤ length items.now }
-    ensures { IfOk result (λ made. made.items ≡ insert items.now at added) }
-{
-    let mut made = Vec::with_capacity(alloc, items.len().saturating_add(1))?;
-    made.extend_from_slice(&items[..at])?;
-    made.push(added)?;
-    made.extend_from_slice(&items[at..])?;
-    Ok(made)
-}
-
-/// A copy of some items, without the one at a place.
-pub(crate) fn without_item<T: Copy>(
-    alloc: Global,
-    items: &[T],
-    at: usize,
-) -> Result<Vec<T>, AllocError>
-    requires { at < length items.now }
-    ensures { IfOk result (λ made. made.items ≡ remove items.now at) }
-{
-    let mut made = Vec::with_capacity(alloc, items.len())?;
-    made.extend_from_slice(&items[..at])?;
-    made.extend_from_slice(&items[at + 1..])?;
-    Ok(made)
 }

@@ -1,5 +1,5 @@
 //! What is kept of a line.
-ghost use Rattle.std.specs.Prelude.{◌≡◌, ◌+◌, ◌≤◌, List, Ok, true, IfOk, IfSome, IsSome, length, unwrap_or};
+ghost use Rattle.std.specs.Prelude.{◌≡◌, ◌+◌, ◌≤◌, List, Ok, IfOk, IfSome, length};
 ghost use Rattle.chip_lang.specs.Line.{reading_of};
 ghost use Rattle.chip_lang.specs.SeenLine.{seen_body, seen_line};
 ghost use Rattle.chip_lang.specs.Meter.{one_more};
@@ -8,34 +8,35 @@ ghost use Rattle.chip_asm.specs.Names.{Name};
 ghost use Rattle.chip_asm.specs.declared.table.Symbol.{Symbol};
 ghost use Rattle.chip_asm.specs.inner.HeldLine.{IsKnown};
 ghost use Rattle.chip_asm.specs.inner.HeldText.{SaysNothing, part_from};
-ghost use Rattle.chip_asm.specs.inner.Recode.{has_code};
+ghost use Rattle.chip_asm.specs.inner.Infos.{IsInfo};
 ghost use Rattle.chip_asm.specs.inner.Records.{reading_in};
+ghost use Rattle.chip_asm.specs.inner.Tables.{Extends};
 
+use crate::line_info::LineInfo;
 use crate::line_text::{LineText, SharedSource};
-use chip_lang::short_bytes::ShortBytes;
-use chip_lang::{Body, Coded, Line, Meter, constant, read_line, read_nothing};
+use crate::table::Table;
+use chip_lang::{Body, Line, Meter, constant, read_line, read_nothing};
 use std::alloc::{AllocError, Global};
 use std::marker::Model;
 use std::rc::Rc;
 
-/// A line of the source: its text, its reading, and its code as it was last encoded.
+/// A line of the source: its text and its reading.
 #[derive(Drop)]
-pub(crate) struct KeptLine {
+pub(crate) struct ReadLine {
     pub(crate) text: LineText,
     pub(crate) line: Line,
-    pub(crate) code: Coded,
-    /// The value of its expression, where no name has a say in it.
+    /// The value of its expression, where that is constant.
     pub(crate) constant: Option<i32>,
 }
 
 /// How a line is held.
 #[derive(Drop)]
 pub(crate) enum HeldLine {
-    /// A line that says nothing, as so many bytes of those that were read together, from a place
-    /// on.
+    /// A line that is blank or only a comment, as so many bytes of those that were read together,
+    /// from a place on.
     Nothing(Rc<SharedSource>, u32, u16),
     /// Any line.
-    Boxed(Box<KeptLine>),
+    Boxed(Box<ReadLine>),
 }
 
 /// The same behind a pointer, so that an edit, which moves lines, moves little. Many lines are
@@ -43,10 +44,11 @@ pub(crate) enum HeldLine {
 #[derive(Drop)]
 pub(crate) struct BoxedLine {
     held: HeldLine,
+    pub(crate) info: LineInfo,
 }
 
 impl Model for BoxedLine {
-    ghost use Rattle.chip_asm.specs.declared.kept_line.KeptLine.{KeptLine};
+    ghost use Rattle.chip_asm.specs.inner.KeptLine.{KeptLine};
     ghost use Rattle.chip_asm.specs.inner.HeldLine.{kept_held, IsLineHeld};
     ghost use Rattle.chip_lang.specs.contracts.expr.Expr as e;
     ghost use Rattle.std.specs.Coded.{codes};
@@ -55,31 +57,27 @@ impl Model for BoxedLine {
 
     ghost coded = { Prim.hlevel (codes, e.the_row.coded) };
 
-    ghost view = { λ b. kept_held b.held };
+    ghost view = { λ b. kept_held b.held b.info };
 
     ghost invariant = { λ b. IsLineHeld b.held };
 }
 
 impl BoxedLine {
-    /// A line that isn't encoded yet.
     #[inline(always)]
-    fn new(alloc: Global, text: LineText, line: Line) -> Result<Self, AllocError>
+    fn new(alloc: Global, text: LineText, line: Line, info: LineInfo) -> Result<Self, AllocError>
         ensures text { IfOk result (λ kept. kept.text ≡ text) }
         ensures line { IfOk result (λ kept. kept.line ≡ line) }
+        ensures info { IfOk result (λ kept. kept.info ≡ info) }
     {
-        let code = Coded::Bytes(ShortBytes::empty(alloc));
         let constant = constant_of(&line);
-        let kept = Box::new(
-            alloc,
-            KeptLine {
-                text,
-                line,
-                code,
-                constant,
-            },
-        )?;
+        let read = ReadLine {
+            text,
+            line,
+            constant,
+        };
         Ok(BoxedLine {
-            held: HeldLine::Boxed(kept),
+            held: HeldLine::Boxed(Box::new(alloc, read)?),
+            info,
         })
     }
 
@@ -93,13 +91,6 @@ impl BoxedLine {
         }
     }
 
-    /// Whether the line says nothing, as it shows without a look at its reading.
-    pub(crate) fn is_plainly_empty(&self) -> bool
-        ensures { result ≡ true → SaysNothing self.now.line }
-    {
-        matches!(self.held, HeldLine::Nothing(_, _, _))
-    }
-
     /// The reading of the line.
     pub(crate) fn line(&self) -> &Line
         ensures { result.now ≡ self.now.line }
@@ -107,16 +98,6 @@ impl BoxedLine {
         match &self.held {
             HeldLine::Nothing(source, _, _) => &source.nothing,
             HeldLine::Boxed(kept) => &kept.line,
-        }
-    }
-
-    /// The code of the line as it was last encoded.
-    pub(crate) fn code(&self) -> &Coded
-        ensures { result.now ≡ self.now.code }
-    {
-        match &self.held {
-            HeldLine::Nothing(source, _, _) => &source.no_code,
-            HeldLine::Boxed(kept) => &kept.code,
         }
     }
 
@@ -131,38 +112,48 @@ impl BoxedLine {
         }
     }
 
-    /// Puts a new code in the place of the old one.
-    pub(crate) fn set_code(&mut self, code: Coded)
-        requires { has_code (body_of (reading_in self.old)) ≡ true }
-        ensures { self.new ≡ record self.old { code = code } }
+    /// What steps over all lines ask of it.
+    #[inline]
+    pub(crate) fn info(&self) -> LineInfo
+        ensures { result ≡ self.now.info }
     {
-        match &mut self.held {
-            HeldLine::Nothing(_, _, _) => {}
-            HeldLine::Boxed(kept) => kept.code = code,
-        }
+        self.info
+    }
+
+    /// Puts other numbers in the place of those of its names.
+    pub(crate) fn set_info(&mut self, info: LineInfo)
+        ensures { self.new ≡ record self.old { info = info } }
+    {
+        self.info = info;
     }
 }
 
-/// Reads a text, of which a copy is kept. It is not encoded yet.
+/// Reads a text, of which a copy is kept. Its names get their numbers.
 pub(crate) fn read_kept(
     alloc: Global,
     meter: &mut Meter,
+    table: &mut Table,
     text: &[u8],
 ) -> Result<BoxedLine, AllocError>
     ensures text { IfOk result (λ kept. kept.text ≡ text.now) }
     ensures reading { IfOk result (λ kept. seen_line kept.line ≡ reading_of text.now) }
+    ensures info { IfOk result (λ kept. IsInfo table.new.keys kept.info (seen_line kept.line)) }
     ensures counted { meter.new ≡ record meter.old { parsed = one_more meter.old.parsed } }
+    ensures keys { Extends table.old.keys table.new.keys }
+    ensures symbols { table.new.symbols ≡ table.old.symbols }
 {
     let line = read_line(alloc, meter, text)?;
+    let info = LineInfo::of(alloc, table, &line)?;
     let text = LineText::own(alloc, text)?;
-    BoxedLine::new(alloc, text, line)
+    BoxedLine::new(alloc, text, line, info)
 }
 
-/// Reads a text that stands at a place of a shared source. It is not encoded yet.
+/// Reads a text that stands at a place of a shared source. Its names get their numbers.
 #[inline]
 pub(crate) fn read_part(
     alloc: Global,
     meter: &mut Meter,
+    table: &mut Table,
     source: &Rc<SharedSource>,
     start: usize,
     text: &[u8],
@@ -172,25 +163,30 @@ pub(crate) fn read_part(
     requires part { text.now ≡ part_from source.now.value.bytes start (length text.now) }
     ensures text { IfOk result (λ kept. kept.text ≡ text.now) }
     ensures reading { IfOk result (λ kept. seen_line kept.line ≡ reading_of text.now) }
+    ensures info { IfOk result (λ kept. IsInfo table.new.keys kept.info (seen_line kept.line)) }
     ensures counted { meter.new ≡ record meter.old { parsed = one_more meter.old.parsed } }
+    ensures keys { Extends table.old.keys table.new.keys }
+    ensures symbols { table.new.symbols ≡ table.old.symbols }
 {
     let (Ok(start), Ok(count)) = (u32::try_from(start), u16::try_from(text.len())) else {
-        return read_kept(alloc, meter, text);
+        return read_kept(alloc, meter, table, text);
     };
     if read_nothing(meter, text) {
         let source = Rc::clone(source)?;
         return Ok(BoxedLine {
             held: HeldLine::Nothing(source, start, count),
+            info: LineInfo::NOTHING,
         });
     }
-    read_said(alloc, meter, source, start, count)
+    read_said(alloc, meter, table, source, start, count)
 }
 
-/// Reads so many bytes of a shared source, from a place on. They are not encoded yet.
+/// Reads so many bytes of a shared source, from a place on. Its names get their numbers.
 #[inline(never)]
 fn read_said(
     alloc: Global,
     meter: &mut Meter,
+    table: &mut Table,
     source: &Rc<SharedSource>,
     start: u32,
     count: u16,
@@ -199,14 +195,18 @@ fn read_said(
     ensures text { IfOk result (λ kept. kept.text ≡ part_from source.now.value.bytes start count) }
     ensures reading { IfOk result (λ kept. seen_line kept.line
         ≡ reading_of (part_from source.now.value.bytes start count)) }
+    ensures info { IfOk result (λ kept. IsInfo table.new.keys kept.info (seen_line kept.line)) }
     ensures counted { meter.new ≡ record meter.old { parsed = one_more meter.old.parsed } }
+    ensures keys { Extends table.old.keys table.new.keys }
+    ensures symbols { table.new.symbols ≡ table.old.symbols }
 {
     let line = read_line(alloc, meter, source.part(start, count))?;
+    let info = LineInfo::of(alloc, table, &line)?;
     let text = LineText::part(Rc::clone(source)?, start, count);
-    BoxedLine::new(alloc, text, line)
+    BoxedLine::new(alloc, text, line, info)
 }
 
-/// The value of a line's own expression, where no name has a say in it.
+/// The value of a line's own expression, where it is constant.
 fn constant_of(line: &Line) -> Option<i32>
     ensures { IsKnown result (seen_line line.now) }
 {
@@ -227,16 +227,4 @@ fn constant_in(body: &Body) -> Option<i32>
         Body::Equ(expr) | Body::Org(expr) | Body::Ds(expr) => constant(expr),
         _ => None,
     }
-}
-
-/// The line with a new code, if there is one.
-pub(crate) fn with_code(kept: BoxedLine, code: Option<Coded>) -> BoxedLine
-    requires { IsSome code → has_code (body_of (reading_in kept)) ≡ true }
-    ensures { result ≡ record kept { code = unwrap_or code kept.code } }
-{
-    let mut kept = kept;
-    if let Some(code) = code {
-        kept.set_code(code);
-    }
-    kept
 }

@@ -2,19 +2,17 @@
 ghost use Rattle.std.specs.Prelude.{◌≡◌, ◌+◌, ◌≤◌, IfOk, length};
 ghost use Rattle.chip_asm.specs.inner.HeldText.{SaysNothing, part_from};
 
-use chip_lang::short_bytes::ShortBytes;
-use chip_lang::{Body, Bytes, Coded, Line};
+use chip_lang::{Body, Bytes, Line};
 use std::alloc::{AllocError, Global};
 use std::marker::Model;
 use std::rc::Rc;
 
 /// What lines that are read together share: the bytes with their texts, and a line that says
-/// nothing, with its code.
+/// nothing.
 #[derive(Drop)]
 pub(crate) struct SharedSource {
     pub(crate) bytes: Bytes,
     pub(crate) nothing: Line,
-    pub(crate) no_code: Coded,
 }
 
 impl SharedSource {
@@ -29,7 +27,6 @@ impl SharedSource {
                 label: None,
                 body: Body::Empty,
             },
-            no_code: Coded::Bytes(ShortBytes::empty(alloc)),
         };
         Ok(Rc::new(alloc, source)?)
     }

@@ -8,10 +8,9 @@ ghost use Rattle.chip_asm.specs.computed.Walk.{placed};
 ghost use Rattle.chip_asm.specs.inner.Layouts.{IsLayoutOf};
 ghost use Rattle.chip_asm.specs.Listing.{at_right, at_left, address_shown, bytes_shown, field_shown, more_shown, is_definition, shown, lines_shown};
 ghost use Rattle.chip_asm.specs.inner.Records.{reading_in, readings_in, texts_in};
-ghost use Rattle.chip_asm.specs.inner.Kept.{AreCurrent};
-ghost use Rattle.chip_asm.specs.inner.KeptCodes.{kept_fault, kept_bytes};
+ghost use Rattle.chip_asm.specs.inner.Codes.{AreCodesOf};
 
-use crate::image::{byte_or_zero, kept_bytes, kept_fault};
+use crate::codes::{Codes, byte_or_zero};
 use crate::kept_line::BoxedLine;
 use crate::layout::Layout;
 use crate::placement::Placement;
@@ -145,11 +144,12 @@ fn push_field(
     fault: Option<Fault>,
     placement: &Placement,
     kept: &BoxedLine,
+    bytes: &[u8],
 ) -> Result<(), AllocError>
     ensures { OnOk result (out.new.items
         ≡ out.old.items ++ field_shown fault placement.now.live
         (body_of (reading_in kept.now)) placement.now.here placement.now.value placement.now.size
-        (kept_bytes kept.now)) }
+        bytes.now) }
 {
     if let Some(fault) = fault {
         let mut digits = Buffer::new();
@@ -165,7 +165,7 @@ fn push_field(
         push_value(out, value)?;
         return Ok(());
     }
-    push_bytes(out, (placement.size as usize).min(6), kept_bytes(kept))?;
+    push_bytes(out, (placement.size as usize).min(6), bytes)?;
     Ok(())
 }
 
@@ -226,9 +226,10 @@ pub(crate) fn listing_in(
     alloc: Global,
     lines: &[BoxedLine],
     layout: &Layout,
+    codes: &Codes,
 ) -> Result<Vec<u8>, AllocError>
     requires laid_out { IsLayoutOf layout.now (readings_in lines.now) }
-    requires current { AreCurrent lines.now }
+    requires codes { AreCodesOf codes.now (readings_in lines.now) }
     ensures { IfOk result (λ listing. listing.items
         ≡ lines_shown (placed (readings_in lines.now)) (texts_in lines.now)) }
 {
@@ -237,9 +238,15 @@ pub(crate) fn listing_in(
     for place in 0..lines.len() {
         let placement = layout.placements[place];
         let kept = &lines[place];
-        let fault = kept_fault(&placement, kept);
+        let fault = codes.faults[place];
         field.clear();
-        push_field(&mut field, fault, &placement, kept)?;
+        push_field(
+            &mut field,
+            fault,
+            &placement,
+            kept,
+            codes.bytes_at(&placement),
+        )?;
         let more = more_sign(fault, placement.size as usize);
         push_line(&mut listing, &placement, &field, more, kept.text())?;
     }

@@ -1,9 +1,12 @@
 //! The first pass: one line after another.
-ghost use Rattle.std.specs.Prelude.{◌≡◌, ◌+◌, ◌-◌, ◌≤◌, ◌<◌, ◌^◌, List, [], ◌∷◌, ◌++◌, OnOk, IfOk, IfSome, length, is_some, is_none, unsigned_abs, pos, Option, None, Some, Ok, true, false, not, ◌&&◌, ◌||◌, if◌then◌else◌, option_to_list};
+ghost use Rattle.std.specs.Prelude.{◌≡◌, reverse, ◌+◌, ◌-◌, ◌≤◌, ◌<◌, ◌^◌, List, [], ◌∷◌, ◌++◌, OnOk, IfOk, IfSome, length, is_some, is_none, unsigned_abs, pos, Option, None, Some, Ok, true, false, not, ◌&&◌, ◌||◌, if◌then◌else◌, option_to_list};
 ghost use Rattle.std.specs.List.{list_all};
 ghost use Rattle.chip_asm.specs.inner.Bare.{IsBare, fault_of_bare};
+ghost use Rattle.chip_asm.specs.declared.block.Block.{Block};
+ghost use Rattle.chip_asm.specs.inner.Turns.{AreNested};
 ghost use Rattle.chip_asm.specs.inner.HeldLine.{IsKnownUnder};
-ghost use Rattle.chip_asm.specs.Names.{Name};
+ghost use Rattle.chip_asm.specs.inner.Tables.{IsNumber, KeepsBefore, key_at};
+ghost use Rattle.chip_asm.specs.Names.{Name, lookup_name};
 ghost use Rattle.chip_asm.specs.Layout.{value_at, own_size, is_padded, full_size, is_backwards, is_past_end, is_redefinition, is_if_body, body_of, value_or_zero, condition_of, is_end_body, symbol_given};
 ghost use Rattle.chip_asm.specs.computed.Walk.{fault_of_value};
 ghost use Rattle.chip_lang.specs.SeenLine.{seen_line, seen_body};
@@ -14,9 +17,9 @@ ghost use Rattle.chip_lang.specs.declared.limits.TheConstants.{MEMORY_BYTES};
 use crate::block::{Block, all_hold, move_blocks};
 use crate::limits::MOST_LINES;
 use crate::placement::{Placement, is_passed};
-use crate::table::{Symbol, Table};
+use crate::table::{NameId, Scope, Symbol, Table, Time};
 use chip_lang::limits::MEMORY_BYTES;
-use chip_lang::{Body, Fault, Line, defines, eval};
+use chip_lang::{Body, Fault, Line, eval};
 use std::alloc::{AllocError, Global};
 
 /// The state of the pass between two lines.
@@ -25,7 +28,7 @@ pub(crate) struct Pass {
     pub(crate) here: usize,
     pub(crate) aligning: bool,
     pub(crate) ended: bool,
-    /// Whether a line that is no ELSE or ENDIF is live here.
+    /// Whether a line other than ELSE or ENDIF is live here.
     pub(crate) live: bool,
     pub(crate) blocks: Vec<Block>,
     pub(crate) names: Table,
@@ -90,14 +93,16 @@ pub(crate) fn is_data(body: &Body) -> bool
 impl Pass {
     ghost use Rattle.chip_asm.specs.Layout.{Placed, has_ended};
     ghost use Rattle.chip_asm.specs.computed.Walk.{address, is_aligning, enclosing, is_live, is_misplaced, first_fault, symbols, place, placed};
+    ghost use Rattle.chip_asm.specs.inner.Infos.{IsNumberOf};
     ghost use Rattle.chip_asm.specs.inner.Placements.{is_placed};
     ghost use Rattle.chip_asm.specs.inner.Follows.{Follows, placement_of, next_address, next_aligning};
 
     /// At an address, after lines that give these names, where no block is open.
     pub(crate) fn resume(alloc: Global, here: usize, names: Table) -> Self
-        ensures { (before : List Placed) → here ≡ address before → here ≤ MEMORY_BYTES
+        ensures follows { (before : List Placed) → here ≡ address before → here ≤ MEMORY_BYTES
             → is_aligning before ≡ true → has_ended before ≡ false → enclosing before ≡ []
-            → names ≡ symbols before → Follows result before }
+            → names.symbols ≡ symbols before → Follows result before }
+        ensures names { result.names ≡ names }
     {
         Pass {
             here: here.min(MEMORY_BYTES),
@@ -144,24 +149,37 @@ impl Pass {
     /// known.
     #[tactic(auto, unfolding(crate::specs::Layout::value_at))]
     fn value_at(&self, known: Option<i32>, body: &Body) -> Result<i32, Fault>
-        requires { IfSome known (λ value. value_at self.now.names (seen_body body.now) ≡ Ok value) }
-        ensures { result ≡ value_at self.now.names (seen_body body.now) }
+        requires { IfSome known (λ value. value_at self.now.names.symbols (seen_body body.now) ≡ Ok value) }
+        ensures { result ≡ value_at self.now.names.symbols (seen_body body.now) }
     {
         if let Some(value) = known {
             return Ok(value);
         }
         match body {
-            Body::Equ(expr) | Body::Org(expr) | Body::Ds(expr) => eval(expr, &self.names),
+            Body::Equ(expr) | Body::Org(expr) | Body::Ds(expr) => eval(expr, &self.scope()),
             _ => Ok(0),
         }
     }
 
-    /// Whether the line gives a name that is there already.
-    fn is_redefinition(&self, line: &Line) -> bool
-        ensures { result ≡ is_redefinition self.now.names (name_defined (seen_line line.now)) }
+    /// The names so far.
+    fn scope(&self) -> Scope<'_>
+        ensures time { result.time ≡ Time.Now }
+        ensures table { result.table.now ≡ self.now.names }
     {
-        match defines(line) {
-            Some(name) => self.is_given(name),
+        Scope {
+            table: &self.names,
+            time: Time::Now,
+        }
+    }
+
+    /// Whether the name of a number, if there is one, has a symbol already.
+    fn is_redefinition(&self, defines: Option<NameId>) -> bool
+        requires { IfSome defines (λ id. id.number < length self.now.names.keys) }
+        ensures { (name : Option Name) → IsNumberOf self.now.names.keys defines name
+            → result ≡ is_redefinition self.now.names.symbols name }
+    {
+        match defines {
+            Some(id) => self.names.is_defined(id),
             None => false,
         }
     }
@@ -220,12 +238,18 @@ impl Pass {
 
     /// The first fault of a live line, but for an IF without ENDIF.
     #[tactic(auto, unfolding(crate::specs::computed::Walk::first_fault))]
-    fn first_fault(&self, line: &Line, value: Result<i32, Fault>) -> Option<Fault>
+    fn first_fault(
+        &self,
+        line: &Line,
+        defines: Option<NameId>,
+        value: Result<i32, Fault>,
+    ) -> Option<Fault>
+        requires { IsNumberOf self.now.names.keys defines (name_defined (seen_line line.now)) }
         ensures fault { (before : List Placed) → Follows self.now before
             → value ≡ value_at (symbols before) (body_of (seen_line line.now))
             → result ≡ first_fault before (seen_line line.now) }
         ensures new_name { result ≡ None
-            → is_redefinition self.now.names (name_defined (seen_line line.now)) ≡ false }
+            → is_redefinition self.now.names.symbols (name_defined (seen_line line.now)) ≡ false }
         ensures fits { result ≡ None
             → fault_of_value self.now.aligning self.now.here (body_of (seen_line line.now)) value
             ≡ None }
@@ -235,7 +259,7 @@ impl Pass {
             Line::Read { body, .. } => {
                 if self.is_misplaced(body) {
                     Some(Fault::StrayBranch)
-                } else if self.is_redefinition(line) {
+                } else if self.is_redefinition(defines) {
                     Some(Fault::DefinedTwice)
                 } else {
                     self.fault_of_value(body, value)
@@ -245,18 +269,25 @@ impl Pass {
     }
 
     /// The fault of the line, where it is live.
-    fn fault_of(&self, live: bool, line: &Line, value: Result<i32, Fault>) -> Option<Fault>
+    fn fault_of(
+        &self,
+        live: bool,
+        line: &Line,
+        defines: Option<NameId>,
+        value: Result<i32, Fault>,
+    ) -> Option<Fault>
+        requires { IsNumberOf self.now.names.keys defines (name_defined (seen_line line.now)) }
         ensures fault { (before : List Placed) → Follows self.now before
             → value ≡ value_at (symbols before) (body_of (seen_line line.now))
             → result ≡ (if live then first_fault before (seen_line line.now) else None) }
         ensures new_name { live ≡ true → result ≡ None
-            → is_redefinition self.now.names (name_defined (seen_line line.now)) ≡ false }
+            → is_redefinition self.now.names.symbols (name_defined (seen_line line.now)) ≡ false }
         ensures fits { live ≡ true → result ≡ None
             → fault_of_value self.now.aligning self.now.here (body_of (seen_line line.now)) value
             ≡ None }
     {
         if live {
-            self.first_fault(line, value)
+            self.first_fault(line, defines, value)
         } else {
             None
         }
@@ -281,14 +312,22 @@ impl Pass {
     }
 
     /// What holds of the next line. The value of its expression may be known.
-    fn place(&self, number: usize, known: Option<i32>, line: &Line) -> Placement
+    fn place(
+        &self,
+        number: usize,
+        known: Option<i32>,
+        line: &Line,
+        defines: Option<NameId>,
+    ) -> Placement
         requires number { number ≤ MOST_LINES + 1 }
-        requires known { IsKnownUnder self.now.names known (seen_line line.now) }
+        requires known { IsKnownUnder self.now.names.symbols known (seen_line line.now) }
+        requires defines { IsNumberOf self.now.names.keys defines
+            (name_defined (seen_line line.now)) }
         ensures placed { (before : List Placed) → Follows self.now before
             → number ≡ length before + 1
             → result ≡ placement_of (place before (seen_line line.now)) }
         ensures new_name { is_placed result ≡ true
-            → is_redefinition self.now.names (name_defined (seen_line line.now)) ≡ false }
+            → is_redefinition self.now.names.symbols (name_defined (seen_line line.now)) ≡ false }
         ensures fits { is_placed result ≡ true
             → fault_of_value self.now.aligning self.now.here (body_of (seen_line line.now))
             (Ok result.value) ≡ None }
@@ -303,7 +342,7 @@ impl Pass {
         let live = self.is_live(body);
         let read = self.value_at(known, body);
         let value = or_zero(read);
-        let fault = self.fault_of(live, line, read);
+        let fault = self.fault_of(live, line, defines, read);
         let size = self.size_of(is_passed(live, fault), body, value);
         Placement {
             value,
@@ -319,13 +358,16 @@ impl Pass {
     /// Goes on by one line, and says what holds of it. The value of its expression may be known.
     pub(crate) fn step(
         &mut self,
-        alloc: Global,
         number: usize,
         known: Option<i32>,
         line: &Line,
+        defines: Option<NameId>,
     ) -> Result<Placement, AllocError>
         requires number { number ≤ MOST_LINES + 1 }
-        requires known { IsKnownUnder self.old.names known (seen_line line.now) }
+        requires known { IsKnownUnder self.old.names.symbols known (seen_line line.now) }
+        requires defines { IsNumberOf self.old.names.keys defines
+            (name_defined (seen_line line.now)) }
+        ensures keeps { KeepsBefore self.old.names self.new.names }
         ensures found { (lines : List Reading) → Follows self.old (placed lines)
             → number ≡ length lines + 1
             → IfOk result (λ placement. placement
@@ -336,7 +378,7 @@ impl Pass {
     {
         let empty = Body::Empty;
         let body = body_or(line, &empty);
-        let placement = self.place(number, known, line);
+        let placement = self.place(number, known, line, defines);
         let accepted = placement.is_accepted();
         let opened = Block {
             number,
@@ -344,7 +386,7 @@ impl Pass {
             holds: self.condition(body),
             has_else: false,
         };
-        self.define(alloc, accepted, number, line, placement.value)?;
+        self.define(accepted, number, line, defines, placement.value)?;
         move_blocks(&mut self.blocks, body, opened)?;
         self.advance(
             body,
@@ -357,10 +399,11 @@ impl Pass {
         Ok(placement)
     }
 
-    /// Notes whether a line that is no ELSE or ENDIF is live here.
+    /// Notes whether a line other than ELSE or ENDIF is live here.
     fn note_live(&mut self)
-        ensures live { self.new.live
-            ≡ (not self.new.ended && list_all (λ b. b.holds) self.new.blocks.items) }
+        ensures live { (nearest : List Block) → self.new.blocks.items ≡ reverse nearest
+            → (self.new.ended ≡ false → AreNested nearest)
+            → self.new.live ≡ (not self.new.ended && list_all (λ b. b.holds) self.new.blocks.items) }
         ensures here { self.new.here ≡ self.old.here }
         ensures aligning { self.new.aligning ≡ self.old.aligning }
         ensures ended { self.new.ended ≡ self.old.ended }
@@ -368,13 +411,6 @@ impl Pass {
         ensures names { self.new.names ≡ self.old.names }
     {
         self.live = !self.ended && all_hold(&self.blocks);
-    }
-
-    /// Whether a name is there already.
-    fn is_given(&self, name: &[u8]) -> bool
-        ensures { result ≡ is_redefinition self.now.names (Some name.now) }
-    {
-        !self.names.is_next(name) && self.names.symbol(name).is_some()
     }
 
     /// The fault of a line of this size of which nothing else is asked but its name, which is there
@@ -399,7 +435,7 @@ impl Pass {
     fn place_bare(&self, number: usize, size: usize, twice: bool) -> Placement
         requires { number ≤ MOST_LINES + 1 }
         ensures placed { (lines : List Reading) (line : Reading) (name : Option Name)
-            → IsBare line name size → twice ≡ is_redefinition self.now.names name
+            → IsBare line name size → twice ≡ is_redefinition self.now.names.symbols name
             → Follows self.now (placed lines) → number ≡ length lines + 1
             → result ≡ placement_of (place (placed lines) line) }
         ensures here { result.here ≡ self.now.here }
@@ -429,48 +465,53 @@ impl Pass {
         ensures follows { (lines : List Reading) (line : Reading) → IsBare line None size
             → Follows self.old (placed lines) → number ≡ length lines + 1
             → Follows self.new (placed (lines ++ line ∷ [])) }
+        ensures keeps { KeepsBefore self.old.names self.new.names }
     {
         let placement = self.place_bare(number, size, false);
         self.here += placement.size as usize;
         placement
     }
 
-    /// Goes on by such a line with a name.
+    /// Goes on by such a line with the name of a number.
     pub(crate) fn step_labelled(
         &mut self,
-        alloc: Global,
         number: usize,
         size: usize,
-        name: &[u8],
+        id: NameId,
     ) -> Result<Placement, AllocError>
-        requires { number ≤ MOST_LINES + 1 }
-        ensures found { (lines : List Reading) (line : Reading) → IsBare line (Some name.now) size
+        requires number { number ≤ MOST_LINES + 1 }
+        requires id { id.number < length self.old.names.keys }
+        ensures found { (lines : List Reading) (line : Reading) (name : Name)
+            → IsNumber self.old.names.keys id name → IsBare line (Some name) size
             → Follows self.old (placed lines) → number ≡ length lines + 1
             → IfOk result (λ placement. placement ≡ placement_of (place (placed lines) line)) }
-        ensures follows { (lines : List Reading) (line : Reading) → IsBare line (Some name.now) size
+        ensures follows { (lines : List Reading) (line : Reading) (name : Name)
+            → IsNumber self.old.names.keys id name → IsBare line (Some name) size
             → Follows self.old (placed lines) → number ≡ length lines + 1
             → OnOk result (Follows self.new (placed (lines ++ line ∷ []))) }
+        ensures keeps { KeepsBefore self.old.names self.new.names }
     {
-        let twice = self.is_given(name);
+        let twice = self.names.is_defined(id);
         let placement = self.place_bare(number, size, twice);
-        self.note_label(alloc, placement.is_accepted(), number, name)?;
+        self.note_label(placement.is_accepted(), number, id)?;
         self.here += placement.size as usize;
         Ok(placement)
     }
 
-    /// Notes a name with the address where the pass stands, where its line is accepted.
-    fn note_label(
-        &mut self,
-        alloc: Global,
-        accepted: bool,
-        number: usize,
-        name: &[u8],
-    ) -> Result<(), AllocError>
-        requires { accepted ≡ true → is_redefinition self.old.names (Some name.now) ≡ false }
-        ensures names { OnOk result (self.new.names
-            ≡ self.old.names ++ option_to_list (if accepted
-            then Some (name.now, record { value = pos self.old.here; line = number })
+    /// Notes the name of a number with the address where the pass stands, where its line is
+    /// accepted.
+    fn note_label(&mut self, accepted: bool, number: usize, id: NameId) -> Result<(), AllocError>
+        requires id { id.number < length self.old.names.keys }
+        requires new { accepted ≡ true → lookup_name self.old.names.symbols
+            (key_at self.old.names.keys id.number) ≡ None }
+        ensures names { OnOk result (self.new.names.symbols
+            ≡ self.old.names.symbols ++ option_to_list (if accepted
+            then Some (
+              key_at self.old.names.keys id.number,
+              record { value = pos self.old.here; line = number },
+            )
             else None)) }
+        ensures keeps { KeepsBefore self.old.names self.new.names }
         ensures here { self.new.here ≡ self.old.here }
         ensures aligning { self.new.aligning ≡ self.old.aligning }
         ensures ended { self.new.ended ≡ self.old.ended }
@@ -484,16 +525,16 @@ impl Pass {
             value: self.here as i32,
             line: number,
         };
-        self.names.define(alloc, name, symbol)
+        self.names.define(id, symbol)
     }
 
     /// Whether the condition of an IF line holds.
     fn condition(&self, body: &Body) -> bool
-        ensures { result ≡ condition_of self.now.names (seen_body body.now) }
+        ensures { result ≡ condition_of self.now.names.symbols (seen_body body.now) }
     {
         match body {
-            Body::Ifdef(name) => self.names.symbol(name.get()).is_some(),
-            Body::Ifund(name) => self.names.symbol(name.get()).is_none(),
+            Body::Ifdef(name) => self.names.is_given(name.get()),
+            Body::Ifund(name) => !self.names.is_given(name.get()),
             _ => false,
         }
     }
@@ -501,43 +542,45 @@ impl Pass {
     /// Notes the name that a line gives, where it is accepted.
     fn define(
         &mut self,
-        alloc: Global,
         accepted: bool,
         number: usize,
         line: &Line,
+        defines: Option<NameId>,
         value: i32,
     ) -> Result<(), AllocError>
-        requires { accepted ≡ true
-            → is_redefinition self.old.names (name_defined (seen_line line.now)) ≡ false }
-        ensures names { OnOk result (self.new.names
-            ≡ self.old.names ++ option_to_list (if accepted
+        requires defines { IsNumberOf self.old.names.keys defines
+            (name_defined (seen_line line.now)) }
+        requires new { accepted ≡ true
+            → is_redefinition self.old.names.symbols (name_defined (seen_line line.now)) ≡ false }
+        ensures names { OnOk result (self.new.names.symbols
+            ≡ self.old.names.symbols ++ option_to_list (if accepted
             then symbol_given number self.old.here value (seen_line line.now)
             else None)) }
+        ensures keeps { KeepsBefore self.old.names self.new.names }
         ensures here { self.new.here ≡ self.old.here }
         ensures aligning { self.new.aligning ≡ self.old.aligning }
         ensures ended { self.new.ended ≡ self.old.ended }
         ensures blocks { self.new.blocks ≡ self.old.blocks }
     {
+        let Some(id) = defines else {
+            return Ok(());
+        };
         if !accepted {
             return Ok(());
         }
         let empty = Body::Empty;
-        let value = match body_or(&*line, &empty) {
+        let value = match body_or(line, &empty) {
             Body::Equ(_) => value,
             Body::Define => 0,
             _ => self.here as i32,
         };
-        match defines(line) {
-            Some(name) => self.names.define(
-                alloc,
-                name,
-                Symbol {
-                    value,
-                    line: number,
-                },
-            ),
-            None => Ok(()),
-        }
+        self.names.define(
+            id,
+            Symbol {
+                value,
+                line: number,
+            },
+        )
     }
 
     /// Moves past a line of this size.

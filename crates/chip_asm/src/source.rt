@@ -4,34 +4,28 @@ ghost use Rattle.std.specs.Option.{option_copied};
 ghost use Rattle.chip_lang.specs.Line.{upper};
 ghost use Rattle.chip_lang.specs.Meter.{one_more};
 ghost use Rattle.chip_asm.specs.Edits.{insert_refusal, replace_refusal, delete_refusal, before_insert, before_replace, before_delete};
-ghost use Rattle.chip_asm.specs.Changes.{ChangesWithin};
 ghost use Rattle.chip_asm.specs.Work.{lines_to_encode, accepted_of};
 ghost use Rattle.chip_asm.specs.Names.{lookup_name};
 ghost use Rattle.chip_asm.specs.Listing.{listing_of};
 ghost use Rattle.chip_asm.specs.Program.{symbols_of, fault_at, faults_of, image_of};
 
-use crate::changed::{Changed, NOTHING};
 use crate::cut::read_lines;
 use crate::edit::Edit;
-use crate::image::{fault_of_number, faults_in};
 use crate::kept::Kept;
 use crate::kept_line::read_kept;
 use crate::listing::listing_in;
 use crate::refusal::{OpenError, Refusal, delete_refusal, insert_refusal, replace_refusal};
-use crate::table::Symbol;
-use crate::way::Way;
+use crate::table::{Symbol, Table};
 use chip_lang::limits::IMAGE_BYTES;
 use chip_lang::{Bytes, Fault, Meter};
 use std::alloc::{AllocError, Global};
 use std::marker::Model;
-use std::ops::Range;
 
 /// The lines of a source, with all that is known of them kept under edits.
 #[derive(Drop)]
 pub struct Source {
     kept: Kept,
     meter: Meter,
-    changed: Changed,
 }
 
 impl Model for Source {
@@ -45,9 +39,6 @@ impl Model for Source {
     ghost view = { λ s. record {
       lines = texts_in s.kept.lines.items;
       work = s.meter;
-      first_changed = s.changed.first;
-      end_changed = s.changed.end;
-      way = s.changed.way;
     } };
 
     ghost invariant = { λ s. IsKept s.kept };
@@ -67,7 +58,6 @@ impl Source {
         Source {
             kept: Kept::new(alloc),
             meter: Meter::new(),
-            changed: NOTHING,
         }
     }
 
@@ -95,13 +85,10 @@ impl Source {
         ensures encoded { IfOk result (λ s. s.work.encoded ≤ accepted_of s.lines) }
     {
         let mut meter = Meter::new();
-        let lines = read_lines(alloc, &mut meter, source)?;
-        let kept = Kept::open(alloc, &mut meter, lines)?;
-        Ok(Source {
-            kept,
-            meter,
-            changed: NOTHING,
-        })
+        let mut names = Table::new(alloc);
+        let lines = read_lines(alloc, &mut meter, &mut names, source)?;
+        let kept = Kept::open(alloc, &mut meter, names, lines)?;
+        Ok(Source { kept, meter })
     }
 
     /// How many lines there are.
@@ -126,28 +113,11 @@ impl Source {
         self.kept.image()
     }
 
-    /// Which places of the image the last accepted edit changed, counted from its first byte; none
-    /// before the first edit. Where there was an image before the edit and is one after it, the two
-    /// agree outside them.
-    pub fn changed(&self) -> Range<usize>
-        ensures first { result.start ≡ self.now.first_changed }
-        ensures end { result.end ≡ self.now.end_changed }
-    {
-        self.changed.first..self.changed.end
-    }
-
-    /// How the last accepted edit was made; [`Way::Walked`] before the first one.
-    pub fn way(&self) -> Way
-        ensures { result ≡ self.now.way }
-    {
-        self.changed.way
-    }
-
     /// The value of a name, in either case, and the number of the line that gives it.
     pub fn symbol(&self, name: &[u8]) -> Option<Symbol>
         ensures { result ≡ lookup_name (symbols_of self.now.lines) (map upper name.now) }
     {
-        self.kept.layout.names.symbol_in_any_case(name)
+        self.kept.names.symbol_in_any_case(name)
     }
 
     /// The fault of the line of this number, counted from 1; none where the line has none or there
@@ -155,7 +125,7 @@ impl Source {
     pub fn fault(&self, number: usize) -> Option<Fault>
         ensures { result ≡ fault_at self.now.lines number }
     {
-        fault_of_number(&self.kept.lines, &self.kept.layout, number)
+        self.kept.fault(number)
     }
 
     /// The names that the source gives, in line order, each with its value and the number of its
@@ -163,14 +133,14 @@ impl Source {
     pub fn symbols(&self, alloc: Global) -> Result<Vec<(Bytes, Symbol)>, AllocError>
         ensures { IfOk result (λ symbols. symbols.items ≡ symbols_of self.now.lines) }
     {
-        self.kept.layout.names.symbols(alloc)
+        self.kept.names.symbols(alloc)
     }
 
     /// All faults, in line order, each with the number of its line. Err where memory ran out.
     pub fn faults(&self, alloc: Global) -> Result<Vec<(usize, Fault)>, AllocError>
         ensures { IfOk result (λ faults. faults.items ≡ faults_of self.now.lines) }
     {
-        faults_in(alloc, &self.kept.lines, &self.kept.layout)
+        self.kept.faults(alloc)
     }
 
     /// The listing: a line for each line, with its number, its address, its bytes or value or
@@ -178,7 +148,7 @@ impl Source {
     pub fn listing(&self, alloc: Global) -> Result<Vec<u8>, AllocError>
         ensures { IfOk result (λ listing. listing.items ≡ listing_of self.now.lines) }
     {
-        listing_in(alloc, &self.kept.lines, &self.kept.layout)
+        listing_in(alloc, &self.kept.lines, &self.kept.layout, &self.kept.codes)
     }
 
     /// Puts a line before line `number`, counted from 1, or after the last one. A refused edit
@@ -191,9 +161,6 @@ impl Source {
             ⊎ ((e ≡ Refusal.OutOfMemory)
             × (insert_refusal (length self.old.lines) number text.now ≡ None))) }
         ensures same { OnErr result (self.new.lines ≡ self.old.lines) }
-        ensures changed { OnOk result
-            (ChangesWithin self.new.first_changed self.new.end_changed (image_of self.old.lines)
-            (image_of self.new.lines)) }
         ensures refused { IsSome (insert_refusal (length self.old.lines) number text.now)
             → self.new.work ≡ self.old.work }
         ensures parsed { insert_refusal (length self.old.lines) number text.now ≡ None
@@ -207,11 +174,9 @@ impl Source {
         if let Some(refusal) = insert_refusal(self.kept.lines.len(), number, text) {
             return Err(refusal);
         }
-        let added = read_kept(alloc, &mut self.meter, text)?;
-        let changed = self
-            .kept
+        let added = read_kept(alloc, &mut self.meter, &mut self.kept.names, text)?;
+        self.kept
             .edit(alloc, &mut self.meter, Edit::Insert(number - 1, added))?;
-        self.changed = changed;
         Ok(())
     }
 
@@ -225,9 +190,6 @@ impl Source {
             ⊎ ((e ≡ Refusal.OutOfMemory)
             × (replace_refusal (length self.old.lines) number text.now ≡ None))) }
         ensures same { OnErr result (self.new.lines ≡ self.old.lines) }
-        ensures changed { OnOk result
-            (ChangesWithin self.new.first_changed self.new.end_changed (image_of self.old.lines)
-            (image_of self.new.lines)) }
         ensures refused { IsSome (replace_refusal (length self.old.lines) number text.now)
             → self.new.work ≡ self.old.work }
         ensures parsed { replace_refusal (length self.old.lines) number text.now ≡ None
@@ -241,11 +203,9 @@ impl Source {
         if let Some(refusal) = replace_refusal(self.kept.lines.len(), number, text) {
             return Err(refusal);
         }
-        let added = read_kept(alloc, &mut self.meter, text)?;
-        let changed = self
-            .kept
+        let added = read_kept(alloc, &mut self.meter, &mut self.kept.names, text)?;
+        self.kept
             .edit(alloc, &mut self.meter, Edit::Replace(number - 1, added))?;
-        self.changed = changed;
         Ok(())
     }
 
@@ -258,9 +218,6 @@ impl Source {
             ⊎ ((e ≡ Refusal.OutOfMemory)
             × (delete_refusal (length self.old.lines) number ≡ None))) }
         ensures same { OnErr result (self.new.lines ≡ self.old.lines) }
-        ensures changed { OnOk result
-            (ChangesWithin self.new.first_changed self.new.end_changed (image_of self.old.lines)
-            (image_of self.new.lines)) }
         ensures refused { IsSome (delete_refusal (length self.old.lines) number)
             → self.new.work ≡ self.old.work }
         ensures parsed { self.new.work.parsed ≡ self.old.work.parsed }
@@ -273,10 +230,8 @@ impl Source {
         if let Some(refusal) = delete_refusal(self.kept.lines.len(), number) {
             return Err(refusal);
         }
-        let changed = self
-            .kept
+        self.kept
             .edit(alloc, &mut self.meter, Edit::Delete(number - 1))?;
-        self.changed = changed;
         Ok(())
     }
 }

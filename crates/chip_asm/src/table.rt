@@ -1,16 +1,17 @@
-//! The names of a source.
-ghost use Rattle.std.specs.Prelude.{◌≡◌, ◌≢◌, ◌++◌, [], ◌∷◌, ℕ, OnOk, IfOk, IfSome, None, Some, true, false, length, map, take, drop, slice_get, slice_index_or, ◌<◌, ◌≤◌};
+//! The symbols of a source.
+ghost use Rattle.std.specs.Prelude.{◌≡◌, ◌++◌, [], ◌∷◌, ◌<◌, ℕ, List, OnOk, OnErr, IfOk, None, Some, Option, is_some, length, map};
 ghost use Rattle.std.specs.Str.{bytes_eq};
 ghost use Rattle.chip_lang.specs.Line.{upper};
-ghost use Rattle.chip_lang.specs.Value.{value_of_name};
-ghost use Rattle.chip_asm.specs.Names.{lookup_name, valued, values_of};
+ghost use Rattle.chip_lang.specs.Uses.{has_same_value};
+ghost use Rattle.chip_asm.specs.Names.{Name, lookup_name, values_of};
+ghost use Rattle.chip_asm.specs.inner.Tables.{AreOver, AreUpTo, Extends, IsNumber, KeepsBefore, key_at, symbols_at};
 
-use crate::shift::Shift;
 use chip_lang::short_bytes::upper;
 use chip_lang::{Bytes, Names};
-use indexmap::IndexMap;
+use indexmap::IndexSet;
 use std::alloc::{AllocError, Global};
 use std::marker::Model;
+use std::mem;
 
 /// The value of a name, and the number of the line that gives it.
 #[derive(Clone, Copy, Debug, PartialEq, Eq)]
@@ -19,6 +20,266 @@ pub struct Symbol {
     pub value: i32,
     /// The number of the line, counted from 1.
     pub line: usize,
+}
+
+/// The number of a name, which it keeps as long as there is the table.
+#[derive(Clone, Copy)]
+pub(crate) struct NameId {
+    pub(crate) number: u32,
+}
+
+/// A name that a line gives, with what it means.
+#[derive(Clone, Copy)]
+pub(crate) struct Entry {
+    pub(crate) id: NameId,
+    pub(crate) symbol: Symbol,
+}
+
+/// What lines give: the symbols in line order, and the value of each name at its number.
+#[derive(Drop)]
+pub(crate) struct Definitions {
+    pub(crate) entries: Vec<Entry>,
+    pub(crate) values: Vec<Option<i32>>,
+}
+
+impl Definitions {
+    fn new(alloc: Global) -> Self
+        ensures entries { result.entries.items ≡ [] }
+        ensures values { result.values.items ≡ [] }
+    {
+        Definitions {
+            entries: Vec::new(alloc),
+            values: Vec::new(alloc),
+        }
+    }
+
+    /// Makes it the same as another one. The growths come first.
+    fn copy_from(&mut self, other: &Definitions) -> Result<(), AllocError>
+        ensures entries { OnOk result (self.new.entries.items ≡ other.now.entries.items) }
+        ensures values { OnOk result (self.new.values.items ≡ other.now.values.items) }
+        ensures same_entries { OnErr result (self.new.entries.items ≡ self.old.entries.items) }
+        ensures same_values { OnErr result (self.new.values.items ≡ self.old.values.items) }
+    {
+        self.entries.reserve(other.entries.len())?;
+        self.values.reserve(other.values.len())?;
+        self.entries.clear();
+        let _ = self.entries.extend_from_slice(&other.entries);
+        self.values.clear();
+        let _ = self.values.extend_from_slice(&other.values);
+        Ok(())
+    }
+}
+
+/// When a name is looked for: now, or before the edit.
+#[derive(Clone, Copy)]
+pub(crate) enum Time {
+    Now,
+    Past,
+}
+
+/// The table of symbols. Names are in upper case. Each has a number as soon as a line uses or
+/// defines it, which stays. The symbols are those now, and those before the edit.
+#[derive(Drop)]
+pub(crate) struct Table {
+    pub(crate) keys: IndexSet<Vec<u8>>,
+    pub(crate) current: Definitions,
+    pub(crate) past: Definitions,
+}
+
+impl Model for Table {
+    ghost use Rattle.std.specs.Prelude.{map};
+    ghost use Rattle.chip_asm.specs.inner.Tables.{AreApart, AreDefined, Tables, symbols_in};
+
+    ghost Value = { Tables };
+
+    ghost view = { λ t. record {
+      keys = map (λ k. k.items) t.keys.keys;
+      symbols = symbols_in (map (λ k. k.items) t.keys.keys) t.current.entries.items;
+      before = symbols_in (map (λ k. k.items) t.keys.keys) t.past.entries.items;
+    } };
+
+    ghost invariant = { λ t. AreApart (map (λ k. k.items) t.keys.keys)
+        × (AreDefined (map (λ k. k.items) t.keys.keys) t.current
+        × AreDefined (map (λ k. k.items) t.keys.keys) t.past) };
+}
+
+impl Table {
+    ghost use Rattle.chip_asm.specs.declared.table.Symbol.{Symbol};
+
+    pub(crate) fn new(alloc: Global) -> Self
+        ensures keys { result.keys ≡ [] }
+        ensures symbols { result.symbols ≡ [] }
+    {
+        Table {
+            keys: IndexSet::new(alloc),
+            current: Definitions::new(alloc),
+            past: Definitions::new(alloc),
+        }
+    }
+
+    /// The number of a name, which is a new one where the name has none.
+    pub(crate) fn number(&mut self, alloc: Global, name: &[u8]) -> Result<NameId, AllocError>
+        ensures keys { Extends self.old.keys self.new.keys }
+        ensures symbols { self.new.symbols ≡ self.old.symbols }
+        ensures before { self.new.before ≡ self.old.before }
+        ensures id { IfOk result (λ id. IsNumber self.new.keys id name.now) }
+    {
+        let index = match self.keys.get_index_of(name) {
+            Some(index) => index,
+            None => self.add(alloc, name)?,
+        };
+        match u32::try_from(index) {
+            Ok(number) => Ok(NameId { number }),
+            Err(_) => Err(AllocError),
+        }
+    }
+
+    /// Adds a name that isn't there.
+    fn add(&mut self, alloc: Global, name: &[u8]) -> Result<usize, AllocError>
+        ensures keys { Extends self.old.keys self.new.keys }
+        ensures symbols { self.new.symbols ≡ self.old.symbols }
+        ensures before { self.new.before ≡ self.old.before }
+        ensures within { IfOk result (λ index. index < length self.new.keys) }
+        ensures named { IfOk result (λ index. key_at self.new.keys index ≡ name.now) }
+    {
+        let key = Vec::from_slice(alloc, name)?;
+        self.current.values.reserve(1)?;
+        self.past.values.reserve(1)?;
+        let (index, is_new) = self.keys.insert_full(key)?;
+        if is_new {
+            let _ = self.current.values.push(None);
+            let _ = self.past.values.push(None);
+        }
+        Ok(index)
+    }
+
+    /// Begins an edit before which the lines up to a number stay: the symbols are theirs, and those
+    /// before the edit are kept apart.
+    pub(crate) fn begin(&mut self, number: usize) -> Result<(), AllocError>
+        ensures keys { self.new.keys ≡ self.old.keys }
+        ensures before { OnOk result (self.new.before ≡ self.old.symbols) }
+        ensures symbols { OnOk result ((early later : List (Name × Symbol))
+            → self.old.symbols ≡ early ++ later → AreUpTo number early → AreOver number later
+            → self.new.symbols ≡ early) }
+        ensures same { OnErr result (self.new.symbols ≡ self.old.symbols) }
+    {
+        self.past.copy_from(&self.current)?;
+        while let Some(entry) = self.current.entries.last() {
+            if entry.symbol.line <= number {
+                break;
+            }
+            let id = entry.id;
+            self.current.values[id.number as usize] = None;
+            self.current.entries.pop();
+        }
+        Ok(())
+    }
+
+    /// Takes an edit back.
+    pub(crate) fn restore(&mut self)
+        ensures keys { self.new.keys ≡ self.old.keys }
+        ensures symbols { self.new.symbols ≡ self.old.before }
+        ensures before { self.new.before ≡ self.old.symbols }
+    {
+        mem::swap(&mut self.current, &mut self.past);
+    }
+
+    /// Whether the name of a number has a symbol.
+    pub(crate) fn is_defined(&self, id: NameId) -> bool
+        requires { id.number < length self.now.keys }
+        ensures { result
+            ≡ is_some (lookup_name self.now.symbols (key_at self.now.keys id.number)) }
+    {
+        self.current.values[id.number as usize].is_some()
+    }
+
+    /// Whether a name has a symbol.
+    pub(crate) fn is_given(&self, name: &[u8]) -> bool
+        ensures { result ≡ is_some (lookup_name self.now.symbols name.now) }
+    {
+        match self.keys.get_index_of(name) {
+            Some(index) => self.current.values[index].is_some(),
+            None => false,
+        }
+    }
+
+    /// Whether the name of a number has the value, or none, that it had before the edit.
+    pub(crate) fn keeps_value(&self, id: NameId) -> bool
+        requires { id.number < length self.now.keys }
+        ensures { result
+            ≡ has_same_value (values_of self.now.before) (values_of self.now.symbols)
+            (key_at self.now.keys id.number) }
+    {
+        let index = id.number as usize;
+        self.past.values[index] == self.current.values[index]
+    }
+
+    /// The value and the line of a name in either case.
+    pub(crate) fn symbol_in_any_case(&self, name: &[u8]) -> Option<Symbol>
+        ensures { result ≡ lookup_name self.now.symbols (map upper name.now) }
+    {
+        for entry in &self.current.entries {
+            if is_spelled(name, self.name(entry.id)) {
+                return Some(entry.symbol);
+            }
+        }
+        None
+    }
+
+    /// The name of a number.
+    fn name(&self, id: NameId) -> &[u8]
+        requires { id.number < length self.now.keys }
+        ensures { result.now ≡ key_at self.now.keys id.number }
+    {
+        match self.keys.get_index(id.number as usize) {
+            Some(key) => key,
+            None => unreachable!(),
+        }
+    }
+
+    /// The names in line order, each with its value and line.
+    pub(crate) fn symbols(&self, alloc: Global) -> Result<Vec<(Bytes, Symbol)>, AllocError>
+        ensures { IfOk result (λ symbols. symbols.items ≡ self.now.symbols) }
+    {
+        let mut symbols = Vec::with_capacity(alloc, self.current.entries.len())?;
+        for entry in &self.current.entries {
+            let name = Bytes::from_slice(alloc, self.name(entry.id))?;
+            symbols.push((name, entry.symbol))?;
+        }
+        Ok(symbols)
+    }
+
+    /// How many names have a number.
+    pub(crate) fn count(&self) -> usize
+        ensures { result ≡ length self.now.keys }
+    {
+        self.keys.len()
+    }
+
+    /// The same symbols in a table without other names.
+    pub(crate) fn with_symbols_alone(&self, alloc: Global) -> Result<Table, AllocError>
+        ensures { IfOk result (λ table. table.symbols ≡ self.now.symbols) }
+    {
+        let mut table = Table::new(alloc);
+        for entry in &self.current.entries {
+            let id = table.number(alloc, self.name(entry.id))?;
+            table.define(id, entry.symbol)?;
+        }
+        Ok(table)
+    }
+
+    /// Adds the symbol of a name that has none.
+    pub(crate) fn define(&mut self, id: NameId, symbol: Symbol) -> Result<(), AllocError>
+        requires within { id.number < length self.old.keys }
+        requires new { lookup_name self.old.symbols (key_at self.old.keys id.number) ≡ None }
+        ensures symbols { OnOk result (self.new.symbols
+            ≡ self.old.symbols ++ (key_at self.old.keys id.number, symbol) ∷ []) }
+        ensures keeps { KeepsBefore self.old self.new }
+    {
+        self.current.entries.push(Entry { id, symbol })?;
+        self.current.values[id.number as usize] = Some(symbol.value);
+        Ok(())
+    }
 }
 
 /// Whether a text in either case spells a name.
@@ -34,354 +295,22 @@ fn is_spelled(text: &[u8], name: &[u8]) -> bool
     upper(*byte) == *letter && is_spelled(text, name)
 }
 
-/// Whether the entry at an index has this name.
-fn is_key_at(symbols: &IndexMap<Vec<u8>, Symbol>, index: usize, name: &[u8]) -> bool
-    ensures { result ≡ true
-        → IfSome (slice_get symbols.now.entries index) (λ e. e.0.items ≡ name.now) }
-{
-    match symbols.get_index(index) {
-        Some((key, _)) => key.as_slice() == name,
-        None => false,
-    }
+/// A table at a time.
+#[derive(Clone, Copy)]
+pub(crate) struct Scope<'a> {
+    pub(crate) table: &'a Table,
+    pub(crate) time: Time,
 }
 
-/// The names in line order, each with its value and line: the first `count` entries. Names are in
-/// upper case. The entries after them are of no meaning; a name that stands there at the right
-/// place needs no new key.
-#[derive(Drop)]
-pub(crate) struct Table {
-    pub(crate) symbols: IndexMap<Vec<u8>, Symbol>,
-    pub(crate) count: usize,
-}
-
-impl Model for Table {
-    ghost use Rattle.std.specs.Prelude.{List, map, take, length, ◌≤◌};
-    ghost use Rattle.chip_asm.specs.declared.table.Symbol.{Symbol};
-    ghost use Rattle.chip_asm.specs.Names.{Name};
-
-    ghost Value = { List (Name × Symbol) };
-
-    ghost view = { λ t. map (λ e. (e.0.items, e.1)) (take t.count t.symbols.entries) };
-
-    ghost invariant = { λ t. t.count ≤ length t.symbols.entries };
-}
-
-impl Table {
-    ghost use Rattle.chip_asm.specs.inner.Resume.{names_up_to};
-    ghost use Rattle.chip_asm.specs.inner.Shift.{moved_name, name_past};
-    ghost use Rattle.chip_asm.specs.inner.Hints.{names_in, number_of};
-    ghost use Rattle.chip_asm.specs.Names.{Name};
-    ghost use Rattle.chip_asm.specs.declared.table.Symbol.{Symbol};
-
-    pub(crate) fn new(alloc: Global) -> Self
-        ensures { result ≡ [] }
-    {
-        Table {
-            symbols: IndexMap::new(alloc),
-            count: 0,
-        }
-    }
-
-    /// Without names; the keys stay for names to come.
-    pub(crate) fn restart(&mut self)
-        ensures { self.new ≡ [] }
-    {
-        self.count = 0;
-    }
-
-    /// Makes it the names that lines up to a number give, of another table.
-    pub(crate) fn take_over(
-        &mut self,
-        alloc: Global,
-        other: &Table,
-        number: usize,
-    ) -> Result<(), AllocError>
-        ensures { OnOk result (self.new ≡ names_up_to number other.now) }
-    {
-        self.restart();
-        for index in 0..other.symbols.len() {
-            let Some((name, symbol)) = other.symbols.get_index(index) else {
-                unreachable!();
-            };
-            if index >= other.count {
-                return Ok(());
-            }
-            if symbol.line > number {
-                return Ok(());
-            }
-            self.define(alloc, name, *symbol)?;
-        }
-        Ok(())
-    }
-
-    /// Adds the other names of another table that begins with the same ones, with what they mean at
-    /// lines that move.
-    pub(crate) fn append_moved(
-        &mut self,
-        alloc: Global,
-        other: &Table,
-        shift: Shift,
-    ) -> Result<(), AllocError>
-        requires { names_in self.old ≡ take (length self.old) (names_in other.now) }
-        ensures { OnOk result (self.new
-            ≡ self.old ++ map (moved_name shift) (drop (length self.old) other.now)) }
-    {
-        let first = self.count;
-        for index in first..other.symbols.len() {
-            let Some((name, symbol)) = other.symbols.get_index(index) else {
-                unreachable!();
-            };
-            if index >= other.count {
-                return Ok(());
-            }
-            self.define(alloc, name, shift.symbol(symbol))?;
-        }
-        Ok(())
-    }
-
-    /// Gives its names, which are those of another table, what they mean after an edit by which the
-    /// lines past that of a number move. No name is compared.
-    pub(crate) fn move_from(&mut self, other: &Table, number: usize, shift: Shift)
-        requires { names_in self.old ≡ names_in other.now }
-        ensures { self.new ≡ map (name_past shift number) other.now }
-    {
-        for index in 0..self.count {
-            let Some((_, symbol)) = other.symbols.get_index(index) else {
-                unreachable!();
-            };
-            self.symbols[index] = shift.symbol_past(number, symbol);
-        }
-    }
-
-    /// Whether the names are those that lines up to a number give, of another table, with which it
-    /// shares so many first ones.
-    pub(crate) fn are_those_up_to(&self, other: &Table, number: usize, known: usize) -> bool
-        requires mine { known ≤ length self.now }
-        requires others { known ≤ length other.now }
-        requires same { take known (names_in self.now) ≡ take known (names_in other.now) }
-        requires early { (index : ℕ) (e : Name × Symbol) → index < known
-            → (slice_index_or other.now index e).1.line ≤ number }
-        ensures { result ≡ true → names_in self.now ≡ names_in (names_up_to number other.now) }
-    {
-        for index in known..other.symbols.len() {
-            let Some((_, symbol)) = other.symbols.get_index(index) else {
-                unreachable!();
-            };
-            if index >= other.count {
-                return index == self.count;
-            }
-            if symbol.line > number {
-                return index == self.count;
-            }
-            if index >= self.count {
-                return false;
-            }
-            if !self.has_same_name_at(other, index) {
-                return false;
-            }
-        }
-        other.count == self.count
-    }
-
-    /// How many names there are.
-    pub(crate) fn len(&self) -> usize
-        ensures { result ≡ length self.now }
-    {
-        self.count
-    }
-
-    /// The value and the line of a name.
-    pub(crate) fn symbol(&self, name: &[u8]) -> Option<Symbol>
-        ensures { result ≡ lookup_name self.now name.now }
-    {
-        match self.symbols.get_full(name) {
-            Some((index, _, symbol)) => {
-                if index < self.count {
-                    Some(*symbol)
-                } else {
-                    None
-                }
-            }
-            None => None,
-        }
-    }
-
-    /// Whether a name is that of the next entry, which doesn't count yet: then it is no name of the
-    /// table.
-    pub(crate) fn is_next(&self, name: &[u8]) -> bool
-        ensures { result ≡ true → lookup_name self.now name.now ≡ None }
-    {
-        self.count < self.symbols.len() && is_key_at(&self.symbols, self.count, name)
-    }
-
-    /// The value of a name, looked for first at an index where it may stand.
-    pub(crate) fn value_near(&self, hint: usize, name: &[u8]) -> Option<i32>
-        ensures { result ≡ value_of_name (values_of self.now) name.now }
-    {
-        if hint < self.symbols.len() && hint < self.count {
-            if let Some((key, symbol)) = self.symbols.get_index(hint) {
-                if key.as_slice() == name {
-                    return Some(symbol.value);
-                }
-            }
-        }
-        self.value(name)
-    }
-
-    /// The number of a name in the table, counted from 1; 0 where it isn't there.
-    pub(crate) fn number_of(&self, name: &[u8]) -> usize
-        ensures { result ≡ number_of (names_in self.now) name.now }
-    {
-        match self.symbols.get_index_of(name) {
-            Some(index) => { if index < self.count { index + 1 } else { 0 } }
-            None => 0,
-        }
-    }
-
-    /// The number of the name that stands at an index of another table, counted from 1; 0 where it
-    /// isn't there.
-    pub(crate) fn number_in(&self, other: &Table, index: usize) -> usize
-        requires { index < length other.now }
-        ensures { (others : Name × Symbol) → slice_get other.now index ≡ Some others
-            → result ≡ number_of (names_in self.now) others.0 }
-    {
-        match other.symbols.get_index(index) {
-            Some((name, _)) => self.number_of(name),
-            None => unreachable!(),
-        }
-    }
-
-    /// Whether both tables have the same names, in the same order.
-    pub(crate) fn has_same_names(&self, other: &Table) -> bool
-        ensures { result ≡ true → names_in self.now ≡ names_in other.now }
-    {
-        if self.count != other.count {
-            return false;
-        }
-        for index in 0..self.count {
-            if !self.has_same_name_at(other, index) {
-                return false;
-            }
-        }
-        true
-    }
-
-    /// Whether both tables have the same name at an index.
-    fn has_same_name_at(&self, other: &Table, index: usize) -> bool
-        requires mine { index < length self.now }
-        requires others { index < length other.now }
-        ensures { result ≡ true
-            → slice_get (names_in self.now) index ≡ slice_get (names_in other.now) index }
-    {
-        match (
-            self.symbols.get_index(index),
-            other.symbols.get_index(index),
-        ) {
-            (Some((name, _)), Some((other_name, _))) => name.as_slice() == other_name.as_slice(),
-            _ => unreachable!(),
-        }
-    }
-
-    /// Whether both tables have the same value at an index.
-    pub(crate) fn is_unmoved_at(&self, other: &Table, index: usize) -> bool
-        requires mine { index < length self.now }
-        requires others { index < length other.now }
-        ensures same { (mine others : Name × Symbol) → slice_get self.now index ≡ Some mine
-            → slice_get other.now index ≡ Some others → result ≡ true
-            → mine.1.value ≡ others.1.value }
-        ensures differs { (mine others : Name × Symbol) → slice_get self.now index ≡ Some mine
-            → slice_get other.now index ≡ Some others → result ≡ false
-            → mine.1.value ≢ others.1.value }
-    {
-        match (
-            self.symbols.get_index(index),
-            other.symbols.get_index(index),
-        ) {
-            (Some((_, symbol)), Some((_, other_symbol))) => symbol.value == other_symbol.value,
-            _ => unreachable!(),
-        }
-    }
-
-    /// Whether the name at an index has the same value in another table, where it may stand at the
-    /// same index.
-    pub(crate) fn keeps_value_at(&self, other: &Table, index: usize) -> bool
-        requires { index < length self.now }
-        ensures { (mine : Name × Symbol) → slice_get self.now index ≡ Some mine → result ≡ true
-            → value_of_name (values_of other.now) mine.0 ≡ Some mine.1.value }
-    {
-        match self.symbols.get_index(index) {
-            Some((name, symbol)) => other.value_near(index, name) == Some(symbol.value),
-            None => unreachable!(),
-        }
-    }
-
-    /// The value and the line of a name in either case.
-    pub(crate) fn symbol_in_any_case(&self, name: &[u8]) -> Option<Symbol>
-        ensures { result ≡ lookup_name self.now (map upper name.now) }
-    {
-        for index in 0..self.count {
-            let Some((key, symbol)) = self.symbols.get_index(index) else {
-                unreachable!();
-            };
-            if is_spelled(name, key) {
-                return Some(*symbol);
-            }
-        }
-        None
-    }
-
-    /// The names in line order, each with its value and line.
-    pub(crate) fn symbols(&self, alloc: Global) -> Result<Vec<(Bytes, Symbol)>, AllocError>
-        ensures { IfOk result (λ symbols. symbols.items ≡ self.now) }
-    {
-        let mut symbols = Vec::new(alloc);
-        for index in 0..self.count {
-            symbols.push(self.entry(alloc, index)?)?;
-        }
-        Ok(symbols)
-    }
-
-    /// The name at an index, with its value and line.
-    fn entry(&self, alloc: Global, index: usize) -> Result<(Bytes, Symbol), AllocError>
-        requires { index < length self.now }
-        ensures { IfOk result (λ entry. slice_get self.now index ≡ Some entry) }
-    {
-        match self.symbols.get_index(index) {
-            Some((name, symbol)) => Ok((Bytes::from_slice(alloc, name)?, *symbol)),
-            None => unreachable!(),
-        }
-    }
-
-    /// Adds a name that is not there yet, after the others.
-    pub(crate) fn define(
-        &mut self,
-        alloc: Global,
-        name: &[u8],
-        symbol: Symbol,
-    ) -> Result<(), AllocError>
-        requires { lookup_name self.old name.now ≡ None }
-        ensures { OnOk result (self.new ≡ self.old ++ (name.now, symbol) ∷ []) }
-    {
-        if self.count < self.symbols.len() && is_key_at(&self.symbols, self.count, name) {
-            self.symbols[self.count] = symbol;
-            self.count += 1;
-            return Ok(());
-        }
-        self.symbols.truncate(self.count);
-        let key = Vec::from_slice(alloc, name)?;
-        self.symbols.insert(key, symbol)?;
-        self.count = self.symbols.len();
-        Ok(())
-    }
-}
-
-impl Names for Table {
-    ghost symbols = { λ t. values_of t };
+impl<'a> Names for Scope<'a> {
+    ghost symbols = { λ s. values_of (symbols_at s.time s.table.now) };
 
     fn value(&self, name: &[u8]) -> Option<i32> {
-        match self.symbol(name) {
-            Some(symbol) => Some(symbol.value),
-            None => None,
+        let table = self.table;
+        let index = table.keys.get_index_of(name)?;
+        match self.time {
+            Time::Now => table.current.values[index],
+            Time::Past => table.past.values[index],
         }
     }
 }

@@ -1,4 +1,4 @@
--- Whether a row has a lit point.
+-- Whether a row has a lit pixel.
 use Rattle.std.proofs.Common.{◌≡◌, ℕ, zero, suc, zero-add, ◌<◌, ◌||◌, Bool, true, false, not, List, [], ◌∷◌, length, refl, sym, ap, ◌∙◌, arith}
 use Rattle.std.specs.Prelude.{◌↔◌, ◌==◌}
 use Rattle.std.specs.List.{list_any, range_with_len}

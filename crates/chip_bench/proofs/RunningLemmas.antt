@@ -48,7 +48,7 @@ empty_opens : open_fault [] ≡ None
 empty_opens = refl
 
 module _ {R W : Type 0} (remaining : R → Option (List ℕ)) (contents : W → Option (List ℕ)) where
-  -- nothing was read or written for want of memory
+  -- nothing was read or written as memory ran out
   stays_put : (settings : SessionSettings) (input : Tally R) (output : Tally W) →
       Converses remaining contents settings [] input input output output (Err fault.OutOfMemory)
   stays_put settings input output = record {

@@ -79,7 +79,7 @@ pub taken_where_ok : {T E X : Type 0} (r : Result T E) (x a b : X) → x ≡ con
 taken_where_ok (Ok t) x a b h = h
 taken_where_ok (Err e) x a b h = tt
 
--- another refusal than want of memory is the definition's
+-- a refusal other than that memory ran out is the definition's
 pub no_memory : {P Q X : Type 0} {e m : X} → P ⊎ ((e ≡ m) × Q) → (e ≡ m → ⊥) → P
 no_memory (inl p) h = p
 no_memory (inr q) h = absurd (h q.0)

@@ -51,11 +51,11 @@ Outcome = Result Ending Failure
 abbrev pub standard_input : List ℕ
 standard_input = codes "-"
 
--- want of memory
+-- that memory ran out
 abbrev pub IsShort : Failure → Type 0
 IsShort why = why ≡ failure.OutOfMemory
 
--- settings that there are not, or want of memory
+-- settings that there are not, or that memory ran out
 abbrev pub IsUnsettled : Failure → Type 0
 IsUnsettled why = (why ≡ failure.BadTape) ⊎ (why ≡ failure.OutOfMemory)
 

@@ -3,7 +3,7 @@ use Rattle.std.specs.Prelude.{◌≡◌, ◌⊎◌, ℕ, List, Result, Ok, Err, 
 use Rattle.chip_bench.specs.declared.refusal.Refusal.{Refusal}
 use Rattle.chip_bench.specs.declared.refusal.Refusal.TheVariants.{AnswerMemory}
 
--- the first refusal that applies, or want of memory where none does
+-- the first refusal that applies, or that memory ran out where none does
 abbrev pub IsUnanswered : Result (List ℕ) Refusal → Refusal → Type 0
 IsUnanswered answer e = (answer ≡ Err e) ⊎ ((e ≡ AnswerMemory) × IsOk answer)
 

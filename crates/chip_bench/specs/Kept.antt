@@ -1,15 +1,13 @@
 -- What a bench keeps beside its lines: the run of the last image that they had (own).
 use Rattle.std.specs.Prelude.{◌≡◌, ◌≢◌, ℕ, ◌≤◌, ◌-◌, ◌+◌, ◌*◌, ◌/◌, List, [], min, Option, Some, None, OnSome, IfNone, unwrap_or, Result, OnOk, IfErr}
-use Rattle.std.specs.Coded.{Coded, code_by, coded×, coded_ℕ, coded_list}
 use Rattle.std.specs.FinMap as map
-use Rattle.std.proofs.Common.{refl}
 use Rattle.chip_machine.specs.State.{State}
 use Rattle.chip_machine.specs.Start.{start_of}
 use Rattle.chip_machine.specs.Step.{step_of, touches}
 use Rattle.chip_replay.specs.Image.{affected}
-use Rattle.chip_replay.specs.Keys.{held, Events, coded_events}
+use Rattle.chip_replay.specs.Keys.{held, Events}
 use Rattle.chip_replay.specs.Run.{run}
-use Rattle.chip_bench.specs.Settings.{SessionSettings, settings_code}
+use Rattle.chip_bench.specs.Settings.{SessionSettings}
 use Rattle.chip_bench.specs.Session.{Text, Session, session_with}
 use Rattle.chip_bench.specs.declared.refusal.Refusal.{Refusal}
 use Rattle.chip_bench.specs.declared.refusal.Refusal.TheVariants.{AnswerMemory}
@@ -22,24 +20,6 @@ pub record KeptRun : Type 0 where
   pub last_image : List ℕ
   pub reach : ℕ
   pub ran : ℕ
-
--- the parts of a kept run, one beside another
-abbrev pub RunParts : Type 0
-RunParts = SessionSettings × (Events × (List ℕ × (ℕ × ℕ)))
-
-abbrev pub kept_run_code : Coded KeptRun
-kept_run_code =
-    code_by RunParts (coded× settings_code
-    (coded× coded_events (coded× (coded_list coded_ℕ) (coded× coded_ℕ coded_ℕ))))
-    (λ kept. (kept.settings, (kept.keys, (kept.last_image, (kept.reach, kept.ran)))))
-    (λ p. record {
-      settings = p.0;
-      keys = p.1.0;
-      last_image = p.1.1.0;
-      reach = p.1.1.1.0;
-      ran = p.1.1.1.1;
-    })
-    (λ _. refl)
 
 -- the run of the empty image, without key events
 abbrev pub empty_run : SessionSettings → KeptRun

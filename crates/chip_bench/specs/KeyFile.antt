@@ -15,7 +15,7 @@ abbrev pub change_refusal : Result Session Refusal → Option Text
 change_refusal (Ok next) = None
 change_refusal (Err why) = Some (refusal_code why)
 
--- the code of a refused edit, or of a line that is no command
+-- the code of a refused edit, or of a line that is not a command
 abbrev pub command_refusal : Session → Result Command CommandFault → Option Text
 command_refusal session (Err fault) = Some (fault_code fault)
 command_refusal session (Ok blank) = None
@@ -45,8 +45,8 @@ key_fault session file = first_refusal session 1 (key_commands file)
 unfoldable pub session_under : Session → List ℕ → Session
 session_under session file = session_after session (key_commands file)
 
--- why the key events of a file can't be made: its first refused line, or want of memory, which may
--- come before it
+-- why the key events of a file can't be made: its first refused line, or that memory ran out, which
+-- may come before it
 abbrev pub IsKeyFault : Option (ℕ × Text) → KeyFileError → Type 0
 IsKeyFault fault (Line number code) = fault ≡ Some (number, code.now)
 IsKeyFault fault OutOfMemory = Unit {0}

@@ -21,8 +21,8 @@
 --     SettingWords what the words of the command line say of settings
 --     Tape         the tape of a seed
 --     Doing        what the program does for each thing that its words can ask for
---     inner        for private contracts: how far a script has been carried out, how the parts of a
---                  kept run fit together, what was read
+--     inner        the models as numbers; for private contracts: how far a script has been carried
+--                  out, how the parts of a kept run fit together, what was read
 pub mod Tally
 pub mod Lines
 pub mod Settings

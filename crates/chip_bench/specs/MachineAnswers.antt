@@ -90,14 +90,14 @@ has_lit lit row = list_any (λ column. is_lit lit column row) (range_with_len 0 
 abbrev pub two_digits : ℕ → List ℕ
 two_digits n = if nat_lt n 10 then 48 ∷ decimal n else decimal n
 
--- a stored row with a lit point: its number, and its points in hexadecimal
+-- a stored row with a lit pixel: its number, and its points in hexadecimal
 unfoldable pub row_line : Points → ℕ → List ℕ
 row_line lit row =
     if has_lit lit row
     then two_digits row ++ codes " " ++ hex_line (stored_row lit row)
     else []
 
--- the rows with a lit point, from the top
+-- the rows with a lit pixel, from the top
 unfoldable pub row_lines : Points → List ℕ
 row_lines lit = flat_map (row_line lit) (range_with_len 0 64)
 

@@ -36,7 +36,7 @@ pub record Printed : Type 0 where
 abbrev pub printed : List ℕ → Ending → Printed
 printed text ending = record { text = text; ending = ending }
 
--- why a source doesn't open, as the program prints it; nothing for want of memory
+-- why a source doesn't open, as the program prints it; nothing where memory ran out
 abbrev pub unopened_text : OpenError → List ℕ
 unopened_text (unopened.LineTooLong number) = codes "no O1\n"
 unopened_text unopened.TooManyLines = codes "no O2\n"
@@ -113,7 +113,7 @@ module _ {W : Type 0} (contents : W → Option (List ℕ)) (old new : Tally W) w
     pub counted : new.failures ≡ one_more old.failures
 
   -- What a command that prints this did: all of it, or a front where a write failed, or nothing for
-  -- want of memory.
+  -- that memory ran out.
   abbrev pub Prints : Printed → Result Ending Failure → Type 0
   Prints wanted (Ok ending) = (ending ≡ wanted.ending) × Writes wanted.text
   Prints wanted (Err failure.Output) = Breaks wanted.text

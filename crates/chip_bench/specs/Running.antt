@@ -59,7 +59,8 @@ module _ {R W : Type 0} (remaining : R → Option (List ℕ)) (contents : W → 
     pub reader_failed : in_new.failures ≡ reader_failures served in_old.failures
     pub writer_failed : out_new.failures ≡ writer_failures served out_old.failures
 
-  -- a source that doesn't open, or want of memory to open it: nothing was read, and it is refused
+  -- a source that doesn't open, or memory ran out as it was opened: nothing was read, and it is
+  -- refused
   pub record Declines (e : OpenError) (result : Result Ending Failure) : Type 0 where
     pub fault : (e ≡ unopened_memory) ⊎ (open_fault source ≡ Some e)
     pub unread : in_new ≡ in_old
@@ -138,7 +139,7 @@ abbrev pub status_of : Result Ending Failure → Bool → ℕ
 status_of (Ok ending) flushed = if flushed then ending_status ending else 3
 status_of (Err failure) flushed = failure_status failure
 
--- words with a fault: they are no request for help, nor in order
+-- words with a fault: they are not a request for help, nor in order
 abbrev pub AreFaulty : Kinds → Type 0
 AreFaulty kinds =
     (kinds ≢ []) × (IsAmong kind.DisplayHelp kinds → ⊥) × (IsAmong kind.DisplayVersion kinds → ⊥)

@@ -41,7 +41,7 @@ Served (Err fault.ReaderFailed) start given rest written =
 -- the writer failed: some front of the transcript
 Served (Err fault.WriterFailed) start given rest written =
     BeginsWith (transcript_of start (lines_of (given ++ rest))) written
--- want of memory: the answers to a number of first complete lines
+-- memory ran out: the answers to a number of first complete lines
 Served (Err fault.OutOfMemory) start given rest written =
     (n : ℕ) × (written ≡ transcript_of start (take n (complete_lines given)))
 -- more input than the bounds allow: the answers to the complete lines within them
@@ -75,7 +75,8 @@ abbrev pub writer_failures : Result Unit ServeError → ℕ → ℕ
 writer_failures (Err fault.WriterFailed) failures = one_more failures
 writer_failures _ failures = failures
 
--- a source fault is the source's own, or want of memory; anything else comes of a source that opens
+-- a source fault is the source's own, or that memory ran out; anything else comes of a source that
+-- opens
 abbrev pub Opens : Option OpenError → Result Unit ServeError → Type 0
 Opens found (Err (fault.Source e)) = (e ≡ memory) ⊎ (found ≡ Some e)
 Opens found _ = found ≡ None

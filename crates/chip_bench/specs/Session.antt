@@ -77,7 +77,7 @@ TakesMemory (replace_event step key down) = ⊥
 TakesMemory (delete_event step key) = ⊥
 TakesMemory change = Unit {0}
 
--- why an edit is refused: the first refusal that applies, or want of memory where none does
+-- why an edit is refused: the first refusal that applies, or that memory ran out where none does
 abbrev pub IsRefused : Session → Change → Refusal → Type 0
 IsRefused session change e =
     (edited session change ≡ Err e)

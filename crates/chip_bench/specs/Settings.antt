@@ -1,8 +1,5 @@
 -- The settings of a session (own).
 use Rattle.std.specs.Prelude.{ℕ, ◌<◌, ◌≤◌, ◌||◌, List, [], ◌∷◌, length, nat_lt, Option, Some, None, if◌then◌else◌}
-use Rattle.std.specs.Coded.{Coded, code_by, coded×, coded_ℕ, coded_list}
-use Rattle.std.proofs.Common.{refl}
-use Rattle.chip_machine.specs.contracts.profile.Profile as profiles
 use Rattle.chip_machine.specs.declared.limits.TheConstants.{TAPE_BYTES}
 use Rattle.chip_machine.specs.declared.profile.Profile.{Profile}
 use Rattle.chip_machine.specs.declared.profile.Profile.TheVariants.{Schip}
@@ -19,14 +16,6 @@ pub record SessionSettings : Type 0 where
   pub tape : List ℕ
   pub profile : Profile
   pub spacing : ℕ
-
-abbrev pub settings_code : Coded SessionSettings
-settings_code =
-    code_by (ℕ × (List ℕ × (Profile × ℕ)))
-    (coded× coded_ℕ (coded× (coded_list coded_ℕ) (coded× profiles.the_row.coded coded_ℕ)))
-    (λ s. (s.rate, (s.tape, (s.profile, s.spacing))))
-    (λ p. record { rate = p.0; tape = p.1.0; profile = p.1.1.0; spacing = p.1.1.1 })
-    (λ _. refl)
 
 -- the settings of a rate and a tape where nothing else is said
 abbrev pub settings_of : ℕ → List ℕ → SessionSettings
@@ -54,6 +43,6 @@ spacing_fault spacing =
     if nat_lt spacing LEAST_SPACING || nat_lt MOST_SPACING spacing then Some SpacingOutOfRange
     else None
 
--- the settings of the program where its words say nothing else
+-- the settings of the program where its words set no other
 abbrev pub default_settings : SessionSettings
 default_settings = settings_of 10 (0 ∷ [])

@@ -1,12 +1,8 @@
 -- What contracts see of a bench (own).
 use Rattle.std.specs.Prelude.{ℕ, List}
-use Rattle.std.specs.Coded.{Coded, code_by, coded×, coded_ℕ, coded_list}
-use Rattle.std.proofs.Common.{refl}
 use Rattle.chip_lang.specs.declared.meter.Meter.{Meter}
 use Rattle.chip_asm.specs.Sources.{Text as SourceText}
 use Rattle.chip_asm.specs.Program.{image_of}
-use Rattle.chip_replay.specs.Keys.{Events, coded_events}
-use Rattle.chip_bench.specs.Settings.{SessionSettings, settings_code}
 use Rattle.chip_bench.specs.Session.{Session, Change, insert_line, replace_line, delete_line, insert_event, replace_event, delete_event}
 use Rattle.chip_bench.specs.Kept.{KeptRun, session_on, FollowsImage, FollowsEvent}
 
@@ -18,32 +14,6 @@ pub record Workbench : Type 0 where
   pub last_image : List ℕ
   pub reach : ℕ
   pub ran : ℕ
-
--- the parts of a bench, one beside another
-abbrev pub Parts : Type 0
-Parts = List (List ℕ) × (Events × (SessionSettings × (ℕ × (ℕ × (List ℕ × (ℕ × ℕ))))))
-
-abbrev pub workbench_code : Coded Workbench
-workbench_code =
-    code_by Parts (coded× (coded_list (coded_list coded_ℕ))
-    (coded× coded_events
-    (coded× settings_code
-    (coded× coded_ℕ (coded× coded_ℕ (coded× (coded_list coded_ℕ) (coded× coded_ℕ coded_ℕ)))))))
-    (λ b. (
-      b.session.lines,
-      (
-        b.session.keys,
-        (b.session.settings, (b.work.parsed, (b.work.encoded, (b.last_image, (b.reach, b.ran))))),
-      ),
-    ))
-    (λ p. record {
-      session = record { lines = p.0; keys = p.1.0; settings = p.1.1.0 };
-      work = record { parsed = p.1.1.1.0; encoded = p.1.1.1.1.0 };
-      last_image = p.1.1.1.1.1.0;
-      reach = p.1.1.1.1.1.1.0;
-      ran = p.1.1.1.1.1.1.1;
-    })
-    (λ _. refl)
 
 -- a bench of a source and of what is kept beside it
 abbrev pub workbench : SourceText → KeptRun → Workbench

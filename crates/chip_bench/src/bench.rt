@@ -35,7 +35,8 @@ pub struct Bench {
 impl Model for Bench {
     ghost use Rattle.chip_asm.specs.Program.{image_of};
     ghost use Rattle.chip_bench.specs.Kept.{IsLastImage};
-    ghost use Rattle.chip_bench.specs.Workbench.{Workbench, workbench_code, workbench};
+    ghost use Rattle.chip_bench.specs.Workbench.{Workbench, workbench};
+    ghost use Rattle.chip_bench.specs.inner.Codes.{workbench_code};
 
     ghost Value = { Workbench };
 
@@ -51,7 +52,7 @@ impl Bench {
     ///
     /// # Errors
     ///
-    /// The first such line's fault, or want of memory.
+    /// The first such line's fault, or that memory ran out.
     pub fn open(alloc: Global, source: &[u8], settings: Settings) -> Result<Self, OpenError>
         ensures ok { IfOk result (λ bench. (open_fault source.now ≡ None)
             × (bench.session ≡ session_of settings source.now)) }
@@ -66,7 +67,7 @@ impl Bench {
     {
         let source = Source::open(alloc, source)?;
         let mut run = ImageRun::new(alloc, settings)?;
-        run.follow(source.image(), None);
+        run.follow(source.image());
         Ok(Bench {
             source,
             run,
@@ -78,7 +79,7 @@ impl Bench {
     ///
     /// # Errors
     ///
-    /// The first refusal that applies, or want of memory; the session is then as it was.
+    /// The first refusal that applies, or that memory ran out; the session is then as it was.
     pub fn apply(&mut self, alloc: Global, change: &Change<'_>) -> Result<(), Refusal>
         ensures ok { OnOk result (edited self.old.session (change_of change.now)
             ≡ Ok self.new.session) }
@@ -91,7 +92,6 @@ impl Bench {
             self.old.work self.new.work }
         ensures ran { self.new.ran ≡ self.old.ran }
     {
-        let had_image = self.source.image().is_some();
         match *change {
             Change::Insert { line, text } => self.source.insert(alloc, line as usize, text)?,
             Change::Replace { line, text } => self.source.replace(alloc, line as usize, text)?,
@@ -104,9 +104,7 @@ impl Bench {
             }
             Change::DeleteKey { step, key } => return Ok(self.run.delete_key(step, key)?),
         }
-        // Without an image before the edit, the last one may be any.
-        let changed = had_image.then_some(self.source.changed());
-        self.run.follow(self.source.image(), changed);
+        self.run.follow(self.source.image());
         Ok(())
     }
 
@@ -114,7 +112,7 @@ impl Bench {
     ///
     /// # Errors
     ///
-    /// The first refusal that applies, or want of memory; `out` is then as it was.
+    /// The first refusal that applies, or that memory ran out; `out` is then as it was.
     pub fn ask(
         &mut self,
         alloc: Global,

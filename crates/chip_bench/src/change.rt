@@ -1,7 +1,7 @@
 //! The changes of a session.
 
 /// A change of one line, by the line's number from 1, or of one key event, by its step and key.
-#[derive(Clone, Copy, Debug, PartialEq, Eq)]
+#[derive(Clone, Copy)]
 pub enum Change<'a> {
     /// Puts the text before that line, or after the last.
     Insert { line: u32, text: &'a [u8] },

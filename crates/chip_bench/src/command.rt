@@ -12,7 +12,7 @@ use crate::limits::COMMAND_BYTES;
 use crate::question::Question;
 
 /// A command of a script.
-#[derive(Clone, Copy, Debug, PartialEq, Eq)]
+#[derive(Clone, Copy)]
 pub enum Command<'a> {
     /// A line that is empty, or of spaces alone.
     Blank,
@@ -20,8 +20,8 @@ pub enum Command<'a> {
     Ask(Question),
 }
 
-/// Why a line is no command.
-#[derive(Clone, Copy, Debug, PartialEq, Eq)]
+/// Why a line is not a command.
+#[derive(Clone, Copy, PartialEq, Eq)]
 pub enum CommandFault {
     /// C1: there is no such command, or its words don't fit.
     Unknown,
@@ -45,7 +45,7 @@ impl CommandFault {
 ///
 /// # Errors
 ///
-/// The line has over `COMMAND_BYTES` bytes, or it is no command.
+/// The line has over `COMMAND_BYTES` bytes, or it is not a command.
 pub fn read_command(line: &[u8]) -> Result<Command<'_>, CommandFault>
     ensures { Reads result (command_of line.now) }
 {
@@ -352,7 +352,7 @@ fn value_of(digits: &[u8], base: u32) -> Option<u32>
     Some(value)
 }
 
-// The value of a digit in any base up to 36, and 36 of what is no digit.
+// The value of a digit in any base up to 36, and 36 for a byte that is not a digit.
 fn digit_value(byte: u8) -> u32
     ensures { result ≡ digit_value byte }
 {

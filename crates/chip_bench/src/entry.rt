@@ -47,7 +47,7 @@ const MOST_KEYS: u32 = KEY_FILE_BYTES + 1;
 
 /// The program, with the words after its name. The answer is its status: 0 where it did what it was
 /// asked, 1 where the source has faults or doesn't open, 2 for words that it doesn't take, 3 where
-/// a file, input or output failed or there was too much input, and 4 for want of memory.
+/// a file, input or output failed or there was too much input, and 4 where memory ran out.
 ///
 /// `asm` writes the whole image to its file, or leaves what was there. Only what is written in
 /// place, such as a pipe or a file of several names, may have taken some bytes before a failure.
@@ -412,7 +412,7 @@ impl<'a> Shot<'a> {
         )
     }
 
-    // Writes the picture to a file, as a whole or not at all. Where there is no picture, why is
+    // Writes the picture to a file, atomically. Where there is no picture, why is
     // printed.
     fn write<F: Files, O: Write>(
         &self,

@@ -18,7 +18,6 @@ use chip_machine::limits::IMAGE_BYTES;
 use chip_replay::{KeyFault, LAST_STEP, Replay};
 use std::alloc::{AllocError, Global};
 use std::marker::Model;
-use std::ops::Range;
 
 /// The run of the last image that the lines had, or of the empty one, under the settings of the
 /// session and the key events as edited so far.
@@ -32,7 +31,8 @@ pub(crate) struct ImageRun {
 
 impl Model for ImageRun {
     ghost use Rattle.std.specs.Prelude.{vec_capacity};
-    ghost use Rattle.chip_bench.specs.Kept.{KeptRun, kept_run_code};
+    ghost use Rattle.chip_bench.specs.Kept.{KeptRun};
+    ghost use Rattle.chip_bench.specs.inner.Codes.{kept_run_code};
     ghost use Rattle.chip_bench.specs.inner.InStep.{kept_run, IsInStep};
 
     ghost Value = { KeptRun };
@@ -68,12 +68,10 @@ impl ImageRun {
         })
     }
 
-    /// Puts the image of the lines in the place of the last one, which agrees with it outside the
-    /// changed places, if these are known. Where the lines have none, all stays.
-    pub(crate) fn follow(&mut self, image: Option<&[u8]>, changed: Option<Range<usize>>)
+    /// Puts the image of the lines in the place of the last one. Where the lines have none, all
+    /// stays.
+    pub(crate) fn follow(&mut self, image: Option<&[u8]>)
         requires fits { IfSome image (λ bytes. length bytes.now ≤ IMAGE_BYTES) }
-        requires alike { IfSome image (λ bytes. IfSome changed (λ places.
-            AgreeOutside places.start places.end self.old.last_image bytes.now)) }
         ensures follows { FollowsImage (option_copied image.entry) self.old self.new }
         ensures settings { self.new.settings ≡ self.old.settings }
         ensures keys { self.new.keys ≡ self.old.keys }
@@ -81,11 +79,10 @@ impl ImageRun {
     {
         if let Some(image) = image {
             image_at_the_start();
-            let changed = changed.unwrap_or(0..IMAGE_BYTES);
-            let places = changed.start..changed.end;
-            self.replay
-                .image_changed_within(places, &self.last_image, image);
-            take_over(&mut self.last_image, image, changed);
+            self.replay.image_changed(&self.last_image, image);
+            self.last_image.clear();
+            // The room is there since the start.
+            let _ = self.last_image.extend_from_slice(image);
         }
     }
 
@@ -126,7 +123,7 @@ impl ImageRun {
     ///
     /// # Errors
     ///
-    /// Want of memory.
+    /// Out of memory.
     pub(crate) fn answer(
         &mut self,
         alloc: Global,
@@ -160,33 +157,5 @@ impl ImageRun {
         ensures { result ≡ self.now.ran }
     {
         self.replay.ran()
-    }
-}
-
-/// Makes `last` the image, with which it agrees outside the changed places.
-fn take_over(last: &mut Vec<u8>, image: &[u8], changed: Range<usize>)
-    requires fits { length image.now ≤ IMAGE_BYTES }
-    requires alike { AgreeOutside changed.start changed.end last.old.items image.now }
-    requires room { IMAGE_BYTES ≤ vec_capacity last.old }
-    ensures last { last.new.items ≡ image.now }
-    ensures room { IMAGE_BYTES ≤ vec_capacity last.new }
-{
-    if last.len() != image.len() {
-        last.clear();
-        let _ = last.extend_from_slice(image);
-        return;
-    }
-    copy_places(last, image, changed);
-}
-
-/// Copies the changed places of the image, where all others agree.
-fn copy_places(last: &mut [u8], image: &[u8], changed: Range<usize>)
-    requires alike { AgreeOutside changed.start changed.end last.old image.now }
-    requires length { length last.old ≡ length image.now }
-    ensures { last.new ≡ image.now }
-{
-    let end = changed.end.min(image.len());
-    for place in changed.start..end {
-        last[place] = image[place];
     }
 }

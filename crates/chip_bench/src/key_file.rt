@@ -34,7 +34,8 @@ impl From<AllocError> for KeyFileError {
 ///
 /// # Errors
 ///
-/// The first line that is refused, or want of memory; the events of the lines before it are made.
+/// The first line that is refused, or that memory ran out; the events of the lines before it are
+/// made.
 pub(crate) fn insert_keys(alloc: Global, bench: &mut Bench, file: &[u8]) -> Result<(), KeyFileError>
     ensures none { OnOk result (key_fault bench.old.session file.now ≡ None) }
     ensures session { OnOk result (bench.new.session ≡ session_under bench.old.session file.now) }

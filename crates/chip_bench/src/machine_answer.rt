@@ -220,7 +220,7 @@ fn word_at(machine: &Machine, at: u16) -> u16
     u16::from(memory[start]) * 256 + u16::from(memory[start + 1])
 }
 
-/// Adds the size of the screen, and each row with a lit point.
+/// Adds the size of the screen, and each row with a lit pixel.
 #[tactic(auto, unfolding(crate::specs::MachineAnswers::screen_of))]
 pub(crate) fn push_screen(answer: &mut Vec<u8>, machine: &Machine) -> Result<(), AllocError>
     ensures { OnOk result (answer.new.items ≡ answer.old.items ++ screen_of machine.now) }

@@ -3,7 +3,7 @@
 use chip_views::Letters;
 
 /// A question about the source, or about the machine at a step.
-#[derive(Clone, Copy, Debug, PartialEq, Eq)]
+#[derive(Clone, Copy)]
 pub enum Question {
     /// The image, in lower case hexadecimal.
     Image,
@@ -26,7 +26,7 @@ pub enum Question {
 }
 
 /// How a picture of the screen is written.
-#[derive(Clone, Copy, Debug, PartialEq, Eq)]
+#[derive(Clone, Copy, PartialEq, Eq)]
 pub enum PictureForm {
     /// As text, two points to a character.
     Text(Letters),

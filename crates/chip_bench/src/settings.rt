@@ -40,7 +40,7 @@ impl From<AllocError> for SetError {
 /// How many steps there are to a tick of the timers, the bytes that stand for random ones, which
 /// machine it is, and how many steps lie between one checkpoint of its run and the next, on which
 /// no answer depends.
-#[derive(Debug, Drop)]
+#[derive(Drop)]
 pub struct Settings {
     rate: u32,
     tape: Vec<u8>,
@@ -70,7 +70,7 @@ impl Settings {
     /// # Errors
     ///
     /// The first that applies of a rate out of range, a tape that is too short or too long, and
-    /// want of memory.
+    /// that memory ran out.
     pub fn new(alloc: Global, rate: u32, tape: &[u8]) -> Result<Settings, SetError>
         ensures ok { IfOk result (λ settings. (settings_fault rate tape.now ≡ None)
             × (settings ≡ settings_of rate tape.now)) }

@@ -14,7 +14,7 @@ const TAPE_LEN: usize = 256;
 ///
 /// # Errors
 ///
-/// Want of memory.
+/// Out of memory.
 pub fn tape_of(alloc: Global, seed: u64) -> Result<Vec<u8>, AllocError>
     ensures { IfOk result (λ tape. tape.items ≡ tape_of seed) }
 {

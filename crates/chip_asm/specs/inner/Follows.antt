@@ -36,7 +36,7 @@ pub record Follows (pass : Pass) (before : List Placed) : Type 0 where
   pub aligning : pass.aligning ≡ is_aligning before
   pub ended : pass.ended ≡ has_ended before
   pub open_blocks : pass.blocks.items ≡ reverse (map (block_of before) (enclosing before))
-  pub names : pass.names ≡ symbols before
+  pub names : pass.names.symbols ≡ symbols before
   -- what is live where no block is turned or closed
   pub live : pass.live ≡ (not pass.ended && list_all (λ b. b.holds) pass.blocks.items)
 

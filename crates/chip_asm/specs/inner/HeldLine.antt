@@ -1,13 +1,15 @@
--- What is kept of a line, from how it is held: a line that says nothing has no box (own).
+-- What is kept of a line, from how it is held: a line that is blank or only a comment has no box
+-- (own).
 use Rattle.std.specs.Prelude.{◌≡◌, ◌+◌, ◌≤◌, List, ℤ, IfSome, None, Ok, Option, length}
 use Rattle.chip_lang.specs.Line.{Reading}
 use Rattle.chip_lang.specs.SeenLine.{seen_line}
 use Rattle.chip_asm.specs.declared.table.Symbol.{Symbol}
 use Rattle.chip_asm.specs.Layout.{body_of, value_at}
 use Rattle.chip_asm.specs.Names.{Name}
-use Rattle.chip_asm.specs.declared.kept_line.KeptLine.{KeptLine}
+use Rattle.chip_asm.specs.inner.KeptLine.{KeptLine}
 use Rattle.chip_asm.specs.declared.kept_line.HeldLine.{HeldLine}
 use Rattle.chip_asm.specs.declared.kept_line.HeldLine.TheVariants.{Nothing, Boxed}
+use Rattle.chip_asm.specs.declared.line_info.LineInfo.{LineInfo}
 use Rattle.chip_asm.specs.inner.HeldText.{SaysNothing, part_from}
 
 -- a value that the line's own expression has under these names, if it is known
@@ -18,17 +20,23 @@ IsKnownUnder names known line = IfSome known (λ value. value_at names (body_of 
 abbrev pub IsKnown : Option ℤ → Reading → Type 0
 IsKnown known line = (names : List (Name × Symbol)) → IsKnownUnder names known line
 
-abbrev pub kept_held : HeldLine → KeptLine
-kept_held (Nothing source start count) =
+abbrev pub kept_held : HeldLine → LineInfo → KeptLine
+kept_held (Nothing source start count) info =
     record {
       text = part_from source.value.bytes start count;
       line = source.value.nothing;
-      code = source.value.no_code;
       constant = None;
+      info = info;
     }
-kept_held (Boxed kept) = kept.value
+kept_held (Boxed read) info =
+    record {
+      text = read.value.text;
+      line = read.value.line;
+      constant = read.value.constant;
+      info = info;
+    }
 
 abbrev pub IsLineHeld : HeldLine → Type 0
 IsLineHeld (Nothing source start count) =
     (start + count ≤ length source.value.bytes) × SaysNothing source.value.nothing
-IsLineHeld (Boxed kept) = IsKnown kept.value.constant (seen_line kept.value.line)
+IsLineHeld (Boxed read) = IsKnown read.value.constant (seen_line read.value.line)

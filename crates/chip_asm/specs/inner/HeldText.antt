@@ -7,7 +7,7 @@ use Rattle.chip_lang.specs.declared.line.Line.{Line}
 use Rattle.chip_asm.specs.declared.line_text.HeldText.{HeldText}
 use Rattle.chip_asm.specs.declared.line_text.HeldText.TheVariants.{Own, Part}
 
--- the line says nothing
+-- the line is blank or only a comment
 abbrev pub SaysNothing : Line → Type 0
 SaysNothing line = seen_line line ≡ read None empty
 

@@ -1,13 +1,10 @@
 -- The layout of a list of lines (own).
-use Rattle.std.specs.Prelude.{◌≡◌, true, List, length, map, reverse}
-use Rattle.std.specs.List.{list_all}
+use Rattle.std.specs.Prelude.{◌≡◌, List, map, reverse}
 use Rattle.chip_lang.specs.Line.{Reading}
 use Rattle.chip_asm.specs.Layout.{Placed}
 use Rattle.chip_asm.specs.computed.Walk.{placed, address}
-use Rattle.chip_asm.specs.Program.{names_of_lines, first_pass_fault}
+use Rattle.chip_asm.specs.Program.{first_pass_fault}
 use Rattle.chip_asm.specs.inner.Follows.{placement_of}
-use Rattle.chip_asm.specs.inner.Hints.{names_in}
-use Rattle.chip_asm.specs.inner.Placements.{is_placed}
 use Rattle.chip_asm.specs.declared.placement.Placement.{Placement}
 use Rattle.chip_asm.specs.declared.layout.Layout.{Layout}
 
@@ -24,11 +21,4 @@ placements_of lines = map (final_placement (placed lines)) (reverse (placed line
 
 pub record IsLayoutOf (layout : Layout) (lines : List Reading) : Type 0 where
   pub placements : layout.placements.items ≡ placements_of lines
-  pub names : layout.names ≡ names_of_lines lines
   pub end_address : layout.end ≡ address (placed lines)
-  pub accepted : layout.all_accepted ≡ true → list_all is_placed layout.placements.items ≡ true
-
--- the room for the next layout: where it has as many names, it has the same ones
-abbrev pub IsSpareFor : (layout spare : Layout) → Type 0
-IsSpareFor layout spare =
-    length spare.names ≡ length layout.names → names_in spare.names ≡ names_in layout.names

@@ -1,10 +1,10 @@
 -- What is kept of each line, before and after a change of one line (own).
-use Rattle.std.specs.Prelude.{ℕ, ◌+◌, ◌-◌, ◌<◌, ◌≤◌, List, map, insert, remove, slice_set, Option, Some}
+use Rattle.std.specs.Prelude.{◌≡◌, ℕ, ◌+◌, ◌-◌, ◌<◌, ◌≤◌, List, length, map, insert, remove, slice_set, Option, None}
 use Rattle.chip_lang.specs.Line.{Reading}
 use Rattle.chip_lang.specs.SeenLine.{seen_line}
-use Rattle.chip_asm.specs.declared.kept_line.KeptLine.{KeptLine}
+use Rattle.chip_asm.specs.inner.KeptLine.{KeptLine}
 use Rattle.chip_asm.specs.declared.edit.Edit.{Edit}
-use Rattle.chip_asm.specs.declared.edit.Edit.TheVariants.{Insert, Replace, Delete, Keep}
+use Rattle.chip_asm.specs.declared.edit.Edit.TheVariants.{Insert, Replace, Delete, Open}
 use Rattle.chip_asm.specs.Edits.{before_insert, before_replace, before_delete}
 
 abbrev pub reading_in : KeptLine → Reading
@@ -21,24 +21,24 @@ abbrev pub IsPlaceWithin : ℕ → Edit → Type 0
 IsPlaceWithin count (Insert at line) = at ≤ count
 IsPlaceWithin count (Replace at line) = at < count
 IsPlaceWithin count (Delete at) = at < count
-IsPlaceWithin count Keep = 0 ≤ count
+IsPlaceWithin count (Open all) = count ≡ 0
 
 -- the kept lines after the edit
 abbrev pub lines_after : List KeptLine → Edit → List KeptLine
 lines_after lines (Insert at line) = insert lines at line
 lines_after lines (Replace at line) = slice_set lines at line
 lines_after lines (Delete at) = remove lines at
-lines_after lines Keep = lines
+lines_after lines (Open all) = all.items
 
 abbrev pub count_after : ℕ → Edit → ℕ
 count_after count (Insert at line) = count + 1
 count_after count (Replace at line) = count
 count_after count (Delete at) = count - 1
-count_after count Keep = count
+count_after count (Open all) = length all.items
 
 -- the place that the line at a place had before the edit; none for the new line
 abbrev pub place_before : Edit → ℕ → Option ℕ
 place_before (Insert at line) place = before_insert at place
 place_before (Replace at line) place = before_replace at place
 place_before (Delete at) place = before_delete at place
-place_before Keep place = Some place
+place_before (Open all) place = None

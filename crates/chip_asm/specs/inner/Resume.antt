@@ -1,28 +1,53 @@
 -- How the first pass goes on from what is known of the lines before an edit (own).
-use Rattle.std.specs.Prelude.{◌≡◌, ℕ, ◌≤◌, nat_le, List, length, take}
-use Rattle.std.specs.List.{take_while}
+use Rattle.std.specs.Prelude.{◌≡◌, ℕ, ◌<◌, ◌≤◌, true, List, length, take, slice_index_or}
 use Rattle.chip_lang.specs.Line.{Reading}
 use Rattle.chip_asm.specs.declared.edit.Edit.{Edit}
-use Rattle.chip_asm.specs.declared.edit.Edit.TheVariants.{Insert, Replace, Delete, Keep}
-use Rattle.chip_asm.specs.declared.layout.Layout.{Layout}
-use Rattle.chip_asm.specs.declared.table.Symbol.{Symbol}
+use Rattle.chip_asm.specs.declared.edit.Edit.TheVariants.{Insert, Replace, Delete, Open}
+use Rattle.chip_asm.specs.declared.limits.TheConstants.{MOST_LINES}
+use Rattle.chip_asm.specs.declared.pass.Pass.{Pass}
+use Rattle.chip_asm.specs.declared.placement.Placement.{Placement}
+use Rattle.chip_asm.specs.declared.relayout.Relayout.{Relayout}
+use Rattle.chip_asm.specs.inner.KeptLine.{KeptLine}
 use Rattle.chip_asm.specs.Names.{Name}
-use Rattle.chip_asm.specs.inner.Layouts.{IsLayoutOf}
+use Rattle.chip_asm.specs.computed.Walk.{placed}
+use Rattle.chip_asm.specs.inner.Follows.{Follows}
+use Rattle.chip_asm.specs.inner.Infos.{AreInfos}
+use Rattle.chip_asm.specs.inner.Layouts.{IsLayoutOf, first_placements}
+use Rattle.chip_asm.specs.inner.Records.{IsPlaceWithin, count_after, lines_after, readings_in}
 
 -- the lines before this place stay as they are
 abbrev pub first_changed : Edit → ℕ
 first_changed (Insert at line) = at
 first_changed (Replace at line) = at
 first_changed (Delete at) = at
-first_changed Keep = 0
+first_changed (Open all) = 0
 
--- the layout is that of some lines that begin with so many of these
-pub record Continues (layout : Layout) (lines : List Reading) (count : ℕ) : Type 0 where
-  pub earlier : List Reading
-  pub laid_out : IsLayoutOf layout earlier
-  pub long : count ≤ length earlier
-  pub same : take count earlier ≡ take count lines
+-- the lines before the edit, those after it, and how many these are
+abbrev pub lines_before : Relayout → List Reading
+lines_before r = readings_in r.lines.now
 
--- the names that the lines up to a number give
-abbrev pub names_up_to : ℕ → List (Name × Symbol) → List (Name × Symbol)
-names_up_to number names = take_while (λ e. nat_le e.1.line number) names
+abbrev pub lines_then : Relayout → List Reading
+lines_then r = readings_in (lines_after r.lines.now r.edit.now)
+
+abbrev pub count_then : Relayout → ℕ
+count_then r = count_after (length r.lines.now) r.edit.now
+
+-- the edit is one of these lines, whose layout is known, and so is what steps over them ask
+pub record IsRelayout (keys : List Name) (r : Relayout) : Type 0 where
+  pub within : IsPlaceWithin (length r.lines.now) r.edit.now
+  pub few : count_then r ≤ MOST_LINES
+  pub were_few : length r.lines.now ≤ MOST_LINES
+  pub infos : AreInfos keys (lines_after r.lines.now r.edit.now)
+  pub laid_out : IsLayoutOf r.old.now (lines_before r)
+
+-- the pass stands after the first of some lines, with what it found of them
+pub record IsWalked (found : List Placement) (pass : Pass) (lines : List Reading)
+    (place : ℕ) : Type 0 where
+  pub placements : found ≡ first_placements (take place lines)
+  pub follows : Follows pass (placed (take place lines))
+
+-- of the first lines each is steady
+abbrev pub AreSteady : List KeptLine → (many : ℕ) → Type 0
+AreSteady lines many =
+    (place : ℕ) (other : KeptLine) → place < many
+    → (slice_index_or lines place other).info.is_steady ≡ true

@@ -1,5 +1,6 @@
 -- What a line does to the open blocks, the last one first (own).
-use Rattle.std.specs.Prelude.{true, not, List, [], ◌∷◌, if◌then◌else◌}
+use Rattle.std.specs.Prelude.{◌≡◌, true, not, List, [], ◌∷◌, if◌then◌else◌}
+use Rattle.std.specs.List.{list_all}
 use Rattle.chip_lang.specs.Line.{Body, ifdef, ifund, else_line, endif}
 use Rattle.chip_asm.specs.declared.block.Block.{Block}
 
@@ -16,6 +17,11 @@ turn_first (b ∷ bs) = turned b ∷ bs
 abbrev pub close_first : List Block → List Block
 close_first [] = []
 close_first (b ∷ bs) = bs
+
+-- each open block, the last one first, was opened live just where those around it held
+abbrev pub AreNested : List Block → Type 0
+AreNested [] = Unit
+AreNested (b ∷ outer) = (b.live ≡ list_all (λ o. o.holds) outer) × AreNested outer
 
 -- the open blocks, the last one first, after a line
 abbrev pub moved : Body → Block → List Block → List Block

@@ -13,7 +13,7 @@ use Rattle.chip_bench.specs.declared.ending.Ending.TheVariants.{Done, Faulty}
 use Rattle.chip_bench.specs.declared.ending.Failure.{Failure}
 use Rattle.chip_bench.specs.declared.entry.Asked.{Asked}
 
--- words that have a fault, or want of memory
+-- words that have a fault, or that memory ran out
 abbrev pub IsUsage : Outcome → Type 0
 IsUsage (Ok ending) = ⊥
 IsUsage (Err failure) = (failure_status failure ≡ 2) ⊎ (failure_status failure ≡ 4)

@@ -4,7 +4,7 @@ use Rattle.std.proofs.lemmas.List.{length-map, map-append, append-nil}
 use Rattle.chip_asm.specs.declared.limits.TheConstants.{MOST_LINES}
 use Rattle.chip_lang.specs.Line.{reading_of}
 use Rattle.chip_lang.specs.Meter.{one_more}
-use Rattle.chip_asm.specs.declared.kept_line.KeptLine.{KeptLine}
+use Rattle.chip_asm.specs.inner.KeptLine.{KeptLine}
 use Rattle.chip_asm.specs.declared.refusal.OpenError.TheVariants.{LineTooLong}
 use Rattle.chip_asm.specs.Lines.{lines_of, first_text, is_newline, is_long}
 use Rattle.chip_asm.specs.inner.Records.{texts_in}
@@ -56,6 +56,8 @@ loop-source-preserved c =
       omega (arith, read, c.loop-source.invariant.4),
       ap (λ m. m.encoded) c.push_line.ensures.counted ∙ c.loop-source.invariant.5,
       back-back c.after_line-rest.result.now c.loop-source.rest.now c.args.source.items c.after_line-rest.ensures.back c.loop-source.invariant.6,
+      c.in_ok-push_line.ensures.infos c.loop-source.invariant.7,
+      c.push_line.ensures.symbols ∙ c.loop-source.invariant.8,
     )
 
 pub returns-clause-ok : goal.returns-clause-ok

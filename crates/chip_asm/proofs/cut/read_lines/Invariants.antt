@@ -3,6 +3,7 @@ use Rattle.chip_asm.specs.declared.limits.TheConstants.{MOST_LINES}
 use Rattle.chip_lang.specs.Line.{reading_of}
 use Rattle.chip_asm.specs.Lines.{lines_of}
 use Rattle.chip_asm.specs.inner.HeldText.{IsBack}
+use Rattle.chip_asm.specs.inner.Infos.{AreInfos}
 use Rattle.chip_asm.specs.inner.Records.{readings_in, texts_in}
 use Rattle.chip_asm.proofs.CutSteps.{AllShort}
 use Rattle.chip_asm.proofs.cut.read_lines.Given as goal
@@ -16,6 +17,8 @@ invariant-loop-source l =
     × (l.meter.parsed ≡ length l.lines.items)
     × (l.meter.encoded ≡ 0)
     × IsBack l.rest l.fn.source.items
+    × AreInfos l.table.keys l.lines.items
+    × (l.table.symbols ≡ l.fn.table.symbols)
 
 abbrev pub decreases-loop-source : goal.decreases-loop-source
 decreases-loop-source l = length l.rest

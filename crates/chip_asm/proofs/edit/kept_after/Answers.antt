@@ -1,9 +1,19 @@
-use Rattle.std.proofs.Common.{◌≡◌, ◌≤◌, ◌+◌, ◌-◌, sym, ◌∙◌, arith, refl, length, ap, get_or}
+use Rattle.std.proofs.Common.{◌≡◌, ◌≤◌, ◌<◌, ℕ, List, Some, slice_get, ◌+◌, ◌-◌, sym, ◌∙◌, arith, refl, length, ap, get_or}
 use Rattle.std.proofs.lemmas.List.{get_or-set_same, get_or-set_other}
 use Rattle.std.proofs.lemmas.List.Edits.{get_or-insert_below, get_or-insert_at, get_or-insert_above, get_or-remove_below, get_or-remove_above}
 use Rattle.chip_asm.specs.inner.Records.{lines_after}
-use Rattle.chip_asm.proofs.LinesAfter.{after-at}
+use Rattle.std.proofs.lemmas.Option.{slice_get-get_or}
+use Rattle.chip_asm.specs.declared.edit.Edit.{Edit}
+use Rattle.chip_asm.specs.inner.KeptLine.{KeptLine}
+use Rattle.chip_asm.specs.inner.Records.{IsPlaceWithin, count_after}
+use Rattle.chip_asm.proofs.LinesAfter.{length-lines_after}
 use Rattle.chip_asm.proofs.edit.kept_after.Goals as goal
+
+-- the line at a place after the edit
+after-at : (lines : List KeptLine) (edit : Edit) (place : ℕ) (x y : KeptLine) → IsPlaceWithin (length lines) edit → place < count_after (length lines) edit
+    → get_or (lines_after lines edit) place x ≡ x → x ≡ y → slice_get (lines_after lines edit) place ≡ Some y
+after-at lines edit place x y within inside e same =
+    slice_get-get_or (lines_after lines edit) place x (let n = length-lines_after lines edit within in omega arith) ∙ ap Some (e ∙ same)
 
 pub returns-then-place-at : goal.returns-then-place-at
 returns-then-place-at c =
@@ -42,7 +52,7 @@ returns-else-place-at-4 c =
     after-at c.args.lines.now c.args.edit.now c.args.place c.index-lines-place-else-place-at-4.result c.index-lines-place-else-place-at-4.result c.requires.within c.requires.place
     (rw c.in-Delete.is (get_or-remove_above c.args.lines.now c.in-Delete.at c.index-lines-place-else-place-at-4.result c.args.place c.if-place-at-4.false (rw c.in-Delete.is at c.requires.within) ∙ sym c.index-lines-place-else-place-at-4.is)) refl
 
-pub returns-in-Keep : goal.returns-in-Keep
-returns-in-Keep c =
-    after-at c.args.lines.now c.args.edit.now c.args.place c.index-lines-place-in-Keep.result c.index-lines-place-in-Keep.result c.requires.within c.requires.place
-    (rw c.in-Keep.is (sym c.index-lines-place-in-Keep.is)) refl
+pub returns-in-Open : goal.returns-in-Open
+returns-in-Open c =
+    after-at c.args.lines.now c.args.edit.now c.args.place c.index.result.now c.index.result.now c.requires.within c.requires.place
+    (rw c.in-Open.is (sym c.index.ensures)) refl

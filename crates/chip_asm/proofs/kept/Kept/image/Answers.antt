@@ -1,10 +1,9 @@
-use Rattle.std.proofs.Common.{◌∙◌, ◌-◌, ℕ, arith, take, ap, Some, sym}
+use Rattle.std.proofs.Common.{◌∙◌, ◌-◌, arith, take, ap, Some, sym}
 use Rattle.std.proofs.lemmas.List.{length-take}
 use Rattle.chip_lang.specs.declared.limits.TheConstants.{IMAGE_START}
 use Rattle.chip_asm.specs.inner.Records.{readings_in}
 use Rattle.chip_asm.proofs.Bounds.{end-low}
-use Rattle.chip_asm.proofs.KeptSteps.{image-room}
-use Rattle.chip_asm.proofs.ImageWhole.{image-made, faulty-image}
+use Rattle.chip_asm.proofs.WholeImage.{image-made, image-room}
 use Rattle.chip_asm.proofs.kept.Kept.image.Goals as goal
 
 pub slice_bounds-result-count : goal.slice_bounds-result-count
@@ -18,11 +17,6 @@ slice_bounds-result-length c =
 pub returns-then-self-eq0-clause-value : goal.returns-then-self-eq0-clause-value
 returns-then-self-eq0-clause-value c =
     let room = image-room c.args.self.now c.requires in
-    let size : ℕ = c.args.self.now.layout.end - IMAGE_START in
     ap (λ bytes. Some (take (c.args.self.now.layout.end - IMAGE_START) bytes)) c.deref.ensures.value
-    ∙ image-made c.args.self.now.lines.items c.args.self.now.image.items (c.args.self.now.layout.end - IMAGE_START) (omega (arith, c.args.self.now.image.ok.0)) (ap (λ n. n - IMAGE_START) c.requires.laid_out.end_address)
-    (sym c.if-self-eq0.true ∙ c.requires.counted) c.requires.imaged
-
-pub returns-else-self-eq0-clause-value : goal.returns-else-self-eq0-clause-value
-returns-else-self-eq0-clause-value c =
-    faulty-image (readings_in c.args.self.now.lines.items) c.args.self.now.faults c.requires.counted c.if-self-eq0.false
+    ∙ image-made (readings_in c.args.self.now.lines.items) c.args.self.now.codes.image.items (c.args.self.now.layout.end - IMAGE_START) (omega (arith, c.args.self.now.codes.image.ok.0)) (ap (λ n. n - IMAGE_START) c.requires.laid_out.end_address)
+    (sym c.if-self-eq0.true ∙ c.requires.codes.counted) c.requires.codes.imaged

@@ -11,4 +11,4 @@ returns-clause-follows c = λ lines line b f n.
     let q = c.place_bare-placement.result in
     bare-next c.args.self.now _ lines line _ c.args.number c.args.size q b n f
     (c.place_bare-placement.ensures.placed lines line _ b refl f n)
-    refl refl refl refl (none-given c.args.self.now.names (is_placed q) c.args.number c.args.self.now.here q.value line b.named) refl
+    refl refl refl refl (none-given c.args.self.now.names.symbols (is_placed q) c.args.number c.args.self.now.here q.value line b.named) refl

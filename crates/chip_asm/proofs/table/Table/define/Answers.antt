@@ -1,36 +1,26 @@
-use Rattle.std.proofs.Common.{◌≡◌, ◌∙◌, ◌+◌, ◌<◌, ◌++◌, ◌∷◌, [], ap, arith, take, None, ℕ, map, suc, length}
-use Rattle.std.specs.Str.{bytes_eq}
-use Rattle.std.specs.Map.{lookup}
+use Rattle.std.proofs.Common.{◌≡◌, ◌<◌, ◌∙◌, ◌++◌, ◌∷◌, [], ap, sym, refl, subst, List, ℕ, length, map, None, w32, to_z, of_z, arith}
+use Rattle.std.proofs.lemmas.Int.{to_z-of_z}
 use Rattle.std.specs.Global.{Vec}
-use Rattle.indexmap.specs.IndexMap.{set_value_at}
-use Rattle.indexmap.proofs.CallerLemmas.{insert_entry-new, index_map_len-with_value_at}
-use Rattle.chip_asm.specs.Names.{lookup_name}
-use Rattle.chip_asm.proofs.TableSteps.{seen, lookup-first, set-taken, new-taken}
+use Rattle.chip_asm.specs.Names.{Name, lookup_name}
+use Rattle.chip_asm.specs.inner.Tables.{Tables, key_at, symbols_in}
+use Rattle.chip_asm.proofs.SymbolSteps.{defined-more, symbols-push}
 use Rattle.chip_asm.proofs.table.Table.define.Goals as goal
 
-pub invariant_of-self : goal.invariant_of-self
-invariant_of-self c =
-    let long : length (set_value_at c.self.inside.symbols.entries c.self.inside.count c.args.symbol) ≡ length c.self.inside.symbols.entries
-    = index_map_len-with_value_at c.self.inside.symbols c.self.inside.count c.args.symbol in
-    let inside : c.self.inside.count < length c.self.inside.symbols.entries = omega (arith, c.len.ensures.len, c.if-self-len.true) in
-    omega (arith, long, inside)
+pub invariant_of-self-2 : goal.invariant_of-self-2
+invariant_of-self-2 c =
+    let keys : List Name = map (λ (k : Vec ℕ). k.items) c.self.inside.keys.keys in
+    let same : to_z w32 (of_z w32 c.args.symbol.value) ≡ c.args.symbol.value = grind (arith, to_z-of_z) in (
+      c.self.invariant.0,
+      (
+        defined-more keys c.self.inside.current _ (record { id = c.args.id; symbol = c.args.symbol }) c.self.invariant.0 c.self.invariant.1.0
+            (subst (λ (t : Tables). c.args.id.number < length t.keys) (sym c.self.view_is) c.requires.within)
+            (subst (λ (t : Tables). lookup_name t.symbols (key_at t.keys c.args.id.number) ≡ None) (sym c.self.view_is) c.requires.new) c.in_ok-push.ensures.items (rw same refl),
+        c.self.invariant.1.1,
+      ),
+    )
 
-pub returns-then-is_key_at : goal.returns-then-is_key_at
-returns-then-is_key_at c =
-    let inside : c.self.inside.count < length c.self.inside.symbols.entries = omega (arith, c.len.ensures.len, c.if-self-len.true) in
-    let next : c.self.inside.count + 1 ≡ suc c.self.inside.count = omega arith in
-    ap (λ n. map seen (take n (set_value_at c.self.inside.symbols.entries c.self.inside.count c.args.symbol))) next
-    ∙ set-taken c.self.inside.count c.self.inside.symbols.entries c.args.name.now c.args.symbol inside (c.is_key_at.ensures c.if-is_key_at.true)
-    ∙ ap (λ l. l ++ (c.args.name.now, c.args.symbol) ∷ []) c.self.view_is
-
-pub returns : goal.returns
-returns c =
-    let none : lookup (λ (k : Vec ℕ). bytes_eq c.in_ok-key.key.items k.items) c.truncate.new.self.entries ≡ None
-    = lookup-first c.in_ok-key.key.items c.self.inside.count c.self.inside.symbols.entries c.truncate.new.self.entries c.args.self.now c.self.view_is c.truncate.ensures.entries
-    (ap (lookup_name c.args.self.now) c.in_ok-key.ensures.items ∙ c.requires) in
-    new-taken c.self.inside.count c.len-self-inside.result c.self.inside.symbols.entries c.insert.new.self.entries (c.in_ok-key.key, c.args.symbol)
-    (c.in_ok-insert.ensures.entries ∙ insert_entry-new (λ (x y : Vec ℕ). bytes_eq x.items y.items) c.truncate.new.self c.in_ok-key.key c.args.symbol none
-    ∙ ap (λ es. es ++ (c.in_ok-key.key, c.args.symbol) ∷ []) c.truncate.ensures.entries)
-    c.len-self-inside.ensures.len
-    ∙ ap (λ t. t ++ (c.in_ok-key.key.items, c.args.symbol) ∷ []) c.self.view_is
-    ∙ ap (λ n. c.args.self.now ++ (n, c.args.symbol) ∷ []) c.in_ok-key.ensures.items
+pub returns-clause-symbols : goal.returns-clause-symbols
+returns-clause-symbols c =
+    ap (symbols_in (map (λ (k : Vec ℕ). k.items) c.self.inside.keys.keys)) c.in_ok-push.ensures.items
+    ∙ symbols-push (map (λ (k : Vec ℕ). k.items) c.self.inside.keys.keys) c.self.inside.current.entries.items (record { id = c.args.id; symbol = c.args.symbol })
+    ∙ ap (λ (t : Tables). t.symbols ++ (key_at t.keys c.args.id.number, c.args.symbol) ∷ []) c.self.view_is

@@ -1,19 +1,24 @@
-use Rattle.std.proofs.Common.{◌∙◌, sym, ap, map, true, false, arith, take}
+use Rattle.std.proofs.Common.{◌∙◌, ◌<◌, ℕ, ap, sym, refl, arith, length, map, get_or}
 use Rattle.std.specs.Str.{bytes_eq}
 use Rattle.chip_lang.specs.Line.{upper}
-use Rattle.chip_asm.proofs.TableSteps.{look-from, entry-taken}
+use Rattle.chip_asm.specs.declared.table.Entry.{Entry}
+use Rattle.chip_asm.proofs.SymbolSteps.{entry-listed, lookup-at, lookup-next, no-entry, seen}
 use Rattle.chip_asm.proofs.table.Table.symbol_in_any_case.Goals as goal
 
 pub returns-then-is_spelled : goal.returns-then-is_spelled
 returns-then-is_spelled c =
-    let name = map upper c.args.name.now in
-    look-from (take c.self.inside.count c.self.inside.symbols.entries) c.args.self.now c.loop-index.index (c.in-Some.key.now, c.in-Some.symbol.now) name true c.self.view_is (entry-taken c.self.inside.count c.loop-index.index c.self.inside.symbols.entries _ (omega arith) c.in-Some.ensures.entry)
-    (sym c.if-is_spelled.true ∙ c.is_spelled.ensures ∙ ap (bytes_eq name) c.deref.ensures.value)
-    ∙ c.loop-index.invariant
+    let k : ℕ = c.loop-entry.entry-index in
+    let e : Entry = get_or c.deref-entry-items.result.now k no-entry in
+    let inside : k < length c.deref-entry-items.result.now = omega (arith, c.loop-entry-test.true) in
+    let s = entry-listed c.args.self.now _ c.self.inside.current.entries.items c.deref-entry-items.result.now k c.self.view_is c.deref-entry-items.ensures.value refl inside in
+    sym (lookup-at c.args.self.now.symbols k (seen c.args.self.now.keys e) (map upper c.args.name.now) s.0 s.1 c.loop-entry.invariant
+    (ap (bytes_eq (map upper c.args.name.now)) (sym c.name.ensures) ∙ sym c.is_spelled.ensures ∙ c.if-is_spelled.true))
 
-pub loop-index-preserved : goal.loop-index-preserved
-loop-index-preserved c =
-    let name = map upper c.args.name.now in
-    look-from (take c.self.inside.count c.self.inside.symbols.entries) c.args.self.now c.loop-index.index (c.in-Some.key.now, c.in-Some.symbol.now) name false c.self.view_is (entry-taken c.self.inside.count c.loop-index.index c.self.inside.symbols.entries _ (omega arith) c.in-Some.ensures.entry)
-    (sym c.if-is_spelled.false ∙ c.is_spelled.ensures ∙ ap (bytes_eq name) c.deref.ensures.value)
-    ∙ c.loop-index.invariant
+pub loop-entry-preserved : goal.loop-entry-preserved
+loop-entry-preserved c =
+    let k : ℕ = c.loop-entry.entry-index in
+    let e : Entry = get_or c.deref-entry-items.result.now k no-entry in
+    let inside : k < length c.deref-entry-items.result.now = omega (arith, c.loop-entry-test.true) in
+    let s = entry-listed c.args.self.now _ c.self.inside.current.entries.items c.deref-entry-items.result.now k c.self.view_is c.deref-entry-items.ensures.value refl inside in
+    lookup-next c.args.self.now.symbols k (seen c.args.self.now.keys e) (map upper c.args.name.now) s.0 s.1 c.loop-entry.invariant
+    (ap (bytes_eq (map upper c.args.name.now)) (sym c.name.ensures) ∙ sym c.is_spelled.ensures ∙ c.if-is_spelled.false)

@@ -1,0 +1,186 @@
+-- The codes of lines that are written one after another: each byte, the faults and their number,
+-- and how many lines are encoded.
+use Rattle.std.proofs.Common.{◌≡◌, ℕ, suc, zero, ◌+◌, ◌-◌, ◌<◌, ◌≤◌, Bool, true, false, cond, ◌&&◌, eqb, leb, ltb, ◌⊎◌, inl, inr, List, [], ◌∷◌, ◌++◌, map, reverse, length, take, drop, get_or, slice_get, count_by, filter_map, refl, ap, sym, ◌∙◌, arith, Option, Some, None, option_map, sum_by}
+use Rattle.std.specs.List.{enumerate_from, cons_option}
+use Rattle.std.proofs.lemmas.Bool.{eqb-true, eqb-false, false_from_ne_true, cases_lt}
+use Rattle.std.proofs.lemmas.List.{take_more, take_all, take-append-le, get_or-map, length-map, get_or-take, get_or-drop, get_or_past, length-take}
+use Rattle.std.proofs.lemmas.List.Sums.{sum_by-cons, count_by_more_yes, count_by_more_no}
+use Rattle.std.proofs.lemmas.List.FromFn.{length-enumerate_from, get_or-enumerate_from}
+use Rattle.std.proofs.lemmas.Option.{get_or_from_slice_get, slice_get_within, same_Some}
+use Rattle.chip_lang.specs.declared.fault.Fault.{Fault}
+use Rattle.chip_lang.specs.declared.limits.TheConstants.{IMAGE_BYTES, IMAGE_START}
+use Rattle.chip_lang.specs.Line.{Reading}
+use Rattle.chip_asm.specs.declared.layout.Layout.{Layout}
+use Rattle.chip_asm.specs.declared.placement.Placement.{Placement}
+use Rattle.chip_asm.specs.Layout.{Placed}
+use Rattle.chip_asm.specs.computed.Walk.{placed}
+use Rattle.chip_asm.specs.inner.Codes.{Waits, count_of, covers_byte, line_faults, right_byte}
+use Rattle.chip_asm.specs.inner.Layouts.{IsLayoutOf}
+use Rattle.chip_asm.specs.inner.Placements.{is_placed}
+use Rattle.chip_asm.specs.Program.{bytes_in_code, code_under, fault_of, faults_of_lines, numbered_fault}
+use Rattle.chip_asm.proofs.LinesByPlace.{AtPlace, byte-line, byte-nowhere, bytes-fit, covered-once, low, high}
+use Rattle.chip_asm.proofs.Placing.{length-numbered}
+use Rattle.std.proofs.lemmas.Bool.Decides.{nat_tests}
+
+-- what is known of a byte while the lines from a place on wait
+pub record IsByte (lines : List Reading) (placements : List Placement) (place k byte : ℕ) : Type 0 where
+  pub waiting : Waits placements place k → byte ≡ 0
+  pub done : (Waits placements place k → ⊥) → byte ≡ right_byte lines k
+
+-- at first each byte is zero
+pub byte-zero : (lines : List Reading) (layout : Layout) → IsLayoutOf layout lines → (k byte : ℕ) → byte ≡ 0 → IsByte lines layout.placements.items 0 k byte
+byte-zero lines layout laid k byte zero_now = record {
+  waiting = λ w. zero_now;
+  done = λ none. zero_now ∙ sym (byte-nowhere lines layout laid (IMAGE_START + k) (λ place q there.
+      false_from_ne_true (covers_byte q k) (λ c. none (record { place = place; q = q; low = omega arith; there = there; covered = c }))));
+}
+
+-- one line more is written
+pub byte-more : (lines : List Reading) (layout : Layout) → IsLayoutOf layout lines → (place : ℕ) (q : Placement) (k old new : ℕ) → slice_get layout.placements.items place ≡ Some q
+    → IsByte lines layout.placements.items place k old → (covers_byte q k ≡ true → old ≡ 0 → new ≡ right_byte lines k) → (covers_byte q k ≡ false → new ≡ old)
+    → IsByte lines layout.placements.items (place + 1) k new
+byte-more lines layout laid place q k old new there is written stays = by (covers_byte q k) refl
+  where
+    later : covers_byte q k ≡ false → (w : Waits layout.placements.items place k) → (same : Bool) → eqb w.place place ≡ same → Waits layout.placements.items (place + 1) k
+    later apart w true s =
+        let here : w.place ≡ place = eqb-true w.place place s in
+        let q_same : w.q ≡ q = same_Some w.q q (sym w.there ∙ ap (slice_get layout.placements.items) here ∙ there) in
+        absurd (let bad : true ≡ false = sym w.covered ∙ ap (λ p. covers_byte p k) q_same ∙ apart in cc)
+    later apart w false s = record {
+      place = w.place;
+      q = w.q;
+      low = (let n = eqb-false w.place place s in let l = w.low in omega arith);
+      there = w.there;
+      covered = w.covered;
+    }
+
+    by : (b : Bool) → covers_byte q k ≡ b → IsByte lines layout.placements.items (place + 1) k new
+    by true c = record {
+      waiting = λ w. absurd (covered-once lines layout laid place w.place q w.q (let l = w.low in omega arith) there w.there (IMAGE_START + k) c w.covered);
+      done = λ none. written c (is.waiting (record { place = place; q = q; low = omega arith; there = there; covered = c }));
+    }
+    by false c = record {
+      waiting = λ w. stays c ∙ is.waiting (record { place = w.place; q = w.q; low = (let l = w.low in omega arith); there = w.there; covered = w.covered });
+      done = λ none. stays c ∙ is.done (λ w. none (later c w (eqb w.place place) refl));
+    }
+
+-- all lines are written
+pub byte-done : (lines : List Reading) (placements : List Placement) (place k byte : ℕ) → length placements ≤ place → IsByte lines placements place k byte → byte ≡ right_byte lines k
+byte-done lines placements place k byte h is =
+    is.done (λ w. (let inside : w.place < length placements = slice_get_within placements w.place w.q w.there in let l = w.low in omega arith))
+
+-- a line has its bytes at each address that it covers
+pub byte-written : (lines : List Reading) (place : ℕ) (q : Placement) (a : AtPlace lines place q) (x : Placed) → a.x ≡ x → (k new old : ℕ) → covers_byte q k ≡ true
+    → new ≡ cond (covers_byte q k) (get_or (bytes_in_code (code_under (placed lines) x)) (IMAGE_START + k - q.here) 0) old → new ≡ right_byte lines k
+byte-written lines place q a x same k new old c is =
+    is ∙ ap (λ b. cond b (get_or (bytes_in_code (code_under (placed lines) x)) (IMAGE_START + k - q.here) 0) old) c
+    ∙ ap (λ y. get_or (bytes_in_code (code_under (placed lines) y)) (IMAGE_START + k - q.here) 0) (sym same) ∙ sym (byte-line lines place q a (IMAGE_START + k) c)
+
+pub byte-stays : (q : Placement) (k new written old : ℕ) → covers_byte q k ≡ false → new ≡ cond (covers_byte q k) written old → new ≡ old
+byte-stays q k new written old c is = is ∙ ap (λ b. cond b written old) c
+
+-- the part of an image where a line stood has its bytes, with zeros behind
+pub part-right : (lines : List Reading) (place : ℕ) (q : Placement) (a : AtPlace lines place q) (image part : List ℕ) → ((k : ℕ) → k < IMAGE_BYTES → get_or image k 0 ≡ right_byte lines k) → length image ≡ IMAGE_BYTES
+    → is_placed q ≡ true → part ≡ take q.size (drop (q.here - IMAGE_START) image) → (j : ℕ) → get_or part j 0 ≡ get_or (bytes_in_code (code_under (placed lines) a.x)) j 0
+part-right lines place q a image part imaged long accepted is j = ap (λ bytes. get_or bytes j 0) is ∙ by (cases_lt j q.size)
+  where
+    inside : j < q.size → get_or (take q.size (drop (q.here - IMAGE_START) image)) j 0 ≡ get_or (bytes_in_code (code_under (placed lines) a.x)) j 0
+    inside h =
+        let from = low lines place q a in
+        let to = high lines place q a in
+        let k : ℕ = q.here - IMAGE_START + j in
+        let there : IMAGE_START + (q.here - IMAGE_START + j) ≡ q.here + j = omega arith in
+        let back : q.here + j - q.here ≡ j = omega arith in
+        get_or-take q.size (drop (q.here - IMAGE_START) image) j 0 h ∙ get_or-drop (q.here - IMAGE_START) image j 0 ∙ imaged (q.here - IMAGE_START + j) (omega arith)
+        ∙ (rw there (byte-line lines place q a (q.here + j) (covered q.here j q.size h) ∙ ap (λ i. get_or (bytes_in_code (code_under (placed lines) a.x)) i 0) back))
+      where
+        covered : (here j size : ℕ) → j < size → (leb here (here + j) && ltb (here + j) (here + size)) ≡ true
+        covered here j size h = grind (arith, nat_tests)
+
+    by : (j < q.size) ⊎ (q.size ≤ j) → get_or (take q.size (drop (q.here - IMAGE_START) image)) j 0 ≡ get_or (bytes_in_code (code_under (placed lines) a.x)) j 0
+    by (inl h) = inside h
+    by (inr h) =
+        let fit = bytes-fit lines place q a accepted in
+        get_or_past (take q.size (drop (q.here - IMAGE_START) image)) j 0 (omega (arith, length-take q.size (drop (q.here - IMAGE_START) image)))
+        ∙ sym (get_or_past (bytes_in_code (code_under (placed lines) a.x)) j 0 (omega arith))
+
+-- faults
+
+-- one line more
+pub faults-more : (lines : List Reading) (n : ℕ) (x : Placed) (fault : Option Fault) → slice_get (reverse (placed lines)) n ≡ Some x → fault ≡ fault_of (placed lines) x
+    → take (n + 1) (line_faults lines) ≡ take n (line_faults lines) ++ fault ∷ []
+unfolding line_faults
+faults-more lines n x fault at is =
+    let there : n < length (reverse (placed lines)) = slice_get_within (reverse (placed lines)) n x at in
+    let here : get_or (line_faults lines) n None ≡ fault
+    = get_or-map (fault_of (placed lines)) (reverse (placed lines)) n x None there ∙ ap (fault_of (placed lines)) (get_or_from_slice_get (reverse (placed lines)) n x x at) ∙ sym is in
+    take_more (line_faults lines) n None (omega (arith, length-map (reverse (placed lines)) (fault_of (placed lines)))) ∙ ap (λ f. take n (line_faults lines) ++ f ∷ []) here
+
+pub fault-at : (lines : List Reading) (n : ℕ) (x : Placed) (d : Option Fault) → slice_get (reverse (placed lines)) n ≡ Some x → get_or (line_faults lines) n d ≡ fault_of (placed lines) x
+unfolding line_faults
+fault-at lines n x d at =
+    get_or-map (fault_of (placed lines)) (reverse (placed lines)) n x d (slice_get_within (reverse (placed lines)) n x at) ∙ ap (fault_of (placed lines)) (get_or_from_slice_get (reverse (placed lines)) n x x at)
+
+pub length-faults : (lines : List Reading) → length (line_faults lines) ≡ length lines
+unfolding line_faults
+length-faults lines = length-map (reverse (placed lines)) (fault_of (placed lines)) ∙ length-numbered lines
+
+-- how many faults there are
+abbrev pub count_faults : List (Option Fault) → ℕ
+count_faults = sum_by count_of
+
+pub count-push : (fs : List (Option Fault)) (f : Option Fault) → count_faults (fs ++ f ∷ []) ≡ count_faults fs + count_of f
+count-push [] f = refl
+count-push (g ∷ fs) f = omega (arith, sum_by-cons count_of g (fs ++ f ∷ []), sum_by-cons count_of g fs, count-push fs f)
+
+pub one-fault : (f : Option Fault) → count_of f ≤ 1
+one-fault None = omega arith
+one-fault (Some f) = omega arith
+
+count-numbered-faults : (all xs : List Placed) → length (filter_map (numbered_fault all) xs) ≡ count_faults (map (fault_of all) xs)
+count-numbered-faults all [] = refl
+count-numbered-faults all (x ∷ xs) = step (fault_of all x) x.number (filter_map (numbered_fault all) xs) (map (fault_of all) xs) (count-numbered-faults all xs)
+  where
+    step : (f : Option Fault) (n : ℕ) (l : List (ℕ × Fault)) (fs : List (Option Fault)) → length l ≡ count_faults fs → length (cons_option {X = ℕ × Fault} (option_map (λ g. (n, g)) f) l) ≡ count_faults (f ∷ fs)
+    step None n l fs h = omega (arith, sum_by-cons count_of None fs)
+    step (Some g) n l fs h = omega (arith, sum_by-cons count_of (Some g) fs)
+
+pub faults-counted : (lines : List Reading) → count_faults (line_faults lines) ≡ length (faults_of_lines lines)
+unfolding line_faults
+faults-counted lines = sym (count-numbered-faults (placed lines) (reverse (placed lines)))
+
+-- the number of lines that are encoded
+
+pub count_by-take : {X : Type 0} (p : X → Bool) (xs : List X) (i : ℕ) → count_by p (take i xs) ≤ count_by p xs
+count_by-take p xs zero = omega arith
+count_by-take p [] (suc i) = omega arith
+count_by-take p (x ∷ xs) (suc i) =
+    let part = sum_by-cons (λ y. cond (p y) 1 0) x (take i xs) in
+    let whole = sum_by-cons (λ y. cond (p y) 1 0) x xs in
+    omega (arith, count_by-take p xs i, part, whole)
+
+numbered-at : (xs : List Reading) (i : ℕ) (x : Reading) → i < length xs → slice_get xs i ≡ Some x → get_or (enumerate_from 0 xs) i (i, x) ≡ (i, x)
+numbered-at xs i x h e =
+    let at : get_or (enumerate_from 0 xs) i (i, x) ≡ (0 + i, get_or xs i x) = get_or-enumerate_from 0 xs i (i, x) h in
+    let place : 0 + i ≡ i = omega arith in
+    at ∙ (rw (place, get_or_from_slice_get xs i x x e) refl)
+
+-- the count after one line more
+pub count-numbered : (p : ℕ × Reading → Bool) (xs : List Reading) (i : ℕ) (x : Reading) → slice_get xs i ≡ Some x
+    → count_by p (take (i + 1) (enumerate_from 0 xs)) ≡ count_by p (take i (enumerate_from 0 xs)) + cond (p (i, x)) 1 0
+count-numbered p xs i x e = by_test (p (i, x)) refl
+  where
+    h : i < length xs
+    h = slice_get_within xs i x e
+
+    inside : i < length (enumerate_from 0 xs)
+    inside = omega (arith, h, length-enumerate_from 0 xs)
+
+    by_test : (b : Bool) → p (i, x) ≡ b → count_by p (take (i + 1) (enumerate_from 0 xs)) ≡ count_by p (take i (enumerate_from 0 xs)) + cond b 1 0
+    by_test true k = count_by_more_yes p (enumerate_from 0 xs) i (i, x) inside (ap p (numbered-at xs i x h e) ∙ k)
+    by_test false k = count_by_more_no p (enumerate_from 0 xs) i (i, x) inside (ap p (numbered-at xs i x h e) ∙ k) ∙ (let z : count_by p (take i (enumerate_from 0 xs)) ≡ count_by p (take i (enumerate_from 0 xs)) + 0 = omega arith in z)
+
+-- a vector whose elements were written through a slice
+pub refilled : {X : Type 0} (count : ℕ) (written old : List X) → length written ≡ count → take count (written ++ drop (length written) old) ≡ written
+refilled count written old e =
+    take-append-le count written (drop (length written) old) (omega arith) ∙ take_all count written (omega arith)

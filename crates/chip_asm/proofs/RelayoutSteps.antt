@@ -1,0 +1,94 @@
+-- What is known of the lines before an edit, where its pass begins, and of all lines where it ends.
+use Rattle.std.proofs.Common.{◌≡◌, ℕ, ◌<◌, ◌≤◌, true, false, List, [], ◌++◌, length, take, get_or, ap, sym, subst, ◌∙◌, arith, All}
+use Rattle.std.proofs.lemmas.List.{length-map, length-take-le, take-map, take-take, take_all, get_or-take}
+use Rattle.std.proofs.lemmas.List.Elements.{All-map}
+use Rattle.chip_lang.specs.Line.{Reading}
+use Rattle.chip_lang.specs.declared.limits.TheConstants.{MEMORY_BYTES}
+use Rattle.chip_asm.specs.declared.pass.Pass.{Pass}
+use Rattle.chip_asm.specs.declared.placement.Placement.{Placement}
+use Rattle.chip_asm.specs.declared.relayout.Relayout.{Relayout}
+use Rattle.chip_asm.specs.declared.table.Symbol.{Symbol}
+use Rattle.chip_asm.specs.Layout.{Placed, body_of, has_ended}
+use Rattle.chip_asm.specs.Names.{Name}
+use Rattle.chip_asm.specs.Program.{names_of_lines}
+use Rattle.chip_asm.specs.computed.Walk.{address, enclosing, is_aligning, placed, symbols}
+use Rattle.chip_asm.specs.inner.Follows.{Follows}
+use Rattle.chip_asm.specs.inner.Infos.{is_steady}
+use Rattle.chip_asm.specs.inner.KeptLine.{KeptLine}
+use Rattle.chip_asm.specs.inner.Layouts.{first_placements}
+use Rattle.chip_asm.specs.inner.Records.{lines_after, reading_in}
+use Rattle.chip_asm.specs.inner.Resume.{AreSteady, IsRelayout, IsWalked, count_then, first_changed, lines_before, lines_then}
+use Rattle.chip_asm.specs.inner.Tables.{AreOver, AreUpTo, Tables}
+use Rattle.chip_asm.proofs.Bounds.{end-high}
+use Rattle.chip_asm.proofs.LinesAfter.{first-before, first-kept, first-same, first-within, length-lines_after, length-readings_after}
+use Rattle.chip_asm.proofs.Resumed.{AllSteady, NamesSplit, Resumes, first-laid, names-split, resumes}
+
+-- the first lines stay, and are steady
+pub record Begun (r : Relayout) (first : ℕ) : Type 0 where
+  pub long : first ≤ length r.lines.now
+  pub within : first ≤ count_then r
+  pub same : take first (lines_before r) ≡ take first (lines_then r)
+  pub steady : AllSteady (take first (lines_then r))
+
+shorter : {X : Type 0} (n m : ℕ) (xs ys : List X) → n ≤ m → take m xs ≡ take m ys → take n xs ≡ take n ys
+shorter n m xs ys h e = sym (take-take n m xs h) ∙ ap (take n) e ∙ take-take n m ys h
+
+-- what is kept beside the first lines says that they are steady
+steady-readings : (keys : List Name) (r : Relayout) (first : ℕ) → IsRelayout keys r → first ≤ first_changed r.edit.now → first ≤ count_then r → AreSteady r.lines.now first → AllSteady (take first (lines_then r))
+steady-readings keys r first k h inside steady =
+    let old : List KeptLine = r.lines.now in
+    let new : List KeptLine = lines_after r.lines.now r.edit.now in
+    let long = length-lines_after old r.edit.now k.within in
+    let same : take first old ≡ take first new = shorter first (first_changed r.edit.now) old new h (first-kept old r.edit.now k.within) in
+    let P : Reading → Type 0 = λ line. is_steady (body_of line) ≡ true in
+    subst (All P) (sym (take-map reading_in first new)) (All-map P reading_in (take first new) (λ place other at.
+    (let below : place < first = omega (arith, at, length-take-le first new (omega (arith, inside, long))) in
+    let there : place < length new = omega (arith, below, inside, long) in
+    ap (λ (x : KeptLine). is_steady (body_of (reading_in x))) (get_or-take first new place other below)
+    ∙ sym (k.infos place other there).steady
+    ∙ ap (λ (x : KeptLine). x.info.is_steady) (sym (get_or-take first new place other below) ∙ ap (λ xs. get_or xs place other) (sym same) ∙ get_or-take first old place other below)
+    ∙ steady place other below)))
+
+pub begun : (keys : List Name) (r : Relayout) (first : ℕ) → IsRelayout keys r → first ≤ first_changed r.edit.now → AreSteady r.lines.now first → Begun r first
+begun keys r first k h steady =
+    let inside : first ≤ count_then r = omega (arith, h, first-within (length r.lines.now) r.edit.now k.within) in
+    record {
+      long = omega (arith, h, first-before (length r.lines.now) r.edit.now k.within);
+      within = inside;
+      same = shorter first (first_changed r.edit.now) (lines_before r) (lines_then r) h (first-same r.lines.now r.edit.now k.within);
+      steady = steady-readings keys r first k h inside steady;
+    }
+
+-- what the old layout says of them
+pub begun-placements : (keys : List Name) (r : Relayout) (first : ℕ) → IsRelayout keys r → Begun r first → take first r.old.now.placements.items ≡ first_placements (take first (lines_then r))
+begun-placements keys r first k b =
+    let inside : first ≤ length (lines_before r) = omega (arith, b.long, length-map r.lines.now reading_in) in
+    first-laid r.old.now (lines_before r) first k.laid_out inside (subst AllSteady (sym b.same) b.steady) ∙ ap first_placements b.same
+
+-- the symbols that are left of those before the edit
+pub begun-symbols : (r : Relayout) (first : ℕ) → Begun r first → (old left : List (Name × Symbol)) → old ≡ names_of_lines (lines_before r)
+    → ((early later : List (Name × Symbol)) → old ≡ early ++ later → AreUpTo first early → AreOver first later → left ≡ early) → left ≡ symbols (placed (take first (lines_then r)))
+begun-symbols r first b old left names cut =
+    let split : NamesSplit (lines_before r) first = names-split (lines_before r) first (omega (arith, b.long, length-map r.lines.now reading_in)) in
+    cut (symbols (placed (take first (lines_before r)))) split.later (names ∙ split.is) split.early split.late ∙ ap (λ ls. symbols (placed ls)) b.same
+
+-- the pass goes on there
+pub begun-follows : (r : Relayout) (first : ℕ) → Begun r first → (here : ℕ) (names : Tables) (pass : Pass) → here ≡ address (placed (take first (lines_before r))) → names.symbols ≡ symbols (placed (take first (lines_then r)))
+    → ((before : List Placed) → here ≡ address before → here ≤ MEMORY_BYTES → is_aligning before ≡ true → has_ended before ≡ false → enclosing before ≡ [] → names.symbols ≡ symbols before → Follows pass before)
+    → Follows pass (placed (take first (lines_then r)))
+begun-follows r first b here names pass at left resume =
+    let s : Resumes (placed (take first (lines_then r))) = resumes (take first (lines_then r)) b.steady in
+    resume (placed (take first (lines_then r))) (at ∙ ap (λ ls. address (placed ls)) b.same) (omega (arith, at, end-high (take first (lines_before r)))) s.aligning s.ended s.open_blocks left
+
+-- where the pass ends
+pub record Walked (found : List Placement) (pass : Pass) (r : Relayout) : Type 0 where
+  pub placements : found ≡ first_placements (lines_then r)
+  pub follows : Follows pass (placed (lines_then r))
+
+pub walked : (keys : List Name) (r : Relayout) (found : List Placement) (pass : Pass) → IsRelayout keys r → IsWalked found pass (lines_then r) (count_then r) → Walked found pass r
+walked keys r found pass k w =
+    let whole : take (count_then r) (lines_then r) ≡ lines_then r = take_all (count_then r) (lines_then r) (omega (arith, length-readings_after r.lines.now r.edit.now k.within)) in
+    record {
+      placements = w.placements ∙ ap first_placements whole;
+      follows = subst (λ (xs : List Reading). Follows pass (placed xs)) whole w.follows;
+    }

@@ -1,6 +1,0 @@
-use Rattle.std.proofs.Common.{◌≡◌, ℕ, ◌<◌, true, get_or}
-use Rattle.chip_asm.specs.declared.traits.Traits.{Traits}
-use Rattle.chip_asm.proofs.edited.steady_lines.Given as goal
-
-abbrev pub invariant-loop-index : goal.invariant-loop-index
-invariant-loop-index l = (index : ℕ) (other : Traits) → index < l.index → (get_or l.traits index other).is_steady ≡ true

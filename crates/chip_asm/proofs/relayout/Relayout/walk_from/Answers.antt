@@ -1,0 +1,53 @@
+use Rattle.std.proofs.Common.{◌∙◌, ◌++◌, ap, arith, length, sym, take}
+use Rattle.std.proofs.lemmas.List.{length-map, length-take-le, with_items_is}
+use Rattle.chip_asm.specs.inner.Records.{reading_in}
+use Rattle.chip_asm.specs.inner.Resume.{lines_before, lines_then}
+use Rattle.chip_asm.proofs.MarkSteps.{marked-placements, numbered-placements, all-among, length-first-placements}
+use Rattle.chip_asm.proofs.RelayoutSteps.{Begun, Walked, begun, begun-placements, walked}
+use Rattle.chip_asm.proofs.Resumed.{length-laid}
+use Rattle.chip_asm.proofs.relayout.Relayout.walk_from.Goals as goal
+
+pub slice_bounds-extend_from_slice-end : goal.slice_bounds-extend_from_slice-end
+slice_bounds-extend_from_slice-end c =
+    let e = c.args.self.now in
+    let b : Begun e c.args.first = begun c.args.pass.now.names.keys e c.args.first c.requires.relayout c.requires.first c.requires.steady in
+    sym (length-take-le c.args.first c.deref.result.now (omega (arith, b.long, ap length c.deref.ensures.value, length-laid e.old.now (lines_before e) c.requires.relayout.laid_out, length-map e.lines.now reading_in)))
+
+pub walk-requires-clause-walked : goal.walk-requires-clause-walked
+walk-requires-clause-walked c =
+    let e = c.args.self.now in
+    let keys = c.args.pass.now.names.keys in
+    let b : Begun e c.args.first = begun keys e c.args.first c.requires.relayout c.requires.first c.requires.steady in
+    record {
+      placements = c.in_ok-extend_from_slice.ensures.items
+          ∙ ap (λ l. l ++ take c.args.first c.deref.result.now) (c.in_ok-reserve.ensures.items ∙ c.clear.ensures.items)
+          ∙ ap (take c.args.first) c.deref.ensures.value
+          ∙ begun-placements keys e c.args.first c.requires.relayout b;
+      follows = c.requires.follows;
+    }
+
+pub returns-clause-layout : goal.returns-clause-layout
+returns-clause-layout c =
+    let e = c.args.self.now in
+    let pass = c.walk.new.pass in
+    let w : Walked c.walk.new.placements.items pass e = walked c.args.pass.now.names.keys e c.walk.new.placements.items pass c.requires.relayout c.in_ok-walk.ensures.walked in
+    record {
+      placements = with_items_is c.walk.new.placements c.mark_unclosed.new.placements (omega (arith, c.mark_unclosed.auto.placements, ap length c.deref_mut.ensures.value, c.walk.new.placements.ok.0))
+          ∙ c.mark_unclosed.ensures
+          ∙ (rw (c.deref_mut.ensures.value, c.deref-2.ensures.value, w.placements) (marked-placements (lines_then e) pass.ended pass.blocks.items w.follows.ended w.follows.open_blocks));
+      end_address = w.follows.at_address;
+    }
+
+pub mark_unclosed-requires-clause-numbered : goal.mark_unclosed-requires-clause-numbered
+mark_unclosed-requires-clause-numbered c =
+    let e = c.args.self.now in
+    let pass = c.walk.new.pass in
+    let w : Walked c.walk.new.placements.items pass e = walked c.args.pass.now.names.keys e c.walk.new.placements.items pass c.requires.relayout c.in_ok-walk.ensures.walked in
+    rw (c.deref_mut.ensures.value, w.placements) (numbered-placements (lines_then e))
+
+pub mark_unclosed-requires-clause-among : goal.mark_unclosed-requires-clause-among
+mark_unclosed-requires-clause-among c =
+    let e = c.args.self.now in
+    let pass = c.walk.new.pass in
+    let w : Walked c.walk.new.placements.items pass e = walked c.args.pass.now.names.keys e c.walk.new.placements.items pass c.requires.relayout c.in_ok-walk.ensures.walked in
+    rw (c.deref_mut.ensures.value, c.deref-2.ensures.value, w.placements, length-first-placements (lines_then e)) (all-among (lines_then e) pass.blocks.items w.follows.open_blocks)

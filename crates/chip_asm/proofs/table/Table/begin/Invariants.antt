@@ -1,0 +1,17 @@
+use Rattle.std.proofs.Common.{◌≡◌, map, length}
+use Rattle.chip_asm.specs.inner.Tables.{AreApart, AreDefined, symbols_in}
+use Rattle.chip_asm.proofs.TakenBack.{Going}
+use Rattle.chip_asm.proofs.table.Table.begin.Given as goal
+
+abbrev pub invariant-loop-entry : goal.invariant-loop-entry
+invariant-loop-entry l = record {
+  keys : map (λ k. k.items) l.self-inside.keys.keys ≡ l.fn.self.keys;
+  before : symbols_in l.fn.self.keys l.self-inside.past.entries.items ≡ l.fn.self.symbols;
+  apart : AreApart l.fn.self.keys;
+  past : AreDefined l.fn.self.keys l.self-inside.past;
+  current : AreDefined l.fn.self.keys l.self-inside.current;
+  going : Going l.number l.fn.self.symbols (symbols_in l.fn.self.keys l.self-inside.current.entries.items);
+}
+
+abbrev pub decreases-loop-entry : goal.decreases-loop-entry
+decreases-loop-entry l = length l.self-inside.current.entries.items

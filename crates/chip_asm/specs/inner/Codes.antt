@@ -1,0 +1,60 @@
+-- The second pass, as it is kept: the image, and the fault of each line (own).
+use Rattle.std.specs.Prelude.{◌≡◌, ℕ, ◌+◌, ◌-◌, ◌<◌, ◌≤◌, ◌&&◌, Bool, true, List, [], length, map, reverse, Option, Some, None, nat_le, nat_lt, if◌then◌else◌, slice_get, slice_index, vec_len}
+use Rattle.chip_lang.specs.declared.code.Coded.{Coded}
+use Rattle.chip_lang.specs.declared.code.Coded.TheVariants.{Bytes, Faulty}
+use Rattle.chip_lang.specs.declared.fault.Fault.{Fault}
+use Rattle.chip_lang.specs.declared.limits.TheConstants.{IMAGE_BYTES, IMAGE_START}
+use Rattle.chip_lang.specs.Line.{Reading}
+use Rattle.chip_asm.specs.declared.codes.Codes.{Codes}
+use Rattle.chip_asm.specs.declared.placement.Placement.{Placement}
+use Rattle.chip_asm.specs.computed.Walk.{placed}
+use Rattle.chip_asm.specs.Program.{byte_at, fault_of, faults_of_lines}
+
+abbrev pub count_of : Option Fault → ℕ
+count_of None = 0
+count_of (Some fault) = 1
+
+abbrev pub coded_fault : Coded → Option Fault
+coded_fault (Bytes bytes) = None
+coded_fault (Faulty fault) = Some fault
+
+abbrev pub coded_bytes : Coded → List ℕ
+coded_bytes (Bytes bytes) = bytes
+coded_bytes (Faulty fault) = []
+
+-- the fault of each line, in line order
+unfoldable pub line_faults : List Reading → List (Option Fault)
+line_faults lines = map (fault_of (placed lines)) (reverse (placed lines))
+
+-- the byte at a place of the image
+abbrev pub right_byte : List Reading → ℕ → ℕ
+right_byte lines k = byte_at (placed lines) (IMAGE_START + k)
+
+-- each byte is that at its address, also where a line has a fault; past the kept bytes they are
+-- zeros
+pub record AreCodesOf (codes : Codes) (lines : List Reading) : Type 0 where
+  pub imaged : (k : ℕ) → k < IMAGE_BYTES → slice_index codes.image.items k ≡ right_byte lines k
+  pub short : vec_len codes.image ≤ IMAGE_BYTES
+  pub long : 0 < length lines → vec_len codes.image ≡ IMAGE_BYTES
+  pub faulty : codes.faults.items ≡ line_faults lines
+  pub counted : codes.count ≡ length (faults_of_lines lines)
+
+-- the line covers the byte
+abbrev pub covers_byte : Placement → ℕ → Bool
+covers_byte q k = nat_le q.here (IMAGE_START + k) && nat_lt (IMAGE_START + k) (q.here + q.size)
+
+-- a line from a place on covers the byte
+pub record Waits (placements : List Placement) (first k : ℕ) : Type 0 where
+  pub place : ℕ
+  pub q : Placement
+  pub low : first ≤ place
+  pub there : slice_get placements place ≡ Some q
+  pub covered : covers_byte q k ≡ true
+
+-- the bytes of a line are written, and no others
+abbrev pub IsWritten : Placement → (bytes old new : List ℕ) → Type 0
+IsWritten q bytes old new =
+    (k : ℕ)
+    → slice_index new k
+    ≡ (if covers_byte q k then slice_index bytes (IMAGE_START + k - q.here)
+    else slice_index old k)

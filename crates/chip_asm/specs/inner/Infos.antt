@@ -1,0 +1,53 @@
+-- What is kept of a line beside its reading, so that steps over all lines needn't look into most of
+-- them (own).
+use Rattle.std.specs.Prelude.{◌≡◌, ℕ, length, slice_get, ◌≤◌, Bool, false, not, ◌&&◌, List, [], ◌∷◌, All, Option, Some, None}
+use Rattle.chip_lang.specs.Line.{Body, Reading, bad, read}
+use Rattle.chip_lang.specs.Uses.{names_used, name_defined}
+use Rattle.chip_asm.specs.Names.{Name}
+use Rattle.chip_asm.specs.inner.KeptLine.{KeptLine}
+use Rattle.chip_asm.specs.declared.line_info.LineInfo.{LineInfo}
+use Rattle.chip_asm.specs.declared.line_info.Uses.{Uses}
+use Rattle.chip_asm.specs.declared.line_info.Uses.TheVariants.{Nothing, One, Several}
+use Rattle.chip_asm.specs.declared.table.NameId.{NameId}
+use Rattle.chip_asm.specs.inner.Bare.{is_bare}
+use Rattle.chip_asm.specs.inner.Recode.{has_code}
+use Rattle.chip_asm.specs.inner.Records.{reading_in}
+use Rattle.chip_asm.specs.inner.Tables.{IsNumber}
+use Rattle.chip_asm.specs.Layout.{body_of, is_if_body, is_end_body, is_align_body}
+
+-- it is an instruction or has no statement
+abbrev pub is_bare_line : Reading → Bool
+is_bare_line (bad fault) = false
+is_bare_line (read name body) = is_bare body
+
+-- it opens no block, ends no source and switches no alignment
+abbrev pub is_steady : Body → Bool
+is_steady body = not (is_if_body body) && not (is_end_body body) && not (is_align_body body)
+
+-- the number, if there is one, stands for the name, if there is one
+abbrev pub IsNumberOf : List Name → Option NameId → Option Name → Type 0
+IsNumberOf keys None name = name ≡ None
+IsNumberOf keys (Some id) None = ⊥
+IsNumberOf keys (Some id) (Some name) = IsNumber keys id name
+
+-- what is known of the names that a line uses
+abbrev pub AreUses : List Name → Uses → List Name → Type 0
+AreUses keys Nothing names = names ≡ []
+AreUses keys (One id) [] = ⊥
+AreUses keys (One id) (name ∷ names) = IsNumber keys id name × (names ≡ [])
+AreUses keys Several names = 0 ≤ 0
+
+pub record IsInfo (keys : List Name) (info : LineInfo) (line : Reading) : Type 0 where
+  pub bare : info.is_bare ≡ is_bare_line line
+  pub coded : info.is_coded ≡ has_code (body_of line)
+  pub steady : info.is_steady ≡ is_steady (body_of line)
+  pub defines : IsNumberOf keys info.defines (name_defined line)
+  pub uses : AreUses keys info.uses (names_used line)
+
+abbrev pub AreInfosOf : List Name → List LineInfo → List Reading → Type 0
+AreInfosOf keys infos lines =
+    (length infos ≡ length lines) × ((place : ℕ) (info : LineInfo) (line : Reading)
+    → slice_get infos place ≡ Some info → slice_get lines place ≡ Some line → IsInfo keys info line)
+
+abbrev pub AreInfos : List Name → List KeptLine → Type 0
+AreInfos keys lines = All (λ kept. IsInfo keys kept.info (reading_in kept)) lines

@@ -1,0 +1,71 @@
+-- What contracts see of the table of symbols: the names that lines use or define, each under a
+-- number that stays, and the symbols, as they are and as they were before the edit (own).
+use Rattle.std.specs.Prelude.{◌≡◌, ℕ, ◌<◌, ◌≤◌, ℤ, List, [], All, length, map, Option, None, option_map, slice_index_or, take}
+use Rattle.chip_asm.specs.Names.{Name, lookup_name}
+use Rattle.chip_asm.specs.declared.table.Symbol.{Symbol}
+use Rattle.chip_asm.specs.declared.table.NameId.{NameId}
+use Rattle.chip_asm.specs.declared.table.Entry.{Entry}
+use Rattle.chip_asm.specs.declared.table.Definitions.{Definitions}
+use Rattle.chip_asm.specs.declared.table.Time.{Time}
+use Rattle.chip_asm.specs.declared.table.Time.TheVariants.{Now, Past}
+
+pub record Tables : Type 0 where
+  pub keys : List Name
+  pub symbols : List (Name × Symbol)
+  pub before : List (Name × Symbol)
+
+-- the name of a number; no bytes where there is none
+abbrev pub key_at : List Name → ℕ → Name
+key_at keys number = slice_index_or keys number []
+
+-- the number stands for the name
+pub record IsNumber (keys : List Name) (id : NameId) (name : Name) : Type 0 where
+  pub within : id.number < length keys
+  pub named : key_at keys id.number ≡ name
+
+-- names are added after the others
+pub record Extends (old new : List Name) : Type 0 where
+  pub longer : length old ≤ length new
+  pub same : (number : ℕ) → number < length old → key_at new number ≡ key_at old number
+
+-- the symbols of entries, which name by numbers
+abbrev pub symbols_in : List Name → List Entry → List (Name × Symbol)
+symbols_in keys entries = map (λ e. (key_at keys e.id.number, e.symbol)) entries
+
+-- the value of a name among symbols
+abbrev pub value_among : List (Name × Symbol) → Name → Option ℤ
+value_among symbols name = option_map (λ s. s.value) (lookup_name symbols name)
+
+-- no name has two numbers
+pub record AreApart (keys : List Name) : Type 0 where
+  pub each : (i j : ℕ) → i < length keys → j < length keys → key_at keys i ≡ key_at keys j → i ≡ j
+
+-- at the number of each name stands the value that it has by the entries, of which each is the
+-- first of its name
+pub record AreDefined (keys : List Name) (d : Definitions) : Type 0 where
+  pub inside : All (λ e. e.id.number < length keys) d.entries.items
+  pub once : (place : ℕ) (e : Name × Symbol) → place < length d.entries.items
+      → e ≡ slice_index_or (symbols_in keys d.entries.items) place e
+      → lookup_name (take place (symbols_in keys d.entries.items)) e.0 ≡ None
+  pub long : length d.values.items ≡ length keys
+  pub valued : (number : ℕ) → number < length keys
+      → slice_index_or d.values.items number None
+      ≡ value_among (symbols_in keys d.entries.items) (key_at keys number)
+
+-- a change leaves the names and the symbols before the edit
+pub record KeepsBefore (old new : Tables) : Type 0 where
+  pub keys : new.keys ≡ old.keys
+  pub before : new.before ≡ old.before
+
+-- all of these symbols stand in lines up to a number
+abbrev pub AreUpTo : ℕ → List (Name × Symbol) → Type 0
+AreUpTo number symbols = All (λ e. e.1.line ≤ number) symbols
+
+-- all of them stand in lines past it
+abbrev pub AreOver : ℕ → List (Name × Symbol) → Type 0
+AreOver number symbols = All (λ e. number < e.1.line) symbols
+
+-- the symbols at a time
+abbrev pub symbols_at : Time → Tables → List (Name × Symbol)
+symbols_at Now tables = tables.symbols
+symbols_at Past tables = tables.before

@@ -1,0 +1,177 @@
+//! What is kept of a line beside its reading, for steps over all lines.
+ghost use Rattle.std.specs.Prelude.{◌≡◌, List, IfOk, IfSome};
+ghost use Rattle.chip_lang.specs.Line.{Reading};
+ghost use Rattle.chip_lang.specs.SeenLine.{seen_line};
+ghost use Rattle.chip_lang.specs.Uses.{name_defined, names_used};
+ghost use Rattle.chip_asm.specs.Layout.{body_of};
+ghost use Rattle.chip_asm.specs.Names.{Name};
+ghost use Rattle.chip_asm.specs.inner.Bare.{IsBare};
+ghost use Rattle.chip_asm.specs.inner.HeldText.{SaysNothing};
+ghost use Rattle.chip_asm.specs.inner.Infos.{AreInfosOf, AreUses, IsInfo, IsNumberOf, is_bare_line, is_steady};
+ghost use Rattle.chip_asm.specs.inner.Records.{readings_in};
+ghost use Rattle.chip_asm.specs.inner.Recode.{has_code};
+ghost use Rattle.chip_asm.specs.inner.Tables.{Extends};
+
+use crate::kept_line::BoxedLine;
+use crate::table::{NameId, Table};
+use chip_lang::{Body, Line, defines, uses};
+use std::alloc::{AllocError, Global};
+
+/// What is known of the names in a line's expressions.
+#[derive(Clone, Copy)]
+pub(crate) enum Uses {
+    /// There is none.
+    Nothing,
+    /// There is this one, once.
+    One(NameId),
+    /// There may be several.
+    Several,
+}
+
+/// What steps over all lines ask of a line.
+#[derive(Clone, Copy)]
+pub(crate) struct LineInfo {
+    /// Whether it is an instruction or has no statement.
+    pub(crate) is_bare: bool,
+    /// Whether it has bytes of its own.
+    pub(crate) is_coded: bool,
+    /// Whether it opens no block, ends no source and switches no alignment.
+    pub(crate) is_steady: bool,
+    /// The name that it gives, if it is accepted.
+    pub(crate) defines: Option<NameId>,
+    pub(crate) uses: Uses,
+}
+
+fn is_bare(line: &Line) -> bool
+    ensures { result ≡ is_bare_line (seen_line line.now) }
+{
+    matches!(
+        line,
+        Line::Read {
+            body: Body::Empty | Body::Code(_, _),
+            ..
+        }
+    )
+}
+
+/// Whether the line has bytes of its own.
+fn has_code(line: &Line) -> bool
+    ensures { result ≡ has_code (body_of (seen_line line.now)) }
+{
+    matches!(
+        line,
+        Line::Read {
+            body: Body::Db(_) | Body::Dw(_) | Body::Da(_) | Body::Code(_, _),
+            ..
+        }
+    )
+}
+
+/// Whether the line opens no block, ends no source and switches no alignment.
+fn is_steady(line: &Line) -> bool
+    ensures { result ≡ is_steady (body_of (seen_line line.now)) }
+{
+    !matches!(
+        line,
+        Line::Read {
+            body: Body::Ifdef(_) | Body::Ifund(_) | Body::End | Body::Align(_),
+            ..
+        }
+    )
+}
+
+/// The number of the name that a line gives.
+fn number_defined(
+    alloc: Global,
+    table: &mut Table,
+    line: &Line,
+) -> Result<Option<NameId>, AllocError>
+    ensures keys { Extends table.old.keys table.new.keys }
+    ensures symbols { table.new.symbols ≡ table.old.symbols }
+    ensures before { table.new.before ≡ table.old.before }
+    ensures is { IfOk result (λ id. IsNumberOf table.new.keys id
+        (name_defined (seen_line line.now))) }
+{
+    match defines(line) {
+        Some(name) => {
+            let id = table.number(alloc, name)?;
+            Ok(Some(id))
+        }
+        None => Ok(None),
+    }
+}
+
+/// What is known of the names that a line uses.
+fn uses_of(alloc: Global, table: &mut Table, line: &Line) -> Result<Uses, AllocError>
+    ensures keys { Extends table.old.keys table.new.keys }
+    ensures symbols { table.new.symbols ≡ table.old.symbols }
+    ensures before { table.new.before ≡ table.old.before }
+    ensures is { IfOk result (λ uses. AreUses table.new.keys uses (names_used (seen_line line.now))) }
+{
+    let Some(name) = uses(line, 0) else {
+        return Ok(Uses::Nothing);
+    };
+    if uses(line, 1).is_some() {
+        return Ok(Uses::Several);
+    }
+    let id = table.number(alloc, name)?;
+    Ok(Uses::One(id))
+}
+
+impl LineInfo {
+    /// That of a line that is blank or only a comment.
+    pub(crate) const NOTHING: LineInfo = LineInfo {
+        is_bare: true,
+        is_coded: false,
+        is_steady: true,
+        defines: None,
+        uses: Uses::Nothing,
+    };
+
+    /// That of a line, whose names get their numbers.
+    pub(crate) fn of(alloc: Global, table: &mut Table, line: &Line) -> Result<LineInfo, AllocError>
+        ensures keys { Extends table.old.keys table.new.keys }
+        ensures symbols { table.new.symbols ≡ table.old.symbols }
+        ensures before { table.new.before ≡ table.old.before }
+        ensures is { IfOk result (λ info. IsInfo table.new.keys info (seen_line line.now)) }
+    {
+        let defines = number_defined(alloc, table, line)?;
+        let uses = uses_of(alloc, table, line)?;
+        Ok(LineInfo {
+            is_bare: is_bare(line),
+            is_coded: has_code(line),
+            is_steady: is_steady(line),
+            defines,
+            uses,
+        })
+    }
+
+    /// Those of some lines, whose names get their numbers.
+    pub(crate) fn of_all(
+        alloc: Global,
+        table: &mut Table,
+        lines: &[BoxedLine],
+    ) -> Result<Vec<LineInfo>, AllocError>
+        ensures symbols { table.new.symbols ≡ table.old.symbols }
+        ensures are { IfOk result (λ infos. AreInfosOf table.new.keys infos.items
+            (readings_in lines.now)) }
+    {
+        let mut infos = Vec::with_capacity(alloc, lines.len())?;
+        for line in lines {
+            let info = LineInfo::of(alloc, table, line.line())?;
+            infos.push(info)?;
+        }
+        Ok(infos)
+    }
+
+    /// The size of a line of which the first pass asks nothing else but its name.
+    pub(crate) fn bare_size(self) -> Option<usize>
+        ensures { (keys : List Name) (line : Reading) → IsInfo keys self line
+            → IfSome result (λ size. IsBare line (name_defined line) size) }
+    {
+        if !self.is_bare {
+            return None;
+        }
+        Some(if self.is_coded { 2 } else { 0 })
+    }
+}

@@ -1,0 +1,209 @@
+//! The codes of the lines after an edit: those that it doesn't touch are carried over.
+ghost use Rattle.std.specs.Prelude.{◌≡◌, ℕ, ◌+◌, ◌<◌, ◌≤◌, true, false, IfOk, OnOk, IfSome, Some, is_some, length, slice_get, slice_index, if◌then◌else◌};
+ghost use Rattle.chip_lang.specs.declared.limits.TheConstants.{IMAGE_BYTES};
+ghost use Rattle.chip_lang.specs.Line.{Reading};
+ghost use Rattle.chip_lang.specs.Code.{coded, own_bytes};
+ghost use Rattle.chip_asm.specs.Program.{fault_in_code, fault_of};
+ghost use Rattle.chip_asm.specs.computed.Walk.{placed};
+ghost use Rattle.chip_asm.specs.Layout.{Placed, body_of};
+ghost use Rattle.chip_asm.specs.Names.{values_of};
+ghost use Rattle.chip_asm.specs.inner.Infos.{IsInfo};
+ghost use Rattle.chip_asm.specs.inner.Codes.{AreCodesOf, IsWritten, covers_byte, right_byte};
+ghost use Rattle.chip_asm.specs.inner.Recoding.{IsAcceptedAt, IsPlacedThen, IsRecoding, code_bytes, code_then, count_then, is_again, is_kept, lines_again, lines_then};
+ghost use Rattle.chip_asm.specs.inner.Recode.{has_code};
+ghost use Rattle.chip_asm.specs.inner.Records.{place_before, reading_in};
+
+use crate::codes::{Codes, bytes_of, count_of, fault_in, write_line};
+use crate::edit::{Edit, kept_after, place_before};
+use crate::kept_line::BoxedLine;
+use crate::layout::Layout;
+use crate::placement::Placement;
+use crate::relayout::keeps_values;
+use crate::table::{Scope, Table, Time};
+use chip_lang::laws::same_code;
+use chip_lang::limits::IMAGE_START;
+use chip_lang::short_bytes::ShortBytes;
+use chip_lang::{Coded, Fault, Meter, encode};
+use std::alloc::{AllocError, Global};
+
+/// An edit of some lines, with the layouts before and after it.
+#[derive(Clone, Copy)]
+pub(crate) struct Recoding<'a> {
+    /// The lines before the edit.
+    pub(crate) lines: &'a [BoxedLine],
+    pub(crate) edit: &'a Edit,
+    pub(crate) old: &'a Layout,
+    pub(crate) new: &'a Layout,
+    /// The symbols before and after it.
+    pub(crate) names: &'a Table,
+    /// The codes before it.
+    pub(crate) codes: &'a Codes,
+}
+
+/// The code of a line, which is encoded where it has bytes of its own.
+pub(crate) fn code_of(
+    alloc: Global,
+    meter: &mut Meter,
+    names: &Table,
+    kept: &BoxedLine,
+) -> Result<Coded, AllocError>
+    requires { IsInfo names.now.keys kept.now.info (reading_in kept.now) }
+    ensures code { IfOk result (λ code. code
+        ≡ coded (own_bytes (body_of (reading_in kept.now)) (values_of names.now.symbols))) }
+    ensures encoded { meter.new.encoded
+        ≤ meter.old.encoded + (if has_code (body_of (reading_in kept.now)) then 1 else 0) }
+    ensures not_lowered { meter.old.encoded ≤ meter.new.encoded }
+    ensures parsed { meter.new.parsed ≡ meter.old.parsed }
+{
+    if !kept.info().is_coded {
+        return Ok(Coded::Bytes(ShortBytes::empty(alloc)));
+    }
+    let scope = Scope {
+        table: names,
+        time: Time::Now,
+    };
+    encode(alloc, meter, kept.line(), &scope)
+}
+
+impl<'a> Recoding<'a> {
+    /// Where the line at a place stood before the edit, if its code is still the one that it had:
+    /// it was accepted there, and its names keep their values.
+    fn kept_place(&self, place: usize) -> Option<usize>
+        requires recoding { IsRecoding self.now }
+        requires place { place < count_then self.now }
+        ensures kept { (line : Reading) → slice_get (lines_then self.now) place ≡ Some line
+            → is_some result ≡ is_kept self.now (place, line) }
+        ensures stood { IfSome result (λ before. place_before self.now.edit.now place
+            ≡ Some before) }
+    {
+        let before = place_before(self.edit, place)?;
+        let kept = kept_after(self.lines, self.edit, place);
+        if self.old.placements[before].is_accepted() && keeps_values(self.names, kept) {
+            Some(before)
+        } else {
+            None
+        }
+    }
+
+    /// Writes the code of the line at a place, as it was before the edit, where the line stands
+    /// now. The line's fault.
+    fn carry(
+        &self,
+        image: &mut [u8],
+        placement: &Placement,
+        place: usize,
+        before: usize,
+    ) -> Option<Fault>
+        requires recoding { IsRecoding self.now }
+        requires placement { IsAcceptedAt self.now place placement.now }
+        requires stood { place_before self.now.edit.now place ≡ Some before }
+        requires kept { (line : Reading) → slice_get (lines_then self.now) place ≡ Some line
+            → is_kept self.now (place, line) ≡ true }
+        requires long { length image.old ≡ IMAGE_BYTES }
+        ensures written { (x : Placed) → IsPlacedThen self.now place x
+            → IsWritten placement.now (code_bytes self.now x) image.old image.new }
+        ensures fault { (x : Placed) → IsPlacedThen self.now place x
+            → result ≡ fault_in_code (code_then self.now x) }
+    {
+        same_code();
+        let stood = self.old.placements[before];
+        let first = stood.here as usize - IMAGE_START;
+        write_line(
+            image,
+            placement,
+            &self.codes.image[first..first + stood.size as usize],
+        );
+        self.codes.faults[before]
+    }
+
+    /// Encodes the line at a place. The line's fault.
+    fn encode(
+        &self,
+        alloc: Global,
+        meter: &mut Meter,
+        image: &mut [u8],
+        placement: &Placement,
+        place: usize,
+    ) -> Result<Option<Fault>, AllocError>
+        requires recoding { IsRecoding self.now }
+        requires placement { IsAcceptedAt self.now place placement.now }
+        requires long { length image.old ≡ IMAGE_BYTES }
+        ensures written { (x : Placed) → IsPlacedThen self.now place x
+            → OnOk result (IsWritten placement.now (code_bytes self.now x) image.old image.new) }
+        ensures fault { (x : Placed) → IsPlacedThen self.now place x
+            → IfOk result (λ fault. fault ≡ fault_in_code (code_then self.now x)) }
+        ensures encoded { meter.new.encoded ≤ meter.old.encoded + 1 }
+        ensures not_lowered { meter.old.encoded ≤ meter.new.encoded }
+        ensures parsed { meter.new.parsed ≡ meter.old.parsed }
+    {
+        let kept = kept_after(self.lines, self.edit, place);
+        let code = code_of(alloc, meter, self.names, kept)?;
+        write_line(image, placement, bytes_of(&code));
+        Ok(fault_in(&code))
+    }
+
+    /// Writes the bytes of the line at a place. The line's fault.
+    fn write(
+        &self,
+        alloc: Global,
+        meter: &mut Meter,
+        image: &mut [u8],
+        place: usize,
+    ) -> Result<Option<Fault>, AllocError>
+        requires recoding { IsRecoding self.now }
+        requires place { place < count_then self.now }
+        requires long { length image.old ≡ IMAGE_BYTES }
+        ensures right { (q : Placement) (k : ℕ)
+            → slice_get self.now.new.now.placements.items place ≡ Some q → k < IMAGE_BYTES
+            → covers_byte q k ≡ true → slice_index image.old k ≡ 0
+            → OnOk result (slice_index image.new k ≡ right_byte (lines_then self.now) k) }
+        ensures others { (q : Placement) (k : ℕ)
+            → slice_get self.now.new.now.placements.items place ≡ Some q
+            → covers_byte q k ≡ false
+            → OnOk result (slice_index image.new k ≡ slice_index image.old k) }
+        ensures fault { (x : Placed) → IsPlacedThen self.now place x
+            → IfOk result (λ fault. fault ≡ fault_of (placed (lines_then self.now)) x) }
+        ensures encoded { (line : Reading) → slice_get (lines_then self.now) place ≡ Some line
+            → meter.new.encoded
+            ≤ meter.old.encoded + (if is_again self.now (place, line) then 1 else 0) }
+        ensures not_lowered { meter.old.encoded ≤ meter.new.encoded }
+        ensures parsed { meter.new.parsed ≡ meter.old.parsed }
+    {
+        let placement = &self.new.placements[place];
+        if !placement.is_accepted() {
+            return Ok(placement.fault);
+        }
+        if !kept_after(self.lines, self.edit, place).info().is_coded {
+            return Ok(None);
+        }
+        match self.kept_place(place) {
+            Some(before) => Ok(self.carry(image, placement, place, before)),
+            None => self.encode(alloc, meter, image, placement, place),
+        }
+    }
+
+    /// The codes of all lines after the edit, in the room of others.
+    pub(crate) fn codes(
+        &self,
+        alloc: Global,
+        meter: &mut Meter,
+        spare: Codes,
+    ) -> Result<Codes, AllocError>
+        requires { IsRecoding self.now }
+        ensures codes { IfOk result (λ codes. AreCodesOf codes (lines_then self.now)) }
+        ensures encoded { meter.new.encoded ≤ meter.old.encoded + lines_again self.now }
+        ensures not_lowered { meter.old.encoded ≤ meter.new.encoded }
+        ensures parsed { meter.new.parsed ≡ meter.old.parsed }
+    {
+        let mut codes = spare;
+        let count = self.new.placements.len();
+        codes.clear(count)?;
+        codes.count = 0;
+        for place in 0..count {
+            let fault = self.write(alloc, meter, &mut codes.image, place)?;
+            codes.count += count_of(fault);
+            codes.faults.push(fault)?;
+        }
+        Ok(codes)
+    }
+}

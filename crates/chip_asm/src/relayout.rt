@@ -1,0 +1,205 @@
+//! The layout of the lines after an edit, by one pass from the edit on.
+ghost use Rattle.std.specs.Prelude.{◌≡◌, ℕ, ◌+◌, ◌<◌, ◌≤◌, true, List, ◌∷◌, [], ◌++◌, IfOk, OnOk, OnErr, IfSome, Some, length, slice_get, take};
+ghost use Rattle.chip_lang.specs.Line.{Reading};
+ghost use Rattle.chip_asm.specs.Program.{names_of_lines};
+ghost use Rattle.chip_asm.specs.computed.Walk.{placed, place as place_next};
+ghost use Rattle.chip_lang.specs.Uses.{agree_on};
+ghost use Rattle.chip_asm.specs.Names.{values_of};
+ghost use Rattle.chip_asm.specs.inner.Follows.{Follows, placement_of};
+ghost use Rattle.chip_asm.specs.inner.HeldLine.{IsKnownUnder};
+ghost use Rattle.chip_asm.specs.inner.Infos.{IsInfo};
+ghost use Rattle.chip_asm.specs.inner.Layouts.{IsLayoutOf};
+ghost use Rattle.chip_asm.specs.inner.Records.{reading_in};
+ghost use Rattle.chip_asm.specs.inner.Resume.{AreSteady, IsRelayout, IsWalked, count_then, first_changed, lines_before, lines_then};
+ghost use Rattle.chip_asm.specs.inner.Tables.{KeepsBefore};
+
+use crate::edit::{Edit, count_after, first_changed, kept_after, place_before};
+use crate::kept_line::BoxedLine;
+use crate::layout::{Layout, mark_unclosed};
+use crate::line_info::Uses;
+use crate::pass::Pass;
+use crate::placement::Placement;
+use crate::table::{Scope, Table, Time};
+use chip_lang::agree_on;
+use chip_lang::laws::{kept_value, same_code};
+use std::alloc::{AllocError, Global};
+use std::mem;
+
+/// An edit of some lines, whose layout is known.
+#[derive(Clone, Copy)]
+pub(crate) struct Relayout<'a> {
+    /// The lines before the edit.
+    pub(crate) lines: &'a [BoxedLine],
+    /// Their layout.
+    pub(crate) old: &'a Layout,
+    pub(crate) edit: &'a Edit,
+}
+
+/// How many lines before a place are steady, up to the first that isn't.
+fn steady_lines(lines: &[BoxedLine], place: usize) -> usize
+    requires { place ≤ length lines.now }
+    ensures within { result ≤ place }
+    ensures steady { AreSteady lines.now result }
+{
+    for index in 0..place {
+        if !lines[index].info().is_steady {
+            return index;
+        }
+    }
+    place
+}
+
+/// Whether the names of a line have the values, or none, that they had before the edit.
+pub(crate) fn keeps_values(names: &Table, kept: &BoxedLine) -> bool
+    requires { IsInfo names.now.keys kept.now.info (reading_in kept.now) }
+    ensures { result
+        ≡ agree_on (values_of names.now.before) (values_of names.now.symbols)
+        (reading_in kept.now) }
+{
+    match kept.info().uses {
+        Uses::Nothing => true,
+        Uses::One(id) => names.keeps_value(id),
+        Uses::Several => {
+            let before = Scope {
+                table: names,
+                time: Time::Past,
+            };
+            let now = Scope {
+                table: names,
+                time: Time::Now,
+            };
+            agree_on(kept.line(), &before, &now)
+        }
+    }
+}
+
+impl<'a> Relayout<'a> {
+    /// The value of the expression of the line at a place after the edit, where it is known: it is
+    /// constant, or the line was accepted before and its names keep their values.
+    fn known_value(&self, names: &Table, place: usize) -> Option<i32>
+        requires relayout { IsRelayout names.now.keys self.now }
+        requires place { place < count_then self.now }
+        requires before { names.now.before ≡ names_of_lines (lines_before self.now) }
+        ensures { (line : Reading) → slice_get (lines_then self.now) place ≡ Some line
+            → IsKnownUnder names.now.symbols result line }
+    {
+        kept_value();
+        same_code();
+        let kept = kept_after(self.lines, self.edit, place);
+        if let Some(value) = kept.constant() {
+            return Some(value);
+        }
+        let before = place_before(self.edit, place)?;
+        let placement = self.old.placements.get(before)?;
+        if placement.is_accepted() && keeps_values(names, kept) {
+            Some(placement.value)
+        } else {
+            None
+        }
+    }
+
+    /// Goes on by the line at a place, which is looked into only where what is kept beside it
+    /// doesn't say all.
+    fn step_at(&self, pass: &mut Pass, place: usize) -> Result<Placement, AllocError>
+        requires relayout { IsRelayout pass.old.names.keys self.now }
+        requires place { place < count_then self.now }
+        requires before { pass.old.names.before ≡ names_of_lines (lines_before self.now) }
+        ensures found { (before : List Reading) (line : Reading)
+            → slice_get (lines_then self.now) place ≡ Some line
+            → Follows pass.old (placed before) → place ≡ length before
+            → IfOk result (λ placement. placement
+            ≡ placement_of (place_next (placed before) line)) }
+        ensures follows { (before : List Reading) (line : Reading)
+            → slice_get (lines_then self.now) place ≡ Some line
+            → Follows pass.old (placed before) → place ≡ length before
+            → OnOk result (Follows pass.new (placed (before ++ line ∷ []))) }
+        ensures keeps { KeepsBefore pass.old.names pass.new.names }
+    {
+        let kept = kept_after(self.lines, self.edit, place);
+        let info = kept.info();
+        let Some(size) = info.bare_size() else {
+            let known = self.known_value(&pass.names, place);
+            return pass.step(place + 1, known, kept.line(), info.defines);
+        };
+        match info.defines {
+            Some(id) => pass.step_labelled(place + 1, size, id),
+            None => Ok(pass.step_bare(place + 1, size)),
+        }
+    }
+
+    /// What is found of the lines from a place on, behind what was found of those before it.
+    fn walk(
+        &self,
+        placements: &mut Vec<Placement>,
+        pass: &mut Pass,
+        place: usize,
+    ) -> Result<(), AllocError>
+        requires relayout { IsRelayout pass.old.names.keys self.now }
+        requires before { pass.old.names.before ≡ names_of_lines (lines_before self.now) }
+        requires place { place ≤ count_then self.now }
+        requires walked { IsWalked placements.old.items pass.old (lines_then self.now) place }
+        ensures walked { OnOk result (IsWalked placements.new.items pass.new (lines_then self.now)
+            (count_then self.now)) }
+        ensures keeps { KeepsBefore pass.old.names pass.new.names }
+    {
+        for next in place..count_after(self.lines.len(), self.edit) {
+            let placement = self.step_at(pass, next)?;
+            placements.push(placement)?;
+        }
+        Ok(())
+    }
+
+    /// The layout after the edit, in the room of another one, where the pass stands after the first
+    /// lines, which stay.
+    fn walk_from(&self, spare: Layout, pass: &mut Pass, first: usize) -> Result<Layout, AllocError>
+        requires relayout { IsRelayout pass.old.names.keys self.now }
+        requires before { pass.old.names.before ≡ names_of_lines (lines_before self.now) }
+        requires first { first ≤ first_changed self.now.edit.now }
+        requires steady { AreSteady self.now.lines.now first }
+        requires follows { Follows pass.old (placed (take first (lines_then self.now))) }
+        ensures layout { IfOk result (λ layout. IsLayoutOf layout (lines_then self.now)) }
+        ensures names { OnOk result (pass.new.names.symbols
+            ≡ names_of_lines (lines_then self.now)) }
+        ensures keeps { KeepsBefore pass.old.names pass.new.names }
+    {
+        let Layout { mut placements, .. } = spare;
+        placements.clear();
+        placements.reserve(count_after(self.lines.len(), self.edit))?;
+        placements.extend_from_slice(&self.old.placements[..first])?;
+        self.walk(&mut placements, pass, first)?;
+        mark_unclosed(&mut placements, pass.ended, &pass.blocks);
+        Ok(Layout {
+            placements,
+            end: pass.here,
+        })
+    }
+
+    /// The layout of the lines after the edit, in the room of another one, and their symbols. The
+    /// pass begins at the edit, unless a line before it isn't steady. Where memory runs out the
+    /// symbols stay.
+    pub(crate) fn layout(
+        &self,
+        alloc: Global,
+        spare: Layout,
+        names: &mut Table,
+    ) -> Result<Layout, AllocError>
+        requires relayout { IsRelayout names.old.keys self.now }
+        requires names { names.old.symbols ≡ names_of_lines (lines_before self.now) }
+        ensures layout { IfOk result (λ layout. IsLayoutOf layout (lines_then self.now)) }
+        ensures symbols { OnOk result (names.new.symbols ≡ names_of_lines (lines_then self.now)) }
+        ensures before { OnOk result (names.new.before ≡ names.old.symbols) }
+        ensures same { OnErr result (names.new.symbols ≡ names.old.symbols) }
+        ensures keys { names.new.keys ≡ names.old.keys }
+    {
+        let first = steady_lines(self.lines, first_changed(self.edit));
+        names.begin(first)?;
+        let table = mem::replace(names, Table::new(alloc));
+        let mut pass = Pass::resume(alloc, self.old.address_at(first), table);
+        let layout = self.walk_from(spare, &mut pass, first);
+        *names = pass.into_names();
+        if layout.is_err() {
+            names.restore();
+        }
+        layout
+    }
+}
