@@ -42,7 +42,7 @@ seed = record (new_rule (codes "seed")) {
   parser = Some (vp.Unsigned 0 18446744073709551615);
 }
 
--- any text: the names of the profiles are no part of what `clap` judges
+-- any text: the names of the profiles are not part of what `clap` judges
 unfoldable pub profile : Rule
 profile = record (new_rule (codes "profile")) { long = Some (codes "profile"); value_names = 1 }
 

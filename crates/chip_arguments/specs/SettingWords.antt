@@ -1,4 +1,4 @@
--- The settings that the words of the command line ask for where they say nothing of them (own).
+-- The settings that the words of the command line ask for where they do not set them (own).
 use Rattle.std.specs.Prelude.{None}
 use Rattle.chip_machine.specs.declared.profile.Profile.TheVariants.{Schip}
 use Rattle.chip_replay.specs.declared.limits.TheConstants.{LEAST_SPACING}

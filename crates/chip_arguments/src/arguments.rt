@@ -42,13 +42,7 @@ pub(crate) fn image_argument<'a>(alloc: Global) -> Arg<'a>
     ensures rule { rule_of result ≡ line.image }
     ensures local { result.global ≡ false }
 {
-    place(
-        alloc,
-        "image",
-        "IMAGE",
-        "The file to write, as a whole or not at all",
-    )
-    .required(true)
+    place(alloc, "image", "IMAGE", "The file to write, atomically").required(true)
 }
 
 #[tactic(auto, unfolding(crate::specs::CommandLine::image))]
@@ -95,7 +89,7 @@ pub(crate) fn ascii_argument<'a>(alloc: Global) -> Arg<'a>
 {
     Arg::new(alloc, "ascii")
         .long("ascii")
-        .help("Prints plain letters in the place of half blocks")
+        .help("Prints ASCII instead of half blocks")
         .action(ArgAction::SetTrue)
 }
 

@@ -17,7 +17,7 @@ use std::convert::AsStr;
 const DEFAULT_RATE: u32 = 10;
 
 /// What the program is asked to do.
-#[derive(Clone, Copy, Debug, PartialEq, Eq)]
+#[derive(Clone, Copy)]
 pub enum CommandLine<'a> {
     /// To answer a script.
     Debug {
@@ -52,7 +52,7 @@ pub enum CommandLine<'a> {
 }
 
 /// A run, as the words ask for it.
-#[derive(Clone, Copy, Debug, PartialEq, Eq)]
+#[derive(Clone, Copy)]
 pub struct RunWords<'a> {
     pub source: &'a str,
     pub steps: u32,
@@ -62,7 +62,7 @@ pub struct RunWords<'a> {
 }
 
 /// A picture, as the words ask for it.
-#[derive(Clone, Copy, Debug, PartialEq, Eq)]
+#[derive(Clone, Copy)]
 pub struct PictureWords<'a> {
     /// At the end of which run.
     pub run: RunWords<'a>,
@@ -75,7 +75,7 @@ pub struct PictureWords<'a> {
 }
 
 /// The settings, as the words give them.
-#[derive(Clone, Copy, Debug, PartialEq, Eq)]
+#[derive(Clone, Copy)]
 pub struct SettingWords<'a> {
     /// How many steps there are to a tick, 1 to 1000.
     pub rate: u32,
@@ -104,7 +104,7 @@ impl<'a> SettingWords<'a> {
 ///
 /// # Errors
 ///
-/// A fault of the words, a request for help, or want of memory.
+/// A fault of the words, a request for help, or that memory ran out.
 pub fn parse_words<'a, S: AsStr>(alloc: Global, words: &'a [S]) -> Result<CommandLine<'a>, Error>
     ensures fault { FailsBy (word_faults (map S.text words.entry.now)) result }
     ensures asked { IfOk result (AsksFor (map S.text words.entry.now)) }

@@ -193,7 +193,7 @@ fn explain_command<'a>(alloc: Global) -> Result<Command<'a>, AllocError>
     new_command(
         alloc,
         "explain",
-        "Prints what a code means, an example that has it, and the mend",
+        "Prints what a code means, an example that has it, and the fix",
         "Example: chipbench explain F9",
     )
     .arg(code_argument(alloc))

@@ -194,7 +194,7 @@ fn push_names_of(out: &mut String, word: &str, line: &Line) -> Result<(), AllocE
     }
 }
 
-/// The value of the expression of an EQU, where no name has a say in it.
+/// The value of the expression of an EQU, where it is constant.
 fn constant_of(line: &Line) -> Option<i32> {
     match line {
         Line::Read {

@@ -8,7 +8,7 @@
 //! - `frames`, `frame PLACE`, `depth`: the addresses that open calls return to, and how many they
 //!   are. `flags`, `flag PLACE`: the flag registers.
 //! - `high`: whether the screen has its high size. `row ROW`: the points of a row, the leftmost the
-//!   highest bit. `screen`: each row with a lit point. `rows`: whether the rows that are lent have
+//!   highest bit. `screen`: each row with a lit pixel. `rows`: whether the rows that are lent have
 //!   the same points, and none is lit past the last one.
 //! - `profiles`, `profile NAME`: the profiles' names, and the name of the one that is found by one.
 //!   `start-error NUMBER`: what an error of a start says.
@@ -139,7 +139,7 @@ fn push_row(out: &mut String, machine: &Machine, rest: &str) -> Result<(), Alloc
     }
 }
 
-/// The rows with a lit point, each with its number.
+/// The rows with a lit pixel, each with its number.
 fn push_screen(out: &mut String, machine: &Machine) -> Result<(), AllocError> {
     for row in 0..64 {
         let bits = row_bits(machine, row);

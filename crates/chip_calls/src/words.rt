@@ -4,7 +4,7 @@
 //!   text, once as a new text and once added to another.
 //! - `decode-all`: how many words are instructions; each has to be the word of its instruction.
 //! - `show-all`: how many lines were read and encoded, where the source text of each word is; each
-//!   has to have the word as its code, and to be one of data where the word is no instruction.
+//!   has to have the word as its code, and to be one of data where the word is not an instruction.
 
 use crate::language::NoNames;
 use crate::text::{hex_number, refuse};

@@ -14,7 +14,7 @@ is_semicolon byte = byte == 59
 abbrev pub said : List ℕ → List ℕ
 said line = before_first is_semicolon line
 
--- the line of a script that does the same: an empty one where the line says nothing
+-- the line of a script that does the same: an empty one where the line is blank or only a comment
 unfoldable pub key_command : List ℕ → List ℕ
 key_command line = if list_all is_space (said line) then [] else codes "kins " ++ said line
 

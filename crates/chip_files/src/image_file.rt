@@ -22,7 +22,7 @@ const MOST_LINKS: u32 = 40;
 /// replaced or made.
 ///
 /// What a new file can't stand for is written in place, and some bytes may have gone there before
-/// an error: a file of several names or of another owner, and what is no file, such as a terminal
+/// an error: a file of several names or of another owner, and what is not a file, such as a terminal
 /// or a pipe.
 pub fn write_file<F: Files>(
     alloc: Global,

@@ -25,7 +25,7 @@ pub fn first_line(bytes: &[u8]) -> (&[u8], &[u8])
 ///
 /// # Errors
 ///
-/// Want of memory.
+/// Out of memory.
 #[tactic(auto, unfolding(crate::specs::KeyLines::key_command))]
 pub fn key_command(alloc: Global, line: &[u8]) -> Result<Vec<u8>, AllocError>
     ensures { IfOk result (λ command. command.items ≡ key_command line.now) }

@@ -113,7 +113,7 @@ abbrev pub wrong_in_statement : (labelled : Bool) (first : ℕ) → List Lexeme 
 wrong_in_statement labelled first (Word w ∷ ts) = wrong_in_word labelled (directive_of w) first ts
 wrong_in_statement labelled first ts = at first
 
--- a definition whose value is no expression lies wrong there
+-- a definition whose value is not an expression lies wrong there
 abbrev pub wrong : (count : ℕ) → Shape → Place
 wrong count (definition w value) = from (count - length value)
 wrong count (statement label ts) = wrong_in_statement (is_some label) (count - length ts) ts

@@ -43,7 +43,7 @@ lexeme_of line t = lexeme_of_kind (slice_range line t.start t.end) t.kind
 abbrev pub lexemes_of : List ℕ → List Lexeme
 lexemes_of line = map (lexeme_of line) (tokens_of line)
 
--- a line shows by its first byte that it says nothing: it has no bytes, or a comment alone
+-- a line shows by its first byte that it is blank or only a comment
 abbrev pub shows_nothing : List ℕ → Bool
 shows_nothing [] = true
 shows_nothing (b ∷ bytes) = b == 59

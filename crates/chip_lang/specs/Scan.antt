@@ -8,8 +8,8 @@ use Rattle.chip_lang.specs.Token.{is_blank, token_at}
 abbrev pub AllBlank : List ℕ → (from to : ℕ) → Type 0
 AllBlank line from to = (k : ℕ) → from ≤ k → k < to → is_blank (slice_index line k) ≡ true
 
--- A token stands at its place, which is no blank and begins no comment: the first kind that fits,
--- with the longest run.
+-- A token stands at its place, which is not a blank and begins no comment: the first kind that
+-- fits, with the longest run.
 pub record IsToken (line : List ℕ) (t : Token) : Type 0 where
   pub inside : t.start < length line
   pub no_blank : is_blank (slice_index line t.start) ≡ false

@@ -1,5 +1,5 @@
 -- What stands at a place of a line: the kind and the length of the token there (Chipper manual; own
--- for what is no token).
+-- for what is not a token).
 use Rattle.std.specs.Prelude.{ℕ, ◌+◌, ◌*◌, ◌-◌, ◌==◌, ◌||◌, ◌&&◌, not, Bool, if◌then◌else◌, nat_le, nat_lt, List, [], ◌∷◌, length, fold, take, pos}
 use Rattle.std.specs.List.{list_all, prefix_len}
 use Rattle.chip_lang.specs.declared.fault.Fault.TheVariants.{BadCharacter, UnfinishedString, NumberTooLarge}

@@ -21,7 +21,7 @@ use crate::value::eval;
 use std::alloc::{AllocError, Global};
 
 /// What encoding a line gives.
-#[derive(Debug, Drop)]
+#[derive(Drop)]
 pub enum Coded {
     /// The line's own bytes, without padding: of an instruction, DB, DW or DA, and none of any
     /// other line.

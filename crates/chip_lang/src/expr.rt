@@ -3,7 +3,7 @@
 use crate::bytes::Bytes;
 
 /// A sign before an operand.
-#[derive(Clone, Copy, Debug, PartialEq, Eq)]
+#[derive(Clone, Copy, PartialEq, Eq)]
 pub enum Prefix {
     /// `+`.
     Plus,
@@ -14,7 +14,7 @@ pub enum Prefix {
 }
 
 /// A sign between two operands.
-#[derive(Clone, Copy, Debug, PartialEq, Eq)]
+#[derive(Clone, Copy, PartialEq, Eq)]
 pub enum Operator {
     /// `<`: times a power of two.
     ShiftLeft,
@@ -37,7 +37,7 @@ pub enum Operator {
 }
 
 /// An expression.
-#[derive(Debug, Drop)]
+#[derive(Drop)]
 pub enum Expr {
     /// A number, or the byte of a text of one byte.
     Number(i32),

@@ -9,7 +9,7 @@ use thiserror::Error;
 /// What is wrong with a line.
 #[derive(Clone, Copy, Debug, PartialEq, Eq, Error)]
 pub enum Fault {
-    /// F1: a byte that begins no token, or digits that are no number.
+    /// F1: a byte that begins no token, or digits that are not a number.
     #[error("bad character")]
     BadCharacter,
     /// F2: a text without its second quote.

@@ -24,7 +24,7 @@ use crate::token::{Token, tokens};
 use std::alloc::{AllocError, Global};
 
 /// A part of a line: the bytes from `start` up to `end`.
-#[derive(Clone, Copy, Debug, PartialEq, Eq)]
+#[derive(Clone, Copy)]
 pub struct Span {
     /// The place of its first byte in the line.
     pub start: usize,
@@ -60,7 +60,7 @@ impl Place {
 ///
 /// # Errors
 ///
-/// Want of memory.
+/// Out of memory.
 #[tactic(auto, unfolding(crate::specs::FaultPlace::span_of_fault))]
 pub fn fault_span(alloc: Global, line: &[u8], fault: Fault) -> Result<Span, AllocError>
     ensures span { IfOk result (λ span. span ≡ span_of_fault fault line.now) }
@@ -77,7 +77,7 @@ pub fn fault_span(alloc: Global, line: &[u8], fault: Fault) -> Result<Span, Allo
 ///
 /// # Errors
 ///
-/// Want of memory.
+/// Out of memory.
 #[tactic(auto, unfolding(crate::specs::FaultPlace::mnemonic_of))]
 pub fn mnemonic_of(alloc: Global, line: &[u8]) -> Result<Option<Bytes>, AllocError>
     ensures { IfOk result (λ mnemonic. mnemonic ≡ mnemonic_of line.now) }
@@ -381,7 +381,7 @@ fn is_fit(alloc: Global, values: bool, piece: &[Lexeme]) -> Result<bool, AllocEr
 ///
 /// # Errors
 ///
-/// Want of memory.
+/// Out of memory.
 pub fn name_of_token(alloc: Global, line: &[u8], token: Token) -> Result<Option<Bytes>, AllocError>
     requires rises { token.start ≤ token.end }
     requires inside { token.end ≤ length line.now }

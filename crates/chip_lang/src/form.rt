@@ -15,7 +15,7 @@ use crate::number::Reg;
 
 /// What stands in an operand's place in a form: a register by its part of the word, a word, or a
 /// value by its field.
-#[derive(Clone, Copy, Debug, PartialEq, Eq)]
+#[derive(Clone, Copy, PartialEq, Eq)]
 pub enum Pattern {
     /// A register, the second digit of the word.
     Vx,
@@ -50,7 +50,7 @@ pub enum Pattern {
 }
 
 /// A word that names a part of the machine.
-#[derive(Clone, Copy, Debug, PartialEq, Eq)]
+#[derive(Clone, Copy, PartialEq, Eq)]
 pub enum Special {
     /// `I`.
     Index,
@@ -73,7 +73,7 @@ pub enum Special {
 }
 
 /// An operand.
-#[derive(Debug, Drop)]
+#[derive(Drop)]
 pub enum Operand {
     /// `V0` to `VF`.
     Register(Reg),
@@ -84,7 +84,7 @@ pub enum Operand {
 }
 
 /// A form of an instruction: its name, its operands, and its word without them.
-#[derive(Clone, Copy, Debug)]
+#[derive(Clone, Copy)]
 pub struct Form {
     /// The name of the instruction, in upper case.
     pub name: &'static str,

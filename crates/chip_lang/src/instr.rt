@@ -9,7 +9,7 @@ ghost use Rattle.chip_lang.specs.declared.instr.Instr.{Instr};
 use crate::number::{Addr, Nibble, Reg};
 
 /// An instruction, one variant per row of the table.
-#[derive(Clone, Copy, Debug, PartialEq, Eq)]
+#[derive(Clone, Copy)]
 pub enum Instr {
     /// `SCD n`: scroll down.
     ScrollDown(Nibble),

@@ -9,7 +9,7 @@ use crate::token::{Kind, Token, USUAL_TOKENS, token_from};
 use std::alloc::{AllocError, Global};
 
 /// A token with its content: a word in upper case, a number, the bytes of a text, or a sign.
-#[derive(Debug, Drop)]
+#[derive(Drop)]
 pub enum Lexeme {
     /// A word in upper case.
     Word(ShortBytes),

@@ -24,7 +24,7 @@ use crate::statement::{body_of_shape, is_outside, is_skipped};
 use std::alloc::{AllocError, Global};
 
 /// What the statement of a line says. Names are in upper case.
-#[derive(Debug, Drop)]
+#[derive(Drop)]
 pub enum Body {
     /// No statement.
     Empty,
@@ -66,7 +66,7 @@ pub enum Body {
 
 /// The reading of a line: a label or defined name, if any, and a statement; or the line's reading
 /// fault.
-#[derive(Debug, Drop)]
+#[derive(Drop)]
 pub enum Line {
     /// The first fault of the reading.
     Bad(Fault),
@@ -99,8 +99,8 @@ pub fn read_line(alloc: Global, meter: &mut Meter, text: &[u8]) -> Result<Line, 
     reading_of_text(alloc, text)
 }
 
-/// Reads a line that says nothing, as its first byte shows, and adds 1 to `parsed`: many lines have
-/// no bytes or a comment alone. Any other line isn't read, and nothing changes.
+/// Reads a line that is blank or only a comment, as its first byte shows, and adds 1 to `parsed`.
+/// Any other line isn't read, and nothing changes.
 #[tactic(auto, unfolding(crate::specs::Line::reading_of))]
 #[inline]
 pub fn read_nothing(meter: &mut Meter, text: &[u8]) -> bool
@@ -210,7 +210,7 @@ fn begins_with_no_word(statement: &[Lexeme]) -> bool
     !matches!(statement, [] | [Lexeme::Word(_), ..])
 }
 
-/// Whether a statement begins with a word that is no directive, of which `front` tells, nor an
+/// Whether a statement begins with a word that is not a directive, of which `front` tells, nor an
 /// instruction, whose forms there would be.
 fn begins_with_unknown_word(front: Option<Directive>, forms: &[Form], statement: &[Lexeme]) -> bool
     requires word { begins_with_no_word statement.now ≡ false }

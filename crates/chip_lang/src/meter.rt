@@ -4,7 +4,7 @@ ghost use Rattle.std.specs.Prelude.{◌≡◌};
 
 /// How many texts of lines were read and how many lines were encoded. A count stays at its greatest
 /// value.
-#[derive(Clone, Copy, Debug, PartialEq, Eq)]
+#[derive(Clone, Copy, PartialEq, Eq)]
 pub struct Meter {
     /// The lines that were read.
     pub parsed: u64,

@@ -28,7 +28,7 @@ fn make_upper(bytes: &mut [u8])
 
 /// Bytes, which contracts see as a list. Up to 16, as of most words and codes, stand in the value
 /// itself.
-#[derive(Debug, Drop)]
+#[derive(Drop)]
 pub struct ShortBytes {
     bytes: SmallVec<u8, 16>,
 }

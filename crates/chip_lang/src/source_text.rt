@@ -11,8 +11,8 @@ use crate::form::{FORMS, Form, Pattern};
 use std::alloc::{AllocError, Global};
 
 /// The source text of a word: registers `V0` to `VF`, a byte as `#kk`, an address as `#nnn`, a
-/// nibble in decimal. A word that is no instruction is `DW #wwww`. Read as a line and encoded, the
-/// text gives the word.
+/// nibble in decimal. A word that is not an instruction is `DW #wwww`. Read as a line and encoded,
+/// the text gives the word.
 pub fn show(alloc: Global, word: u16) -> Result<String, AllocError>
     ensures text { IfOk result (λ text. string_bytes text ≡ show_of word) }
 {

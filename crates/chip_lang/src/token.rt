@@ -26,7 +26,7 @@ pub enum Kind {
 }
 
 /// A token of a line: the bytes from `start` up to `end`.
-#[derive(Clone, Copy, Debug, PartialEq, Eq)]
+#[derive(Clone, Copy, PartialEq, Eq)]
 pub struct Token {
     /// What the token is.
     pub kind: Kind,

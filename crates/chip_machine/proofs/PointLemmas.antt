@@ -247,7 +247,7 @@ on_screen-symmetric_difference s t p q c r e = ⊎_elim (λ in_s. p c r in_s) (�
     either true b _ = inl refl
     either false b e = inr e
 
--- ---- a scroll takes each lit point to its place, as long as that is on the screen
+-- ---- a scroll takes each lit pixel to its place, as long as that is on the screen
 
 pub moved_down : (n : ℕ) (lit : Points) (c r : ℕ) → c < 128 → r + n < 64 → is_lit (scrolled_down n lit) c (r + n) ≡ is_lit lit c r
 unfolding scrolled_down

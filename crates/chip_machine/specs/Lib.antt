@@ -1,7 +1,7 @@
 -- What the machine is and does:
---   Points    the screen as the set of its lit points
+--   Points    the screen as the set of its lit pixels
 --   Sprite    the points that a sprite covers
---   Scroll    the lit points moved down, right or left
+--   Scroll    the lit pixels moved down, right or left
 --   Digits    the shapes of the digits
 --   Profile   the two machines, and their names
 --   State     the state of the machine

@@ -1,4 +1,4 @@
--- The screen of 128 columns and 64 rows, as the set of its lit points.
+-- The screen of 128 columns and 64 rows, as the set of its lit pixels.
 -- Source: SUPER-CHIP 1.1 documentation for the 128 by 64 points; own: the low size shares them.
 use Rattle.std.specs.Prelude.{◌≡◌, ℕ, ◌-◌, ◌<◌, ◌==◌, Bool, true, not, nat_eq, map}
 use Rattle.std.specs.Int.{bit_at}

@@ -4,7 +4,7 @@ ghost use Rattle.std.specs.Prelude.{◌≡◌, ◌↔◌, Some, IsSome, Contains
 ghost use Rattle.chip_machine.specs.Profile.{profile_name, profile_names};
 
 /// Whose behaviour a machine has. The table of the instructions says where the two differ.
-#[derive(Clone, Copy, PartialEq, Eq, Debug)]
+#[derive(Clone, Copy, PartialEq, Eq)]
 pub enum Profile {
     /// SUPER-CHIP 1.1, with this project's choices.
     Schip,

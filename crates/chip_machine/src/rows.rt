@@ -483,7 +483,7 @@ impl Processor {
         }
     }
 
-    /// `DXYN`, `DRW Vx, Vy, n`: draws the sprite at I; VF says whether it met a lit point. Of 0
+    /// `DXYN`, `DRW Vx, Vy, n`: draws the sprite at I; VF says whether it met a lit pixel. Of 0
     /// rows it may be none.
     #[inline(always)]
     #[tactic(auto, unfolding(crate::specs::Step::effect))]

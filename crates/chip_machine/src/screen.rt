@@ -13,7 +13,7 @@ use crate::sprite::{HEIGHT, Half, WIDTH, covered_bits, half_of, lines_under, sca
 use std::alloc::{AllocError, Global};
 use std::marker::Model;
 
-/// The screen, which callers see as the set of its lit points.
+/// The screen, which callers see as the set of its lit pixels.
 #[derive(Drop)]
 pub(crate) struct Screen {
     rows: Vec<u128>,

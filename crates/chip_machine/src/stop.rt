@@ -4,11 +4,11 @@ ghost use Rattle.std.specs.Prelude.{◌≡◌};
 ghost use Rattle.chip_machine.specs.Numbers.{stop_number};
 
 /// Why a machine stopped. A step that stops changes nothing else.
-#[derive(Clone, Copy, PartialEq, Eq, Debug)]
+#[derive(Clone, Copy, PartialEq, Eq)]
 pub enum Stop {
     /// S1: the program ended.
     Exit,
-    /// S2: the word at pc is no instruction.
+    /// S2: the word at pc is not an instruction.
     NoInstruction,
     /// S3: no word stands at pc, which is above `LAST_WORD`.
     PcOutOfRange,

@@ -22,15 +22,15 @@ parts a b c d e f x g h i = simp (append_assoc, append-nil)
 
 pub page_is : (page : Page) (t₀ t₁ t₂ t₃ : List ℕ) → t₀ ≡ [] →
     t₁ ≡ t₀ ++ (page.code.now ++ (codes ": " ++ (page.title.now ++ (codes "\n\n" ++ (page.meaning.now ++ (codes "\n\n" ++ [])))))) →
-    t₂ ≡ t₁ ++ example_text page.example → t₃ ≡ t₂ ++ (codes "\nThe mend: " ++ (page.mend.now ++ (codes "\n" ++ []))) →
+    t₂ ≡ t₁ ++ example_text page.example → t₃ ≡ t₂ ++ (codes "\nThe fix: " ++ (page.fix.now ++ (codes "\n" ++ []))) →
     t₃ ≡ page_text page
 unfolding page_text
 page_is page t₀ t₁ t₂ t₃ e₀ e₁ e₂ e₃ =
-    e₃ ∙ ap (λ t. t ++ (codes "\nThe mend: " ++ (page.mend.now ++ (codes "\n" ++ []))))
+    e₃ ∙ ap (λ t. t ++ (codes "\nThe fix: " ++ (page.fix.now ++ (codes "\n" ++ []))))
     (e₂ ∙ ap (λ t. t ++ example_text page.example)
     (e₁ ∙ ap (λ t. t ++ (page.code.now ++ (codes ": " ++ (page.title.now ++ (codes "\n\n" ++ (page.meaning.now ++ (codes "\n\n" ++ []))))))) e₀))
     ∙ parts page.code.now (codes ": ") page.title.now (codes "\n\n") page.meaning.now (codes "\n\n") (example_text page.example)
-    (codes "\nThe mend: ") page.mend.now (codes "\n")
+    (codes "\nThe fix: ") page.fix.now (codes "\n")
 
 -- the page that was found has the code
 has_it : (code : List ℕ) (pages : List Page) (page : Page) → page_of pages code ≡ Some page → has_code code page ≡ true

@@ -39,7 +39,7 @@ unfoldable pub page_text : Page → List ℕ
 page_text page =
     page.code.now
     ++ (codes ": " ++ (page.title.now ++ (codes "\n\n" ++ (page.meaning.now ++ (codes "\n\n"
-    ++ (example_text page.example ++ (codes "\nThe mend: " ++ (page.mend.now ++ codes "\n"))))))))
+    ++ (example_text page.example ++ (codes "\nThe fix: " ++ (page.fix.now ++ codes "\n"))))))))
 
 -- the line of a page among all
 abbrev pub title_line : Page → List ℕ

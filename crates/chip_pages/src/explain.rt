@@ -56,7 +56,7 @@ fn text_of(alloc: Global, page: &Page) -> Result<Vec<u8>, AllocError>
         &[page.code, ": ", page.title, "\n\n", page.meaning, "\n\n"],
     )?;
     push_example(&mut text, &page.example)?;
-    push_all(&mut text, &["\nThe mend: ", page.mend, "\n"])?;
+    push_all(&mut text, &["\nThe fix: ", page.fix, "\n"])?;
     Ok(text)
 }
 

@@ -13,7 +13,7 @@ use std::marker::Model;
 use thiserror::Error;
 
 /// A key and a step, in the order of the keys and then of the steps.
-#[derive(Clone, Copy, Debug, PartialEq, Eq, PartialOrd, Ord)]
+#[derive(Clone, Copy, PartialEq, Eq, PartialOrd, Ord)]
 pub struct Moment {
     /// 0 to 15.
     pub key: u32,
@@ -51,7 +51,7 @@ pub(crate) struct Holding {
     pub(crate) keys: u16,
     /// The same, a key at a place.
     pub(crate) down: [bool; KEY_COUNT],
-    /// The first step whose events this says nothing of.
+    /// The first step whose events are not covered.
     pub(crate) until: u32,
     /// Where its events begin among those in order, unless an event was added or taken out since.
     pub(crate) place: Place,

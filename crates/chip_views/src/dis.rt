@@ -33,7 +33,7 @@ impl Names for NoNames {
 ///
 /// # Errors
 ///
-/// Want of memory.
+/// Out of memory.
 pub fn source_of_image(alloc: Global, image: &[u8]) -> Result<Vec<u8>, AllocError>
     requires { length image.now ≤ IMAGE_BYTES }
     ensures text { IfOk result (λ text. text.items ≡ source_of_image image.now) }

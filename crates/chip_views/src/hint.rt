@@ -11,7 +11,7 @@ use chip_lang::{Fault, Kind, Line, Meter, Token, read_line, tokens};
 use std::alloc::{AllocError, Global};
 
 /// What a line has that may be the reason of its fault.
-#[derive(Clone, Copy, Debug, PartialEq, Eq)]
+#[derive(Clone, Copy, PartialEq, Eq)]
 pub(crate) enum Hint {
     /// A byte order mark at the front.
     ByteOrderMark,

@@ -7,7 +7,7 @@ use chip_machine::Machine;
 use std::alloc::{AllocError, Global};
 
 /// Which characters stand for two points, one above the other.
-#[derive(Clone, Copy, Debug, PartialEq, Eq)]
+#[derive(Clone, Copy, PartialEq, Eq)]
 pub enum Letters {
     /// The half blocks of Unicode, in UTF-8.
     Blocks,
@@ -20,7 +20,7 @@ pub enum Letters {
 ///
 /// # Errors
 ///
-/// Want of memory.
+/// Out of memory.
 #[tactic(auto, unfolding(crate::specs::Picture::picture_of))]
 pub fn screen_text(
     alloc: Global,

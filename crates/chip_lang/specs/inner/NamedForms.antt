@@ -11,7 +11,7 @@ abbrev pub from_name : List ℕ → List Row → List Row
 from_name name [] = []
 from_name name (r ∷ rs) = if bytes_eq r.name name then r ∷ rs else from_name name rs
 
--- all forms from the first of the name at the front of a statement on, where that is no directive
+-- all forms from the first of the name at the front of a statement on, where that isn't a directive
 abbrev pub front_forms : Option Directive → List Lexeme → List Row
 front_forms None (Word name ∷ rest) = from_name name forms
 front_forms front statement = []

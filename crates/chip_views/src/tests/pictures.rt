@@ -21,7 +21,7 @@ fn drawn(alloc: Global) -> Result<Machine, Fail> {
     Ok(machine)
 }
 
-/// The rows of that screen, each after some bytes, with lit points as zeros or ones.
+/// The rows of that screen, each after some bytes, with lit pixels as zeros or ones.
 fn rows(alloc: Global, front: &[u8], turned: u8) -> Result<Vec<u8>, Fail> {
     let mut bytes = Vec::new(alloc);
     for row in 0..32usize {
