@@ -198,7 +198,7 @@ def manual(words):
         ".SH EXIT STATUS", ".TP", "0", "Done.", ".TP", "1", "The source has faults, or doesn't open.",
         ".TP", "2", "The words, a tape or a file of key events are faulty.", ".TP", "3",
         "A file, the input or the output failed, or there was too much input.", ".TP", "4",
-        "Want of memory.", ".SH SEE ALSO", ".BR chipbench\\-page (1),", ".br",
+        "Out of memory.", ".SH SEE ALSO", ".BR chipbench\\-page (1),", ".br",
         "docs/FORMATS.md (commands and answers),", ".br", "docs/LANGUAGE.md (the language of sources),", ".br",
         "docs/MACHINE.md (the machine),", ".br", "docs/GUIDE.md (a first game)", ""]
     return "\n".join(lines)
