@@ -17,4 +17,4 @@ complete -c chipbench -n '__fish_seen_subcommand_from run picture' -l keys -r -d
 complete -c chipbench -n '__fish_seen_subcommand_from picture' -l ascii -d 'Prints ASCII instead of half blocks'
 complete -c chipbench -n '__fish_seen_subcommand_from picture' -l pbm -r -d 'Writes a portable bitmap to a file'
 complete -c chipbench -n '__fish_seen_subcommand_from picture' -l png -r -d 'Writes a PNG picture to a file'
-complete -c chipbench -n '__fish_seen_subcommand_from explain' -f -a 'F1 F2 F3 F4 F5 F6 F7 F8 F9 F10 F11 F12 F13 F14 F15 F16 F17 N1 N2 N3 N4 N5 N6 N7 N8 N9 N10 Q1 Q2 Q3 Q4 C1 C2 E1 E2 E3 E4 O1 O2 O3 S1 S2 S3 S4 S5 S6 S7'
+complete -c chipbench -n '__fish_seen_subcommand_from explain' -f -a '(chipbench explain 2>/dev/null | cut -d '\'' '\'' -f 1)'

@@ -14,6 +14,8 @@ import sys
 
 HERE = pathlib.Path(__file__).resolve().parent
 CRATES = HERE.parent / "crates"
+# a command of the shell that prints all codes
+CODES = "chipbench explain 2>/dev/null | cut -d ' ' -f 1"
 
 
 def read(path):
@@ -89,7 +91,6 @@ class Words:
         debug = next(command for command in self.commands if command.name == "debug")
         notes = consts["DEBUG_NOTES"].replace("\\n", "\n")
         debug.example = re.search(r"Example: (.*)", notes).group(1)
-        self.codes = re.findall(r'code: "(\w+)"', read("chip_pages/src/pages.rt"))
 
 
 def bash(words):
@@ -109,7 +110,8 @@ def bash(words):
         "    case $before in",
         '        --profile) COMPREPLY=($(compgen -W "schip vip" -- "$word")); return ;;',
         "        --rate | --tape | --seed | --steps | --every) return ;;",
-        f'        explain) COMPREPLY=($(compgen -W "{" ".join(words.codes)}" -- "$word")); return ;;',
+        # the program has the codes
+        f'        explain) COMPREPLY=($(compgen -W "$({CODES})" -- "$word")); return ;;',
         "    esac",
         "    case ${COMP_WORDS[1]} in",
         *cases,
@@ -138,7 +140,7 @@ def zsh(words):
     for command in words.commands:
         lines.append(f"        {command.name})")
         if command.name == "explain":
-            lines.append(f"            _values code {' '.join(words.codes)} ;;")
+            lines.append(f"            compadd -- $({CODES}) ;;")
             continue
         rest = ["'*:file:_files'"] if command.places else []
         for option in command.options:
@@ -163,7 +165,7 @@ def fish(words):
             value = " -x -a 'schip vip'" if option.long == "profile" else (
                 " -r" if option.value == "FILE" else " -x" if option.value else "")
             takers.setdefault(f"-l {option.long}{value} -d {text}", []).append(command.name)
-    takers[f"-f -a '{' '.join(words.codes)}'"] = ["explain"]
+    takers[f"-f -a {quoted('(' + CODES + ')')}"] = ["explain"]
     for words_after, names in takers.items():
         lines.append(f"complete -c chipbench -n '__fish_seen_subcommand_from {' '.join(names)}' {words_after}")
     return "\n".join(lines + [""])

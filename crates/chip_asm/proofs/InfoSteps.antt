@@ -75,9 +75,6 @@ infos-of-more old new infos info lines k line e are inside at is = (long, each)
         by (inl a) (inr b) = absurd (let low = slice_get_within infos place i a in omega (arith, low, b.0, are.0))
         by (inr a) (inl b) = absurd (let low = slice_get_within front place l b in omega (arith, low, a.0, are.0))
 
-pub infos-of-none : (keys : List Name) (infos : List LineInfo) → infos ≡ [] → AreInfosOf keys infos []
-infos-of-none keys infos e = (ap length e, λ place i l there read. cc)
-
 pub infos-of-all : (keys : List Name) (infos : List LineInfo) (lines : List KeptLine) (k : ℕ) → length lines ≤ k → AreInfosOf keys infos (readings_in (take k lines)) → AreInfosOf keys infos (readings_in lines)
 infos-of-all keys infos lines k past are = subst (λ (ls : List KeptLine). AreInfosOf keys infos (readings_in ls)) (take_all k lines past) are
 
@@ -86,9 +83,6 @@ pub record ArePut (lines before : List KeptLine) (infos : List LineInfo) (k : �
   pub texts : texts_in lines ≡ texts_in before
   pub readings : readings_in lines ≡ readings_in before
   pub put : (i : ℕ) (d : KeptLine) (other : LineInfo) → i < k → (get_or lines i d).info ≡ get_or infos i other
-
-pub put-none : (lines : List KeptLine) (infos : List LineInfo) → ArePut lines lines infos 0
-put-none lines infos = record { texts = refl; readings = refl; put = λ i d other lt. absurd (omega (arith, lt)) }
 
 pub put-more : (lines before : List KeptLine) (infos : List LineInfo) (k : ℕ) (d made : KeptLine) (info : LineInfo) → ArePut lines before infos k → k < length lines → k < length infos
     → info ≡ get_or infos k info → made ≡ record (get_or lines k d) { info = info } → ArePut (set lines k made) before infos (k + 1)

@@ -12,7 +12,7 @@ use Rattle.chip_asm.proofs.BlockSteps.{reverse-cons, list_all-reverse}
 use Rattle.chip_asm.proofs.LastLine.{at-end}
 use Rattle.chip_asm.proofs.Numbers.{IsNumbered, blocks-cons}
 use Rattle.chip_asm.proofs.PlaceSteps.{has_ended-cons}
-use Rattle.chip_asm.proofs.Placing.{onto, numbered-place}
+use Rattle.chip_asm.proofs.Placing.{onto, line-at, numbered-place}
 
 -- what holds of the open blocks where no END came
 abbrev pub Nests : List Placed → Type 0
@@ -55,10 +55,6 @@ place-live : (before : List Placed) (line : Reading) → (place before line).liv
 unfolding place
 place-live before line = refl
 
-place-line : (before : List Placed) (line : Reading) → (place before line).line ≡ line
-unfolding place
-place-line before line = refl
-
 nests-place : (before : List Placed) (line : Reading) → IsNumbered before → Nests before → Nests (place before line ∷ before)
 nests-place before line numbered n yet =
     let p = place before line in
@@ -66,7 +62,7 @@ nests-place before line numbered n yet =
     let no_end : has_ended before ≡ false = or_false _ (has_ended before) (sym (has_ended-cons p before) ∙ yet) in
     let opened : Block = record { number = p.number; live = p.live; holds = p.condition; has_else = false } in
     let live : is_if_body (body_of p.line) ≡ true → opened.live ≡ list_all (λ (o : Block). o.holds) bs =
-    λ e. place-live before line ∙ live-if before (body_of line) (ap (λ l. is_if_body (body_of l)) (sym (place-line before line)) ∙ e) no_end in
+    λ e. place-live before line ∙ live-if before (body_of line) (ap (λ l. is_if_body (body_of l)) (sym (line-at before line)) ∙ e) no_end in
     subst AreNested (sym (blocks-cons p before (numbered-place before line numbered))) (nested-moved (body_of p.line) opened bs live (n no_end))
 
 nests-fold : (before : List Placed) (lines : List Reading) → IsNumbered before → Nests before → Nests (fold onto before lines)

@@ -14,7 +14,7 @@ use Rattle.chip_asm.specs.inner.Turns.{moved, AreNested}
 use Rattle.chip_asm.proofs.Numbers.{IsNumbered, blocks-cons}
 use Rattle.chip_asm.proofs.NestedBlocks.{Nests, nested-placed}
 use Rattle.chip_asm.proofs.PlaceSteps.{address-cons, aligning-cons, has_ended-cons, symbols-cons}
-use Rattle.chip_asm.proofs.Placing.{placed-push, numbered-next, length-placed}
+use Rattle.chip_asm.proofs.Placing.{placed-push, line-at, numbered-next, length-placed}
 
 -- the parts of a placement, one by one
 pub placement-at : (before : List Placed) (line : Reading) (number : ℕ) (opens live : Bool) (here : ℕ) (fault : Option Fault) (value : ℤ) (size : ℕ)
@@ -73,10 +73,6 @@ follows-next pass next before p number numbered nests at_here at_condition is_nu
       names = a.names ∙ (rw (f.names, f.at_address, ← at_here, is_number) (sym (symbols-cons p before)));
       live = a.live (map (block_of (p ∷ before)) (enclosing (p ∷ before))) open_blocks (λ yet. nests (sym ended ∙ yet));
     }
-
-line-at : (before : List Placed) (line : Reading) → (place before line).line ≡ line
-unfolding place
-line-at before line = refl
 
 -- a whole list of lines, and one line more
 pub follows-push : (pass next : Pass) (lines : List Reading) (line : Reading) (number : ℕ) (q : Placement) → number ≡ length lines + 1

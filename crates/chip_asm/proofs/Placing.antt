@@ -10,6 +10,10 @@ use Rattle.chip_asm.proofs.Numbers.{IsNumbered}
 abbrev pub onto : List Placed → Reading → List Placed
 onto before line = place before line ∷ before
 
+pub line-at : (before : List Placed) (line : Reading) → (place before line).line ≡ line
+unfolding place
+line-at before line = refl
+
 pub fold-append : (before : List Placed) (xs ys : List Reading) → fold onto before (xs ++ ys) ≡ fold onto (fold onto before xs) ys
 fold-append before [] ys = refl
 fold-append before (x ∷ xs) ys = fold-append (onto before x) xs ys

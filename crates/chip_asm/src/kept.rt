@@ -60,14 +60,16 @@ pub(crate) struct Kept {
 }
 
 impl Kept {
-    /// No lines.
-    pub(crate) fn new(alloc: Global) -> Self
+    /// No lines, and a table without symbols.
+    pub(crate) fn new(alloc: Global, names: Table) -> Self
+        requires { names.symbols ≡ [] }
+        ensures names { result.names ≡ names }
         ensures kept { IsKept result }
         ensures none { result.lines.items ≡ [] }
     {
         Kept {
             lines: Vec::new(alloc),
-            names: Table::new(alloc),
+            names,
             layout: Layout::new(alloc),
             codes: Codes::new(alloc),
             spare_layout: Layout::new(alloc),
@@ -92,8 +94,7 @@ impl Kept {
             ≤ meter.old.encoded + accepted_lines (readings_in lines.items)) }
         ensures parsed { meter.new.parsed ≡ meter.old.parsed }
     {
-        let mut kept = Kept::new(alloc);
-        kept.names = names;
+        let mut kept = Kept::new(alloc, names);
         kept.remake(alloc, meter, Edit::Open(lines))?;
         Ok(kept)
     }

@@ -14,6 +14,7 @@ pub mod limits;
 mod line_info;
 mod line_text;
 mod listing;
+mod name_hasher;
 mod pass;
 mod placement;
 mod recoding;
@@ -22,6 +23,7 @@ mod relayout;
 mod source;
 mod table;
 
+pub use name_hasher::NameHasher;
 pub use refusal::{OpenError, Refusal};
 pub use source::Source;
 pub use table::Symbol;

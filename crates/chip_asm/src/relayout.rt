@@ -193,7 +193,8 @@ impl<'a> Relayout<'a> {
     {
         let first = steady_lines(self.lines, first_changed(self.edit));
         names.begin(first)?;
-        let table = mem::replace(names, Table::new(alloc));
+        let hasher = names.hasher();
+        let table = mem::replace(names, Table::new(alloc, hasher));
         let mut pass = Pass::resume(alloc, self.old.address_at(first), table);
         let layout = self.walk_from(spare, &mut pass, first);
         *names = pass.into_names();

@@ -14,6 +14,7 @@ use crate::edit::Edit;
 use crate::kept::Kept;
 use crate::kept_line::read_kept;
 use crate::listing::listing_in;
+use crate::name_hasher::NameHasher;
 use crate::refusal::{OpenError, Refusal, delete_refusal, insert_refusal, replace_refusal};
 use crate::table::{Symbol, Table};
 use chip_lang::limits::IMAGE_BYTES;
@@ -55,8 +56,9 @@ impl Source {
         ensures parsed { result.work.parsed ≡ 0 }
         ensures encoded { result.work.encoded ≡ 0 }
     {
+        let names = Table::new(alloc, NameHasher::new(0));
         Source {
-            kept: Kept::new(alloc),
+            kept: Kept::new(alloc, names),
             meter: Meter::new(),
         }
     }
@@ -73,9 +75,7 @@ impl Source {
         Source::open_bytes(alloc, Vec::from_slice(alloc, source)?)
     }
 
-    /// Opens a source, by its bytes. A line ends at a newline, a carriage return directly before
-    /// which is dropped; the first line that is over `LINE_BYTES` bytes or one more than
-    /// `MOST_LINES` is answered as a fault.
+    /// Opens a source, by its bytes, as `open_hashed` does with the hasher of the seed 0.
     pub fn open_bytes(alloc: Global, source: Vec<u8>) -> Result<Source, OpenError>
         ensures ok { IfOk result (λ s. (open_fault source.items ≡ None)
             × (s.lines ≡ lines_of source.items)) }
@@ -84,8 +84,26 @@ impl Source {
         ensures parsed { IfOk result (λ s. s.work.parsed ≡ length s.lines) }
         ensures encoded { IfOk result (λ s. s.work.encoded ≤ accepted_of s.lines) }
     {
+        Source::open_hashed(alloc, NameHasher::new(0), source)
+    }
+
+    /// Opens a source, by its bytes, whose names are hashed so. A line ends at a newline, a carriage
+    /// return directly before which is dropped; the first line that is over `LINE_BYTES` bytes or
+    /// one more than `MOST_LINES` is answered as a fault.
+    pub fn open_hashed(
+        alloc: Global,
+        hasher: NameHasher,
+        source: Vec<u8>,
+    ) -> Result<Source, OpenError>
+        ensures ok { IfOk result (λ s. (open_fault source.items ≡ None)
+            × (s.lines ≡ lines_of source.items)) }
+        ensures err { IfErr result (λ e. (e ≡ OpenError.OutOfMemory)
+            ⊎ (open_fault source.items ≡ Some e)) }
+        ensures parsed { IfOk result (λ s. s.work.parsed ≡ length s.lines) }
+        ensures encoded { IfOk result (λ s. s.work.encoded ≤ accepted_of s.lines) }
+    {
         let mut meter = Meter::new();
-        let mut names = Table::new(alloc);
+        let mut names = Table::new(alloc, hasher);
         let lines = read_lines(alloc, &mut meter, &mut names, source)?;
         let kept = Kept::open(alloc, &mut meter, names, lines)?;
         Ok(Source { kept, meter })

@@ -6,6 +6,7 @@ ghost use Rattle.chip_lang.specs.Uses.{has_same_value};
 ghost use Rattle.chip_asm.specs.Names.{Name, lookup_name, values_of};
 ghost use Rattle.chip_asm.specs.inner.Tables.{AreOver, AreUpTo, Extends, IsNumber, KeepsBefore, key_at, symbols_at};
 
+use crate::name_hasher::NameHasher;
 use chip_lang::short_bytes::upper;
 use chip_lang::{Bytes, Names};
 use indexmap::IndexSet;
@@ -81,7 +82,8 @@ pub(crate) enum Time {
 /// defines it, which stays. The symbols are those now, and those before the edit.
 #[derive(Drop)]
 pub(crate) struct Table {
-    pub(crate) keys: IndexSet<Vec<u8>>,
+    pub(crate) keys: IndexSet<Vec<u8>, NameHasher>,
+    hasher: NameHasher,
     pub(crate) current: Definitions,
     pub(crate) past: Definitions,
 }
@@ -106,12 +108,14 @@ impl Model for Table {
 impl Table {
     ghost use Rattle.chip_asm.specs.declared.table.Symbol.{Symbol};
 
-    pub(crate) fn new(alloc: Global) -> Self
+    /// One without names, which are hashed so.
+    pub(crate) fn new(alloc: Global, hasher: NameHasher) -> Self
         ensures keys { result.keys ≡ [] }
         ensures symbols { result.symbols ≡ [] }
     {
         Table {
-            keys: IndexSet::new(alloc),
+            keys: IndexSet::with_hasher(alloc, hasher),
+            hasher,
             current: Definitions::new(alloc),
             past: Definitions::new(alloc),
         }
@@ -249,6 +253,11 @@ impl Table {
         Ok(symbols)
     }
 
+    /// How its names are hashed.
+    pub(crate) fn hasher(&self) -> NameHasher {
+        self.hasher
+    }
+
     /// How many names have a number.
     pub(crate) fn count(&self) -> usize
         ensures { result ≡ length self.now.keys }
@@ -260,7 +269,7 @@ impl Table {
     pub(crate) fn with_symbols_alone(&self, alloc: Global) -> Result<Table, AllocError>
         ensures { IfOk result (λ table. table.symbols ≡ self.now.symbols) }
     {
-        let mut table = Table::new(alloc);
+        let mut table = Table::new(alloc, self.hasher);
         for entry in &self.current.entries {
             let id = table.number(alloc, self.name(entry.id))?;
             table.define(id, entry.symbol)?;

@@ -1,10 +1,5 @@
 -- The replay after the image has changed.
-use Rattle.std.proofs.Common.{◌≡◌, ℕ, ◌+◌, ◌<◌, ◌≤◌, ◌++◌, List, length, take, sym, ap, ◌∙◌, arith, slice_index, inl, inr}
-use Rattle.std.specs.Prelude.{slice_set, min, Option, Some, None, IfSome, unwrap_or}
-use Rattle.std.proofs.lemmas.Bool.{cases_lt}
-use Rattle.std.proofs.lemmas.Grind.{same_number_lists, get_or-set_at}
-use Rattle.std.proofs.lemmas.List.{get_or_past, get_or-set_other, length-set}
-use Rattle.chip_replay.specs.Image.{AgreeOutside}
+use Rattle.std.proofs.Common.{◌≡◌, ℕ, ◌≤◌, ◌++◌, List, length, take, sym, ap, ◌∙◌}
 use Rattle.std.proofs.lemmas.List.{take-append-drop}
 use Rattle.chip_lang.specs.declared.limits.TheConstants.{IMAGE_BYTES, IMAGE_START}
 use Rattle.chip_machine.specs.declared.profile.Profile.{Profile}

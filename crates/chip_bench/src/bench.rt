@@ -65,7 +65,8 @@ impl Bench {
         ensures err { IfErr result (λ e. (e ≡ OpenError.OutOfMemory)
             ⊎ (open_fault source.now ≡ Some e)) }
     {
-        let source = Source::open(alloc, source)?;
+        let bytes = Vec::from_slice(alloc, source)?;
+        let source = Source::open_hashed(alloc, settings.names(), bytes)?;
         let mut run = ImageRun::new(alloc, settings)?;
         run.follow(source.image());
         Ok(Bench {

@@ -52,11 +52,14 @@ const MOST_KEYS: u32 = KEY_FILE_BYTES + 1;
 /// `asm` writes the whole image to its file, or leaves what was there. Only what is written in
 /// place, such as a pipe or a file of several names, may have taken some bytes before a failure.
 ///
+/// The names of a session's source are hashed from `name_seed` on; no answer depends on it.
+///
 /// Without words it carries out the script that `input` gives, on the empty source, and writes the
 /// answers to `output`. What hinders it is said on `errors`; a failure there is ignored.
 pub fn program<F: Files, S: AsStr, I: Read, O: Write, E: Write>(
     alloc: Global,
     files: &F,
+    name_seed: u64,
     words: &[S],
     input: &mut Counted<I>,
     output: &mut Counted<O>,
@@ -79,7 +82,7 @@ pub fn program<F: Files, S: AsStr, I: Read, O: Write, E: Write>(
         ShowsVersion I.remaining O.contents input.old input.new output.old written ended)
         output.new result }
 {
-    let ended = carry_out(alloc, files, words, input, output);
+    let ended = carry_out(alloc, files, name_seed, words, input, output);
     let flushed = output.flush();
     finish(ended, flushed.is_ok(), errors)
 }
@@ -119,6 +122,7 @@ fn report<E: Write>(failure: Failure<'_>, errors: &mut E) -> u8
 fn carry_out<'a, F: Files, S: AsStr, I: Read, O: Write>(
     alloc: Global,
     files: &F,
+    name_seed: u64,
     words: &'a [S],
     input: &mut Counted<I>,
     output: &mut Counted<O>,
@@ -134,7 +138,7 @@ fn carry_out<'a, F: Files, S: AsStr, I: Read, O: Write>(
         → ShowsVersion I.remaining O.contents input.old input.new output.old output.new result }
 {
     match parse_words(alloc, words) {
-        Ok(line) => perform(alloc, files, line, input, output),
+        Ok(line) => perform(alloc, files, name_seed, line, input, output),
         Err(help) if !help.use_stderr() => show_help(alloc, &help, output),
         Err(fault) => Err(Failure::from(fault)),
     }
@@ -143,6 +147,7 @@ fn carry_out<'a, F: Files, S: AsStr, I: Read, O: Write>(
 fn perform<'a, F: Files, I: Read, O: Write>(
     alloc: Global,
     files: &F,
+    name_seed: u64,
     line: CommandLine<'a>,
     input: &mut Counted<I>,
     output: &mut Counted<O>,
@@ -152,7 +157,7 @@ fn perform<'a, F: Files, I: Read, O: Write>(
 {
     match line {
         CommandLine::Debug { source, settings } => {
-            debug(alloc, files, source, &settings, input, output)
+            debug(alloc, files, name_seed, source, &settings, input, output)
         }
         CommandLine::Asm { source, image } => asm(alloc, files, source, image, input, output),
         CommandLine::List { source } => list(alloc, files, source, input, output),
@@ -223,6 +228,7 @@ fn tape_from_hex<'a>(alloc: Global, digits: &str) -> Result<Vec<u8>, Failure<'a>
 fn debug<'a, F: Files, I: Read, O: Write>(
     alloc: Global,
     files: &F,
+    name_seed: u64,
     source: Option<&'a str>,
     words: &SettingWords<'_>,
     input: &mut Counted<I>,
@@ -232,12 +238,13 @@ fn debug<'a, F: Files, I: Read, O: Write>(
         source.entry words.now result }
 {
     let settings = settings_of(alloc, words)?;
+    let seeded = settings.with_name_seed(name_seed);
     match source {
         Some(name) => {
             let bytes = read_file(alloc, files, name, MOST_SOURCE)?;
-            answer_script(alloc, &bytes, settings, input, output)
+            answer_script(alloc, &bytes, seeded, input, output)
         }
-        None => answer_script(alloc, b"", settings, input, output),
+        None => answer_script(alloc, b"", seeded, input, output),
     }
 }
 

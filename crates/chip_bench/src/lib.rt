@@ -11,6 +11,7 @@ mod ending;
 mod entry;
 mod image_run;
 mod key_file;
+pub mod laws;
 pub mod limits;
 mod machine_answer;
 mod output;

@@ -5,6 +5,7 @@ ghost use Rattle.chip_bench.specs.Settings.{settings_of, settings_fault, spacing
 ghost use Rattle.chip_bench.specs.declared.settings.SetError.TheVariants.{OutOfMemory};
 
 use chip_arguments::limits::MOST_RATE;
+use chip_asm::NameHasher;
 use chip_machine::Profile;
 use chip_machine::limits::TAPE_BYTES;
 use chip_replay::{LEAST_SPACING, MOST_SPACING};
@@ -38,14 +39,15 @@ impl From<AllocError> for SetError {
 }
 
 /// How many steps there are to a tick of the timers, the bytes that stand for random ones, which
-/// machine it is, and how many steps lie between one checkpoint of its run and the next, on which
-/// no answer depends.
+/// machine it is; and, on which no answer depends, how many steps lie between one checkpoint of its
+/// run and the next, and how names are hashed.
 #[derive(Drop)]
 pub struct Settings {
     rate: u32,
     tape: Vec<u8>,
     profile: Profile,
     spacing: u32,
+    names: NameHasher,
 }
 
 impl Model for Settings {
@@ -86,6 +88,7 @@ impl Settings {
             tape,
             profile: Profile::Schip,
             spacing: LEAST_SPACING,
+            names: NameHasher::new(0),
         })
     }
 
@@ -111,6 +114,22 @@ impl Settings {
             return Err(SetError::SpacingOutOfRange);
         }
         Ok(Settings { spacing, ..self })
+    }
+
+    /// The same with names hashed from a seed on. Where it is drawn at the start of the program,
+    /// no choice of names in a source makes an edit slow.
+    pub fn with_name_seed(self, seed: u64) -> Settings
+        ensures { result ≡ self }
+    {
+        Settings {
+            names: NameHasher::new(seed),
+            ..self
+        }
+    }
+
+    /// How names are hashed.
+    pub(crate) fn names(&self) -> NameHasher {
+        self.names
     }
 
     /// How many steps there are to a tick.

@@ -131,7 +131,15 @@ fn run(rt: &HostRuntime, words: &str, script: &[u8], plan: &Plan) -> Result<Stri
     let mut input = Counted::new(Feed::new(script, plan));
     let mut output = Counted::new(Sink::new(rt.alloc(), plan));
     let mut errors = Vec::new(rt.alloc());
-    let status = program(rt.alloc(), rt, &list, &mut input, &mut output, &mut errors);
+    let status = program(
+        rt.alloc(),
+        rt,
+        0,
+        &list,
+        &mut input,
+        &mut output,
+        &mut errors,
+    );
     told(rt.alloc(), status, &output.get().taken, &errors)
 }
 

@@ -3,6 +3,7 @@
 
 use chip_bench::{Counted, program, refuse_words};
 use std::process::ExitCode;
+use std::random::RandomSource;
 use std::rt::Env;
 use std::{env, io};
 
@@ -15,8 +16,26 @@ fn main(rt: HostRuntime) -> ExitCode {
     };
     let mut input = Counted::new(rt.stdin());
     let mut output = Counted::new(rt.stdout());
-    let status = program(alloc, &rt, &words, &mut input, &mut output, &mut errors);
+    let seed = name_seed(&rt);
+    let status = program(
+        alloc,
+        &rt,
+        seed,
+        &words,
+        &mut input,
+        &mut output,
+        &mut errors,
+    );
     ExitCode::from(status)
+}
+
+// A seed that nobody knows, or 0 where the system gives none: no answer depends on it.
+fn name_seed(rt: &impl RandomSource) -> u64 {
+    let mut bytes = [0; 8];
+    match rt.fill_bytes(&mut bytes) {
+        Ok(()) => u64::from_le_bytes(bytes),
+        Err(_) => 0,
+    }
 }
 
 // The words after the program's name.

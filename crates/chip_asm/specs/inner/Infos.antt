@@ -37,6 +37,7 @@ AreUses keys (One id) [] = ⊥
 AreUses keys (One id) (name ∷ names) = IsNumber keys id name × (names ≡ [])
 AreUses keys Several names = 0 ≤ 0
 
+-- what is kept beside a line is right of it
 pub record IsInfo (keys : List Name) (info : LineInfo) (line : Reading) : Type 0 where
   pub bare : info.is_bare ≡ is_bare_line line
   pub coded : info.is_coded ≡ has_code (body_of line)
@@ -44,10 +45,12 @@ pub record IsInfo (keys : List Name) (info : LineInfo) (line : Reading) : Type 0
   pub defines : IsNumberOf keys info.defines (name_defined line)
   pub uses : AreUses keys info.uses (names_used line)
 
+-- each of these is kept beside the line at its place
 abbrev pub AreInfosOf : List Name → List LineInfo → List Reading → Type 0
 AreInfosOf keys infos lines =
     (length infos ≡ length lines) × ((place : ℕ) (info : LineInfo) (line : Reading)
     → slice_get infos place ≡ Some info → slice_get lines place ≡ Some line → IsInfo keys info line)
 
+-- what is kept beside each line
 abbrev pub AreInfos : List Name → List KeptLine → Type 0
 AreInfos keys lines = All (λ kept. IsInfo keys kept.info (reading_in kept)) lines

@@ -1,4 +1,4 @@
-use Rattle.std.proofs.Common.{◌≡◌, ◌≤◌, length, rules}
+use Rattle.std.proofs.Common.{◌≤◌, length, rules}
 use Rattle.chip_lang.specs.declared.limits.TheConstants.{IMAGE_BYTES}
 use Rattle.chip_bench.proofs.ImageLemmas.{replays_next}
 use Rattle.chip_bench.proofs.image_run.ImageRun.follow.Goals as goal

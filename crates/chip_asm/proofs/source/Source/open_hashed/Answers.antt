@@ -1,7 +1,7 @@
 use Rattle.std.proofs.Common.{arith}
 use Rattle.chip_asm.specs.inner.Records.{readings_in, texts_in}
 use Rattle.chip_asm.proofs.Views.{accepted-view}
-use Rattle.chip_asm.proofs.source.Source.open_bytes.Goals as goal
+use Rattle.chip_asm.proofs.source.Source.open_hashed.Goals as goal
 
 pub returns-clause-encoded : goal.returns-clause-encoded
 returns-clause-encoded c =
