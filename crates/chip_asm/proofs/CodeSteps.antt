@@ -184,3 +184,13 @@ count-numbered p xs i x e = by_test (p (i, x)) refl
 pub refilled : {X : Type 0} (count : ℕ) (written old : List X) → length written ≡ count → take count (written ++ drop (length written) old) ≡ written
 refilled count written old e =
     take-append-le count written (drop (length written) old) (omega arith) ∙ take_all count written (omega arith)
+
+-- a vector of bytes that was filled up with zeros
+pub padded : (bytes copied image : List ℕ) (count : ℕ) → copied ≡ bytes → count ≡ length copied → length image ≡ IMAGE_BYTES → length bytes ≤ IMAGE_BYTES
+    → ((k d : ℕ) → k < IMAGE_BYTES → k < count → get_or image k d ≡ get_or copied k d) → ((k : ℕ) → count ≤ k → k < IMAGE_BYTES → get_or image k 0 ≡ 0) → (k : ℕ) → get_or image k 0 ≡ get_or bytes k 0
+padded bytes copied image count is counted long short front zeros k = by (cases_lt k count) (cases_lt k IMAGE_BYTES)
+  where
+    by : (k < count) ⊎ (count ≤ k) → (k < IMAGE_BYTES) ⊎ (IMAGE_BYTES ≤ k) → get_or image k 0 ≡ get_or bytes k 0
+    by (inl h) (inl inside) = front k 0 inside h ∙ ap (λ bs. get_or bs k 0) is
+    by (inr h) (inl inside) = zeros k h inside ∙ sym (get_or_past bytes k 0 (omega (arith, h, counted, ap length is)))
+    by some (inr past) = get_or_past image k 0 (omega (arith, past, long)) ∙ sym (get_or_past bytes k 0 (omega (arith, past, short)))

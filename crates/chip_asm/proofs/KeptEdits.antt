@@ -13,7 +13,7 @@ use Rattle.chip_asm.specs.inner.Layouts.{IsLayoutOf}
 use Rattle.chip_asm.specs.inner.Recode.{count_again}
 use Rattle.chip_asm.specs.inner.Recoding.{IsRecoding}
 use Rattle.chip_asm.specs.inner.Records.{IsPlaceWithin, count_after, lines_after, place_before, readings_in}
-use Rattle.chip_asm.specs.inner.Resume.{IsRelayout}
+use Rattle.chip_asm.specs.inner.Resume.{AreSteady, IsRelayout, first_changed}
 use Rattle.chip_asm.proofs.KeptSteps.{kept-by}
 use Rattle.chip_asm.proofs.LinesAfter.{length-lines_after}
 use Rattle.chip_asm.proofs.NeedsSteps.{count-needed}
@@ -24,19 +24,22 @@ within-lines kept edit m = subst (λ n. IsPlaceWithin n edit) kept.lines.ok.0 m.
 few-after : (kept : Kept) (edit : Edit) → MayEdit kept edit → count_after (length kept.lines.items) edit ≤ MOST_LINES
 few-after kept edit m = omega (arith, m.few, length-lines_after kept.lines.items edit (within-lines kept edit m))
 
-pub may-relayout : (r : Relayout) (kept : Kept) → MayEdit kept r.edit.now → r.lines.now ≡ kept.lines.items → r.old.now ≡ kept.layout → IsRelayout kept.names.keys r
-may-relayout r kept m lines layout = record {
+pub may-relayout : (r : Relayout) (kept : Kept) → MayEdit kept r.edit.now → r.lines.now ≡ kept.lines.items → r.old.now ≡ kept.layout → r.first ≤ first_changed r.edit.now → AreSteady kept.lines.items r.first → IsRelayout kept.names.keys r
+may-relayout r kept m lines layout stays steady = record {
   within = rw lines (within-lines kept r.edit.now m);
   few = rw lines (few-after kept r.edit.now m);
   were_few = rw lines m.kept.few;
   infos = rw lines m.infos;
   laid_out = rw (lines, layout) m.kept.laid_out;
+  stays = stays;
+  steady = rw lines steady;
 }
 
 pub may-recode : (r : Recoding) (kept : Kept) → MayEdit kept r.edit.now → r.lines.now ≡ kept.lines.items → r.old.now ≡ kept.layout → r.codes.now ≡ kept.codes → r.names.now.keys ≡ kept.names.keys
     → r.names.now.symbols ≡ names_of_lines (readings_in (lines_after kept.lines.items r.edit.now)) → r.names.now.before ≡ kept.names.symbols
-    → IsLayoutOf r.new.now (readings_in (lines_after kept.lines.items r.edit.now)) → IsRecoding r
-may-recode r kept m lines layout codes keys symbols before laid = record {
+    → IsLayoutOf r.new.now (readings_in (lines_after kept.lines.items r.edit.now))
+    → r.first ≤ first_changed r.edit.now → AreSteady kept.lines.items r.first → IsRecoding r
+may-recode r kept m lines layout codes keys symbols before laid stays steady = record {
   within = rw lines (within-lines kept r.edit.now m);
   few = rw lines (few-after kept r.edit.now m);
   infos = rw (lines, keys) m.infos;
@@ -45,6 +48,8 @@ may-recode r kept m lines layout codes keys symbols before laid = record {
   old = rw (lines, layout) m.kept.laid_out;
   new = rw lines laid;
   codes = rw (lines, codes) m.kept.codes;
+  stays = stays;
+  steady = rw lines steady;
 }
 
 -- after the edit all is right again

@@ -42,3 +42,4 @@ pub mod ImageSteps
 pub mod LinesByPlace
 pub mod CodeSteps
 pub mod RecodingSteps
+pub mod FrontSteps

@@ -4,6 +4,7 @@ use Rattle.std.proofs.lemmas.List.{length-map, length-take-le, take-map, take-ta
 use Rattle.std.proofs.lemmas.List.Elements.{All-map}
 use Rattle.chip_lang.specs.Line.{Reading}
 use Rattle.chip_lang.specs.declared.limits.TheConstants.{MEMORY_BYTES}
+use Rattle.chip_asm.specs.declared.edit.Edit.{Edit}
 use Rattle.chip_asm.specs.declared.pass.Pass.{Pass}
 use Rattle.chip_asm.specs.declared.placement.Placement.{Placement}
 use Rattle.chip_asm.specs.declared.relayout.Relayout.{Relayout}
@@ -13,10 +14,10 @@ use Rattle.chip_asm.specs.Names.{Name}
 use Rattle.chip_asm.specs.Program.{names_of_lines}
 use Rattle.chip_asm.specs.computed.Walk.{address, enclosing, is_aligning, placed, symbols}
 use Rattle.chip_asm.specs.inner.Follows.{Follows}
-use Rattle.chip_asm.specs.inner.Infos.{is_steady}
+use Rattle.chip_asm.specs.inner.Infos.{AreInfos, is_steady}
 use Rattle.chip_asm.specs.inner.KeptLine.{KeptLine}
 use Rattle.chip_asm.specs.inner.Layouts.{first_placements}
-use Rattle.chip_asm.specs.inner.Records.{lines_after, reading_in}
+use Rattle.chip_asm.specs.inner.Records.{IsPlaceWithin, count_after, lines_after, reading_in, readings_in}
 use Rattle.chip_asm.specs.inner.Resume.{AreSteady, IsRelayout, IsWalked, count_then, first_changed, lines_before, lines_then}
 use Rattle.chip_asm.specs.inner.Tables.{AreOver, AreUpTo, Tables}
 use Rattle.chip_asm.proofs.Bounds.{end-high}
@@ -24,61 +25,64 @@ use Rattle.chip_asm.proofs.LinesAfter.{first-before, first-kept, first-same, fir
 use Rattle.chip_asm.proofs.Resumed.{AllSteady, NamesSplit, Resumes, first-laid, names-split, resumes}
 
 -- the first lines stay, and are steady
-pub record Begun (r : Relayout) (first : ℕ) : Type 0 where
-  pub long : first ≤ length r.lines.now
-  pub within : first ≤ count_then r
-  pub same : take first (lines_before r) ≡ take first (lines_then r)
-  pub steady : AllSteady (take first (lines_then r))
+pub record Begun (lines : List KeptLine) (edit : Edit) (first : ℕ) : Type 0 where
+  pub long : first ≤ length lines
+  pub within : first ≤ count_after (length lines) edit
+  pub same : take first (readings_in lines) ≡ take first (readings_in (lines_after lines edit))
+  pub steady : AllSteady (take first (readings_in (lines_after lines edit)))
 
 shorter : {X : Type 0} (n m : ℕ) (xs ys : List X) → n ≤ m → take m xs ≡ take m ys → take n xs ≡ take n ys
 shorter n m xs ys h e = sym (take-take n m xs h) ∙ ap (take n) e ∙ take-take n m ys h
 
 -- what is kept beside the first lines says that they are steady
-steady-readings : (keys : List Name) (r : Relayout) (first : ℕ) → IsRelayout keys r → first ≤ first_changed r.edit.now → first ≤ count_then r → AreSteady r.lines.now first → AllSteady (take first (lines_then r))
-steady-readings keys r first k h inside steady =
-    let old : List KeptLine = r.lines.now in
-    let new : List KeptLine = lines_after r.lines.now r.edit.now in
-    let long = length-lines_after old r.edit.now k.within in
-    let same : take first old ≡ take first new = shorter first (first_changed r.edit.now) old new h (first-kept old r.edit.now k.within) in
+steady-readings : (keys : List Name) (old : List KeptLine) (edit : Edit) (first : ℕ) → IsPlaceWithin (length old) edit → AreInfos keys (lines_after old edit) → first ≤ first_changed edit → AreSteady old first
+    → AllSteady (take first (readings_in (lines_after old edit)))
+steady-readings keys old edit first where_is infos h steady =
+    let new : List KeptLine = lines_after old edit in
+    let long = length-lines_after old edit where_is in
+    let inside = first-within (length old) edit where_is in
+    let same : take first old ≡ take first new = shorter first (first_changed edit) old new h (first-kept old edit where_is) in
     let P : Reading → Type 0 = λ line. is_steady (body_of line) ≡ true in
     subst (All P) (sym (take-map reading_in first new)) (All-map P reading_in (take first new) (λ place other at.
-    (let below : place < first = omega (arith, at, length-take-le first new (omega (arith, inside, long))) in
-    let there : place < length new = omega (arith, below, inside, long) in
+    (let below : place < first = omega (arith, at, length-take-le first new (omega (arith, inside, long, h))) in
+    let there : place < length new = omega (arith, below, inside, long, h) in
     ap (λ (x : KeptLine). is_steady (body_of (reading_in x))) (get_or-take first new place other below)
-    ∙ sym (k.infos place other there).steady
+    ∙ sym (infos place other there).steady
     ∙ ap (λ (x : KeptLine). x.info.is_steady) (sym (get_or-take first new place other below) ∙ ap (λ xs. get_or xs place other) (sym same) ∙ get_or-take first old place other below)
     ∙ steady place other below)))
 
-pub begun : (keys : List Name) (r : Relayout) (first : ℕ) → IsRelayout keys r → first ≤ first_changed r.edit.now → AreSteady r.lines.now first → Begun r first
-begun keys r first k h steady =
-    let inside : first ≤ count_then r = omega (arith, h, first-within (length r.lines.now) r.edit.now k.within) in
-    record {
-      long = omega (arith, h, first-before (length r.lines.now) r.edit.now k.within);
-      within = inside;
-      same = shorter first (first_changed r.edit.now) (lines_before r) (lines_then r) h (first-same r.lines.now r.edit.now k.within);
-      steady = steady-readings keys r first k h inside steady;
-    }
+pub begun : (keys : List Name) (old : List KeptLine) (edit : Edit) (first : ℕ) → IsPlaceWithin (length old) edit → AreInfos keys (lines_after old edit) → first ≤ first_changed edit → AreSteady old first → Begun old edit first
+begun keys old edit first where_is infos h steady = record {
+  long = omega (arith, h, first-before (length old) edit where_is);
+  within = omega (arith, h, first-within (length old) edit where_is);
+  same = shorter first (first_changed edit) (readings_in old) (readings_in (lines_after old edit)) h (first-same old edit where_is);
+  steady = steady-readings keys old edit first where_is infos h steady;
+}
+
+pub begun-relayout : (keys : List Name) (r : Relayout) → IsRelayout keys r → Begun r.lines.now r.edit.now r.first
+begun-relayout keys r k = begun keys r.lines.now r.edit.now r.first k.within k.infos k.stays k.steady
 
 -- what the old layout says of them
-pub begun-placements : (keys : List Name) (r : Relayout) (first : ℕ) → IsRelayout keys r → Begun r first → take first r.old.now.placements.items ≡ first_placements (take first (lines_then r))
-begun-placements keys r first k b =
-    let inside : first ≤ length (lines_before r) = omega (arith, b.long, length-map r.lines.now reading_in) in
-    first-laid r.old.now (lines_before r) first k.laid_out inside (subst AllSteady (sym b.same) b.steady) ∙ ap first_placements b.same
+pub begun-placements : (keys : List Name) (r : Relayout) → IsRelayout keys r → take r.first r.old.now.placements.items ≡ first_placements (take r.first (lines_then r))
+begun-placements keys r k =
+    let b : Begun r.lines.now r.edit.now r.first = begun-relayout keys r k in
+    let inside : r.first ≤ length (lines_before r) = omega (arith, b.long, length-map r.lines.now reading_in) in
+    first-laid r.old.now (lines_before r) r.first k.laid_out inside (subst AllSteady (sym b.same) b.steady) ∙ ap first_placements b.same
 
 -- the symbols that are left of those before the edit
-pub begun-symbols : (r : Relayout) (first : ℕ) → Begun r first → (old left : List (Name × Symbol)) → old ≡ names_of_lines (lines_before r)
-    → ((early later : List (Name × Symbol)) → old ≡ early ++ later → AreUpTo first early → AreOver first later → left ≡ early) → left ≡ symbols (placed (take first (lines_then r)))
-begun-symbols r first b old left names cut =
-    let split : NamesSplit (lines_before r) first = names-split (lines_before r) first (omega (arith, b.long, length-map r.lines.now reading_in)) in
-    cut (symbols (placed (take first (lines_before r)))) split.later (names ∙ split.is) split.early split.late ∙ ap (λ ls. symbols (placed ls)) b.same
+pub begun-symbols : (r : Relayout) → Begun r.lines.now r.edit.now r.first → (old left : List (Name × Symbol)) → old ≡ names_of_lines (lines_before r)
+    → ((early later : List (Name × Symbol)) → old ≡ early ++ later → AreUpTo r.first early → AreOver r.first later → left ≡ early) → left ≡ symbols (placed (take r.first (lines_then r)))
+begun-symbols r b old left names cut =
+    let split : NamesSplit (lines_before r) r.first = names-split (lines_before r) r.first (omega (arith, b.long, length-map r.lines.now reading_in)) in
+    cut (symbols (placed (take r.first (lines_before r)))) split.later (names ∙ split.is) split.early split.late ∙ ap (λ ls. symbols (placed ls)) b.same
 
 -- the pass goes on there
-pub begun-follows : (r : Relayout) (first : ℕ) → Begun r first → (here : ℕ) (names : Tables) (pass : Pass) → here ≡ address (placed (take first (lines_before r))) → names.symbols ≡ symbols (placed (take first (lines_then r)))
+pub begun-follows : (r : Relayout) → Begun r.lines.now r.edit.now r.first → (here : ℕ) (names : Tables) (pass : Pass) → here ≡ address (placed (take r.first (lines_before r))) → names.symbols ≡ symbols (placed (take r.first (lines_then r)))
     → ((before : List Placed) → here ≡ address before → here ≤ MEMORY_BYTES → is_aligning before ≡ true → has_ended before ≡ false → enclosing before ≡ [] → names.symbols ≡ symbols before → Follows pass before)
-    → Follows pass (placed (take first (lines_then r)))
-begun-follows r first b here names pass at left resume =
-    let s : Resumes (placed (take first (lines_then r))) = resumes (take first (lines_then r)) b.steady in
-    resume (placed (take first (lines_then r))) (at ∙ ap (λ ls. address (placed ls)) b.same) (omega (arith, at, end-high (take first (lines_before r)))) s.aligning s.ended s.open_blocks left
+    → Follows pass (placed (take r.first (lines_then r)))
+begun-follows r b here names pass at left resume =
+    let s : Resumes (placed (take r.first (lines_then r))) = resumes (take r.first (lines_then r)) b.steady in
+    resume (placed (take r.first (lines_then r))) (at ∙ ap (λ ls. address (placed ls)) b.same) (omega (arith, at, end-high (take r.first (lines_before r)))) s.aligning s.ended s.open_blocks left
 
 -- where the pass ends
 pub record Walked (found : List Placement) (pass : Pass) (r : Relayout) : Type 0 where

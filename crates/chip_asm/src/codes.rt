@@ -1,5 +1,5 @@
 //! The second pass, as it is kept: the image, and the fault of each line.
-ghost use Rattle.std.specs.Prelude.{◌≡◌, ℕ, ◌+◌, ◌-◌, ◌<◌, ◌≤◌, [], OnOk, None, length, slice_index, slice_index_or, slice_set, vec_len};
+ghost use Rattle.std.specs.Prelude.{◌≡◌, ℕ, ◌+◌, ◌-◌, ◌<◌, ◌≤◌, [], OnOk, None, length, slice_index, slice_index_or, slice_set, sum_by, vec_len};
 ghost use Rattle.chip_asm.specs.inner.Codes.{AreCodesOf, IsWritten, coded_bytes, coded_fault, count_of};
 
 use crate::placement::Placement;
@@ -31,17 +31,27 @@ impl Codes {
         }
     }
 
-    /// Makes the image one of zeros, and lets the faults go. There is room for those of so many
-    /// lines.
-    pub(crate) fn clear(&mut self, lines: usize) -> Result<(), AllocError>
+    /// Takes over the first bytes and the first faults of others: behind the bytes stand zeros, and
+    /// there is room for the faults of so many lines.
+    pub(crate) fn copy_first(
+        &mut self,
+        bytes: &[u8],
+        faults: &[Option<Fault>],
+        lines: usize,
+    ) -> Result<(), AllocError>
+        requires { length bytes.now ≤ IMAGE_BYTES }
         ensures image { OnOk result (vec_len self.new.image ≡ IMAGE_BYTES) }
-        ensures zeros { OnOk result ((k : ℕ) → slice_index self.new.image.items k ≡ 0) }
-        ensures faults { OnOk result (self.new.faults.items ≡ []) }
+        ensures bytes { OnOk result ((k : ℕ)
+            → slice_index self.new.image.items k ≡ slice_index bytes.now k) }
+        ensures faults { OnOk result (self.new.faults.items ≡ faults.now) }
     {
         self.image.clear();
+        self.image.reserve(IMAGE_BYTES)?;
+        self.image.extend_from_slice(bytes)?;
         self.image.resize(IMAGE_BYTES, 0)?;
         self.faults.clear();
-        self.faults.reserve(lines)
+        self.faults.reserve(lines)?;
+        self.faults.extend_from_slice(faults)
     }
 }
 
@@ -89,6 +99,17 @@ pub(crate) fn count_of(fault: Option<Fault>) -> usize
         Some(_) => 1,
         None => 0,
     }
+}
+
+/// How many faults there are.
+pub(crate) fn count_faults(faults: &[Option<Fault>]) -> usize
+    ensures { result ≡ sum_by count_of faults.now }
+{
+    let mut count = 0;
+    for index in 0..faults.len() {
+        count += count_of(faults[index]);
+    }
+    count
 }
 
 /// The byte at an index, or 0 past the end.

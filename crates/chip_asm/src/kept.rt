@@ -15,13 +15,13 @@ ghost use Rattle.chip_asm.specs.inner.Kept.{IsKept, MayEdit, lines_kept, needed_
 ghost use Rattle.chip_asm.specs.inner.Records.{lines_after, reading_in, readings_in, texts_in};
 
 use crate::codes::Codes;
-use crate::edit::{Edit, make_edit, replace_line};
+use crate::edit::{Edit, first_changed, make_edit, replace_line};
 use crate::effect::has_same_effect;
 use crate::kept_line::BoxedLine;
 use crate::layout::Layout;
 use crate::line_info::LineInfo;
 use crate::recoding::{Recoding, code_of};
-use crate::relayout::Relayout;
+use crate::relayout::{Relayout, steady_lines};
 use crate::table::Table;
 use chip_lang::limits::{IMAGE_BYTES, IMAGE_START};
 use chip_lang::{Fault, Line, Meter};
@@ -270,15 +270,18 @@ impl Kept {
         self.lines.reserve(1)?;
         let spare_layout = mem::replace(&mut self.spare_layout, Layout::new(alloc));
         let spare_codes = mem::replace(&mut self.spare_codes, Codes::new(alloc));
+        let first = steady_lines(&self.lines, first_changed(&edit));
         let relayout = Relayout {
             lines: &self.lines,
             old: &self.layout,
             edit: &edit,
+            first,
         };
         let layout = relayout.layout(alloc, spare_layout, &mut self.names)?;
         let recoding = Recoding {
             lines: &self.lines,
             edit: &edit,
+            first,
             old: &self.layout,
             new: &layout,
             names: &self.names,

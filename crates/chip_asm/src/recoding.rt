@@ -9,11 +9,11 @@ ghost use Rattle.chip_asm.specs.Layout.{Placed, body_of};
 ghost use Rattle.chip_asm.specs.Names.{values_of};
 ghost use Rattle.chip_asm.specs.inner.Infos.{IsInfo};
 ghost use Rattle.chip_asm.specs.inner.Codes.{AreCodesOf, IsWritten, covers_byte, right_byte};
-ghost use Rattle.chip_asm.specs.inner.Recoding.{IsAcceptedAt, IsPlacedThen, IsRecoding, code_bytes, code_then, count_then, is_again, is_kept, lines_again, lines_then};
+ghost use Rattle.chip_asm.specs.inner.Recoding.{IsAcceptedAt, IsPlacedThen, IsRecoding, IsUncodedAt, code_bytes, code_then, count_then, is_again, is_kept, lines_again, lines_then};
 ghost use Rattle.chip_asm.specs.inner.Recode.{has_code};
-ghost use Rattle.chip_asm.specs.inner.Records.{place_before, reading_in};
+ghost use Rattle.chip_asm.specs.inner.Records.{lines_after, place_before, reading_in};
 
-use crate::codes::{Codes, bytes_of, count_of, fault_in, write_line};
+use crate::codes::{Codes, bytes_of, count_faults, fault_in, write_line};
 use crate::edit::{Edit, kept_after, place_before};
 use crate::kept_line::BoxedLine;
 use crate::layout::Layout;
@@ -32,6 +32,8 @@ pub(crate) struct Recoding<'a> {
     /// The lines before the edit.
     pub(crate) lines: &'a [BoxedLine],
     pub(crate) edit: &'a Edit,
+    /// So many first lines stay where they are.
+    pub(crate) first: usize,
     pub(crate) old: &'a Layout,
     pub(crate) new: &'a Layout,
     /// The symbols before and after it.
@@ -68,16 +70,17 @@ pub(crate) fn code_of(
 impl<'a> Recoding<'a> {
     /// Where the line at a place stood before the edit, if its code is still the one that it had:
     /// it was accepted there, and its names keep their values.
-    fn kept_place(&self, place: usize) -> Option<usize>
+    fn kept_place(&self, place: usize, kept: &BoxedLine) -> Option<usize>
         requires recoding { IsRecoding self.now }
         requires place { place < count_then self.now }
+        requires line { slice_get (lines_after self.now.lines.now self.now.edit.now) place
+            ≡ Some kept.now }
         ensures kept { (line : Reading) → slice_get (lines_then self.now) place ≡ Some line
             → is_some result ≡ is_kept self.now (place, line) }
         ensures stood { IfSome result (λ before. place_before self.now.edit.now place
             ≡ Some before) }
     {
         let before = place_before(self.edit, place)?;
-        let kept = kept_after(self.lines, self.edit, place);
         if self.old.placements[before].is_accepted() && keeps_values(self.names, kept) {
             Some(before)
         } else {
@@ -87,6 +90,7 @@ impl<'a> Recoding<'a> {
 
     /// Writes the code of the line at a place, as it was before the edit, where the line stands
     /// now. The line's fault.
+    #[inline(never)]
     fn carry(
         &self,
         image: &mut [u8],
@@ -117,6 +121,7 @@ impl<'a> Recoding<'a> {
     }
 
     /// Encodes the line at a place. The line's fault.
+    #[inline(never)]
     fn encode(
         &self,
         alloc: Global,
@@ -124,8 +129,11 @@ impl<'a> Recoding<'a> {
         image: &mut [u8],
         placement: &Placement,
         place: usize,
+        kept: &BoxedLine,
     ) -> Result<Option<Fault>, AllocError>
         requires recoding { IsRecoding self.now }
+        requires line { slice_get (lines_after self.now.lines.now self.now.edit.now) place
+            ≡ Some kept.now }
         requires placement { IsAcceptedAt self.now place placement.now }
         requires long { length image.old ≡ IMAGE_BYTES }
         ensures written { (x : Placed) → IsPlacedThen self.now place x
@@ -136,13 +144,13 @@ impl<'a> Recoding<'a> {
         ensures not_lowered { meter.old.encoded ≤ meter.new.encoded }
         ensures parsed { meter.new.parsed ≡ meter.old.parsed }
     {
-        let kept = kept_after(self.lines, self.edit, place);
         let code = code_of(alloc, meter, self.names, kept)?;
         write_line(image, placement, bytes_of(&code));
         Ok(fault_in(&code))
     }
 
     /// Writes the bytes of the line at a place. The line's fault.
+    #[inline(always)]
     fn write(
         &self,
         alloc: Global,
@@ -155,7 +163,8 @@ impl<'a> Recoding<'a> {
         requires long { length image.old ≡ IMAGE_BYTES }
         ensures right { (q : Placement) (k : ℕ)
             → slice_get self.now.new.now.placements.items place ≡ Some q → k < IMAGE_BYTES
-            → covers_byte q k ≡ true → slice_index image.old k ≡ 0
+            → covers_byte q k ≡ true
+            → (IsUncodedAt (lines_then self.now) place → slice_index image.old k ≡ 0)
             → OnOk result (slice_index image.new k ≡ right_byte (lines_then self.now) k) }
         ensures others { (q : Placement) (k : ℕ)
             → slice_get self.now.new.now.placements.items place ≡ Some q
@@ -173,16 +182,18 @@ impl<'a> Recoding<'a> {
         if !placement.is_accepted() {
             return Ok(placement.fault);
         }
-        if !kept_after(self.lines, self.edit, place).info().is_coded {
+        let kept = kept_after(self.lines, self.edit, place);
+        if !kept.info().is_coded {
             return Ok(None);
         }
-        match self.kept_place(place) {
+        match self.kept_place(place, kept) {
             Some(before) => Ok(self.carry(image, placement, place, before)),
-            None => self.encode(alloc, meter, image, placement, place),
+            None => self.encode(alloc, meter, image, placement, place, kept),
         }
     }
 
-    /// The codes of all lines after the edit, in the room of others.
+    /// The codes of all lines after the edit, in the room of others. The bytes and faults of the
+    /// first lines stay, except where a name has another value.
     pub(crate) fn codes(
         &self,
         alloc: Global,
@@ -195,15 +206,27 @@ impl<'a> Recoding<'a> {
         ensures not_lowered { meter.old.encoded ≤ meter.new.encoded }
         ensures parsed { meter.new.parsed ≡ meter.old.parsed }
     {
+        same_code();
         let mut codes = spare;
         let count = self.new.placements.len();
-        codes.clear(count)?;
-        codes.count = 0;
-        for place in 0..count {
+        let bytes = self.old.address_at(self.first) - IMAGE_START;
+        codes.copy_first(
+            &self.codes.image[..bytes],
+            &self.codes.faults[..self.first],
+            count,
+        )?;
+        for place in 0..self.first {
+            if keeps_values(self.names, &self.lines[place]) {
+                continue;
+            }
             let fault = self.write(alloc, meter, &mut codes.image, place)?;
-            codes.count += count_of(fault);
+            codes.faults[place] = fault;
+        }
+        for next in self.first..count {
+            let fault = self.write(alloc, meter, &mut codes.image, next)?;
             codes.faults.push(fault)?;
         }
+        codes.count = count_faults(&codes.faults);
         Ok(codes)
     }
 }

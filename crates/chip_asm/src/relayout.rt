@@ -10,10 +10,10 @@ ghost use Rattle.chip_asm.specs.inner.HeldLine.{IsKnownUnder};
 ghost use Rattle.chip_asm.specs.inner.Infos.{IsInfo};
 ghost use Rattle.chip_asm.specs.inner.Layouts.{IsLayoutOf};
 ghost use Rattle.chip_asm.specs.inner.Records.{reading_in};
-ghost use Rattle.chip_asm.specs.inner.Resume.{AreSteady, IsRelayout, IsWalked, count_then, first_changed, lines_before, lines_then};
+ghost use Rattle.chip_asm.specs.inner.Resume.{AreSteady, IsRelayout, IsWalked, count_then, lines_before, lines_then};
 ghost use Rattle.chip_asm.specs.inner.Tables.{KeepsBefore};
 
-use crate::edit::{Edit, count_after, first_changed, kept_after, place_before};
+use crate::edit::{Edit, count_after, kept_after, place_before};
 use crate::kept_line::BoxedLine;
 use crate::layout::{Layout, mark_unclosed};
 use crate::line_info::Uses;
@@ -33,10 +33,12 @@ pub(crate) struct Relayout<'a> {
     /// Their layout.
     pub(crate) old: &'a Layout,
     pub(crate) edit: &'a Edit,
+    /// So many first lines stay, and are steady: the pass begins behind them.
+    pub(crate) first: usize,
 }
 
 /// How many lines before a place are steady, up to the first that isn't.
-fn steady_lines(lines: &[BoxedLine], place: usize) -> usize
+pub(crate) fn steady_lines(lines: &[BoxedLine], place: usize) -> usize
     requires { place ≤ length lines.now }
     ensures within { result ≤ place }
     ensures steady { AreSteady lines.now result }
@@ -50,6 +52,7 @@ fn steady_lines(lines: &[BoxedLine], place: usize) -> usize
 }
 
 /// Whether the names of a line have the values, or none, that they had before the edit.
+#[inline(always)]
 pub(crate) fn keeps_values(names: &Table, kept: &BoxedLine) -> bool
     requires { IsInfo names.now.keys kept.now.info (reading_in kept.now) }
     ensures { result
@@ -151,12 +154,10 @@ impl<'a> Relayout<'a> {
 
     /// The layout after the edit, in the room of another one, where the pass stands after the first
     /// lines, which stay.
-    fn walk_from(&self, spare: Layout, pass: &mut Pass, first: usize) -> Result<Layout, AllocError>
+    fn walk_from(&self, spare: Layout, pass: &mut Pass) -> Result<Layout, AllocError>
         requires relayout { IsRelayout pass.old.names.keys self.now }
         requires before { pass.old.names.before ≡ names_of_lines (lines_before self.now) }
-        requires first { first ≤ first_changed self.now.edit.now }
-        requires steady { AreSteady self.now.lines.now first }
-        requires follows { Follows pass.old (placed (take first (lines_then self.now))) }
+        requires follows { Follows pass.old (placed (take self.now.first (lines_then self.now))) }
         ensures layout { IfOk result (λ layout. IsLayoutOf layout (lines_then self.now)) }
         ensures names { OnOk result (pass.new.names.symbols
             ≡ names_of_lines (lines_then self.now)) }
@@ -165,8 +166,8 @@ impl<'a> Relayout<'a> {
         let Layout { mut placements, .. } = spare;
         placements.clear();
         placements.reserve(count_after(self.lines.len(), self.edit))?;
-        placements.extend_from_slice(&self.old.placements[..first])?;
-        self.walk(&mut placements, pass, first)?;
+        placements.extend_from_slice(&self.old.placements[..self.first])?;
+        self.walk(&mut placements, pass, self.first)?;
         mark_unclosed(&mut placements, pass.ended, &pass.blocks);
         Ok(Layout {
             placements,
@@ -174,9 +175,8 @@ impl<'a> Relayout<'a> {
         })
     }
 
-    /// The layout of the lines after the edit, in the room of another one, and their symbols. The
-    /// pass begins at the edit, unless a line before it isn't steady. Where memory runs out the
-    /// symbols stay.
+    /// The layout of the lines after the edit, in the room of another one, and their symbols. Where
+    /// memory runs out the symbols stay.
     pub(crate) fn layout(
         &self,
         alloc: Global,
@@ -191,12 +191,11 @@ impl<'a> Relayout<'a> {
         ensures same { OnErr result (names.new.symbols ≡ names.old.symbols) }
         ensures keys { names.new.keys ≡ names.old.keys }
     {
-        let first = steady_lines(self.lines, first_changed(self.edit));
-        names.begin(first)?;
+        names.begin(self.first)?;
         let hasher = names.hasher();
         let table = mem::replace(names, Table::new(alloc, hasher));
-        let mut pass = Pass::resume(alloc, self.old.address_at(first), table);
-        let layout = self.walk_from(spare, &mut pass, first);
+        let mut pass = Pass::resume(alloc, self.old.address_at(self.first), table);
+        let layout = self.walk_from(spare, &mut pass);
         *names = pass.into_names();
         if layout.is_err() {
             names.restore();

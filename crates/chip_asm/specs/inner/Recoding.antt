@@ -1,19 +1,20 @@
 -- What is known of an edit when the lines after it get their codes (own).
-use Rattle.std.specs.Prelude.{◌≡◌, ℕ, ◌≤◌, Bool, true, List, length, reverse, Some, Result, slice_get}
+use Rattle.std.specs.Prelude.{◌≡◌, ℕ, ◌≤◌, Bool, true, false, List, length, reverse, Some, Result, slice_get}
 use Rattle.chip_lang.specs.Line.{Reading}
 use Rattle.chip_asm.specs.declared.limits.TheConstants.{MOST_LINES}
 use Rattle.chip_asm.specs.declared.recoding.Recoding.{Recoding}
 use Rattle.chip_lang.specs.declared.fault.Fault.{Fault}
 use Rattle.chip_asm.specs.declared.placement.Placement.{Placement}
-use Rattle.chip_asm.specs.Layout.{Placed}
+use Rattle.chip_asm.specs.Layout.{Placed, body_of}
 use Rattle.chip_asm.specs.computed.Walk.{placed}
 use Rattle.chip_asm.specs.Program.{bytes_in_code, code_under, names_of_lines}
 use Rattle.chip_asm.specs.inner.Placements.{is_placed}
 use Rattle.chip_asm.specs.inner.Codes.{AreCodesOf}
 use Rattle.chip_asm.specs.inner.Infos.{AreInfos}
 use Rattle.chip_asm.specs.inner.Layouts.{IsLayoutOf}
-use Rattle.chip_asm.specs.inner.Recode.{count_again, is_encoded_again, keeps_code}
+use Rattle.chip_asm.specs.inner.Recode.{count_again, has_code, is_encoded_again, keeps_code}
 use Rattle.chip_asm.specs.inner.Records.{IsPlaceWithin, count_after, lines_after, place_before, readings_in}
+use Rattle.chip_asm.specs.inner.Resume.{AreSteady, first_changed}
 
 -- the lines before the edit, those after it, and how many these are
 abbrev pub lines_before : Recoding → List Reading
@@ -34,6 +35,8 @@ pub record IsRecoding (r : Recoding) : Type 0 where
   pub old : IsLayoutOf r.old.now (lines_before r)
   pub new : IsLayoutOf r.new.now (lines_then r)
   pub codes : AreCodesOf r.codes.now (lines_before r)
+  pub stays : r.first ≤ first_changed r.edit.now
+  pub steady : AreSteady r.lines.now r.first
 
 -- the line at a place is encoded again
 abbrev pub is_again : Recoding → ℕ × Reading → Bool
@@ -46,6 +49,11 @@ lines_again r = count_again (lines_before r) (lines_then r) (place_before r.edit
 -- the line at a place keeps its code
 abbrev pub is_kept : Recoding → ℕ × Reading → Bool
 is_kept r at = keeps_code (lines_before r) (lines_then r) (place_before r.edit.now) at
+
+-- the line at a place has no bytes of its own
+abbrev pub IsUncodedAt : List Reading → ℕ → Type 0
+IsUncodedAt lines place =
+    (line : Reading) → slice_get lines place ≡ Some line → has_code (body_of line) ≡ false
 
 -- what holds of the line at a place after the edit
 abbrev pub IsPlacedThen : Recoding → ℕ → Placed → Type 0

@@ -32,22 +32,25 @@ lines_then r = readings_in (lines_after r.lines.now r.edit.now)
 abbrev pub count_then : Relayout → ℕ
 count_then r = count_after (length r.lines.now) r.edit.now
 
--- the edit is one of these lines, whose layout is known, and so is what steps over them ask
+-- of the first lines each is steady
+abbrev pub AreSteady : List KeptLine → (many : ℕ) → Type 0
+AreSteady lines many =
+    (place : ℕ) (other : KeptLine) → place < many
+    → (slice_index_or lines place other).info.is_steady ≡ true
+
+-- the edit is one of these lines, whose layout is known, and so is what steps over them ask; the
+-- first lines stay, and are steady
 pub record IsRelayout (keys : List Name) (r : Relayout) : Type 0 where
   pub within : IsPlaceWithin (length r.lines.now) r.edit.now
   pub few : count_then r ≤ MOST_LINES
   pub were_few : length r.lines.now ≤ MOST_LINES
   pub infos : AreInfos keys (lines_after r.lines.now r.edit.now)
   pub laid_out : IsLayoutOf r.old.now (lines_before r)
+  pub stays : r.first ≤ first_changed r.edit.now
+  pub steady : AreSteady r.lines.now r.first
 
 -- the pass stands after the first of some lines, with what it found of them
 pub record IsWalked (found : List Placement) (pass : Pass) (lines : List Reading)
     (place : ℕ) : Type 0 where
   pub placements : found ≡ first_placements (take place lines)
   pub follows : Follows pass (placed (take place lines))
-
--- of the first lines each is steady
-abbrev pub AreSteady : List KeptLine → (many : ℕ) → Type 0
-AreSteady lines many =
-    (place : ℕ) (other : KeptLine) → place < many
-    → (slice_index_or lines place other).info.is_steady ≡ true

@@ -4,16 +4,24 @@ use Rattle.chip_asm.specs.inner.Codes.{line_faults}
 use Rattle.chip_asm.specs.inner.Recode.{count_up_to}
 use Rattle.chip_asm.specs.inner.Recoding.{lines_before, lines_then}
 use Rattle.chip_asm.specs.inner.Records.{place_before}
-use Rattle.chip_asm.proofs.CodeSteps.{IsByte, count_faults}
+use Rattle.chip_asm.proofs.CodeSteps.{IsByte}
+use Rattle.chip_asm.proofs.FrontSteps.{AreFrontFaults, IsFrontByte}
 use Rattle.chip_asm.proofs.recoding.Recoding.codes.Given as goal
 
 abbrev pub invariant-loop-place : goal.invariant-loop-place
 invariant-loop-place l =
     (length l.codes.image.items ≡ IMAGE_BYTES)
-    × ((k : ℕ) → k < IMAGE_BYTES → IsByte (lines_then l.self) l.self.new.now.placements.items l.place k (get_or l.codes.image.items k 0))
-    × (l.codes.faults.items ≡ take l.place (line_faults (lines_then l.self)))
-    × (l.codes.count ≡ count_faults l.codes.faults.items)
-    × (l.codes.count ≤ l.place)
-    × (l.meter.encoded ≤ l.initial.meter.encoded + count_up_to (lines_before l.self) (lines_then l.self) (place_before l.self.edit.now) l.place)
-    × (l.initial.meter.encoded ≤ l.meter.encoded)
-    × (l.meter.parsed ≡ l.initial.meter.parsed)
+    × ((k : ℕ) → k < IMAGE_BYTES → IsFrontByte l.self l.place k (get_or l.codes.image.items k 0))
+    × AreFrontFaults l.self l.place l.codes.faults.items
+    × (l.meter.encoded ≤ l.fn.meter.encoded + count_up_to (lines_before l.self) (lines_then l.self) (place_before l.self.edit.now) l.place)
+    × (l.fn.meter.encoded ≤ l.meter.encoded)
+    × (l.meter.parsed ≡ l.fn.meter.parsed)
+
+abbrev pub invariant-loop-next : goal.invariant-loop-next
+invariant-loop-next l =
+    (length l.codes.image.items ≡ IMAGE_BYTES)
+    × ((k : ℕ) → k < IMAGE_BYTES → IsByte (lines_then l.self) l.self.new.now.placements.items l.next k (get_or l.codes.image.items k 0))
+    × (l.codes.faults.items ≡ take l.next (line_faults (lines_then l.self)))
+    × (l.meter.encoded ≤ l.fn.meter.encoded + count_up_to (lines_before l.self) (lines_then l.self) (place_before l.self.edit.now) l.next)
+    × (l.fn.meter.encoded ≤ l.meter.encoded)
+    × (l.meter.parsed ≡ l.fn.meter.parsed)

@@ -18,7 +18,7 @@ index-requires c =
     omega (arith, long-before r k, r.old.now.placements.ok.0)
 
 pub keeps_values-requires : goal.keeps_values-requires
-keeps_values-requires c = kept-info c.args.self.now c.requires.recoding c.args.place c.kept_after-kept.result.now c.kept_after-kept.ensures
+keeps_values-requires c = kept-info c.args.self.now c.requires.recoding c.args.place c.args.kept.now c.requires.line
 
 pub returns-then-keeps_values-clause-kept : goal.returns-then-keeps_values-clause-kept
 returns-then-keeps_values-clause-kept c = λ line at.
@@ -27,7 +27,7 @@ returns-then-keeps_values-clause-kept c = λ line at.
     let origin = sym c.in_ok-before.ensures in
     let was : slice_get r.old.now.placements.items c.in_ok-before.before ≡ Some c.index.result.now
     = was-at r k c.args.place c.in_ok-before.before c.index.result.now c.requires.place origin c.index.ensures in
-    let read : reading_in c.kept_after-kept.result.now ≡ line = read-at (lines_after r.lines.now r.edit.now) c.args.place c.kept_after-kept.result.now line c.kept_after-kept.ensures at in
+    let read : reading_in c.args.kept.now ≡ line = read-at (lines_after r.lines.now r.edit.now) c.args.place c.args.kept.now line c.requires.line at in
     let agree : agree_on (values_of (names_of_lines (lines_before r))) (values_of (names_of_lines (lines_then r))) line ≡ true
     = sym (agree-kept r k line) ∙ ap (agree_on (values_of r.names.now.before) (values_of r.names.now.symbols)) (sym read) ∙ sym c.keeps_values.ensures ∙ c.if-keeps_values.true in
     sym (kept-is r k c.args.place c.in_ok-before.before c.index.result.now line origin was ∙ and_from _ _ (sym c.is_accepted.ensures ∙ c.if-is_accepted.true) agree)
@@ -39,7 +39,7 @@ returns-else-is_accepted-clause-kept c = λ line at.
     let origin = sym c.in_ok-before.ensures in
     let was : slice_get r.old.now.placements.items c.in_ok-before.before ≡ Some c.index.result.now
     = was-at r k c.args.place c.in_ok-before.before c.index.result.now c.requires.place origin c.index.ensures in
-    let read : reading_in c.kept_after-kept.result.now ≡ line = read-at (lines_after r.lines.now r.edit.now) c.args.place c.kept_after-kept.result.now line c.kept_after-kept.ensures at in
+    let read : reading_in c.args.kept.now ≡ line = read-at (lines_after r.lines.now r.edit.now) c.args.place c.args.kept.now line c.requires.line at in
     let is = kept-is r k c.args.place c.in_ok-before.before c.index.result.now line origin was in
     elim c.else-is_accepted.branch [
       | else-is_accepted-via-then-is_accepted+else-keeps_values w ↦

@@ -1,4 +1,4 @@
-use Rattle.std.proofs.Common.{◌≡◌, ◌∙◌, ◌+◌, Some, slice_get, true, false, ap, sym, subst, arith, is_some}
+use Rattle.std.proofs.Common.{◌≡◌, ◌∙◌, ◌+◌, Some, get_or, slice_get, true, false, ap, sym, subst, arith, is_some}
 use Rattle.std.proofs.lemmas.Grind.{common_steps}
 use Rattle.std.proofs.lemmas.Option.{same_Some}
 use Rattle.std.proofs.lemmas.Result.{IfOk-weaker, on_ok_weaker}
@@ -11,7 +11,7 @@ use Rattle.chip_asm.specs.inner.Codes.{IsWritten}
 use Rattle.chip_asm.specs.inner.Placements.{is_placed}
 use Rattle.chip_asm.specs.inner.Recode.{has_code}
 use Rattle.chip_asm.specs.inner.Recoding.{code_bytes, code_then, is_again, is_kept, lines_then}
-use Rattle.chip_asm.proofs.LinesByPlace.{AtPlace, accepted-fault, refused-byte, refused-fault, uncoded-byte, uncoded-fault}
+use Rattle.chip_asm.proofs.LinesByPlace.{AtPlace, accepted-fault, refused-zero, refused-fault, uncoded-byte, uncoded-fault}
 use Rattle.chip_asm.proofs.RecodingSteps.{again-is, coded-is, long-then, now-at, placed-then, same-placed, written-other, written-right}
 use Rattle.chip_asm.proofs.recoding.Recoding.write.Goals as goal
 
@@ -24,7 +24,9 @@ returns-then-not-is_accepted-clause-right c = λ q k there small covered zero_no
     let p = c.index-placement.result.now in
     let p_at : slice_get r.new.now.placements.items c.args.place ≡ Some p = now-at r c.requires.recoding c.args.place p c.requires.place c.index-placement.ensures in
     let same : q ≡ p = same_Some q p (sym there ∙ p_at) in
-    zero_now ∙ sym (refused-byte (lines_then r) c.args.place q (placed-then r c.requires.recoding c.args.place q there) (IMAGE_START + k) covered (ap is_placed same ∙ sym c.is_accepted.ensures ∙ c.if-not-is_accepted.true))
+    let a : AtPlace (lines_then r) c.args.place q = placed-then r c.requires.recoding c.args.place q there in
+    refused-zero (lines_then r) c.args.place q a (IMAGE_START + k) (get_or c.args.image.now k 0) covered (ap is_placed same ∙ sym c.is_accepted.ensures ∙ c.if-not-is_accepted.true)
+    (λ none. zero_now (λ line at. ap (λ (l : Reading). has_code (body_of l)) (same_Some line a.x.line (sym at ∙ a.line)) ∙ none))
 
 pub returns-then-not-is_accepted-clause-fault : goal.returns-then-not-is_accepted-clause-fault
 returns-then-not-is_accepted-clause-fault c = λ x at.
@@ -40,8 +42,8 @@ returns-then-not-info-clause-right c = λ q k there small covered zero_now.
     let uncoded : c.info.result.is_coded ≡ false = grind (arith, common_steps) in
     let a : AtPlace (lines_then r) c.args.place q = placed-then r c.requires.recoding c.args.place q there in
     let none : has_code (body_of a.x.line) ≡ false
-    = sym (coded-is r c.requires.recoding c.args.place q a c.kept_after.result.now c.kept_after.ensures) ∙ ap (λ i. i.is_coded) (sym c.info.ensures) ∙ uncoded in
-    zero_now ∙ sym (uncoded-byte (lines_then r) c.args.place q a (IMAGE_START + k) covered none)
+    = sym (coded-is r c.requires.recoding c.args.place q a c.kept_after-kept.result.now c.kept_after-kept.ensures) ∙ ap (λ i. i.is_coded) (sym c.info.ensures) ∙ uncoded in
+    zero_now (λ line at. ap (λ (l : Reading). has_code (body_of l)) (same_Some line a.x.line (sym at ∙ a.line)) ∙ none) ∙ sym (uncoded-byte (lines_then r) c.args.place q a (IMAGE_START + k) covered none)
 
 pub returns-then-not-info-clause-fault : goal.returns-then-not-info-clause-fault
 returns-then-not-info-clause-fault c = λ x at.
@@ -51,7 +53,7 @@ returns-then-not-info-clause-fault c = λ x at.
     let p_at : slice_get r.new.now.placements.items c.args.place ≡ Some p = now-at r c.requires.recoding c.args.place p c.requires.place c.index-placement.ensures in
     let a : AtPlace (lines_then r) c.args.place p = placed-then r c.requires.recoding c.args.place p p_at in
     let none : has_code (body_of a.x.line) ≡ false
-    = sym (coded-is r c.requires.recoding c.args.place p a c.kept_after.result.now c.kept_after.ensures) ∙ ap (λ i. i.is_coded) (sym c.info.ensures) ∙ uncoded in
+    = sym (coded-is r c.requires.recoding c.args.place p a c.kept_after-kept.result.now c.kept_after-kept.ensures) ∙ ap (λ i. i.is_coded) (sym c.info.ensures) ∙ uncoded in
     sym (uncoded-fault (lines_then r) c.args.place p a (sym c.is_accepted.ensures ∙ c.if-not-is_accepted.false) none) ∙ ap (fault_of (placed (lines_then r))) (same-placed (lines_then r) c.args.place p a x at)
 
 pub carry-requires-clause-placement : goal.carry-requires-clause-placement
@@ -131,7 +133,7 @@ returns-in-None-clause-encoded c = λ line at.
     let a : AtPlace (lines_then r) c.args.place p = placed-then r c.requires.recoding c.args.place p p_at in
     let line_is : line ≡ a.x.line = same_Some line a.x.line (sym at ∙ a.line) in
     let has : has_code (body_of line) ≡ true
-    = ap (λ (l : Reading). has_code (body_of l)) line_is ∙ sym (coded-is r c.requires.recoding c.args.place p a c.kept_after.result.now c.kept_after.ensures) ∙ ap (λ i. i.is_coded) (sym c.info.ensures) ∙ coded in
+    = ap (λ (l : Reading). has_code (body_of l)) line_is ∙ sym (coded-is r c.requires.recoding c.args.place p a c.kept_after-kept.result.now c.kept_after-kept.ensures) ∙ ap (λ i. i.is_coded) (sym c.info.ensures) ∙ coded in
     let kept : is_kept r (c.args.place, line) ≡ false = sym (c.kept_place.ensures.kept line at) ∙ ap is_some c.in-None.is in
     let again : is_again r (c.args.place, line) ≡ true = again-is r c.requires.recoding c.args.place p line p_at has (sym c.is_accepted.ensures ∙ c.if-not-is_accepted.false) kept in
     rw again c.encode.ensures.encoded

@@ -3,7 +3,7 @@ use Rattle.std.proofs.lemmas.List.{length-map}
 use Rattle.chip_asm.specs.inner.Records.{reading_in}
 use Rattle.chip_asm.specs.inner.Resume.{lines_before}
 use Rattle.chip_asm.specs.inner.Tables.{Tables}
-use Rattle.chip_asm.proofs.RelayoutSteps.{Begun, begun, begun-follows, begun-symbols}
+use Rattle.chip_asm.proofs.RelayoutSteps.{Begun, begun-follows, begun-relayout, begun-symbols}
 use Rattle.chip_asm.proofs.relayout.Relayout.layout.Goals as goal
 
 on-err : {T E P : Type 0} (r : Result T E) → P → OnErr r P
@@ -17,11 +17,10 @@ on-ok (Err e) p = tt
 pub walk_from-layout-requires-clause-follows : goal.walk_from-layout-requires-clause-follows
 walk_from-layout-requires-clause-follows c =
     let e = c.args.self.now in
-    let first = c.steady_lines-first.result in
-    let b : Begun e first = begun c.args.names.now.keys e first c.requires.relayout (omega (arith, c.steady_lines-first.ensures.within, c.first_changed.ensures)) c.steady_lines-first.ensures.steady in
-    let left = begun-symbols e first b c.args.names.now.symbols c.begin.new.self.symbols c.requires.names c.in_ok-begin.ensures.symbols in
+    let b : Begun e.lines.now e.edit.now e.first = begun-relayout c.args.names.now.keys e c.requires.relayout in
+    let left = begun-symbols e b c.args.names.now.symbols c.begin.new.self.symbols c.requires.names c.in_ok-begin.ensures.symbols in
     let here = c.address_at.ensures (lines_before e) c.requires.relayout.laid_out (omega (arith, b.long, length-map e.lines.now reading_in)) in
-    begun-follows e first b c.address_at.result c.replace-table.result c.resume-pass.result here (ap (λ (t : Tables). t.symbols) c.replace-table.ensures.value ∙ left) c.resume-pass.ensures.follows
+    begun-follows e b c.address_at.result c.replace-table.result c.resume-pass.result here (ap (λ (t : Tables). t.symbols) c.replace-table.ensures.value ∙ left) c.resume-pass.ensures.follows
 
 pub returns-then-is_err-clause-same : goal.returns-then-is_err-clause-same
 returns-then-is_err-clause-same c =

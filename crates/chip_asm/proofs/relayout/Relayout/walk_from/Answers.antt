@@ -3,26 +3,25 @@ use Rattle.std.proofs.lemmas.List.{length-map, length-take-le, with_items_is}
 use Rattle.chip_asm.specs.inner.Records.{reading_in}
 use Rattle.chip_asm.specs.inner.Resume.{lines_before, lines_then}
 use Rattle.chip_asm.proofs.MarkSteps.{marked-placements, numbered-placements, all-among, length-first-placements}
-use Rattle.chip_asm.proofs.RelayoutSteps.{Begun, Walked, begun, begun-placements, walked}
+use Rattle.chip_asm.proofs.RelayoutSteps.{Begun, Walked, begun-placements, begun-relayout, walked}
 use Rattle.chip_asm.proofs.Resumed.{length-laid}
 use Rattle.chip_asm.proofs.relayout.Relayout.walk_from.Goals as goal
 
 pub slice_bounds-extend_from_slice-end : goal.slice_bounds-extend_from_slice-end
 slice_bounds-extend_from_slice-end c =
     let e = c.args.self.now in
-    let b : Begun e c.args.first = begun c.args.pass.now.names.keys e c.args.first c.requires.relayout c.requires.first c.requires.steady in
-    sym (length-take-le c.args.first c.deref.result.now (omega (arith, b.long, ap length c.deref.ensures.value, length-laid e.old.now (lines_before e) c.requires.relayout.laid_out, length-map e.lines.now reading_in)))
+    let b : Begun e.lines.now e.edit.now e.first = begun-relayout c.args.pass.now.names.keys e c.requires.relayout in
+    sym (length-take-le e.first c.deref.result.now (omega (arith, b.long, ap length c.deref.ensures.value, length-laid e.old.now (lines_before e) c.requires.relayout.laid_out, length-map e.lines.now reading_in)))
 
 pub walk-requires-clause-walked : goal.walk-requires-clause-walked
 walk-requires-clause-walked c =
     let e = c.args.self.now in
     let keys = c.args.pass.now.names.keys in
-    let b : Begun e c.args.first = begun keys e c.args.first c.requires.relayout c.requires.first c.requires.steady in
     record {
       placements = c.in_ok-extend_from_slice.ensures.items
-          ∙ ap (λ l. l ++ take c.args.first c.deref.result.now) (c.in_ok-reserve.ensures.items ∙ c.clear.ensures.items)
-          ∙ ap (take c.args.first) c.deref.ensures.value
-          ∙ begun-placements keys e c.args.first c.requires.relayout b;
+          ∙ ap (λ l. l ++ take e.first c.deref.result.now) (c.in_ok-reserve.ensures.items ∙ c.clear.ensures.items)
+          ∙ ap (take e.first) c.deref.ensures.value
+          ∙ begun-placements keys e c.requires.relayout;
       follows = c.requires.follows;
     }
 
