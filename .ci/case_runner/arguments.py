@@ -134,6 +134,8 @@ class About:
             found = f"{stat.S_IMODE(path.stat().st_mode):o}"
         elif self.kind == "owner":
             found = str(path.stat().st_uid) if os.geteuid() == 0 else self.value
+        elif self.kind == "group":
+            found = str(path.stat().st_gid) if os.geteuid() == 0 else self.value
         elif self.kind == "count":
             found = str(path.stat().st_nlink)
         else:
@@ -144,15 +146,16 @@ class About:
 
 @dataclass
 class Owner:
-    """A file that is given to another user, where this is run by root."""
+    """A file that is given to another group, and maybe to another user, where this is run by root."""
 
     line: int
     name: str
-    user: int
+    group: int
+    user: int = -1
 
     def carry_out(self, _program, folder):
         if os.geteuid() == 0:
-            os.chown(folder / self.name, self.user, self.user)
+            os.chown(folder / self.name, self.user, self.group)
 
 
 @dataclass
@@ -217,6 +220,8 @@ class _Reader:
         if line.word in ("link", "hard-link"):
             return [Put(number, line.word, words[0], words[1])]
         if line.word == "owner":
+            return [Owner(number, words[0], int(words[1]), int(words[1]))]
+        if line.word == "group":
             return [Owner(number, words[0], int(words[1]))]
         if line.word == "then":
             return [Then(number, words[0], self._block(line, words[1:]))]

@@ -4,11 +4,11 @@ use Rattle.clap.specs.Words.{fault_of, first_of, is_simple, is_simple_and_free, 
 use Rattle.clap.specs.declared.error.kind.ErrorKind.TheVariants as kind
 use Rattle.clap.proofs.OnLiterals.{clap_on_literals}
 use Rattle.std.specs.Prelude.{⊤}
-use Rattle.chip_arguments.specs.CommandLine.{ascii, asm, check, chipbench, code, debug, dis, every, explain, image, keys, list, needed_source, pbm, picture, png, profile, rate, run, seed, source, steps, tape, with_settings}
+use Rattle.chip_arguments.specs.CommandLine.{against, ascii, asm, check, chipbench, code, debug, dis, every, explain, from, hash, image, keys, list, needed_source, output, pbm, picture, png, profile, rate, run, seed, source, steps, tape, trace, with_settings, with_steps}
 
 -- what is unfolded to judge words that are written out
 unfoldable chipbench_on_literals : ⊤
-unfolding clap_on_literals ascii asm check chipbench code debug dis every explain image keys list needed_source pbm picture png profile rate run seed source steps tape with_settings
+unfolding clap_on_literals against ascii asm check chipbench code debug dis every explain from hash image keys list needed_source output pbm picture png profile rate run seed source steps tape trace with_settings with_steps
 chipbench_on_literals = tt
 
 pub is_exact : is_simple_and_free chipbench ≡ true
@@ -54,3 +54,15 @@ every_is_for_debug = refl
 names_a_profile : option_map (λ p. first_of (codes "profile") p.1) (subcommand_of chipbench (codes "debug" ∷ codes "--profile" ∷ codes "vip" ∷ [])) ≡ Some (Some (codes "vip"))
 unfolding chipbench_on_literals
 names_a_profile = refl
+
+trace_takes_its_own : fault_of chipbench (codes "trace" ∷ codes "a" ∷ codes "--steps" ∷ codes "9" ∷ codes "--hash" ∷ codes "--from" ∷ codes "5" ∷ []) ≡ []
+unfolding chipbench_on_literals
+trace_takes_its_own = refl
+
+run_prints_no_sums : fault_of chipbench (codes "run" ∷ codes "a" ∷ codes "--steps" ∷ codes "1" ∷ codes "--hash" ∷ []) ≡ kind.UnknownArgument ∷ []
+unfolding chipbench_on_literals
+run_prints_no_sums = refl
+
+first_step : option_map (λ p. first_of (codes "from") p.1) (subcommand_of chipbench (codes "trace" ∷ codes "a" ∷ codes "--steps" ∷ codes "9" ∷ [])) ≡ Some (Some (codes "0"))
+unfolding chipbench_on_literals
+first_step = refl

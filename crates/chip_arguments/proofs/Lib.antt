@@ -1,3 +1,5 @@
 pub mod CommandLemmas
 pub mod CommandExamples
+pub mod FaultLemmas
+pub mod NumberLemmas
 pub mod WordLemmas

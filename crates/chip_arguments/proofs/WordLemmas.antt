@@ -1,12 +1,11 @@
 -- What the values of a command ask for, from what `clap` reads in them.
 use Rattle.std.proofs.Common.{◌≡◌, inl, inr, ℕ, Bool, true, false, List, [], ◌∷◌, codes, Option, Some, None, Result, Ok, Err, IfOk, option_map, unwrap_or, refl, sym, ◌∙◌, ap, ap₂, subst}
 use Rattle.std.specs.Str.{bytes_eq}
-use Rattle.std.specs.Str.Parse.{ParsesUnsigned}
 use Rattle.std.proofs.lemmas.Slice.Eq.{bytes_eq-Decides}
 use Rattle.clap.proofs.WalkLemmas.{first_value-rows, one_text-rows}
 use Rattle.clap.specs.Kinds.{FailsBy, HasKind, IsAmong, Kinds, or_else}
 use Rattle.std.specs.Box.{box_value}
-use Rattle.clap.specs.Words.{App, HasMatchesOf, ReadsOne, Row, fault_of, first_of, first_value, found_of, is_simple, kind_of, one_of, one_text, rows_of, subcommand_name_of, subcommand_of}
+use Rattle.clap.specs.Words.{App, HasMatchesOf, Row, fault_of, first_of, first_value, found_of, is_simple, kind_of, one_of, one_text, rows_of, subcommand_name_of, subcommand_of}
 use Rattle.clap.specs.Simple.{subcommand_rows_of}
 use Rattle.clap.specs.declared.parser.matches.ArgMatches.{ArgMatches}
 use Rattle.clap.specs.declared.parser.matches.ArgMatches.TheViews.{out-ArgMatches, out-SubCommand}
@@ -18,31 +17,27 @@ use Rattle.chip_machine.specs.Profile.{profile_name}
 use Rattle.chip_machine.specs.declared.profile.Profile.{Profile}
 use Rattle.chip_machine.specs.declared.profile.Profile.TheVariants as profile
 use Rattle.chip_arguments.specs.CommandLine.{chipbench}
-use Rattle.chip_arguments.specs.CommandWords.{Asks, AsksBy, AsksFlag, AsksFor, ReadsNumber, faults_below, word_faults, needed, profile_fault}
+use Rattle.chip_arguments.specs.CommandWords.{Asks, AsksBy, AsksFlag, AsksFor, ReadsNumber, ReadsOr, faults_below, value_faults, word_faults, needed, profile_fault}
 use Rattle.chip_arguments.specs.SettingWords.{default_words}
 use Rattle.chip_arguments.specs.declared.command_line.CommandLine.{CommandLine}
 use Rattle.chip_arguments.specs.declared.command_line.CommandLine.TheVariants as line
-
--- a number that `parse` reads
-reads_text : {E : Type 0} (gives : List ℕ → Result ℕ E → Type 0) (bits : ℕ) (text : Option (List ℕ)) (number : Option ℕ) →
-    ((t : List ℕ) (x : Result ℕ E) → gives t x → ParsesUnsigned bits 10 t x) → (text ≡ None → number ≡ None) →
-    ((t : List ℕ) → text ≡ Some t → ReadsOne gives t number) → ReadsNumber bits text number
-reads_text gives bits None number parses none value = none refl
-reads_text gives bits (Some t) None parses none value = let failed = value t refl in parses t (Err failed.0) failed.1
-reads_text gives bits (Some t) (Some n) parses none value = parses t (Ok n) (value t refl)
-
-pub reads : {E : Type 0} (gives : List ℕ → Result ℕ E → Type 0) (bits : ℕ) (found : Found) (id : List ℕ) (number : Option ℕ) →
-    ((t : List ℕ) (x : Result ℕ E) → gives t x → ParsesUnsigned bits 10 t x) → (one_text found id ≡ None → number ≡ None) →
-    ((t : List ℕ) → one_text found id ≡ Some t → ReadsOne gives t number) → ReadsNumber bits (one_of id (rows_of found)) number
-reads gives bits found id number parses none value =
-    subst (λ (text : Option (List ℕ)). ReadsNumber bits text number) (one_text-rows found id)
-    (reads_text gives bits (one_text found id) number parses none value)
 
 pub needed_is : (found : Found) (id text : List ℕ) → text ≡ unwrap_or (first_value found id) [] → text ≡ needed id (rows_of found)
 needed_is found id text e = e ∙ ap (λ (t : Option (List ℕ)). unwrap_or t []) (first_value-rows found id)
 
 pub first_is : (found : Found) (id : List ℕ) (text : Option (List ℕ)) → text ≡ first_value found id → text ≡ first_of id (rows_of found)
 first_is found id text e = e ∙ first_value-rows found id
+
+-- a number that is read, or one in its place
+pub reads_first : (found : Found) (bits : ℕ) (id : List ℕ) (text : Option (List ℕ)) (read : Option ℕ) → text ≡ first_value found id →
+    ReadsNumber bits text read → ReadsNumber bits (first_of id (rows_of found)) read
+reads_first found bits id text read is reads =
+    subst (λ (t : Option (List ℕ)). ReadsNumber bits t read) (first_is found id text is) reads
+
+pub reads_or : (found : Found) (id : List ℕ) (text : Option (List ℕ)) (read : Option ℕ) (default number : ℕ) → text ≡ first_value found id →
+    ReadsNumber 32 text read → number ≡ unwrap_or read default → ReadsOr 32 (first_of id (rows_of found)) default number
+reads_or found id text read default number is reads number_is =
+    record { read = read; reads = reads_first found 32 id text read is reads; number_is = number_is }
 
 -- a flag that is read
 pub flag_is : (found : Found) (id : List ℕ) (is_set : Bool) → (one_text found id ≡ Some (codes "true") → is_set ≡ true) →
@@ -72,7 +67,7 @@ still_among : (k : ErrorKind) (kinds next : Kinds) → IsAmong k kinds → IsAmo
 still_among k [] next h = absurd h
 still_among k (x ∷ kinds) next h = h
 
-still_fails : (kinds next : Kinds) (e : Error) → HasKind kinds e → HasKind (or_else kinds next) e
+pub still_fails : (kinds next : Kinds) (e : Error) → HasKind kinds e → HasKind (or_else kinds next) e
 still_fails kinds next e (inl m) = inl m
 still_fails kinds next e (inr h) = inr (still_among (kind_of e) kinds next h)
 
@@ -84,7 +79,7 @@ module _ {T : Type 0} where
   fails_by_clap words (Ok x) e h f = cc
   fails_by_clap words (Err x) e h f = still_fails (fault_of chipbench words) (faults_below (subcommand_of chipbench words)) x f
 
--- what `clap` takes is judged by the profile
+-- what `clap` takes is judged by its values
 judged_by : (words : List (List ℕ)) (command : Option (List ℕ × List Row)) → fault_of chipbench words ≡ [] →
     subcommand_of chipbench words ≡ command → word_faults words ≡ faults_below command
 unfolding word_faults
@@ -94,7 +89,7 @@ judged_by words command none named =
 
 pub judged : {T : Type 0} (words : List (List ℕ)) (name : List ℕ) (rows : List Row) (result : Result T Error) →
     fault_of chipbench words ≡ [] → subcommand_of chipbench words ≡ Some (name, rows) →
-    FailsBy (profile_fault (first_of (codes "profile") rows)) result → FailsBy (word_faults words) result
+    FailsBy (value_faults rows) result → FailsBy (word_faults words) result
 judged words name rows result none named f =
     subst (λ (kinds : Kinds). FailsBy kinds result) (sym (judged_by words (Some (name, rows)) none named)) f
 

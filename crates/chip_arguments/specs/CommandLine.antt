@@ -13,6 +13,15 @@ source = record (new_rule (codes "source")) { value_names = 1; action = Some Set
 unfoldable pub needed_source : Rule
 needed_source = record source { required = true }
 
+-- the file that `asm` writes
+unfoldable pub output : Rule
+output = record (new_rule (codes "output")) {
+  value_names = 1;
+  action = Some Set;
+  required = true;
+}
+
+-- the image that `dis` reads
 unfoldable pub image : Rule
 image = record (new_rule (codes "image")) { value_names = 1; action = Some Set; required = true }
 
@@ -60,7 +69,7 @@ unfoldable pub debug : App
 debug = with_rule (with_settings (with_rule (new_app (codes "debug")) source)) every
 
 unfoldable pub asm : App
-asm = with_rule (with_rule (new_app (codes "asm")) needed_source) image
+asm = with_rule (with_rule (new_app (codes "asm")) needed_source) output
 
 unfoldable pub list : App
 list = with_rule (new_app (codes "list")) needed_source
@@ -86,15 +95,35 @@ png = record (new_rule (codes "png")) { long = Some (codes "png"); value_names =
 unfoldable pub code : Rule
 code = record (new_rule (codes "code")) { value_names = 1; action = Some Set }
 
+unfoldable pub from : Rule
+from = record (new_rule (codes "from")) {
+  long = Some (codes "from");
+  value_names = 1;
+  parser = Some (vp.Signed (pos 0) (pos LAST_STEP));
+  defaults = codes "0" ∷ [];
+}
+
+unfoldable pub hash : Rule
+hash = record (new_rule (codes "hash")) { long = Some (codes "hash"); action = Some SetTrue }
+
+unfoldable pub against : Rule
+against = record (new_rule (codes "against")) { long = Some (codes "against"); value_names = 1 }
+
+-- the arguments that say which run it is
+unfoldable pub with_steps : App → App
+with_steps app =
+    with_rule (with_settings (with_rule (with_rule app needed_source) steps)) keys
+
 unfoldable pub run : App
-run =
-    with_rule
-    (with_settings (with_rule (with_rule (new_app (codes "run")) needed_source) steps)) keys
+run = with_steps (new_app (codes "run"))
+
+unfoldable pub trace : App
+trace =
+    with_rule (with_rule (with_rule (with_steps (new_app (codes "trace"))) from) hash) against
 
 unfoldable pub picture : App
 picture =
-    with_rule (with_rule (with_rule (with_rule (with_settings (with_rule (with_rule
-    (new_app (codes "picture")) needed_source) steps)) keys) ascii) pbm) png
+    with_rule (with_rule (with_rule (with_steps (new_app (codes "picture"))) ascii) pbm) png
 
 unfoldable pub explain : App
 explain = with_rule (new_app (codes "explain")) code
@@ -114,4 +143,4 @@ with_commands app (command ∷ commands) = with_commands (with_subcommand app co
 unfoldable pub chipbench : App
 chipbench =
     with_commands (without_name (with_version (new_app (codes "chipbench"))))
-    (debug ∷ asm ∷ list ∷ dis ∷ run ∷ picture ∷ check ∷ explain ∷ [])
+    (debug ∷ asm ∷ list ∷ dis ∷ run ∷ trace ∷ picture ∷ check ∷ explain ∷ [])

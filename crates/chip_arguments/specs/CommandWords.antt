@@ -1,8 +1,9 @@
 -- What the words of the command line ask for, by the values that `clap` finds in them (own).
 use Rattle.std.specs.Prelude.{◌≡◌, ◌≢◌, ℕ, ◌<◌, ◌^◌, Bool, true, false, List, [], ◌∷◌, codes, Option, Some, None, option_copied, unwrap_or, if◌then◌else◌}
-use Rattle.std.specs.List.{list_any}
+use Rattle.std.specs.Char.{is_ascii_digit}
+use Rattle.std.specs.List.{list_all, list_any}
 use Rattle.std.specs.Str.{bytes_eq}
-use Rattle.std.specs.Str.Parse.{IsNumeral, digits_value, without_leading_plus}
+use Rattle.std.specs.Str.Parse.{IsNumeral, digits_value}
 use Rattle.clap.specs.Kinds.{Kinds, or_else}
 use Rattle.clap.specs.Words.{Row, fault_of, first_of, one_of, subcommand_of}
 use Rattle.clap.specs.declared.error.kind.ErrorKind.TheVariants as kind
@@ -17,6 +18,28 @@ use Rattle.chip_arguments.specs.declared.command_line.CommandLine.TheVariants as
 use Rattle.chip_arguments.specs.declared.command_line.PictureWords.{PictureWords}
 use Rattle.chip_arguments.specs.declared.command_line.RunWords.{RunWords}
 use Rattle.chip_arguments.specs.declared.command_line.SettingWords.{SettingWords}
+use Rattle.chip_arguments.specs.declared.command_line.TraceWords.{TraceWords}
+
+-- the arguments that are numbers
+abbrev pub numbers : List (List ℕ)
+numbers =
+    codes "steps" ∷ codes "from" ∷ codes "rate" ∷ codes "seed" ∷ codes "every" ∷ []
+
+-- a number with anything but decimal digits, such as a sign
+abbrev pub number_fault : Option (List ℕ) → Kinds
+number_fault None = []
+number_fault (Some text) =
+    if list_all is_ascii_digit text then [] else kind.ValueValidation ∷ []
+
+-- the arguments that name a file to write
+abbrev pub new_files : List (List ℕ)
+new_files = codes "output" ∷ codes "pbm" ∷ codes "png" ∷ []
+
+-- the name that stands for standard output
+abbrev pub new_file_fault : Option (List ℕ) → Kinds
+new_file_fault None = []
+new_file_fault (Some name) =
+    if bytes_eq name (codes "-") then kind.InvalidValue ∷ [] else []
 
 -- the name of a profile that there is not
 abbrev pub profile_fault : Option (List ℕ) → Kinds
@@ -24,28 +47,38 @@ profile_fault None = []
 profile_fault (Some name) =
     if list_any (λ known. bytes_eq known name) profile_names then [] else kind.InvalidValue ∷ []
 
+-- the first fault of the values of these arguments
+abbrev pub first_fault : (Option (List ℕ) → Kinds) → List (List ℕ) → List Row → Kinds
+first_fault fault [] rows = []
+first_fault fault (id ∷ ids) rows = or_else (fault (first_of id rows)) (first_fault fault ids rows)
+
+-- the kinds of fault of values that `clap` takes and the program doesn't
+abbrev pub value_faults : List Row → Kinds
+value_faults rows =
+    or_else (first_fault number_fault numbers rows)
+    (or_else (first_fault new_file_fault new_files rows)
+    (profile_fault (first_of (codes "profile") rows)))
+
 -- the same, of the words of a command
 abbrev pub faults_below : Option (List ℕ × List Row) → Kinds
 faults_below None = []
-faults_below (Some command) = profile_fault (first_of (codes "profile") command.1)
+faults_below (Some command) = value_faults command.1
 
--- the kinds of fault of the words: those that `clap` finds, and else a profile that there is not
+-- the kinds of fault of the words: those that `clap` finds, and else those of the values
 unfoldable pub word_faults : List (List ℕ) → Kinds
 word_faults words =
     or_else (fault_of chipbench words) (faults_below (subcommand_of chipbench words))
 
--- a text of decimal digits, which a plus may stand before, and which fits in so many bits
+-- a text of decimal digits, of a number that fits in so many bits
 abbrev pub IsNumber : ℕ → List ℕ → Type 0
-IsNumber bits text =
-    IsNumeral 10 (without_leading_plus text)
-    × (digits_value 10 (without_leading_plus text) < 2 ^ bits)
+IsNumber bits text = IsNumeral 10 text × (digits_value 10 text < 2 ^ bits)
 
 -- the number that a text stands for, where there is a text and it is a number
 abbrev pub ReadsNumber : ℕ → Option (List ℕ) → Option ℕ → Type 0
 ReadsNumber bits None number = number ≡ None
 ReadsNumber bits (Some text) None = IsNumber bits text → ⊥
 ReadsNumber bits (Some text) (Some number) =
-    IsNumber bits text × (number ≡ digits_value 10 (without_leading_plus text))
+    IsNumber bits text × (number ≡ digits_value 10 text)
 
 -- the same, with a number in its place
 pub record ReadsOr (bits : ℕ) (text : Option (List ℕ)) (default number : ℕ) : Type 0 where
@@ -60,11 +93,11 @@ IsProfile (Some name) profile = name ≡ profile_name profile
 
 -- the settings that the values of a command ask for
 pub record AsksSettings (rows : List Row) (words : SettingWords) : Type 0 where
-  pub rate : ReadsOr 32 (one_of (codes "rate") rows) 10 words.rate
+  pub rate : ReadsOr 32 (first_of (codes "rate") rows) 10 words.rate
   pub tape : option_copied words.tape ≡ first_of (codes "tape") rows
-  pub seed : ReadsNumber 64 (one_of (codes "seed") rows) words.seed
+  pub seed : ReadsNumber 64 (first_of (codes "seed") rows) words.seed
   pub profile : IsProfile (first_of (codes "profile") rows) words.profile
-  pub spacing : ReadsOr 32 (one_of (codes "every") rows) LEAST_SPACING words.spacing
+  pub spacing : ReadsOr 32 (first_of (codes "every") rows) LEAST_SPACING words.spacing
 
 -- the text of a value that the words can't lack
 abbrev pub needed : List ℕ → List Row → List ℕ
@@ -79,9 +112,16 @@ pub record AsksFlag (value : Option (List ℕ)) (is_set : Bool) : Type 0 where
 -- the run that the values of a command ask for
 pub record AsksRun (rows : List Row) (words : RunWords) : Type 0 where
   pub source : words.source.now ≡ needed (codes "source") rows
-  pub steps : ReadsOr 32 (one_of (codes "steps") rows) 0 words.steps
+  pub steps : ReadsOr 32 (first_of (codes "steps") rows) 0 words.steps
   pub keys : option_copied words.keys ≡ first_of (codes "keys") rows
   pub settings : AsksSettings rows words.settings
+
+-- the trace that they ask for
+pub record AsksTrace (rows : List Row) (words : TraceWords) : Type 0 where
+  pub run : AsksRun rows words.run
+  pub from : ReadsOr 32 (first_of (codes "from") rows) 0 words.from
+  pub sums : AsksFlag (one_of (codes "hash") rows) words.sums
+  pub against : option_copied words.against ≡ first_of (codes "against") rows
 
 -- the picture that they ask for
 pub record AsksPicture (rows : List Row) (words : PictureWords) : Type 0 where
@@ -94,19 +134,20 @@ pub record AsksPicture (rows : List Row) (words : PictureWords) : Type 0 where
 abbrev pub Asks : List ℕ → List Row → CommandLine → Type 0
 Asks name rows (line.Asm source image) =
     (name ≡ codes "asm") × (source.now ≡ needed (codes "source") rows)
-    × (image.now ≡ needed (codes "image") rows)
+    × (image.now ≡ needed (codes "output") rows)
 Asks name rows (line.List source) =
     (name ≡ codes "list") × (source.now ≡ needed (codes "source") rows)
 Asks name rows (line.Check source) =
     (name ≡ codes "check") × (source.now ≡ needed (codes "source") rows)
 Asks name rows (line.Dis image) = (name ≡ codes "dis") × (image.now ≡ needed (codes "image") rows)
 Asks name rows (line.Run words) = (name ≡ codes "run") × AsksRun rows words
+Asks name rows (line.Trace words) = (name ≡ codes "trace") × AsksTrace rows words
 Asks name rows (line.Picture words) = (name ≡ codes "picture") × AsksPicture rows words
 Asks name rows (line.Explain code) =
     (name ≡ codes "explain") × (option_copied code ≡ first_of (codes "code") rows)
 Asks name rows (line.Debug source settings) =
     (name ≢ codes "asm") × (name ≢ codes "list") × (name ≢ codes "check") × (name ≢ codes "dis")
-    × (name ≢ codes "run")
+    × (name ≢ codes "run") × (name ≢ codes "trace")
     × (name ≢ codes "picture") × (name ≢ codes "explain")
     × (option_copied source ≡ first_of (codes "source") rows) × AsksSettings rows settings
 

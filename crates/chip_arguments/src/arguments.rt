@@ -2,6 +2,7 @@
 ghost use Rattle.std.specs.Prelude.{◌≡◌, Some, false};
 ghost use Rattle.clap.specs.Words.{new_rule, rule_of};
 ghost use Rattle.chip_arguments.specs.CommandLine as line;
+ghost use Rattle.chip_arguments.specs.inner.Built.{rule_by};
 
 use crate::limits::MOST_RATE;
 use chip_replay::{LAST_STEP, LEAST_SPACING, MOST_SPACING};
@@ -16,8 +17,60 @@ const EVERY_HELP: &str = "\
 How many steps lie between two checkpoints of the run, 1000 to 100000: more take less memory, fewer make edits and \
 questions faster; no answer depends on it [default: 1000]";
 
+/// An argument of a command.
+#[derive(Clone, Copy)]
+pub(crate) enum Argument {
+    Source,
+    NeededSource,
+    Output,
+    Image,
+    Steps,
+    Keys,
+    From,
+    Hash,
+    Against,
+    Ascii,
+    Pbm,
+    Png,
+    Code,
+    Rate,
+    Tape,
+    Seed,
+    Profile,
+    Every,
+}
+
+impl Argument {
+    /// The argument as `clap` takes it.
+    pub(crate) fn build<'a>(self, alloc: Global) -> Arg<'a>
+        ensures rule { rule_of result ≡ rule_by self }
+        ensures local { result.global ≡ false }
+    {
+        match self {
+            Argument::Source => source_argument(alloc),
+            Argument::NeededSource => needed_source_argument(alloc),
+            Argument::Output => output_argument(alloc),
+            Argument::Image => image_argument(alloc),
+            Argument::Steps => steps_argument(alloc),
+            Argument::Keys => keys_argument(alloc),
+            Argument::From => from_argument(alloc),
+            Argument::Hash => hash_argument(alloc),
+            Argument::Against => against_argument(alloc),
+            Argument::Ascii => ascii_argument(alloc),
+            Argument::Pbm => pbm_argument(alloc),
+            Argument::Png => png_argument(alloc),
+            Argument::Code => code_argument(alloc),
+            Argument::Rate => rate_argument(alloc),
+            Argument::Tape => tape_argument(alloc),
+            Argument::Seed => seed_argument(alloc),
+            Argument::Profile => profile_argument(alloc),
+            Argument::Every => every_argument(alloc),
+        }
+    }
+}
+
 #[tactic(auto, unfolding(crate::specs::CommandLine::source))]
-pub(crate) fn source_argument<'a>(alloc: Global) -> Arg<'a>
+fn source_argument<'a>(alloc: Global) -> Arg<'a>
     ensures rule { rule_of result ≡ line.source }
     ensures local { result.global ≡ false }
 {
@@ -30,23 +83,23 @@ pub(crate) fn source_argument<'a>(alloc: Global) -> Arg<'a>
 }
 
 #[tactic(auto, unfolding(crate::specs::CommandLine::needed_source, crate::specs::CommandLine::source))]
-pub(crate) fn needed_source_argument<'a>(alloc: Global) -> Arg<'a>
+fn needed_source_argument<'a>(alloc: Global) -> Arg<'a>
     ensures rule { rule_of result ≡ line.needed_source }
     ensures local { result.global ≡ false }
 {
     place(alloc, "source", "SOURCE", "The source, a file of text").required(true)
 }
 
-#[tactic(auto, unfolding(crate::specs::CommandLine::image))]
-pub(crate) fn image_argument<'a>(alloc: Global) -> Arg<'a>
-    ensures rule { rule_of result ≡ line.image }
+#[tactic(auto, unfolding(crate::specs::CommandLine::output))]
+fn output_argument<'a>(alloc: Global) -> Arg<'a>
+    ensures rule { rule_of result ≡ line.output }
     ensures local { result.global ≡ false }
 {
-    place(alloc, "image", "IMAGE", "The file to write, atomically").required(true)
+    place(alloc, "output", "IMAGE", "The file to write, atomically").required(true)
 }
 
 #[tactic(auto, unfolding(crate::specs::CommandLine::image))]
-pub(crate) fn given_image_argument<'a>(alloc: Global) -> Arg<'a>
+fn image_argument<'a>(alloc: Global) -> Arg<'a>
     ensures rule { rule_of result ≡ line.image }
     ensures local { result.global ≡ false }
 {
@@ -60,7 +113,7 @@ pub(crate) fn given_image_argument<'a>(alloc: Global) -> Arg<'a>
 }
 
 #[tactic(auto, unfolding(crate::specs::CommandLine::steps))]
-pub(crate) fn steps_argument<'a>(alloc: Global) -> Arg<'a>
+fn steps_argument<'a>(alloc: Global) -> Arg<'a>
     ensures rule { rule_of result ≡ line.steps }
     ensures local { result.global ≡ false }
 {
@@ -70,7 +123,7 @@ pub(crate) fn steps_argument<'a>(alloc: Global) -> Arg<'a>
 }
 
 #[tactic(auto, unfolding(crate::specs::CommandLine::keys))]
-pub(crate) fn keys_argument<'a>(alloc: Global) -> Arg<'a>
+fn keys_argument<'a>(alloc: Global) -> Arg<'a>
     ensures rule { rule_of result ≡ line.keys }
     ensures local { result.global ≡ false }
 {
@@ -82,19 +135,51 @@ pub(crate) fn keys_argument<'a>(alloc: Global) -> Arg<'a>
     )
 }
 
+#[tactic(auto, unfolding(crate::specs::CommandLine::from))]
+fn from_argument<'a>(alloc: Global) -> Arg<'a>
+    ensures rule { rule_of result ≡ line.from }
+    ensures local { result.global ≡ false }
+{
+    option(alloc, "from", "M", "The first step that is printed")
+        .value_parser(value_parser!(u32).range(0..=i64::from(LAST_STEP)))
+        .default_value("0")
+}
+
+#[tactic(auto, unfolding(crate::specs::CommandLine::hash))]
+fn hash_argument<'a>(alloc: Global) -> Arg<'a>
+    ensures rule { rule_of result ≡ line.hash }
+    ensures local { result.global ≡ false }
+{
+    flag(
+        alloc,
+        "hash",
+        "Also print sums of the screen and of the memory",
+    )
+}
+
+#[tactic(auto, unfolding(crate::specs::CommandLine::against))]
+fn against_argument<'a>(alloc: Global) -> Arg<'a>
+    ensures rule { rule_of result ≡ line.against }
+    ensures local { result.global ≡ false }
+{
+    option(
+        alloc,
+        "against",
+        "FILE",
+        "Compare with the trace in this file, and print the first difference",
+    )
+}
+
 #[tactic(auto, unfolding(crate::specs::CommandLine::ascii))]
-pub(crate) fn ascii_argument<'a>(alloc: Global) -> Arg<'a>
+fn ascii_argument<'a>(alloc: Global) -> Arg<'a>
     ensures rule { rule_of result ≡ line.ascii }
     ensures local { result.global ≡ false }
 {
-    Arg::new(alloc, "ascii")
-        .long("ascii")
-        .help("Prints ASCII instead of half blocks")
-        .action(ArgAction::SetTrue)
+    flag(alloc, "ascii", "Prints ASCII instead of half blocks")
 }
 
 #[tactic(auto, unfolding(crate::specs::CommandLine::pbm))]
-pub(crate) fn pbm_argument<'a>(alloc: Global) -> Arg<'a>
+fn pbm_argument<'a>(alloc: Global) -> Arg<'a>
     ensures rule { rule_of result ≡ line.pbm }
     ensures local { result.global ≡ false }
 {
@@ -107,7 +192,7 @@ pub(crate) fn pbm_argument<'a>(alloc: Global) -> Arg<'a>
 }
 
 #[tactic(auto, unfolding(crate::specs::CommandLine::png))]
-pub(crate) fn png_argument<'a>(alloc: Global) -> Arg<'a>
+fn png_argument<'a>(alloc: Global) -> Arg<'a>
     ensures rule { rule_of result ≡ line.png }
     ensures local { result.global ≡ false }
 {
@@ -120,7 +205,7 @@ pub(crate) fn png_argument<'a>(alloc: Global) -> Arg<'a>
 }
 
 #[tactic(auto, unfolding(crate::specs::CommandLine::code))]
-pub(crate) fn code_argument<'a>(alloc: Global) -> Arg<'a>
+fn code_argument<'a>(alloc: Global) -> Arg<'a>
     ensures rule { rule_of result ≡ line.code }
     ensures local { result.global ≡ false }
 {
@@ -133,7 +218,7 @@ pub(crate) fn code_argument<'a>(alloc: Global) -> Arg<'a>
 }
 
 #[tactic(auto, unfolding(crate::specs::CommandLine::rate))]
-pub(crate) fn rate_argument<'a>(alloc: Global) -> Arg<'a>
+fn rate_argument<'a>(alloc: Global) -> Arg<'a>
     ensures rule { rule_of result ≡ line.rate }
     ensures local { result.global ≡ false }
 {
@@ -148,7 +233,7 @@ pub(crate) fn rate_argument<'a>(alloc: Global) -> Arg<'a>
 }
 
 #[tactic(auto, unfolding(crate::specs::CommandLine::tape))]
-pub(crate) fn tape_argument<'a>(alloc: Global) -> Arg<'a>
+fn tape_argument<'a>(alloc: Global) -> Arg<'a>
     ensures rule { rule_of result ≡ line.tape }
     ensures local { result.global ≡ false }
 {
@@ -161,7 +246,7 @@ pub(crate) fn tape_argument<'a>(alloc: Global) -> Arg<'a>
 }
 
 #[tactic(auto, unfolding(crate::specs::CommandLine::seed))]
-pub(crate) fn seed_argument<'a>(alloc: Global) -> Arg<'a>
+fn seed_argument<'a>(alloc: Global) -> Arg<'a>
     ensures rule { rule_of result ≡ line.seed }
     ensures local { result.global ≡ false }
 {
@@ -175,7 +260,7 @@ pub(crate) fn seed_argument<'a>(alloc: Global) -> Arg<'a>
 }
 
 #[tactic(auto, unfolding(crate::specs::CommandLine::profile))]
-pub(crate) fn profile_argument<'a>(alloc: Global) -> Arg<'a>
+fn profile_argument<'a>(alloc: Global) -> Arg<'a>
     ensures rule { rule_of result ≡ line.profile }
     ensures local { result.global ≡ false }
 {
@@ -183,7 +268,7 @@ pub(crate) fn profile_argument<'a>(alloc: Global) -> Arg<'a>
 }
 
 #[tactic(auto, unfolding(crate::specs::CommandLine::every))]
-pub(crate) fn every_argument<'a>(alloc: Global) -> Arg<'a>
+fn every_argument<'a>(alloc: Global) -> Arg<'a>
     ensures rule { rule_of result ≡ line.every }
     ensures local { result.global ≡ false }
 {
@@ -204,6 +289,20 @@ fn option<'a>(alloc: Global, name: &'a str, value: &'a str, help: &'a str) -> Ar
         .long(name)
         .value_name(value)
         .help(help)
+}
+
+// An argument `--NAME` without a value.
+fn flag<'a>(alloc: Global, name: &'a str, help: &'a str) -> Arg<'a>
+    ensures rule { rule_of result ≡ record (new_rule name.entry.now) {
+      long = Some name.entry.now;
+      action = Some ArgAction.SetTrue;
+    } }
+    ensures local { result.global ≡ false }
+{
+    Arg::new(alloc, name)
+        .long(name)
+        .help(help)
+        .action(ArgAction::SetTrue)
 }
 
 // An argument that stands at its place alone.

@@ -1,9 +1,11 @@
 //! What the words of the command line ask for.
 ghost use Rattle.std.specs.Prelude.{◌≡◌, [], Ok, None, IfOk, map, option_copied, codes};
+ghost use Rattle.std.specs.Char.{is_ascii_digit};
+ghost use Rattle.std.specs.List.{list_all};
 ghost use Rattle.clap.specs.Matches.{found_of};
 ghost use Rattle.clap.specs.Words.{FailsBy, first_of, kind_of, one_of, rows_of};
 ghost use Rattle.chip_arguments.specs.SettingWords.{default_words};
-ghost use Rattle.chip_arguments.specs.CommandWords.{Asks, AsksFor, AsksSettings, IsProfile, ReadsNumber, ReadsOr, AsksPicture, AsksRun, word_faults, needed, profile_fault};
+ghost use Rattle.chip_arguments.specs.CommandWords.{Asks, AsksFor, AsksSettings, IsProfile, ReadsNumber, AsksPicture, AsksRun, AsksTrace, first_fault, new_file_fault, new_files, number_fault, numbers, value_faults, word_faults, needed, profile_fault};
 
 use crate::commands::chipbench;
 use chip_machine::Profile;
@@ -15,6 +17,18 @@ use std::alloc::{AllocError, Global};
 use std::convert::AsStr;
 
 const DEFAULT_RATE: u32 = 10;
+
+// The arguments that are numbers, each as `clap` shows it in a fault.
+const NUMBERS: [(&str, &str); 5] = [
+    ("steps", "--steps <N>"),
+    ("from", "--from <M>"),
+    ("rate", "--rate <N>"),
+    ("seed", "--seed <N>"),
+    ("every", "--every <P>"),
+];
+
+// The arguments that name a file to write, each as a fault shows it.
+const NEW_FILES: [(&str, &str); 3] = [("output", "IMAGE"), ("pbm", "--pbm"), ("png", "--png")];
 
 /// What the program is asked to do.
 #[derive(Clone, Copy)]
@@ -43,6 +57,8 @@ pub enum CommandLine<'a> {
     },
     /// To run a source's image.
     Run(RunWords<'a>),
+    /// To print a line for each step of a run, or to compare the lines with those of a file.
+    Trace(TraceWords<'a>),
     /// To print the screen of a source's image, or to write it as a picture.
     Picture(PictureWords<'a>),
     /// To print the page on a code, or the codes.
@@ -59,6 +75,19 @@ pub struct RunWords<'a> {
     /// The file of key events.
     pub keys: Option<&'a str>,
     pub settings: SettingWords<'a>,
+}
+
+/// A trace, as the words ask for it.
+#[derive(Clone, Copy)]
+pub struct TraceWords<'a> {
+    /// Of which run.
+    pub run: RunWords<'a>,
+    /// The first step that is printed, 0 to 1000000.
+    pub from: u32,
+    /// Whether sums of the screen and of the memory are printed too.
+    pub sums: bool,
+    /// The file of the trace that it is compared with.
+    pub against: Option<&'a str>,
 }
 
 /// A picture, as the words ask for it.
@@ -133,14 +162,13 @@ fn command_asked<'a>(
     found: &ArgMatches<'a>,
 ) -> Result<CommandLine<'a>, Error>
     ensures asked { IfOk result (Asks name.now (rows_of (found_of found.now))) }
-    ensures fault { FailsBy
-        (profile_fault (first_of (codes "profile") (rows_of (found_of found.now)))) result }
+    ensures fault { FailsBy (value_faults (rows_of (found_of found.now))) result }
 {
-    let profile = profile_asked(alloc, found.get_str("profile"))?;
+    let profile = judged(alloc, found)?;
     Ok(match name {
         "asm" => CommandLine::Asm {
             source: required_text(found, "source"),
-            image: required_text(found, "image"),
+            image: required_text(found, "output"),
         },
         "list" => CommandLine::List {
             source: required_text(found, "source"),
@@ -152,6 +180,7 @@ fn command_asked<'a>(
             image: required_text(found, "image"),
         },
         "run" => CommandLine::Run(run_words(found, profile)),
+        "trace" => CommandLine::Trace(trace_words(found, profile)),
         "picture" => CommandLine::Picture(picture_words(found, profile)),
         "explain" => CommandLine::Explain {
             code: found.get_str("code"),
@@ -163,14 +192,104 @@ fn command_asked<'a>(
     })
 }
 
+// Judges the values that `clap` takes and the program doesn't, and gives the profile that they name.
+fn judged(alloc: Global, found: &ArgMatches<'_>) -> Result<Profile, Error>
+    ensures profile { IfOk result (IsProfile
+        (first_of (codes "profile") (rows_of (found_of found.now)))) }
+    ensures fault { FailsBy (value_faults (rows_of (found_of found.now))) result }
+{
+    check_numbers(alloc, found, &NUMBERS)?;
+    check_new_files(alloc, found, &NEW_FILES)?;
+    profile_asked(alloc, found.get_str("profile"))
+}
+
+// `clap` takes a sign before the digits of a number.
+fn check_numbers(
+    alloc: Global,
+    found: &ArgMatches<'_>,
+    arguments: &[(&str, &str)],
+) -> Result<(), Error>
+    ensures { FailsBy (first_fault number_fault (map (λ argument. argument.0.now) arguments.now)
+        (rows_of (found_of found.now))) result }
+{
+    for (id, shown) in arguments {
+        check_number(alloc, found.get_str(id), shown)?;
+    }
+    Ok(())
+}
+
+// The names of files to write, of which `-` is none.
+fn check_new_files(
+    alloc: Global,
+    found: &ArgMatches<'_>,
+    arguments: &[(&str, &str)],
+) -> Result<(), Error>
+    ensures { FailsBy (first_fault new_file_fault (map (λ argument. argument.0.now) arguments.now)
+        (rows_of (found_of found.now))) result }
+{
+    for (id, shown) in arguments {
+        check_new_file(alloc, found.get_str(id), shown)?;
+    }
+    Ok(())
+}
+
+fn check_number(alloc: Global, text: Option<&str>, shown: &str) -> Result<(), Error>
+    ensures { FailsBy (number_fault (option_copied text.entry)) result }
+{
+    match text {
+        Some(text) if !is_decimal(text) => Err(no_number(alloc, text, shown)?),
+        _ => Ok(()),
+    }
+}
+
+fn check_new_file(alloc: Global, name: Option<&str>, shown: &str) -> Result<(), Error>
+    ensures { FailsBy (new_file_fault (option_copied name.entry)) result }
+{
+    match name {
+        Some("-") => Err(no_new_file(alloc, shown)?),
+        _ => Ok(()),
+    }
+}
+
+fn no_number(alloc: Global, text: &str, shown: &str) -> Result<Error, AllocError>
+    ensures { IfOk result (λ error. kind_of error ≡ ErrorKind.ValueValidation) }
+{
+    let message = format!(in alloc;
+        "invalid value '{text}' for '{shown}': invalid digit found in string"
+    )?;
+    usage_error(alloc, ErrorKind::ValueValidation, message.as_str())
+}
+
+fn no_new_file(alloc: Global, shown: &str) -> Result<Error, AllocError>
+    ensures { IfOk result (λ error. kind_of error ≡ ErrorKind.InvalidValue) }
+{
+    let message = format!(in alloc; "{shown} can't be standard output")?;
+    usage_error(alloc, ErrorKind::InvalidValue, message.as_str())
+}
+
+// Whether a text has decimal digits alone.
+fn is_decimal(text: &str) -> bool
+    ensures { result ≡ list_all is_ascii_digit text.now }
+{
+    text.as_bytes().iter().all(|byte| byte.is_ascii_digit())
+}
+
 /// The fault of words that aren't text.
 pub fn not_text(alloc: Global) -> Result<Error, AllocError>
     ensures { IfOk result (λ error. kind_of error ≡ ErrorKind.InvalidValue) }
 {
-    chipbench(alloc)?.error(
+    usage_error(
+        alloc,
         ErrorKind::InvalidValue,
         "invalid UTF-8 was detected in one or more arguments",
     )
+}
+
+// A fault of the words that `clap` doesn't find.
+fn usage_error(alloc: Global, kind: ErrorKind, message: &str) -> Result<Error, AllocError>
+    ensures { IfOk result (λ error. kind_of error ≡ kind) }
+{
+    chipbench(alloc)?.error(kind, message)
 }
 
 // The profile of a name, which is SUPER-CHIP where there is no name.
@@ -194,7 +313,7 @@ fn no_such_profile(alloc: Global, name: &str) -> Result<Error, AllocError>
     let message = format!(in alloc;
         "invalid value '{name}' for '--profile <NAME>'\n  [possible values: {names}]"
     )?;
-    chipbench(alloc)?.error(ErrorKind::InvalidValue, message.as_str())
+    usage_error(alloc, ErrorKind::InvalidValue, message.as_str())
 }
 
 // The text of an argument without which `clap` refuses the words.
@@ -204,17 +323,28 @@ fn required_text<'a>(found: &ArgMatches<'a>, id: &str) -> &'a str
     found.get_str(id).unwrap_or("")
 }
 
-// The number of an argument, or one in its place.
-fn number(found: &ArgMatches<'_>, id: &str, default: u32) -> u32
-    ensures { ReadsOr 32 (one_of id.now (rows_of (found_of found.now))) default result }
+// The number that a text of decimal digits stands for, where it fits.
+fn number(text: Option<&str>) -> Option<u32>
+    ensures { ReadsNumber 32 (option_copied text.entry) result }
 {
-    found.get_one(id).unwrap_or(default)
+    let text = text?;
+    if is_decimal(text) {
+        text.parse().ok()
+    } else {
+        None
+    }
 }
 
-fn seed_asked(found: &ArgMatches<'_>) -> Option<u64>
-    ensures { ReadsNumber 64 (one_of (codes "seed") (rows_of (found_of found.now))) result }
+// The same, of a seed.
+fn seed(text: Option<&str>) -> Option<u64>
+    ensures { ReadsNumber 64 (option_copied text.entry) result }
 {
-    found.get_one("seed")
+    let text = text?;
+    if is_decimal(text) {
+        text.parse().ok()
+    } else {
+        None
+    }
 }
 
 fn run_words<'a>(found: &ArgMatches<'a>, profile: Profile) -> RunWords<'a>
@@ -223,9 +353,21 @@ fn run_words<'a>(found: &ArgMatches<'a>, profile: Profile) -> RunWords<'a>
 {
     RunWords {
         source: required_text(found, "source"),
-        steps: number(found, "steps", 0),
+        steps: number(found.get_str("steps")).unwrap_or(0),
         keys: found.get_str("keys"),
         settings: setting_words(found, profile),
+    }
+}
+
+fn trace_words<'a>(found: &ArgMatches<'a>, profile: Profile) -> TraceWords<'a>
+    ensures { IsProfile (first_of (codes "profile") (rows_of (found_of found.now))) profile
+        → AsksTrace (rows_of (found_of found.now)) result }
+{
+    TraceWords {
+        run: run_words(found, profile),
+        from: number(found.get_str("from")).unwrap_or(0),
+        sums: found.get_flag("hash"),
+        against: found.get_str("against"),
     }
 }
 
@@ -246,10 +388,10 @@ fn setting_words<'a>(found: &ArgMatches<'a>, profile: Profile) -> SettingWords<'
         → AsksSettings (rows_of (found_of found.now)) result }
 {
     SettingWords {
-        rate: number(found, "rate", DEFAULT_RATE),
+        rate: number(found.get_str("rate")).unwrap_or(DEFAULT_RATE),
         tape: found.get_str("tape"),
-        seed: seed_asked(found),
+        seed: seed(found.get_str("seed")),
         profile,
-        spacing: number(found, "every", LEAST_SPACING),
+        spacing: number(found.get_str("every")).unwrap_or(LEAST_SPACING),
     }
 }

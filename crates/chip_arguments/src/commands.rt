@@ -1,14 +1,10 @@
 //! The commands of the program, as `clap` builds them.
-ghost use Rattle.std.specs.Prelude.{◌≡◌, [], ◌∷◌, IfOk, codes};
-ghost use Rattle.clap.specs.Words.{App, app_of, new_app, with_rule, with_subcommand};
+ghost use Rattle.std.specs.Prelude.{◌≡◌, IfOk, codes, map};
+ghost use Rattle.clap.specs.Words.{app_of, new_app};
 ghost use Rattle.chip_arguments.specs.CommandLine as line;
-ghost use Rattle.chip_arguments.specs.inner.Built.{Makes};
+ghost use Rattle.chip_arguments.specs.inner.Built.{Makes, app_of_row};
 
-use crate::arguments::{
-    ascii_argument, code_argument, every_argument, given_image_argument, image_argument,
-    keys_argument, needed_source_argument, pbm_argument, png_argument, profile_argument,
-    rate_argument, seed_argument, source_argument, steps_argument, tape_argument,
-};
+use crate::arguments::Argument;
 use clap::Command;
 use std::alloc::{AllocError, Global};
 
@@ -42,13 +38,116 @@ the language of sources: docs/LANGUAGE.md; the machine: docs/MACHINE.md; a guide
 
 Example: chipbench debug game.asm --rate 15 --seed 7";
 
+/// A command of the program.
+pub(crate) struct CommandRow {
+    name: &'static str,
+    /// What it does, in a sentence.
+    about: &'static str,
+    /// What stands below its help: an example.
+    notes: &'static str,
+    arguments: &'static [Argument],
+}
+
+// The commands, in the order of the help.
+const COMMANDS: [CommandRow; 9] = [
+    CommandRow {
+        name: "debug",
+        about: "Answers the edits and questions on standard input, one a line",
+        notes: DEBUG_NOTES,
+        arguments: &[
+            Argument::Source,
+            Argument::Rate,
+            Argument::Tape,
+            Argument::Seed,
+            Argument::Profile,
+            Argument::Every,
+        ],
+    },
+    CommandRow {
+        name: "asm",
+        about: "Writes the image of a source to a file, or prints the source's faults",
+        notes: "Example: chipbench asm game.asm game.ch8",
+        arguments: &[Argument::NeededSource, Argument::Output],
+    },
+    CommandRow {
+        name: "list",
+        about: "Prints the listing of a source",
+        notes: "Example: chipbench list game.asm",
+        arguments: &[Argument::NeededSource],
+    },
+    CommandRow {
+        name: "dis",
+        about: "Prints a source whose image is that of a file",
+        notes: "Example: chipbench dis game.ch8",
+        arguments: &[Argument::Image],
+    },
+    CommandRow {
+        name: "run",
+        about: "Prints the registers and the screen after a number of steps",
+        notes: "Example: chipbench run game.asm --steps 1000 --tape 0fa3",
+        arguments: &[
+            Argument::NeededSource,
+            Argument::Steps,
+            Argument::Rate,
+            Argument::Tape,
+            Argument::Seed,
+            Argument::Profile,
+            Argument::Keys,
+        ],
+    },
+    CommandRow {
+        name: "trace",
+        about: "Print a line for each step: registers, timers and the instruction",
+        notes: "Example: chipbench trace game.asm --steps 1000 --from 900",
+        arguments: &[
+            Argument::NeededSource,
+            Argument::Steps,
+            Argument::Rate,
+            Argument::Tape,
+            Argument::Seed,
+            Argument::Profile,
+            Argument::Keys,
+            Argument::From,
+            Argument::Hash,
+            Argument::Against,
+        ],
+    },
+    CommandRow {
+        name: "picture",
+        about: "Prints the screen after a number of steps, two points to a character",
+        notes: "Example: chipbench picture game.asm --steps 1000 --keys game.keys",
+        arguments: &[
+            Argument::NeededSource,
+            Argument::Steps,
+            Argument::Rate,
+            Argument::Tape,
+            Argument::Seed,
+            Argument::Profile,
+            Argument::Keys,
+            Argument::Ascii,
+            Argument::Pbm,
+            Argument::Png,
+        ],
+    },
+    CommandRow {
+        name: "check",
+        about: "Prints each fault of a source with its place and a sentence",
+        notes: "Example: chipbench check game.asm",
+        arguments: &[Argument::NeededSource],
+    },
+    CommandRow {
+        name: "explain",
+        about: "Prints what a code means, an example that has it, and the fix",
+        notes: "Example: chipbench explain F9",
+        arguments: &[Argument::Code],
+    },
+];
+
 /// The program with its commands.
 pub(crate) fn chipbench<'a>(alloc: Global) -> Result<Command<'a>, AllocError>
     ensures { IfOk result (λ command. app_of command ≡ line.chipbench) }
 {
-    let command = program(alloc)?;
-    let command = with_debug_to_dis(alloc, command)?;
-    with_run_to_explain(alloc, command)
+    with_commands(alloc, program(alloc)?, &COMMANDS)
 }
 
 // The program without its commands.
@@ -67,136 +166,31 @@ fn program<'a>(alloc: Global) -> Result<Command<'a>, AllocError>
     .bin_name("chipbench")
 }
 
-// Adds the first half of the commands.
-fn with_debug_to_dis<'a>(alloc: Global, command: Command<'a>) -> Result<Command<'a>, AllocError>
-    ensures { IfOk result (λ with. app_of with ≡ line.with_commands (app_of command.entry)
-        (line.debug ∷ line.asm ∷ line.list ∷ line.dis ∷ [])) }
-{
-    let command = added(command, debug_command(alloc))?;
-    let command = added(command, asm_command(alloc))?;
-    let command = added(command, list_command(alloc))?;
-    added(command, dis_command(alloc))
-}
-
-// Adds the second half of the commands.
-fn with_run_to_explain<'a>(alloc: Global, command: Command<'a>) -> Result<Command<'a>, AllocError>
-    ensures { IfOk result (λ with. app_of with ≡ line.with_commands (app_of command.entry)
-        (line.run ∷ line.picture ∷ line.check ∷ line.explain ∷ [])) }
-{
-    let command = added(command, run_command(alloc))?;
-    let command = added(command, picture_command(alloc))?;
-    let command = added(command, check_command(alloc))?;
-    added(command, explain_command(alloc))
-}
-
-// Adds a command, if there was memory to make it.
-fn added<'a>(
-    command: Command<'a>,
-    made: Result<Command<'a>, AllocError>,
+// Adds commands, in order.
+fn with_commands<'a>(
+    alloc: Global,
+    mut command: Command<'a>,
+    rows: &[CommandRow],
 ) -> Result<Command<'a>, AllocError>
-    ensures { (below : App) → IfOk made.entry (Makes below) → IfOk result (λ with. app_of with
-        ≡ with_subcommand (app_of command.entry) below.top) }
+    ensures { IfOk result (λ with. app_of with
+        ≡ line.with_commands (app_of command.entry) (map app_of_row rows.now)) }
 {
-    command.subcommand(made?)
+    for row in rows {
+        command = command.subcommand(row.command(alloc)?)?;
+    }
+    Ok(command)
 }
 
-fn debug_command<'a>(alloc: Global) -> Result<Command<'a>, AllocError>
-    ensures { IfOk result (Makes line.debug) }
-{
-    let command = new_command(
-        alloc,
-        "debug",
-        "Answers the edits and questions on standard input, one a line",
-        DEBUG_NOTES,
-    )
-    .arg(source_argument(alloc))?;
-    with_settings(alloc, command)?.arg(every_argument(alloc))
-}
-
-fn asm_command<'a>(alloc: Global) -> Result<Command<'a>, AllocError>
-    ensures { IfOk result (Makes line.asm) }
-{
-    new_command(
-        alloc,
-        "asm",
-        "Writes the image of a source to a file, or prints the source's faults",
-        "Example: chipbench asm game.asm game.ch8",
-    )
-    .arg(needed_source_argument(alloc))?
-    .arg(image_argument(alloc))
-}
-
-fn list_command<'a>(alloc: Global) -> Result<Command<'a>, AllocError>
-    ensures { IfOk result (Makes line.list) }
-{
-    new_command(
-        alloc,
-        "list",
-        "Prints the listing of a source",
-        "Example: chipbench list game.asm",
-    )
-    .arg(needed_source_argument(alloc))
-}
-
-fn check_command<'a>(alloc: Global) -> Result<Command<'a>, AllocError>
-    ensures { IfOk result (Makes line.check) }
-{
-    new_command(
-        alloc,
-        "check",
-        "Prints each fault of a source with its place and a sentence",
-        "Example: chipbench check game.asm",
-    )
-    .arg(needed_source_argument(alloc))
-}
-
-fn dis_command<'a>(alloc: Global) -> Result<Command<'a>, AllocError>
-    ensures { IfOk result (Makes line.dis) }
-{
-    new_command(
-        alloc,
-        "dis",
-        "Prints a source whose image is that of a file",
-        "Example: chipbench dis game.ch8",
-    )
-    .arg(given_image_argument(alloc))
-}
-
-fn run_command<'a>(alloc: Global) -> Result<Command<'a>, AllocError>
-    ensures { IfOk result (Makes line.run) }
-{
-    let command = new_command(
-        alloc,
-        "run",
-        "Prints the registers and the screen after a number of steps",
-        "Example: chipbench run game.asm --steps 1000 --tape 0fa3",
-    );
-    with_steps(alloc, command)
-}
-
-fn picture_command<'a>(alloc: Global) -> Result<Command<'a>, AllocError>
-    ensures { IfOk result (Makes line.picture) }
-{
-    let command = new_command(
-        alloc,
-        "picture",
-        "Prints the screen after a number of steps, two points to a character",
-        "Example: chipbench picture game.asm --steps 1000 --keys game.keys",
-    );
-    let command = with_steps(alloc, command)?;
-    with_forms(alloc, command)
-}
-
-fn explain_command<'a>(alloc: Global) -> Result<Command<'a>, AllocError>
-    ensures { IfOk result (Makes line.explain) }
-{
-    new_command(
-        alloc,
-        "explain",
-        "Prints what a code means, an example that has it, and the fix",
-        "Example: chipbench explain F9",
-    )
-    .arg(code_argument(alloc))
+impl CommandRow {
+    fn command<'a>(&self, alloc: Global) -> Result<Command<'a>, AllocError>
+        ensures { IfOk result (Makes (app_of_row self.now)) }
+    {
+        let mut command = new_command(alloc, self.name, self.about, self.notes);
+        for argument in self.arguments {
+            command = command.arg(argument.build(alloc))?;
+        }
+        Ok(command)
+    }
 }
 
 // A command without arguments.
@@ -204,44 +198,4 @@ fn new_command<'a>(alloc: Global, name: &'a str, about: &'a str, notes: &'a str)
     ensures { Makes (new_app name.entry.now) result }
 {
     Command::new(alloc, name).about(about).after_help(notes)
-}
-
-// Adds the arguments that say which run it is.
-fn with_steps<'a>(alloc: Global, command: Command<'a>) -> Result<Command<'a>, AllocError>
-    ensures { (app : App) → Makes app command.entry → IfOk result (Makes (with_rule
-        (line.with_settings (with_rule (with_rule app line.needed_source) line.steps))
-        line.keys)) }
-{
-    let command = command
-        .arg(needed_source_argument(alloc))?
-        .arg(steps_argument(alloc))?;
-    with_settings(alloc, command)?.arg(keys_argument(alloc))
-}
-
-// Adds the arguments that say how a picture is written.
-fn with_forms<'a>(alloc: Global, command: Command<'a>) -> Result<Command<'a>, AllocError>
-    ensures { (app : App) → Makes app command.entry → IfOk result (Makes
-        (with_rule (with_rule (with_rule app line.ascii) line.pbm) line.png)) }
-{
-    command
-        .arg(ascii_argument(alloc))?
-        .arg(pbm_argument(alloc))?
-        .arg(png_argument(alloc))
-}
-
-// Adds the arguments that give settings.
-fn with_settings<'a>(alloc: Global, command: Command<'a>) -> Result<Command<'a>, AllocError>
-    ensures { (app : App) → Makes app command.entry → IfOk result (Makes
-        (line.with_settings app)) }
-{
-    let command = command.arg(rate_argument(alloc))?;
-    with_tape(alloc, command)?.arg(profile_argument(alloc))
-}
-
-// Adds the arguments that give random bytes.
-fn with_tape<'a>(alloc: Global, command: Command<'a>) -> Result<Command<'a>, AllocError>
-    ensures { (app : App) → Makes app command.entry → IfOk result (Makes
-        (with_rule (with_rule app line.tape) line.seed)) }
-{
-    command.arg(tape_argument(alloc))?.arg(seed_argument(alloc))
 }

@@ -6,5 +6,7 @@ mod command_line;
 mod commands;
 pub mod limits;
 
-pub use command_line::{CommandLine, PictureWords, RunWords, SettingWords, not_text, parse_words};
+pub use command_line::{
+    CommandLine, PictureWords, RunWords, SettingWords, TraceWords, not_text, parse_words,
+};
 pub use commands::VERSION;

@@ -1,6 +1,10 @@
 -- What is built of a command (own).
-use Rattle.std.specs.Prelude.{◌≡◌, false}
-use Rattle.clap.specs.Words.{App, app_of}
+use Rattle.std.specs.Prelude.{◌≡◌, List, [], ◌∷◌, false}
+use Rattle.clap.specs.Words.{App, Rule, app_of, new_app, with_rule}
+use Rattle.chip_arguments.specs.CommandLine as line
+use Rattle.chip_arguments.specs.declared.arguments.Argument.{Argument}
+use Rattle.chip_arguments.specs.declared.arguments.Argument.TheVariants as argument
+use Rattle.chip_arguments.specs.declared.commands.CommandRow.{CommandRow}
 use Rattle.clap.specs.declared.builder.command.Command.{Command}
 use Rattle.clap.specs.declared.builder.command.Command.TheViews.{out-Command as fields_of}
 
@@ -8,3 +12,33 @@ use Rattle.clap.specs.declared.builder.command.Command.TheViews.{out-Command as 
 pub record Makes (app : App) (command : Command) : Type 0 where
   pub shape : app_of command ≡ app
   pub local : (fields_of command).has_globals ≡ false
+
+-- an argument of the table of commands
+abbrev pub rule_by : Argument → Rule
+rule_by argument.Source = line.source
+rule_by argument.NeededSource = line.needed_source
+rule_by argument.Output = line.output
+rule_by argument.Image = line.image
+rule_by argument.Steps = line.steps
+rule_by argument.Keys = line.keys
+rule_by argument.From = line.from
+rule_by argument.Hash = line.hash
+rule_by argument.Against = line.against
+rule_by argument.Ascii = line.ascii
+rule_by argument.Pbm = line.pbm
+rule_by argument.Png = line.png
+rule_by argument.Code = line.code
+rule_by argument.Rate = line.rate
+rule_by argument.Tape = line.tape
+rule_by argument.Seed = line.seed
+rule_by argument.Profile = line.profile
+rule_by argument.Every = line.every
+
+-- these arguments, in order
+abbrev pub with_arguments : App → List Argument → App
+with_arguments app [] = app
+with_arguments app (next ∷ rest) = with_arguments (with_rule app (rule_by next)) rest
+
+-- a command of the table
+abbrev pub app_of_row : CommandRow → App
+app_of_row row = with_arguments (new_app row.name.now) row.arguments.now

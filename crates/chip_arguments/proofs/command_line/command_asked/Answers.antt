@@ -1,27 +1,12 @@
-use Rattle.std.proofs.Common.{◌≡◌, ◌≢◌, [], List, ℕ, Option, codes, rules, subst}
-use Rattle.std.proofs.lemmas.Result.{err_from_is_err_and}
-use Rattle.clap.specs.Words.{FailsBy, found_of}
-use Rattle.chip_arguments.specs.CommandWords.{IsProfile, profile_fault}
+use Rattle.std.proofs.Common.{◌≡◌, ◌≢◌, codes, rules}
+use Rattle.clap.specs.Words.{found_of}
 use Rattle.chip_arguments.proofs.WordLemmas.{first_is}
 use Rattle.chip_arguments.proofs.command_line.command_asked.Goals as goal
-use Rattle.chip_arguments.proofs.command_line.command_asked.Goals.{in-asm, in-list, in-check, in-dis, in-run, in-picture, in-explain, in_default}
-
-pub returns-in_err-profile-clause-fault : goal.returns-in_err-profile-clause-fault
-returns-in_err-profile-clause-fault c =
-    let given = err_from_is_err_and c.from_residual.result c.from_residual.ensures.1 in
-    let name = first_is (found_of c.args.found.now) (codes "profile") _ c.get_str.ensures in
-    subst (λ (text : Option (List ℕ)). FailsBy (profile_fault text) c.from_residual.result) name
-    (rw (given.1, given.2) c.in_err-profile.ensures.fault)
-
-pub returns-clause-fault : goal.returns-clause-fault
-returns-clause-fault c =
-    let name = first_is (found_of c.args.found.now) (codes "profile") _ c.get_str.ensures in
-    subst (λ (text : Option (List ℕ)). profile_fault text ≡ []) name c.in_ok-profile.ensures.fault
+use Rattle.chip_arguments.proofs.command_line.command_asked.Goals.{in-asm, in-list, in-check, in-dis, in-run, in-trace, in-picture, in-explain, in_default}
 
 pub returns-clause-asked : goal.returns-clause-asked
 returns-clause-asked c =
-    let name = first_is (found_of c.args.found.now) (codes "profile") _ c.get_str.ensures in
-    let profile = subst (λ (text : Option (List ℕ)). IsProfile text c.in_ok-profile.profile) name c.in_ok-profile.ensures.asked in
+    let profile = c.in_ok-profile.ensures.profile in
     elim c.match-name.branch [
       | in-asm w ↦
           let named : c.args.name.now ≡ codes "asm" = search rules in
@@ -38,12 +23,15 @@ returns-clause-asked c =
       | in-run w ↦
           let named : c.args.name.now ≡ codes "run" = search rules in
           rw w.result-is (named, w.run_words.ensures profile)
+      | in-trace w ↦
+          let named : c.args.name.now ≡ codes "trace" = search rules in
+          rw w.result-is (named, w.trace_words.ensures profile)
       | in-picture w ↦
           let named : c.args.name.now ≡ codes "picture" = search rules in
           rw w.result-is (named, w.picture_words.ensures profile)
       | in-explain w ↦
           let named : c.args.name.now ≡ codes "explain" = search rules in
-          let code = first_is (found_of c.args.found.now) (codes "code") _ w.get_str-in-explain.ensures in
+          let code = first_is (found_of c.args.found.now) (codes "code") _ w.get_str.ensures in
           rw w.result-is (named, code)
       | in_default w ↦
           let not_asm : c.args.name.now ≢ codes "asm" = search rules in
@@ -51,8 +39,9 @@ returns-clause-asked c =
           let not_check : c.args.name.now ≢ codes "check" = search rules in
           let not_dis : c.args.name.now ≢ codes "dis" = search rules in
           let not_run : c.args.name.now ≢ codes "run" = search rules in
+          let not_trace : c.args.name.now ≢ codes "trace" = search rules in
           let not_picture : c.args.name.now ≢ codes "picture" = search rules in
           let not_explain : c.args.name.now ≢ codes "explain" = search rules in
           let source = first_is (found_of c.args.found.now) (codes "source") _ w.get_str-in_default.ensures in
-          rw w.result-is (not_asm, not_list, not_check, not_dis, not_run, not_picture, not_explain, source, w.setting_words.ensures profile)
+          rw w.result-is (not_asm, not_list, not_check, not_dis, not_run, not_trace, not_picture, not_explain, source, w.setting_words.ensures profile)
     ]

@@ -1,12 +1,7 @@
-use Rattle.std.specs.Str.Parse.{ParsesUnsigned, ExplainsUnsignedError, HasUnsignedDigitsIfOk}
-use Rattle.clap.specs.Words.{found_of}
-use Rattle.chip_arguments.proofs.WordLemmas.{reads}
+use Rattle.std.proofs.Common.{◌∙◌, sym}
+use Rattle.chip_arguments.proofs.NumberLemmas.{not_a_number}
 use Rattle.chip_arguments.proofs.command_line.number.Goals as goal
 
-pub returns : goal.returns
-returns c = record {
-  read = c.get_one.result;
-  reads = reads (λ bs r. ParsesUnsigned 32 10 bs r × ExplainsUnsignedError 10 bs r × HasUnsignedDigitsIfOk bs r) 32
-      (found_of c.args.found.now) c.args.id.now c.get_one.result (λ t x h. h.0) c.get_one.ensures.none c.get_one.ensures.value;
-  number_is = c.unwrap_or.ensures;
-}
+pub returns-else-is_decimal : goal.returns-else-is_decimal
+returns-else-is_decimal c =
+    rw c.in_ok-text.was (not_a_number 32 c.in_ok-text.text.now (sym c.is_decimal.ensures ∙ c.if-is_decimal.false))

@@ -1,0 +1,34 @@
+use Rattle.std.proofs.Common.{ℕ, List, Option, IfOk, codes, subst}
+use Rattle.std.proofs.lemmas.Result.{err_from_is_err_and}
+use Rattle.clap.specs.Words.{FailsBy, first_of, found_of, rows_of}
+use Rattle.chip_arguments.specs.CommandWords.{IsProfile, first_fault, new_file_fault, new_files, number_fault, numbers, profile_fault}
+use Rattle.chip_arguments.proofs.FaultLemmas.{fails_last, fails_second}
+use Rattle.chip_arguments.proofs.WordLemmas.{first_is, still_fails}
+use Rattle.chip_arguments.proofs.command_line.judged.Goals as goal
+
+pub returns-in_err-check_numbers-clause-fault : goal.returns-in_err-check_numbers-clause-fault
+returns-in_err-check_numbers-clause-fault c =
+    let given = err_from_is_err_and c.from_residual.result c.from_residual.ensures.1 in
+    rw (given.1, given.2)
+    (still_fails (first_fault number_fault numbers (rows_of (found_of c.args.found.now))) _ c.in_err-check_numbers.field-0.0 c.in_err-check_numbers.ensures)
+
+pub returns-in_err-check_new_files-clause-fault : goal.returns-in_err-check_new_files-clause-fault
+returns-in_err-check_new_files-clause-fault c =
+    let given = err_from_is_err_and c.from_residual-in_err-check_new_files.result c.from_residual-in_err-check_new_files.ensures.1 in
+    let rows = rows_of (found_of c.args.found.now) in
+    rw (given.1, given.2)
+    (fails_second (first_fault number_fault numbers rows) (first_fault new_file_fault new_files rows) _ c.in_err-check_new_files.field-0.0
+    c.in_ok-check_numbers.ensures c.in_err-check_new_files.ensures)
+
+pub returns-clause-profile : goal.returns-clause-profile
+returns-clause-profile c =
+    let name = first_is (found_of c.args.found.now) (codes "profile") _ c.get_str.ensures in
+    subst (λ (text : Option (List ℕ)). IfOk c.profile_asked.result (IsProfile text)) name c.profile_asked.ensures.asked
+
+pub returns-clause-fault : goal.returns-clause-fault
+returns-clause-fault c =
+    let rows = rows_of (found_of c.args.found.now) in
+    let name = first_is (found_of c.args.found.now) (codes "profile") _ c.get_str.ensures in
+    fails_last (first_fault number_fault numbers rows) (first_fault new_file_fault new_files rows) (profile_fault (first_of (codes "profile") rows))
+    c.profile_asked.result c.in_ok-check_numbers.ensures c.in_ok-check_new_files.ensures
+    (subst (λ (text : Option (List ℕ)). FailsBy (profile_fault text) c.profile_asked.result) name c.profile_asked.ensures.fault)

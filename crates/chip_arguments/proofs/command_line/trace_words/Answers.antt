@@ -1,0 +1,12 @@
+use Rattle.std.proofs.Common.{codes}
+use Rattle.clap.specs.Words.{found_of}
+use Rattle.chip_arguments.proofs.WordLemmas.{first_is, flag_is, reads_or}
+use Rattle.chip_arguments.proofs.command_line.trace_words.Goals as goal
+
+pub returns : goal.returns
+returns c = λ named. record {
+  run = c.run_words.ensures named;
+  from = reads_or (found_of c.args.found.now) (codes "from") _ c.number.result _ _ c.get_str.ensures c.number.ensures c.unwrap_or.ensures;
+  sums = flag_is (found_of c.args.found.now) (codes "hash") c.get_flag.result c.get_flag.ensures.value c.get_flag.ensures.other c.get_flag.ensures.none;
+  against = first_is (found_of c.args.found.now) (codes "against") _ c.get_str-2.ensures;
+}
