@@ -2,12 +2,12 @@
 _chipbench() {
     local word=${COMP_WORDS[COMP_CWORD]} before=${COMP_WORDS[COMP_CWORD-1]} options=
     if [ "$COMP_CWORD" -eq 1 ]; then
-        COMPREPLY=($(compgen -W "debug asm list dis run picture check explain help --help --version" -- "$word"))
+        COMPREPLY=($(compgen -W "debug asm list dis run trace picture check explain help --help --version" -- "$word"))
         return
     fi
     case $before in
         --profile) COMPREPLY=($(compgen -W "schip vip" -- "$word")); return ;;
-        --rate | --tape | --seed | --steps | --every) return ;;
+        --rate | --tape | --seed | --every | --steps | --from) return ;;
         explain) COMPREPLY=($(compgen -W "$(chipbench explain 2>/dev/null | cut -d ' ' -f 1)" -- "$word")); return ;;
     esac
     case ${COMP_WORDS[1]} in
@@ -16,6 +16,7 @@ _chipbench() {
         list) options=" --help" ;;
         dis) options=" --help" ;;
         run) options="--steps --rate --tape --seed --profile --keys --help" ;;
+        trace) options="--steps --rate --tape --seed --profile --keys --from --hash --against --help" ;;
         picture) options="--steps --rate --tape --seed --profile --keys --ascii --pbm --png --help" ;;
         check) options=" --help" ;;
         explain) options=" --help" ;;

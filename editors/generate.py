@@ -45,25 +45,18 @@ class Language:
 
 class Argument:
     def __init__(self, body, consts):
-        def one(method):
-            found = re.search(rf'\.{method}\(\s*(?:"((?:[^"\\]|\\.)*)"|([A-Z_]+))', body)
-            return None if not found else found.group(1) or consts.get(found.group(2), "")
-
-        made = re.search(r'\b(option|place)\(\s*alloc,\s*"(\w+)",\s*"(\w+)",\s*(?:"((?:[^"\\]|\\.)*)"|([A-Z_]+))', body)
-        if made:
-            kind, name, self.value, text, const = made.groups()
-            self.long, self.help = name if kind == "option" else None, text or consts[const]
-        else:
-            self.long, self.value, self.help = one("long"), one("value_name"), one("help") or ""
+        made = re.search(
+            r'\b(option|place|flag)\(\s*alloc,\s*"(\w+)",\s*(?:"([A-Z]+)",\s*)?(?:"((?:[^"\\]|\\.)*)"|([A-Z_]+))', body)
+        kind, name, self.value, text, const = made.groups()
+        self.long, self.help = None if kind == "place" else name, text or consts[const]
 
 
 class Command:
-    def __init__(self, body, arguments):
-        found = re.search(r'new_command\(\s*alloc,\s*"(\w+)",\s*"(.*?)",\s*(?:"Example: (.*?)"|[A-Z_]+)', body)
-        self.name, self.about, self.example = found.groups()
-        names = re.findall(r"(\w+)_argument\(alloc\)", body)
-        self.options = [arguments[name] for name in names if arguments[name].long]
-        self.places = [arguments[name].value for name in names if not arguments[name].long]
+    def __init__(self, row, arguments):
+        self.name, self.about, self.example, listed = row
+        taken = [arguments[re.sub(r"(?<!^)(?=[A-Z])", "_", name).lower()] for name in re.findall(r"Argument::(\w+)", listed)]
+        self.options = [argument for argument in taken if argument.long]
+        self.places = [argument.value for argument in taken if not argument.long]
 
 
 class Words:
@@ -80,14 +73,11 @@ class Words:
             if name.endswith("_argument"):
                 arguments[name[: -len("_argument")]] = Argument(body, consts)
 
-        def whole(body):
-            """The body, with those of the functions that it has add arguments in the place of their calls."""
-            return re.sub(r"\b(with_\w+)\(alloc", lambda call: whole(functions[call.group(1)]), body)
-
-        halves = functions["with_debug_to_dis"] + functions["with_run_to_explain"]
-        order = re.findall(r"(\w+)_command\(alloc\)", halves)
+        rows = re.findall(
+            r'CommandRow \{\s*name: "(\w+)",\s*about: "(.*?)",\s*notes: (?:"Example: (.*?)"|[A-Z_]+),\s*arguments: &\[(.*?)\]',
+            text, re.S)
         self.about = re.search(r'"chipbench",\s*"(.*?)"', functions["program"]).group(1)
-        self.commands = [Command(whole(functions[f"{name}_command"]), arguments) for name in order]
+        self.commands = [Command(row, arguments) for row in rows]
         debug = next(command for command in self.commands if command.name == "debug")
         notes = consts["DEBUG_NOTES"].replace("\\n", "\n")
         debug.example = re.search(r"Example: (.*)", notes).group(1)
@@ -99,6 +89,8 @@ def bash(words):
         options = " ".join(f"--{option.long}" for option in command.options)
         cases.append(f'        {command.name}) options="{options} --help" ;;')
     names = " ".join(command.name for command in words.commands)
+    seen = {option.long: option.value for command in words.commands for option in command.options}
+    untold = " | ".join(f"--{name}" for name, value in seen.items() if value not in (None, "FILE", "NAME"))
     return "\n".join([
         "# Completion of chipbench's words for bash; made by editors/generate.py.",
         "_chipbench() {",
@@ -109,7 +101,7 @@ def bash(words):
         "    fi",
         "    case $before in",
         '        --profile) COMPREPLY=($(compgen -W "schip vip" -- "$word")); return ;;',
-        "        --rate | --tape | --seed | --steps | --every) return ;;",
+        f"        {untold}) return ;;",
         # the program has the codes
         f'        explain) COMPREPLY=($(compgen -W "$({CODES})" -- "$word")); return ;;',
         "    esac",

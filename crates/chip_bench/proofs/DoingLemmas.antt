@@ -7,7 +7,7 @@ use Rattle.std.specs.declared.io.Error.{Error as IoError}
 use Rattle.chip_asm.specs.Lines.{lines_of, open_fault}
 use Rattle.chip_lang.specs.declared.limits.TheConstants.{IMAGE_BYTES}
 use Rattle.chip_views.specs.Dis.{source_of_image}
-use Rattle.chip_bench.specs.Doing.{Assembles, AssemblesBy, Checks, Debugs, Declined, Disassembles, DisassemblesBytes, Does, Explains, FromKeys, FromSource, GivesSource, IfSettled, IsFileWritten, IsShort, IsSourceUnread, IsUnsettled, Lists, Outcome, Pictures, PicturesBy, PrintsPicture, Runs, WithAsked, image_in}
+use Rattle.chip_bench.specs.Doing.{Assembles, AssemblesBy, Checks, Debugs, Declined, Disassembles, DisassemblesBytes, Does, Explains, FromKeys, FromSource, GivesSource, IfSettled, IsFileWritten, IsShort, IsSourceUnread, IsUnsettled, Lists, Outcome, Pictures, PicturesBy, PrintsPicture, Runs, Traces, TracesBy, WithAsked, image_in}
 use Rattle.chip_bench.specs.inner.Reads.{IsAsked, IsImageHindered, IsImageOrFaults, IsKeysUnread, IsUnasked}
 use Rattle.chip_pages.specs.Pages.{IsPageText}
 use Rattle.chip_bench.specs.Printing.{Prints, PrintsUnder, printed_check, printed_listing, printed_picture, printed, printed_of, printed_run}
@@ -20,6 +20,7 @@ use Rattle.chip_bench.specs.Tally.{Tally}
 use Rattle.chip_arguments.specs.declared.command_line.CommandLine.{CommandLine}
 use Rattle.chip_arguments.specs.declared.command_line.RunWords.{RunWords}
 use Rattle.chip_arguments.specs.declared.command_line.SettingWords.{SettingWords}
+use Rattle.chip_arguments.specs.declared.command_line.TraceWords.{TraceWords}
 use Rattle.chip_bench.specs.declared.ending.Ending.TheVariants.{Done}
 use Rattle.chip_bench.specs.declared.ending.Failure.{Failure}
 use Rattle.chip_bench.specs.declared.ending.Failure.TheVariants as failure
@@ -30,7 +31,7 @@ use Rattle.chip_bench.proofs.RunningLemmas.{unsettled}
 abbrev pub Unsettles : Option SessionSettings → Failure → Type 0
 Unsettles asked why = (why ≡ failure.OutOfMemory) ⊎ ((why ≡ failure.BadTape) × (asked ≡ None))
 
-fails : (Why : Failure → Type 0) (ended : Outcome) (why : Failure) → ended ≡ Err why → Why why → IsErrAnd ended Why
+pub fails : (Why : Failure → Type 0) (ended : Outcome) (why : Failure) → ended ≡ Err why → Why why → IsErrAnd ended Why
 fails Why ended why e w = subst (λ (r : Outcome). IsErrAnd r Why) (sym e) w
 
 module _ {R : Type 0} (remaining : R → Option (List ℕ)) (in_old in_new : Tally R) (Unwritten : Type 0) (quiet : Unwritten) where
@@ -288,6 +289,18 @@ module _ {R W : Type 0} (remaining : R → Option (List ℕ)) (contents : W → 
       asked_then remaining in_old in_new (new ≡ old) words
       (λ settings keys source. PrintsUnder contents old new settings source keys (λ session. printed_run session words.steps)) ended asked is
       (rw (sym s, sym k, sym t) did)
+
+module _ {R W : Type 0} (remaining : R → Option (List ℕ)) (contents : W → Option (List ℕ)) (in_old in_new : Tally R) (old new : Tally W) where
+  pub traces : (words : TraceWords) (asked : Asked) (ended : Outcome) → IsAsked remaining in_old in_new words.run asked →
+      TracesBy contents old new words words.against asked.settings asked.keys.bytes.items asked.source.items ended →
+      Traces remaining contents in_old in_new old new words ended
+  traces words asked ended is did =
+      asked_then remaining in_old in_new (new ≡ old) words.run (TracesBy contents old new words words.against) ended asked is did
+
+  pub traces_not : (words : TraceWords) (why : Failure) (ended : Outcome) → new ≡ old → ended ≡ Err why → IsUnasked remaining in_old in_new words.run why →
+      Traces remaining contents in_old in_new old new words ended
+  traces_not words why ended same e is =
+      asked_not remaining in_old in_new (new ≡ old) words.run (TracesBy contents old new words words.against) ended same why e is
 
 module _ {R : Type 0} (remaining : R → Option (List ℕ)) (in_old in_new : Tally R) (words : RunWords) where
   -- what a run's words ask for was read

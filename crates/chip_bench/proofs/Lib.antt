@@ -10,6 +10,8 @@ pub mod ImageLemmas
 pub mod Parts
 pub mod TapeLemmas
 pub mod TextLemmas
+pub mod TraceLemmas
+pub mod RunLemmas
 pub mod KeyLemmas
 pub mod RowLemmas
 pub mod RowBytes

@@ -25,9 +25,17 @@ use Rattle.chip_views.specs.declared.picture.Letters.TheVariants.{Blocks, Plain}
 use Rattle.chip_arguments.specs.CommandWords.{AsksFor}
 use Rattle.chip_bench.specs.KeyFile.{key_fault, session_under}
 use Rattle.chip_bench.specs.Session.{session_of}
+use Rattle.std.specs.Str.{str_to_ascii_lowercase}
+use Rattle.std.specs.Str.Lines.{lines}
+use Rattle.chip_trace.specs.Columns.{header_line, usual_columns}
+use Rattle.chip_trace.specs.Header.{header_fault}
+use Rattle.chip_trace.specs.declared.column.Column.{Column}
+use Rattle.chip_trace.specs.declared.header.HeaderError.{HeaderError}
+use Rattle.chip_bench.specs.Tracing.{IsCompared, header_of, lines_after, printed_trace}
+use Rattle.chip_bench.specs.declared.tracing.Shown.{Shown}
 use Rattle.chip_pages.specs.Pages.{IsContents, IsPageText}
 use Rattle.chip_arguments.specs.Version.{version_text}
-use Rattle.chip_bench.specs.Printing.{Printed, PrintsUnder, Prints, RefusesKeys, printed_check, fault_under, printed_faults, printed_listing, printed_picture, printed, printed_of, printed_run}
+use Rattle.chip_bench.specs.Printing.{Printed, PrintsSuchUnder, PrintsUnder, Prints, RefusesKeys, StreamsUnder, printed_check, fault_under, printed_faults, printed_listing, printed_picture, printed, printed_of, printed_run}
 use Rattle.chip_bench.specs.Running.{AnswersIfAsked, AnswersScript, IsUnread, source_bytes_read, status_of}
 use Rattle.chip_bench.specs.SettingWords.{settings_asked}
 use Rattle.chip_bench.specs.Settings.{SessionSettings}
@@ -37,6 +45,7 @@ use Rattle.chip_arguments.specs.declared.command_line.CommandLine.TheVariants as
 use Rattle.chip_arguments.specs.declared.command_line.PictureWords.{PictureWords}
 use Rattle.chip_arguments.specs.declared.command_line.RunWords.{RunWords}
 use Rattle.chip_arguments.specs.declared.command_line.SettingWords.{SettingWords}
+use Rattle.chip_arguments.specs.declared.command_line.TraceWords.{TraceWords}
 use Rattle.chip_bench.specs.declared.ending.Ending.{Ending}
 use Rattle.chip_bench.specs.declared.ending.Ending.TheVariants.{Done, Faulty}
 use Rattle.chip_bench.specs.declared.ending.Failure.{Failure}
@@ -87,6 +96,10 @@ module _ {R : Type 0} (remaining : R → Option (List ℕ)) (in_old in_new : Tal
     pub given : name ≡ standard_input
         → IfSome (remaining in_old.inner) (λ all. bytes ≡ take source_bytes_read all)
     pub untouched : name ≢ standard_input → in_new ≡ in_old
+
+-- the part of a run that a trace with these columns shows
+abbrev pub shown_by : TraceWords → List Column → Shown
+shown_by words columns = record { columns = columns; from = words.from; to = words.run.steps }
 
 -- which characters stand for the points of a picture
 abbrev pub letters_of : Bool → Letters
@@ -189,6 +202,31 @@ module _ {W : Type 0} (contents : W → Option (List ℕ)) (out_old out_new : Ta
       × (ended ≢ Ok Done))
       ⊎ WritesPicture settings source keys words.run.steps form.Png png ended
 
+  -- `trace` without another trace: the lines of the run
+  abbrev pub TracesAlone : TraceWords → SessionSettings → (keys source : List ℕ) → Outcome → Type 0
+  TracesAlone words settings keys source ended =
+      StreamsUnder contents out_old out_new settings source keys
+      (λ session. printed_trace session (shown_by words (usual_columns words.sums))) ended
+
+  -- beside the lines of another trace, whose header names the columns
+  abbrev pub TracesBeside : TraceWords → SessionSettings → (keys source : List ℕ)
+      → (name : Bor (List ℕ)) → (theirs : List (List ℕ)) → Outcome → Type 0
+  TracesBeside words settings keys source name theirs ended =
+      ((columns : List Column) × (header_line columns ≡ str_to_ascii_lowercase (header_of theirs))
+      × PrintsSuchUnder contents out_old out_new settings source keys
+      (λ session. IsCompared session (shown_by words columns) (lines_after theirs)) ended)
+      ⊎ ((fault : HeaderError) × (header_fault (header_of theirs) ≡ Some fault)
+      × Fails (λ why. why ≡ failure.BadTrace name fault) ended)
+      ⊎ Fails IsShort ended
+
+  -- `trace`
+  abbrev pub TracesBy : TraceWords → (against : Option (Bor (List ℕ))) → SessionSettings
+      → (keys source : List ℕ) → Outcome → Type 0
+  TracesBy words None settings keys source ended = TracesAlone words settings keys source ended
+  TracesBy words (Some name) settings keys source ended =
+      ((bytes : List ℕ) × TracesBeside words settings keys source name (lines bytes) ended)
+      ⊎ Fails (IsUnread name) ended
+
   -- `explain`: the page on the code, where there is one
   abbrev pub ExplainsCode : Bor (List ℕ) → Outcome → Type 0
   ExplainsCode code ended =
@@ -247,6 +285,12 @@ module _ {R W : Type 0} (remaining : R → Option (List ℕ)) (contents : W → 
       PrintsUnder contents out_old out_new settings source keys
       (λ session. printed_run session words.steps)) ended
 
+  -- `trace`
+  abbrev pub Traces : TraceWords → Outcome → Type 0
+  Traces words ended =
+      WithAsked remaining in_old in_new (out_new ≡ out_old) words.run
+      (TracesBy contents out_old out_new words words.against) ended
+
   -- `picture`
   abbrev pub Pictures : PictureWords → Outcome → Type 0
   Pictures words ended =
@@ -262,6 +306,7 @@ module _ {R W : Type 0} (remaining : R → Option (List ℕ)) (contents : W → 
   Does (line.Check source) ended = Checks source ended
   Does (line.Dis image) ended = Disassembles image ended
   Does (line.Run words) ended = Runs words ended
+  Does (line.Trace words) ended = Traces words ended
   Does (line.Picture words) ended = Pictures words ended
   Does (line.Explain code) ended = Explains contents out_old out_new code ended × (in_new ≡ in_old)
 

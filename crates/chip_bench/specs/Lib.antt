@@ -20,6 +20,7 @@
 --     Running      what a run of the program reads, writes and answers
 --     SettingWords what the words of the command line say of settings
 --     Tape         the tape of a seed
+--     Tracing      what `trace` prints of a session's run
 --     Doing        what the program does for each thing that its words can ask for
 --     inner        the models as numbers; for private contracts: how far a script has been carried
 --                  out, how the parts of a kept run fit together, what was read
@@ -45,5 +46,6 @@ pub mod Tape
 pub mod SettingWords
 pub mod Printing
 pub mod KeyFile
+pub mod Tracing
 pub mod Doing
 pub mod inner

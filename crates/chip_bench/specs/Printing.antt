@@ -1,5 +1,5 @@
 -- What the commands of the program print of a source, and how they end (own).
-use Rattle.std.specs.Prelude.{◌≡◌, ℕ, List, [], ◌++◌, codes, Option, Some, None, Result, Ok, Err}
+use Rattle.std.specs.Prelude.{◌≡◌, ◌⊎◌, ℕ, List, [], ◌++◌, codes, Option, Some, None, Result, Ok, Err}
 use Rattle.std.specs.Io.KnownBytes.{Appends}
 use Rattle.chip_asm.specs.Lines.{open_fault}
 use Rattle.chip_asm.specs.Program.{image_of, faults_of}
@@ -46,6 +46,11 @@ unopened_text unopened.OutOfMemory = []
 abbrev pub printed_of : Option OpenError → Printed → Printed
 printed_of (Some fault) opened = printed (unopened_text fault) Faulty
 printed_of None opened = opened
+
+-- the same, where what is printed of a source that opens passes a test
+abbrev pub IsPrintedOf : Option OpenError → (Printed → Type 0) → Printed → Type 0
+IsPrintedOf (Some fault) P wanted = wanted ≡ printed (unopened_text fault) Faulty
+IsPrintedOf None P wanted = P wanted
 
 abbrev pub printed_faults : List (List ℕ) → Printed
 printed_faults lines = printed (faults_text (faults_of lines)) Faulty
@@ -120,6 +125,21 @@ module _ {W : Type 0} (contents : W → Option (List ℕ)) (old new : Tally W) w
   Prints wanted (Err failure.OutOfMemory) = new ≡ old
   Prints wanted (Err _) = ⊥
 
+  -- some front of this text was printed, and nothing else, and no write failed
+  pub record WritesFront (text : List ℕ) : Type 0 where
+    pub front : List ℕ
+    pub begins : BeginsWith text front
+    pub appended : Appends (contents old.inner) (contents new.inner) front
+    pub no_failure : new.failures ≡ old.failures
+
+  -- What a command that prints this part by part did: all of it, or a front where a write failed or
+  -- memory ran out.
+  abbrev pub Streams : Printed → Result Ending Failure → Type 0
+  Streams wanted (Ok ending) = (ending ≡ wanted.ending) × Writes wanted.text
+  Streams wanted (Err failure.Output) = Breaks wanted.text
+  Streams wanted (Err failure.OutOfMemory) = WritesFront wanted.text
+  Streams wanted (Err _) = ⊥
+
   -- a refused line of a key file: nothing was printed, and the failure has its number and the code
   abbrev pub RefusesKeys : ℕ × List ℕ → Result Ending Failure → Type 0
   RefusesKeys line (Err (failure.BadKeys name number code)) =
@@ -131,6 +151,10 @@ module _ {W : Type 0} (contents : W → Option (List ℕ)) (old new : Tally W) w
   PrintsUnless None wanted result = Prints wanted result
   PrintsUnless (Some line) wanted result = RefusesKeys line result
 
+  abbrev pub StreamsUnless : Option (ℕ × List ℕ) → Printed → Result Ending Failure → Type 0
+  StreamsUnless None wanted result = Streams wanted result
+  StreamsUnless (Some line) wanted result = RefusesKeys line result
+
   -- What a command prints of the session of a source and those settings, under the key events of a
   -- file: why the source doesn't open, the first refused line of the key file, or what is printed
   -- of the session.
@@ -140,6 +164,33 @@ module _ {W : Type 0} (contents : W → Option (List ℕ)) (old new : Tally W) w
       PrintsUnless (fault_under (open_fault source) (key_fault (session_of settings source) keys))
       (printed_of (open_fault source)
       (printed_by (session_under (session_of settings source) keys))) result
+
+  -- the same of a command that prints part by part
+  abbrev pub StreamsUnder : SessionSettings → List ℕ → List ℕ → (Session → Printed)
+      → Result Ending Failure → Type 0
+  StreamsUnder settings source keys printed_by result =
+      StreamsUnless (fault_under (open_fault source) (key_fault (session_of settings source) keys))
+      (printed_of (open_fault source)
+      (printed_by (session_under (session_of settings source) keys))) result
+
+  -- What was printed passes a test, or memory ran out before.
+  abbrev pub PrintsSuch : (Printed → Type 0) → Result Ending Failure → Type 0
+  PrintsSuch P result =
+      ((wanted : Printed) × P wanted × Prints wanted result)
+      ⊎ ((result ≡ Err failure.OutOfMemory) × (new ≡ old))
+
+  abbrev pub PrintsSuchUnless : Option (ℕ × List ℕ) → (Printed → Type 0) → Result Ending Failure
+      → Type 0
+  PrintsSuchUnless None P result = PrintsSuch P result
+  PrintsSuchUnless (Some line) P result = RefusesKeys line result
+
+  -- The same of the session of a source and those settings, under the key events of a file.
+  abbrev pub PrintsSuchUnder : SessionSettings → List ℕ → List ℕ → (Session → Printed → Type 0)
+      → Result Ending Failure → Type 0
+  PrintsSuchUnder settings source keys P result =
+      PrintsSuchUnless
+      (fault_under (open_fault source) (key_fault (session_of settings source) keys))
+      (IsPrintedOf (open_fault source) (P (session_under (session_of settings source) keys))) result
 
   -- a source that doesn't open is refused
   abbrev pub Refuses : OpenError → Result Ending Failure → Type 0

@@ -125,6 +125,7 @@ abbrev pub failure_status : Failure → ℕ
 failure_status (failure.Usage error) = 2
 failure_status failure.BadTape = 2
 failure_status (failure.BadKeys name number code) = 2
+failure_status (failure.BadTrace name fault) = 2
 failure_status (failure.NoPage code) = 2
 failure_status (failure.CannotRead name error) = 3
 failure_status (failure.CannotWrite name error) = 3

@@ -1,6 +1,10 @@
 //! A session: edits of the source and of the key events, and questions about both.
-ghost use Rattle.std.specs.Prelude.{◌≡◌, ◌≢◌, ◌≤◌, ◌⊎◌, [], None, Some, Ok, OnOk, OnErr, IfOk, IfErr, length, unwrap_or};
+ghost use Rattle.std.specs.Prelude.{◌≡◌, ◌≢◌, ◌≤◌, ◌⊎◌, [], false, is_none, None, Some, Ok, OnOk, OnErr, IfOk, IfErr, length, unwrap_or};
+ghost use Rattle.std.specs.Str.Lines.{lines};
 ghost use Rattle.chip_bench.specs.Answers.{answer_to, step_asked};
+ghost use Rattle.chip_bench.specs.Tracing.{machine_of};
+ghost use Rattle.chip_trace.specs.Difference.{IsComparison};
+ghost use Rattle.chip_trace.specs.Lines.{TakesLines, remaining};
 ghost use Rattle.chip_bench.specs.IsAnswer.{IsTold};
 ghost use Rattle.chip_asm.specs.Lines.{open_fault};
 ghost use Rattle.chip_asm.specs.Program.{image_of};
@@ -19,7 +23,9 @@ use crate::refusal::Refusal;
 use crate::settings::Settings;
 use chip_asm::{OpenError, Source};
 use chip_lang::Meter;
-use std::alloc::Global;
+use chip_replay::AtError;
+use chip_trace::{Difference, Trace};
+use std::alloc::{AllocError, Global};
 use std::marker::Model;
 use std::mem::swap;
 
@@ -138,6 +144,44 @@ impl Bench {
         out.extend_from_slice(&self.room)
             .map_err(|_| Refusal::AnswerMemory)?;
         Ok(())
+    }
+
+    /// Adds some lines of a trace of the image's run to a text, as `Trace::push_lines`.
+    ///
+    /// # Errors
+    ///
+    /// Out of memory, or a step past the last one.
+    pub(crate) fn push_trace(
+        &mut self,
+        trace: &mut Trace<'_>,
+        text: &mut Vec<u8>,
+        most: usize,
+    ) -> Result<bool, AllocError>
+        requires { is_none (image_of self.old.session.lines) ≡ false }
+        ensures lines { IfOk result (TakesLines (machine_of self.old.session) most trace.old
+            trace.new text.old.items text.new.items) }
+        ensures session { self.new.session ≡ self.old.session }
+    {
+        self.run.push_trace(trace, text, most)
+    }
+
+    /// The first difference between the lines of the image's run and those of another trace.
+    ///
+    /// # Errors
+    ///
+    /// Out of memory, or a step past the last one.
+    pub(crate) fn first_difference(
+        &mut self,
+        alloc: Global,
+        trace: &mut Trace<'_>,
+        theirs: &[u8],
+    ) -> Result<Option<Difference>, AtError>
+        requires { is_none (image_of self.old.session.lines) ≡ false }
+        ensures found { IfOk result (IsComparison (remaining (machine_of self.old.session)
+            trace.old) (lines theirs.now)) }
+        ensures session { self.new.session ≡ self.old.session }
+    {
+        self.run.first_difference(alloc, trace, theirs)
     }
 
     /// The source as edited so far.

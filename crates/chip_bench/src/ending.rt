@@ -4,6 +4,7 @@ ghost use Rattle.clap.specs.Words.{kind_of};
 ghost use Rattle.chip_bench.specs.Running.{ending_status, failure_status, no_memory, settings_failure, words_failure};
 
 use crate::settings::SetError;
+use chip_trace::HeaderError;
 use clap::error::ErrorKind;
 use std::alloc::AllocError;
 use std::{fmt, io, str};
@@ -37,6 +38,9 @@ pub(crate) enum Failure<'a> {
     /// The line of that number of a key file is refused.
     #[error("chipbench: keys {0} line {1}: {2}\n")]
     BadKeys(&'a str, usize, Code),
+    /// The first line of a trace doesn't name columns.
+    #[error("chipbench: {0} is not a trace: {1}\n")]
+    BadTrace(&'a str, HeaderError),
     #[error("chipbench: no page on {0}; `chipbench explain` lists the codes\n")]
     NoPage(&'a str),
     #[error("chipbench: cannot read {0}\nreason: {1}\n")]
@@ -69,8 +73,11 @@ impl<'a> Failure<'a> {
         ensures { result ≡ failure_status self.now }
     {
         match self {
-            Failure::Usage(_) | Failure::BadTape | Failure::BadKeys(_, _, _) | Failure::NoPage(_) =>
-                2,
+            Failure::Usage(_)
+            | Failure::BadTape
+            | Failure::BadKeys(_, _, _)
+            | Failure::BadTrace(_, _)
+            | Failure::NoPage(_) => 2,
             Failure::CannotRead(_, _)
             | Failure::CannotWrite(_, _)
             | Failure::Input

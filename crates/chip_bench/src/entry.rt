@@ -1,5 +1,6 @@
 //! The program behind `main`.
 ghost use Rattle.std.specs.Prelude.{◌≡◌, [], ◌∷◌, Ok, Err, None, Some, IfOk, IfErr, IsErr, OnOk, IfSome, ◌⊎◌, ◌++◌, map, take};
+ghost use Rattle.std.specs.Str.Lines.{lines};
 ghost use Rattle.hex.specs.Hex.{decode_of};
 ghost use Rattle.clap.specs.Words.{kind_of};
 ghost use Rattle.chip_arguments.specs.Version.{version_text};
@@ -8,14 +9,14 @@ ghost use Rattle.chip_bench.specs.Settings.{default_settings};
 ghost use Rattle.chip_bench.specs.SettingWords.{settings_asked, tape_asked};
 ghost use Rattle.chip_bench.specs.Running.{AnswersScript, RunsSession, status_of, failure_status, AreFaulty, IsWithoutWords, IsUnread, source_bytes_read};
 ghost use Rattle.chip_bench.specs.inner.Reads.{IsAsked, IsKeysUnread, IsUnasked, IsUsage};
-ghost use Rattle.chip_bench.specs.Doing.{Assembles, Checks, Debugs, Disassembles, Does, Ends, GivesSource, IsFileWritten, IsSourceUnread, Lists, Performs, Pictures, PicturesBy, PrintsPicture, Runs, ShowsVersion, WritesPicture, letters_of};
+ghost use Rattle.chip_bench.specs.Doing.{Assembles, Checks, Debugs, Disassembles, Does, Ends, GivesSource, IsFileWritten, IsSourceUnread, Lists, Performs, Pictures, PicturesBy, PrintsPicture, Runs, ShowsVersion, Traces, TracesAlone, TracesBeside, WritesPicture, letters_of};
 ghost use Rattle.chip_arguments.specs.CommandWords.{word_faults};
 ghost use Rattle.std.specs.Io.KnownBytes.{Keeps};
 ghost use Rattle.std.specs.IoError.{error_kind};
 
 use crate::counted::Counted;
 use crate::ending::{Ending, Failure};
-use crate::limits::KEY_FILE_BYTES;
+use crate::limits::{KEY_FILE_BYTES, TRACE_FILE_BYTES};
 use crate::output::{
     KeyFile, answer_script, check_source, explain, image_or_faults, list_source, picture_source,
     print, print_source, print_version, run_source,
@@ -23,10 +24,14 @@ use crate::output::{
 use crate::question::PictureForm;
 use crate::settings::Settings;
 use crate::tape::tape_of;
-use chip_arguments::{CommandLine, PictureWords, RunWords, SettingWords, not_text, parse_words};
+use crate::tracing::{Shown, compare_source, trace_source};
+use chip_arguments::{
+    CommandLine, PictureWords, RunWords, SettingWords, TraceWords, not_text, parse_words,
+};
 use chip_asm::limits::SOURCE_BYTES;
-use chip_files::{read_most, write_file};
+use chip_files::{first_line, read_most, write_file};
 use chip_machine::limits::IMAGE_BYTES;
+use chip_trace::{Columns, HeaderError};
 use chip_views::Letters;
 use clap::error::ErrorKind;
 use hex::FromHexError;
@@ -41,9 +46,6 @@ const INPUT: &str = "-";
 
 // A source of this length or more doesn't open.
 const MOST_SOURCE: u32 = SOURCE_BYTES as u32 + 1;
-
-// A file of key events of this length or more is refused.
-const MOST_KEYS: u32 = KEY_FILE_BYTES + 1;
 
 /// The program, with the words after its name. The answer is its status: 0 where it did what it was
 /// asked, 1 where the source has faults or doesn't open, 2 for words that it doesn't take, 3 where
@@ -164,6 +166,7 @@ fn perform<'a, F: Files, I: Read, O: Write>(
         CommandLine::Check { source } => check(alloc, files, source, input, output),
         CommandLine::Dis { image } => dis(alloc, files, image, input, output),
         CommandLine::Run(words) => run(alloc, files, &words, input, output),
+        CommandLine::Trace(words) => trace(alloc, files, &words, input, output),
         CommandLine::Picture(words) => picture(alloc, files, &words, input, output),
         CommandLine::Explain { code } => explain(alloc, code, output),
     }
@@ -352,6 +355,89 @@ fn run<'a, F: Files, I: Read, O: Write>(
     run_source(alloc, &source, &keys, words.steps, settings, output)
 }
 
+fn trace<'a, F: Files, I: Read, O: Write>(
+    alloc: Global,
+    files: &F,
+    words: &TraceWords<'a>,
+    input: &mut Counted<I>,
+    output: &mut Counted<O>,
+) -> Result<Ending, Failure<'a>>
+    ensures { Traces I.remaining O.contents input.old input.new output.old output.new
+        words.entry.now result }
+{
+    let asked = read_asked(alloc, files, &words.run, input)?;
+    match words.against {
+        None => trace_alone(alloc, words, asked, output),
+        Some(name) => {
+            let theirs = read_bounded(
+                alloc,
+                files,
+                name,
+                TRACE_FILE_BYTES,
+                "it has over 250000000 bytes",
+            )?;
+            trace_beside(alloc, words, asked, name, &theirs, output)
+        }
+    }
+}
+
+fn trace_alone<'a, O: Write>(
+    alloc: Global,
+    words: &TraceWords<'a>,
+    asked: Asked<'a>,
+    output: &mut Counted<O>,
+) -> Result<Ending, Failure<'a>>
+    ensures { TracesAlone O.contents output.old output.new words.entry.now asked.entry.settings
+        asked.entry.keys.bytes.items asked.entry.source.items result }
+{
+    let shown = Shown {
+        columns: Columns::usual(alloc, words.sums)?,
+        from: words.from,
+        to: words.run.steps,
+    };
+    let Asked {
+        source,
+        keys,
+        settings,
+    } = asked;
+    trace_source(alloc, &source, &keys, &shown, settings, output)
+}
+
+// The first line of a trace names its columns.
+fn trace_beside<'a, O: Write>(
+    alloc: Global,
+    words: &TraceWords<'a>,
+    asked: Asked<'a>,
+    name: &'a str,
+    trace: &[u8],
+    output: &mut Counted<O>,
+) -> Result<Ending, Failure<'a>>
+    ensures { TracesBeside O.contents output.old output.new words.entry.now asked.entry.settings
+        asked.entry.keys.bytes.items asked.entry.source.items name.entry (lines trace.now) result }
+{
+    let (header, theirs) = if trace.is_empty() {
+        (trace, trace)
+    } else {
+        first_line(trace)
+    };
+    let columns = match Columns::read_header(alloc, header) {
+        Ok(columns) => columns,
+        Err(HeaderError::OutOfMemory) => return Err(Failure::OutOfMemory),
+        Err(fault) => return Err(Failure::BadTrace(name, fault)),
+    };
+    let shown = Shown {
+        columns,
+        from: words.from,
+        to: words.run.steps,
+    };
+    let Asked {
+        source,
+        keys,
+        settings,
+    } = asked;
+    compare_source(alloc, &source, &keys, &shown, theirs, settings, output)
+}
+
 // Without a file for it, the picture is printed.
 fn picture<'a, F: Files, I: Read, O: Write>(
     alloc: Global,
@@ -526,12 +612,32 @@ fn read_key_file<'a, F: Files>(
 ) -> Result<KeyFile<'a>, Failure<'a>>
     ensures { IfErr result (IsUnread name.entry) }
 {
-    let bytes = read_file(alloc, files, name, MOST_KEYS)?;
-    if bytes.len() > KEY_FILE_BYTES as usize {
-        let error = io::Error::new(io::ErrorKind::InvalidData, "it has over 10000000 bytes");
+    let bytes = read_bounded(
+        alloc,
+        files,
+        name,
+        KEY_FILE_BYTES,
+        "it has over 10000000 bytes",
+    )?;
+    Ok(KeyFile { name, bytes })
+}
+
+// The bytes of a file, unless there are over so many.
+fn read_bounded<'a, F: Files>(
+    alloc: Global,
+    files: &F,
+    name: &'a str,
+    most: u32,
+    over: &'static str,
+) -> Result<Vec<u8>, Failure<'a>>
+    ensures { IfErr result (IsUnread name.entry) }
+{
+    let bytes = read_file(alloc, files, name, most.saturating_add(1))?;
+    if bytes.len() > most as usize {
+        let error = io::Error::new(io::ErrorKind::InvalidData, over);
         return Err(Failure::CannotRead(name, error));
     }
-    Ok(KeyFile { name, bytes })
+    Ok(bytes)
 }
 
 // The bytes of a file, or of the standard input where the name is `-`.

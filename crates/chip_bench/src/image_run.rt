@@ -8,6 +8,9 @@ ghost use Rattle.chip_bench.specs.Session.{moment};
 ghost use Rattle.chip_bench.specs.Answers.{asks_past_end, state_answer};
 ghost use Rattle.chip_bench.specs.Kept.{empty_run, machine_after, FollowsImage, ReachesStep};
 ghost use Rattle.chip_bench.specs.inner.InStep.{TakesEvents, RunsOnly};
+ghost use Rattle.chip_trace.specs.Difference.{IsComparison};
+ghost use Rattle.chip_trace.specs.Lines.{TakesLines, remaining};
+ghost use Rattle.std.specs.Str.Lines.{lines};
 
 use crate::machine_answer::push_state;
 use crate::question::StateQuestion;
@@ -15,7 +18,8 @@ use crate::settings::Settings;
 use chip_machine::Machine;
 use chip_machine::laws::image_at_the_start;
 use chip_machine::limits::IMAGE_BYTES;
-use chip_replay::{KeyFault, LAST_STEP, Replay};
+use chip_replay::{AtError, KeyFault, LAST_STEP, Replay};
+use chip_trace::{Difference, Trace, first_difference};
 use std::alloc::{AllocError, Global};
 use std::marker::Model;
 
@@ -143,6 +147,44 @@ impl ImageRun {
             Ok(machine) => push_state(alloc, out, machine, asked),
             Err(_) => Err(AllocError),
         }
+    }
+
+    /// Adds some lines of a trace of the run to a text, as `Trace::push_lines`.
+    ///
+    /// # Errors
+    ///
+    /// Out of memory, or a step past the last one.
+    pub(crate) fn push_trace(
+        &mut self,
+        trace: &mut Trace<'_>,
+        text: &mut Vec<u8>,
+        most: usize,
+    ) -> Result<bool, AllocError>
+        ensures lines { IfOk result (TakesLines (machine_after self.old) most trace.old trace.new
+            text.old.items text.new.items) }
+        ensures runs { RunsOnly self.old self.new }
+    {
+        trace
+            .push_lines(&mut self.replay, text, most)
+            .map_err(|_| AllocError)
+    }
+
+    /// The first difference between the lines of the run and those of another trace.
+    ///
+    /// # Errors
+    ///
+    /// Out of memory, or a step past the last one.
+    pub(crate) fn first_difference(
+        &mut self,
+        alloc: Global,
+        trace: &mut Trace<'_>,
+        theirs: &[u8],
+    ) -> Result<Option<Difference>, AtError>
+        ensures found { IfOk result (IsComparison (remaining (machine_after self.old) trace.old)
+            (lines theirs.now)) }
+        ensures runs { RunsOnly self.old self.new }
+    {
+        first_difference(alloc, &mut self.replay, trace, theirs)
     }
 
     /// Up to which step the run is sound.

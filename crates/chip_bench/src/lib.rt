@@ -21,10 +21,13 @@ mod server;
 mod settings;
 mod tape;
 mod text;
+mod tracing;
 
 pub use bench::Bench;
 pub use change::Change;
-pub use chip_arguments::{CommandLine, PictureWords, RunWords, SettingWords, parse_words};
+pub use chip_arguments::{
+    CommandLine, PictureWords, RunWords, SettingWords, TraceWords, parse_words,
+};
 pub use chip_asm::OpenError;
 pub use chip_pages::{Example, Page, all_pages};
 pub use chip_views::Letters;

@@ -11,3 +11,6 @@ pub const SCRIPT_LINES: u32 = 100_000;
 
 /// How many bytes a file of key events has at most.
 pub const KEY_FILE_BYTES: u32 = 10_000_000;
+
+/// The most bytes of a file with a trace.
+pub const TRACE_FILE_BYTES: u32 = 250_000_000;

@@ -145,7 +145,7 @@ pub(crate) struct KeyFile<'a> {
 }
 
 impl<'a> KeyFile<'a> {
-    fn failure(&self, error: KeyFileError) -> Failure<'a>
+    pub(crate) fn failure(&self, error: KeyFileError) -> Failure<'a>
         ensures { result ≡ keys_failure self.now.name error }
     {
         match error {
@@ -295,7 +295,7 @@ fn print_picture<'a, O: Write>(
 }
 
 // Prints why a question isn't answered: the faults where there is no image.
-fn print_why<'a, O: Write>(
+pub(crate) fn print_why<'a, O: Write>(
     alloc: Global,
     bench: &Bench,
     why: Refusal,
@@ -370,7 +370,7 @@ fn print_faults<'a, O: Write>(
 }
 
 // Prints why a source doesn't open.
-fn refuse_source<'a, O: Write>(
+pub(crate) fn refuse_source<'a, O: Write>(
     error: OpenError,
     output: &mut Counted<O>,
 ) -> Result<Ending, Failure<'a>>

@@ -32,6 +32,11 @@ returns-in-Run g c =
     does_it g.I.Read.remaining g.O.Write.contents c.args.input.now c.run.new.input c.args.output.now c.run.new.output c.args.line _ c.run.result
     c.in-Run.is c.run.ensures
 
+pub returns-in-Trace : goal.returns-in-Trace
+returns-in-Trace g c =
+    does_it g.I.Read.remaining g.O.Write.contents c.args.input.now c.trace.new.input c.args.output.now c.trace.new.output c.args.line _ c.trace.result
+    c.in-Trace.is c.trace.ensures
+
 pub returns-in-Picture : goal.returns-in-Picture
 returns-in-Picture g c =
     does_it g.I.Read.remaining g.O.Write.contents c.args.input.now c.picture.new.input c.args.output.now c.picture.new.output c.args.line _ c.picture.result

@@ -1,0 +1,214 @@
+-- What a command prints part by part, and what `trace` prints.
+use Rattle.std.proofs.Common.{◌≡◌, ◌⊎◌, inl, inr, ℕ, ◌+◌, ◌<◌, ◌≤◌, Bool, true, false, List, [], ◌∷◌, ◌++◌, append_assoc, append-nil, Option, Some, None, Result, Ok, Err, refl, sym, ◌∙◌, ap, subst, take, drop, length, arith}
+use Rattle.chip_asm.specs.Lines.{open_fault}
+use Rattle.chip_asm.specs.Program.{image_of}
+use Rattle.chip_asm.specs.declared.refusal.OpenError.{OpenError}
+use Rattle.chip_asm.specs.declared.refusal.OpenError.TheVariants as unopened
+use Rattle.std.specs.Borrow.{Bor}
+use Rattle.chip_bench.specs.KeyFile.{IsKeyFault, key_fault, session_under}
+use Rattle.chip_bench.specs.declared.key_file.KeyFileError.{KeyFileError}
+use Rattle.chip_bench.specs.declared.key_file.KeyFileError.TheVariants.{Line, OutOfMemory}
+use Rattle.chip_bench.specs.Printing.{Breaks, IsPrintedOf, Printed, Prints, PrintsSuch, PrintsSuchUnder, PrintsSuchUnless, Refuses, Streams, StreamsUnder, StreamsUnless, Writes, WritesFront, fault_under, keys_failure, printed, printed_faults, printed_of, unanswered, unopened_text}
+use Rattle.chip_bench.specs.Serving.{BeginsWith}
+use Rattle.chip_bench.specs.Session.{Session, session_of}
+use Rattle.chip_bench.specs.Settings.{SessionSettings}
+use Rattle.chip_bench.specs.Tally.{Tally}
+use Rattle.chip_bench.specs.Tracing.{trace_refusal}
+use Rattle.chip_bench.specs.declared.ending.Ending.{Ending}
+use Rattle.chip_bench.specs.declared.ending.Ending.TheVariants.{Done, Faulty}
+use Rattle.chip_bench.specs.declared.ending.Failure.{Failure}
+use Rattle.chip_bench.specs.declared.ending.Failure.TheVariants as failure
+use Rattle.chip_bench.specs.declared.refusal.Refusal.TheVariants.{NoImage}
+use Rattle.chip_bench.specs.declared.tracing.Shown.{Shown}
+use Rattle.chip_lang.specs.Meter.{one_more}
+use Rattle.chip_trace.specs.Lines.{newline_ended}
+use Rattle.std.specs.Io.KnownBytes.{Appends}
+use Rattle.std.specs.Prelude.{IsTrue, ◌↔◌, is_none}
+use Rattle.std.proofs.lemmas.Bool.{cases_lt}
+use Rattle.std.proofs.lemmas.Grind.{flat_map-append}
+use Rattle.std.proofs.lemmas.List.{drop_all, length-drop, take-append-drop}
+use Rattle.chip_bench.proofs.WriteLemmas.{appends_more, appends_none}
+
+module _ {W : Type 0} (contents : W → Option (List ℕ)) (old new : Tally W) where
+  nothing_written : (text : List ℕ) → new ≡ old → WritesFront contents old new text
+  nothing_written text same = rw same (record { front = []; begins = (text, refl); appended = appends_none (contents old.inner); no_failure = refl })
+
+  -- what is printed at once
+  pub streams_prints : (wanted : Printed) (result : Result Ending Failure) → Prints contents old new wanted result → Streams contents old new wanted result
+  streams_prints wanted (Ok ending) p = p
+  streams_prints wanted (Err failure.Output) p = p
+  streams_prints wanted (Err failure.OutOfMemory) p = nothing_written wanted.text p
+  streams_prints wanted (Err _) p = absurd p
+
+  short : (wanted : Printed) (result : Result Ending Failure) → result ≡ Err failure.OutOfMemory → new ≡ old → Streams contents old new wanted result
+  short wanted result e same = rw e (nothing_written wanted.text same)
+
+  refused_source : (e : OpenError) (result : Result Ending Failure) → Refuses contents old new e result → Streams contents old new (printed (unopened_text e) Faulty) result
+  refused_source (unopened.LineTooLong n) result r = streams_prints _ result r
+  refused_source unopened.TooManyLines result r = streams_prints _ result r
+  refused_source unopened.OutOfMemory result r = short _ result r.0 r.1
+
+  short_unless : (fault : Option (ℕ × List ℕ)) (wanted : Printed) (result : Result Ending Failure) → result ≡ Err failure.OutOfMemory → new ≡ old → StreamsUnless contents old new fault wanted result
+  short_unless None wanted result e same = short wanted result e same
+  short_unless (Some line) wanted result e same = rw e same
+
+  module _ (settings : SessionSettings) (source keys : List ℕ) (printed_by : Session → Printed) (result : Result Ending Failure) where
+    -- the source doesn't open, or memory ran out as it was opened
+    pub streams_unopened : (e : OpenError) → (e ≡ unopened.OutOfMemory) ⊎ (open_fault source ≡ Some e) → Refuses contents old new e result
+        → StreamsUnder contents old new settings source keys printed_by result
+    streams_unopened e (inl memory) r =
+        let r' : Refuses contents old new unopened.OutOfMemory result = subst (λ (o : OpenError). Refuses contents old new o result) memory r in
+        short_unless _ _ result r'.0 r'.1
+    streams_unopened e (inr found) r = rw found (refused_source e result r)
+
+    -- memory ran out before
+    pub streams_short : result ≡ Err failure.OutOfMemory → new ≡ old → StreamsUnder contents old new settings source keys printed_by result
+    streams_short e same = short_unless _ _ result e same
+
+    -- it opens
+    pub streams_under : (s : Session) → open_fault source ≡ None → s ≡ session_of settings source
+        → StreamsUnless contents old new (key_fault s keys) (printed_by (session_under s keys)) result
+        → StreamsUnder contents old new settings source keys printed_by result
+    streams_under s opens same streams =
+        rw opens (subst (λ (t : Session). StreamsUnless contents old new (key_fault t keys) (printed_by (session_under t keys)) result) same streams)
+
+-- a refused line of a key file, or memory ran out
+module _ {W : Type 0} (contents : W → Option (List ℕ)) (old : Tally W) where
+  pub streams_key_fault : (fault : Option (ℕ × List ℕ)) (wanted : Printed) (name : Bor (List ℕ)) (error : KeyFileError) → IsKeyFault fault error
+      → StreamsUnless contents old old fault wanted (Err (keys_failure name error))
+  streams_key_fault fault wanted name (Line number code) e = rw e (refl, refl)
+  streams_key_fault fault wanted name OutOfMemory e = short_unless contents old old fault wanted _ refl refl
+
+-- what was printed of a comparison
+module _ {W : Type 0} (contents : W → Option (List ℕ)) (old new : Tally W) where
+  such_short : (fault : Option (ℕ × List ℕ)) (P : Printed → Type 0) (result : Result Ending Failure) → result ≡ Err failure.OutOfMemory → new ≡ old → PrintsSuchUnless contents old new fault P result
+  such_short None P result e same = inr (e, same)
+  such_short (Some line) P result e same = rw e same
+
+  such_refused : (e : OpenError) (result : Result Ending Failure) → Refuses contents old new e result
+      → PrintsSuch contents old new (λ wanted. wanted ≡ printed (unopened_text e) Faulty) result
+  such_refused (unopened.LineTooLong n) result r = inl (_, refl, r)
+  such_refused unopened.TooManyLines result r = inl (_, refl, r)
+  such_refused unopened.OutOfMemory result r = inr (r.0, r.1)
+
+  -- a source that opens or doesn't
+  pub such_opened : (found : Option OpenError) (P : Printed → Type 0) (result : Result Ending Failure) → found ≡ None → PrintsSuch contents old new P result
+      → PrintsSuch contents old new (IsPrintedOf found P) result
+  such_opened found P result opens such = rw opens such
+
+  pub such_not_opened : (found : Option OpenError) (P : Printed → Type 0) (e : OpenError) (result : Result Ending Failure)
+      → (e ≡ unopened.OutOfMemory) ⊎ (found ≡ Some e) → Refuses contents old new e result → PrintsSuch contents old new (IsPrintedOf found P) result
+  such_not_opened found P e result (inl memory) r =
+      let r' : Refuses contents old new unopened.OutOfMemory result = subst (λ (o : OpenError). Refuses contents old new o result) memory r in
+      inr (r'.0, r'.1)
+  such_not_opened found P e result (inr is) r = rw is (such_refused e result r)
+
+  module _ (settings : SessionSettings) (source keys : List ℕ) (P : Session → Printed → Type 0) (result : Result Ending Failure) where
+    pub such_unopened : (e : OpenError) → (e ≡ unopened.OutOfMemory) ⊎ (open_fault source ≡ Some e) → Refuses contents old new e result
+        → PrintsSuchUnder contents old new settings source keys P result
+    such_unopened e (inl memory) r =
+        let r' : Refuses contents old new unopened.OutOfMemory result = subst (λ (o : OpenError). Refuses contents old new o result) memory r in
+        such_short _ _ result r'.0 r'.1
+    such_unopened e (inr found) r = rw found (such_refused e result r)
+
+    pub such_under : (s : Session) → open_fault source ≡ None → s ≡ session_of settings source
+        → PrintsSuchUnless contents old new (key_fault s keys) (P (session_under s keys)) result
+        → PrintsSuchUnder contents old new settings source keys P result
+    such_under s opens same such =
+        rw opens (subst (λ (t : Session). PrintsSuchUnless contents old new (key_fault t keys) (P (session_under t keys)) result) same such)
+
+  pub such_key_fault : (fault : Option (ℕ × List ℕ)) (P : Printed → Type 0) (name : Bor (List ℕ)) (error : KeyFileError) → IsKeyFault fault error → new ≡ old
+      → PrintsSuchUnless contents old new fault P (Err (keys_failure name error))
+  such_key_fault fault P name (Line number code) e same = rw e (refl, same)
+  such_key_fault fault P name OutOfMemory e same = such_short fault P _ refl same
+
+-- there is an image where there is a trace
+pub has_image : (session : Session) (shown : Shown) → trace_refusal session shown ≡ None → is_none (image_of session.lines) ≡ false
+has_image session shown e = by (image_of session.lines) refl
+  where
+    by : (image : Option (List ℕ)) → image_of session.lines ≡ image → is_none (image_of session.lines) ≡ false
+    by None i = absurd (let r : Some NoImage ≡ None = rw i at e in cc)
+    by (Some bytes) i = rw i refl
+
+-- no line remains after the last ones
+pub none_left : (all : List (List ℕ)) (most : ℕ) (more : Bool) → more ≡ false → IsTrue more ↔ (most < length all) → drop most all ≡ []
+none_left all most more ended answer =
+    elim (cases_lt most (length all)) [
+      | inl lt ↦ absurd (let going : more ≡ true = answer.1 lt in let e : true ≡ false = sym going ∙ ended in cc)
+      | inr le ↦ drop_all most all le
+    ]
+
+-- fewer remain
+pub fewer_left : (all after : List (List ℕ)) (most : ℕ) (more : Bool) → more ≡ true → 0 < most → IsTrue more ↔ (most < length all) → after ≡ drop most all → length after < length all
+fewer_left all after most more going some answer left =
+    let lt : most < length all = answer.0 going in
+    omega (arith, lt, some, ap length left, length-drop most all)
+
+module _ {W : Type 0} (contents : W → Option (List ℕ)) (old now : Tally W) (whole text : List ℕ) (rest : List (List ℕ)) where
+  -- what was written and what remains make the whole
+  pub record Streamed : Type 0 where
+    pub written : List ℕ
+    pub appended : Appends (contents old.inner) (contents now.inner) written
+    pub failures : now.failures ≡ old.failures
+    pub whole_is : whole ≡ written ++ (text ++ newline_ended rest)
+
+module _ {W : Type 0} (contents : W → Option (List ℕ)) where
+  pub stream_starts : (old : Tally W) (header : List ℕ) (rest : List (List ℕ)) → Streamed contents old old (newline_ended (header ∷ rest)) (header ++ 10 ∷ []) rest
+  stream_starts old header rest = record { written = []; appended = appends_none (contents old.inner); failures = refl; whole_is = refl }
+
+  -- some lines were added to the text
+  pub stream_adds : (old now : Tally W) (whole text text_after : List ℕ) (rest after : List (List ℕ)) (most : ℕ) → Streamed contents old now whole text rest
+      → text_after ≡ text ++ newline_ended (take most rest) → after ≡ drop most rest → Streamed contents old now whole text_after after
+  stream_adds old now whole text text_after rest after most s added left = record {
+    written = s.written;
+    appended = s.appended;
+    failures = s.failures;
+    whole_is = s.whole_is ∙ ap (λ l. s.written ++ l) (
+        ap (λ ls. text ++ newline_ended ls) (sym (take-append-drop most rest))
+        ∙ ap (λ l. text ++ l) (flat_map-append (λ (line : List ℕ). line ++ 10 ∷ []) (take most rest) (drop most rest))
+        ∙ sym (append_assoc text (newline_ended (take most rest)) (newline_ended (drop most rest)))
+        ∙ ap (λ l. l ++ newline_ended (drop most rest)) (sym added)
+        ∙ ap (λ ls. text_after ++ newline_ended ls) (sym left));
+  }
+
+  -- the text was written
+  pub stream_writes : (old now next : Tally W) (whole text : List ℕ) (rest : List (List ℕ)) → Streamed contents old now whole text rest
+      → Writes contents now next text → Streamed contents old next whole [] rest
+  stream_writes old now next whole text rest s w = record {
+    written = s.written ++ text;
+    appended = appends_more (contents old.inner) (contents now.inner) (contents next.inner) s.written text s.appended w.appended;
+    failures = w.no_failure ∙ s.failures;
+    whole_is = s.whole_is ∙ sym (append_assoc s.written text (newline_ended rest));
+  }
+
+  -- nothing remains
+  pub stream_ends : (old now : Tally W) (whole : List ℕ) (rest : List (List ℕ)) → Streamed contents old now whole [] rest → rest ≡ [] → Writes contents old now whole
+  stream_ends old now whole rest s none =
+      let all : whole ≡ s.written = s.whole_is ∙ ap (λ ls. s.written ++ newline_ended ls) none ∙ append-nil s.written in
+      rw all (record { appended = s.appended; no_failure = s.failures })
+
+  -- memory ran out
+  pub stream_stops : (old now : Tally W) (whole text : List ℕ) (rest : List (List ℕ)) → Streamed contents old now whole text rest → WritesFront contents old now whole
+  stream_stops old now whole text rest s = record { front = s.written; begins = (text ++ newline_ended rest, s.whole_is); appended = s.appended; no_failure = s.failures }
+
+  -- a write failed
+  pub stream_breaks : (old now next : Tally W) (whole text : List ℕ) (rest : List (List ℕ)) → Streamed contents old now whole text rest
+      → Breaks contents now next text → Breaks contents old next whole
+  stream_breaks old now next whole text rest s b = record {
+    front = s.written ++ b.front;
+    begins = (
+      b.begins.0 ++ newline_ended rest,
+      s.whole_is ∙ ap (λ l. s.written ++ (l ++ newline_ended rest)) b.begins.1
+          ∙ ap (λ l. s.written ++ l) (append_assoc b.front b.begins.0 (newline_ended rest))
+          ∙ sym (append_assoc s.written b.front (b.begins.0 ++ newline_ended rest)),
+    );
+    appended = appends_more (contents old.inner) (contents now.inner) (contents next.inner) s.written b.front s.appended b.appended;
+    counted = b.counted ∙ ap one_more s.failures;
+  }
+
+  -- a print that failed
+  pub stream_fails : (old now next : Tally W) (whole text : List ℕ) (rest : List (List ℕ)) (why : Failure) → Streamed contents old now whole text rest
+      → Prints contents now next (printed text Done) (Err why) → Streams contents old next (printed whole Done) (Err why)
+  stream_fails old now next whole text rest failure.Output s p = stream_breaks old now next whole text rest s p
+  stream_fails old now next whole text rest failure.OutOfMemory s p = rw p (stream_stops old now whole text rest s)
+  stream_fails old now next whole text rest _ s p = absurd p

@@ -1,0 +1,49 @@
+use Rattle.std.proofs.Common.{rules, ◌≡◌, ◌∙◌, ◌++◌, ◌∷◌, [], ap, subst, refl, Err, ℕ, List, arith}
+use Rattle.std.proofs.lemmas.Result.{err_from_is_err_and}
+use Rattle.chip_trace.specs.Columns.{header_line}
+use Rattle.chip_trace.specs.Lines.{trace_lines}
+use Rattle.chip_bench.specs.Printing.{Prints, printed}
+use Rattle.chip_bench.specs.Tracing.{machine_of, trace_of}
+use Rattle.chip_bench.specs.declared.ending.Ending.TheVariants.{Done}
+use Rattle.chip_bench.proofs.TraceLemmas.{fewer_left, none_left, stream_adds, stream_ends, stream_fails, stream_starts, stream_writes}
+use Rattle.chip_bench.proofs.tracing.stream.Goals as goal
+
+pub loop-text-init : goal.loop-text-init
+loop-text-init g c =
+    let shown = c.args.shown.now in
+    let items : c.extend_from_slice.new.self.items ≡ header_line shown.columns ++ 10 ∷ [] = search rules in
+    let lines = c.new-trace.ensures.lines (machine_of c.args.bench.now.session) in
+    record {
+      session = refl;
+      streamed = rw (items, lines) (stream_starts g.O.Write.contents c.args.output.now (header_line shown.columns) (trace_lines shown.columns (machine_of c.args.bench.now.session) shown.from shown.to));
+    }
+
+pub returns-in_err-print : goal.returns-in_err-print
+returns-in_err-print g c =
+    let p = err_from_is_err_and c.from_residual-in_err-print.result c.from_residual-in_err-print.ensures.1 in
+    let lines = rw c.loop-text.invariant.session at c.in_ok-is_more.ensures.lines in
+    let streamed = stream_adds g.O.Write.contents c.args.output.now c.loop-text.output (trace_of c.args.bench.now.session c.args.shown.now) _ _ _ _ 256 c.loop-text.invariant.streamed lines.added lines.left in
+    rw (p.1 ∙ ap (λ e. Err e) p.2) (stream_fails g.O.Write.contents c.args.output.now c.loop-text.output c.print.new.output _ _ _ _ streamed (subst (λ (l : List ℕ). Prints g.O.Write.contents c.loop-text.output c.print.new.output (printed l Done) (Err c.in_err-print.field-0.0)) c.deref.ensures.value c.in_err-print.ensures))
+
+pub returns-then-not-is_more : goal.returns-then-not-is_more
+returns-then-not-is_more g c =
+    let lines = rw c.loop-text.invariant.session at c.in_ok-is_more.ensures.lines in
+    let streamed = stream_adds g.O.Write.contents c.args.output.now c.loop-text.output (trace_of c.args.bench.now.session c.args.shown.now) _ _ _ _ 256 c.loop-text.invariant.streamed lines.added lines.left in
+    let printed = rw c.deref.ensures.value at c.in_ok-print.ensures in
+    let written = stream_writes g.O.Write.contents c.args.output.now c.loop-text.output c.print.new.output _ _ _ streamed printed.1 in
+    (refl, stream_ends g.O.Write.contents c.args.output.now c.print.new.output _ _ written (lines.left ∙ none_left _ 256 _ c.if-not-is_more.true lines.answer))
+
+pub loop-text-smaller : goal.loop-text-smaller
+loop-text-smaller g c =
+    let lines = c.in_ok-is_more.ensures.lines in
+    rw c.in_ok-is_more.ensures.session (fewer_left _ _ 256 _ c.if-not-is_more.false (omega arith) lines.answer lines.left)
+
+pub loop-text-preserved : goal.loop-text-preserved
+loop-text-preserved g c =
+    let lines = rw c.loop-text.invariant.session at c.in_ok-is_more.ensures.lines in
+    let streamed = stream_adds g.O.Write.contents c.args.output.now c.loop-text.output (trace_of c.args.bench.now.session c.args.shown.now) _ _ _ _ 256 c.loop-text.invariant.streamed lines.added lines.left in
+    let printed = rw c.deref.ensures.value at c.in_ok-print.ensures in
+    record {
+      session = c.in_ok-is_more.ensures.session ∙ c.loop-text.invariant.session;
+      streamed = rw c.clear.ensures.items (stream_writes g.O.Write.contents c.args.output.now c.loop-text.output c.print.new.output _ _ _ streamed printed.1);
+    }

@@ -1,0 +1,190 @@
+//! `trace`: the lines of a run, by themselves or beside those of another trace.
+ghost use Rattle.std.specs.Prelude.{◌≡◌, None};
+ghost use Rattle.std.specs.Str.Lines.{lines};
+ghost use Rattle.chip_bench.specs.KeyFile.{key_fault, session_under};
+ghost use Rattle.chip_bench.specs.Printing.{PrintsSuch, PrintsSuchUnder, PrintsSuchUnless, Streams, StreamsUnder, StreamsUnless, printed};
+ghost use Rattle.chip_bench.specs.Tracing.{IsCompared, is_past_last, printed_trace, trace_of, trace_refusal};
+ghost use Rattle.chip_bench.specs.declared.ending.Ending.TheVariants.{Done};
+
+use crate::bench::Bench;
+use crate::counted::Counted;
+use crate::ending::{Ending, Failure};
+use crate::key_file::insert_keys;
+use crate::output::{KeyFile, print, print_why, refuse_source};
+use crate::refusal::Refusal;
+use crate::settings::Settings;
+use chip_replay::LAST_STEP;
+use chip_trace::{Columns, Trace, difference_text};
+use std::alloc::Global;
+use std::io::Write;
+
+// How many lines are written at once.
+const BLOCK_LINES: usize = 256;
+
+/// What a trace shows of a run: its columns, its first step, and the step at which it ends unless
+/// the machine stops before.
+#[derive(Drop)]
+pub(crate) struct Shown {
+    pub(crate) columns: Columns,
+    pub(crate) from: u32,
+    pub(crate) to: u32,
+}
+
+impl Shown {
+    fn is_past_last(&self) -> bool
+        ensures { result ≡ is_past_last self.now }
+    {
+        self.from > LAST_STEP || self.to > LAST_STEP
+    }
+}
+
+/// `trace`: the lines of the run of a source's image, or the faults where there is no image.
+pub(crate) fn trace_source<'a, O: Write>(
+    alloc: Global,
+    source: &[u8],
+    keys: &KeyFile<'a>,
+    shown: &Shown,
+    settings: Settings,
+    output: &mut Counted<O>,
+) -> Result<Ending, Failure<'a>>
+    ensures { StreamsUnder O.contents output.old output.new settings source.now
+        keys.now.bytes.items (λ session. printed_trace session shown.now) result }
+{
+    match Bench::open(alloc, source, settings) {
+        Ok(mut bench) => trace_under(alloc, &mut bench, keys, shown, output),
+        Err(error) => refuse_source(error, output),
+    }
+}
+
+fn trace_under<'a, O: Write>(
+    alloc: Global,
+    bench: &mut Bench,
+    keys: &KeyFile<'a>,
+    shown: &Shown,
+    output: &mut Counted<O>,
+) -> Result<Ending, Failure<'a>>
+    ensures { StreamsUnless O.contents output.old output.new
+        (key_fault bench.old.session keys.now.bytes.items)
+        (printed_trace (session_under bench.old.session keys.now.bytes.items) shown.now) result }
+{
+    match insert_keys(alloc, bench, &keys.bytes) {
+        Ok(()) => print_trace(alloc, bench, shown, output),
+        Err(error) => Err(keys.failure(error)),
+    }
+}
+
+fn print_trace<'a, O: Write>(
+    alloc: Global,
+    bench: &mut Bench,
+    shown: &Shown,
+    output: &mut Counted<O>,
+) -> Result<Ending, Failure<'a>>
+    ensures { Streams O.contents output.old output.new (printed_trace bench.old.session shown.now)
+        result }
+{
+    match refusal_of(bench, shown) {
+        Some(why) => print_why(alloc, bench, why, output),
+        None => stream(alloc, bench, shown, output),
+    }
+}
+
+// Why there is no trace.
+fn refusal_of(bench: &Bench, shown: &Shown) -> Option<Refusal>
+    ensures { result ≡ trace_refusal bench.now.session shown.now }
+{
+    if bench.source().image().is_none() {
+        Some(Refusal::NoImage)
+    } else if shown.is_past_last() {
+        Some(Refusal::StepPastLast)
+    } else {
+        None
+    }
+}
+
+// Writes the trace, some lines at a time.
+fn stream<'a, O: Write>(
+    alloc: Global,
+    bench: &mut Bench,
+    shown: &Shown,
+    output: &mut Counted<O>,
+) -> Result<Ending, Failure<'a>>
+    requires { trace_refusal bench.old.session shown.now ≡ None }
+    ensures { Streams O.contents output.old output.new
+        (printed (trace_of bench.old.session shown.now) Done) result }
+{
+    let mut trace = Trace::new(alloc, &shown.columns, shown.from, shown.to);
+    let mut text = Vec::new(alloc);
+    shown.columns.push_header(&mut text)?;
+    text.extend_from_slice(b"\n")?;
+    loop {
+        let is_more = bench.push_trace(&mut trace, &mut text, BLOCK_LINES)?;
+        print(&text, Ending::Done, output)?;
+        if !is_more {
+            return Ok(Ending::Done);
+        }
+        text.clear();
+    }
+}
+
+/// `trace --against`: where the lines of the run of a source's image and those of another trace,
+/// which follow its header, differ first; or the faults where there is no image.
+pub(crate) fn compare_source<'a, O: Write>(
+    alloc: Global,
+    source: &[u8],
+    keys: &KeyFile<'a>,
+    shown: &Shown,
+    theirs: &[u8],
+    settings: Settings,
+    output: &mut Counted<O>,
+) -> Result<Ending, Failure<'a>>
+    ensures { PrintsSuchUnder O.contents output.old output.new settings source.now
+        keys.now.bytes.items (λ session. IsCompared session shown.now (lines theirs.now)) result }
+{
+    match Bench::open(alloc, source, settings) {
+        Ok(mut bench) => compare_under(alloc, &mut bench, keys, shown, theirs, output),
+        Err(error) => refuse_source(error, output),
+    }
+}
+
+fn compare_under<'a, O: Write>(
+    alloc: Global,
+    bench: &mut Bench,
+    keys: &KeyFile<'a>,
+    shown: &Shown,
+    theirs: &[u8],
+    output: &mut Counted<O>,
+) -> Result<Ending, Failure<'a>>
+    ensures { PrintsSuchUnless O.contents output.old output.new
+        (key_fault bench.old.session keys.now.bytes.items)
+        (IsCompared (session_under bench.old.session keys.now.bytes.items) shown.now
+        (lines theirs.now)) result }
+{
+    match insert_keys(alloc, bench, &keys.bytes) {
+        Ok(()) => print_difference(alloc, bench, shown, theirs, output),
+        Err(error) => Err(keys.failure(error)),
+    }
+}
+
+fn print_difference<'a, O: Write>(
+    alloc: Global,
+    bench: &mut Bench,
+    shown: &Shown,
+    theirs: &[u8],
+    output: &mut Counted<O>,
+) -> Result<Ending, Failure<'a>>
+    ensures { PrintsSuch O.contents output.old output.new
+        (IsCompared bench.old.session shown.now (lines theirs.now)) result }
+{
+    if let Some(why) = refusal_of(bench, shown) {
+        return print_why(alloc, bench, why, output);
+    }
+    let mut trace = Trace::new(alloc, &shown.columns, shown.from, shown.to);
+    match bench.first_difference(alloc, &mut trace, theirs) {
+        Ok(None) => Ok(Ending::Done),
+        Ok(Some(found)) => {
+            let text = difference_text(alloc, &shown.columns, shown.from, &found)?;
+            print(&text, Ending::Faulty, output)
+        }
+        Err(_) => Err(Failure::OutOfMemory),
+    }
+}

@@ -1,0 +1,28 @@
+-- The hexadecimal digit of a number, by arithmetic.
+use Rattle.std.proofs.Common.{◌≡◌, ℕ, zero, suc, ◌+◌, ◌<◌, ◌==◌, ◌&&◌, Bool, true, inl, inr, refl, slice_index, arith}
+use Rattle.std.specs.Prelude.{nat_lt, if◌then◌else◌}
+use Rattle.std.proofs.lemmas.Bool.{and_parts, cases_lt, eqb-true}
+use Rattle.hex.specs.Hex.{lower_digits}
+
+-- the digit of a number, by arithmetic
+abbrev digit_of : ℕ → ℕ
+digit_of n = n + 48 + (if nat_lt 9 n then 39 else 0)
+
+-- whether the first n places of the table have the digits of their places, which computes
+abbrev all_digits : ℕ → Bool
+all_digits zero = true
+all_digits (suc n) = (digit_of n == slice_index lower_digits n) && all_digits n
+
+digits_below : (n k : ℕ) → all_digits n ≡ true → k < n → digit_of k ≡ slice_index lower_digits k
+digits_below zero k h lt = absurd (omega arith)
+digits_below (suc n) k h lt =
+    let parts = and_parts (digit_of n == slice_index lower_digits n) (all_digits n) h in
+    elim (cases_lt k n) [
+      | inl below ↦ digits_below n k parts.1 below
+      | inr top ↦
+          let e : k ≡ n = omega arith in
+          rw e (eqb-true (digit_of n) (slice_index lower_digits n) parts.0)
+    ]
+
+pub hex_digit_is : (n : ℕ) → n < 16 → n + 48 + (if nat_lt 9 n then 39 else 0) ≡ slice_index lower_digits n
+hex_digit_is n lt = digits_below 16 n refl lt

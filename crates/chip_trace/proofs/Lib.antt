@@ -1,0 +1,7 @@
+mod DigitLemmas
+mod Joined
+mod RowBytes
+mod TraceLemmas
+mod Comparing
+mod LinesLemmas
+mod Names

@@ -1,0 +1,14 @@
+use Rattle.std.proofs.Common.{sym, arith, length, eq-eqb, get_or}
+use Rattle.std.proofs.lemmas.List.Sums.{position_or_len_is}
+use Rattle.chip_trace.specs.Header.{is_space}
+use Rattle.chip_trace.proofs.header.name_length.Goals as goal
+
+pub returns-then-byte-eq32-clause-value : goal.returns-then-byte-eq32-clause-value
+returns-then-byte-eq32-clause-value c =
+    sym (position_or_len_is is_space c.args.names.now c.loop-place.place 0 (omega arith) c.loop-place.invariant
+    (λ _. eq-eqb (get_or c.args.names.now c.loop-place.place 0) 32 c.if-byte-eq32.true))
+
+pub returns-clause-value : goal.returns-clause-value
+returns-clause-value c =
+    sym (position_or_len_is is_space c.args.names.now (length c.args.names.now) 0 (omega arith)
+    (λ k h. c.loop-place.invariant k (omega arith)) (λ h. absurd (omega (arith, h))))

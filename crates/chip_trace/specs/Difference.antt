@@ -1,0 +1,44 @@
+-- Where two traces differ first (own).
+use Rattle.std.specs.Prelude.{◌≡◌, ◌≢◌, ℕ, ◌+◌, ◌-◌, ◌<◌, List, ◌++◌, codes, drop, take, length, map, Option, Some, None}
+use Rattle.std.specs.Fmt.{decimal}
+use Rattle.std.specs.List.{slice_get}
+use Rattle.std.specs.Option.{option_map}
+use Rattle.std.specs.Str.{str_to_ascii_lowercase}
+use Rattle.std.specs.Global.{Vec}
+use Rattle.chip_trace.specs.declared.limits.TheConstants.{LINES_BEFORE}
+use Rattle.chip_trace.specs.declared.difference.Difference.{Difference}
+
+-- the line at a place, its letters in lower case, if a line is there
+abbrev pub lower_at : List (List ℕ) → ℕ → Option (List ℕ)
+lower_at lines place = option_map str_to_ascii_lowercase (slice_get lines place)
+
+-- the last `LINES_BEFORE` lines, or all of them where there are fewer
+abbrev pub last_lines : List (List ℕ) → List (List ℕ)
+last_lines lines = drop (length lines - LINES_BEFORE) lines
+
+-- the bytes of a line
+abbrev pub bytes_of : Vec ℕ → List ℕ
+bytes_of line = line.items
+
+-- A difference is the first one between our lines and theirs: at each place before it both have the
+-- same line, letters' case ignored, and at its place they do not. It has the lines that are there,
+-- where one of the two may have none, and our last lines before it.
+pub record IsFirstDifference (ours theirs : List (List ℕ)) (found : Difference) : Type 0 where
+  pub alike_before : (place : ℕ) → place < found.index → lower_at ours place ≡ lower_at theirs place
+  pub differ : lower_at ours found.index ≢ lower_at theirs found.index
+  pub ours_there : option_map bytes_of found.ours ≡ slice_get ours found.index
+  pub theirs_there : option_map bytes_of found.theirs ≡ slice_get theirs found.index
+  pub lines_before : map bytes_of found.before.items ≡ last_lines (take found.index ours)
+
+-- What a comparison finds: nothing where both have the same lines, letters' case ignored, and else
+-- their first difference.
+abbrev pub IsComparison : (ours theirs : List (List ℕ)) → Option Difference → Type 0
+IsComparison ours theirs None =
+    map str_to_ascii_lowercase ours ≡ map str_to_ascii_lowercase theirs
+IsComparison ours theirs (Some found) = IsFirstDifference ours theirs found
+
+-- what is printed of a difference begins with its step
+abbrev pub IsDifferenceText : (from : ℕ) → Difference → (text : List ℕ) → Type 0
+IsDifferenceText from found text =
+    (rest : List ℕ)
+    × (text ≡ codes "differs at step " ++ decimal (from + found.index) ++ rest)

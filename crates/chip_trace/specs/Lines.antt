@@ -1,0 +1,80 @@
+-- The lines of a trace (own).
+use Rattle.std.specs.Prelude.{◌≡◌, ◌↔◌, ◌<◌, IsTrue, ℕ, ◌+◌, ◌-◌, Bool, true, false, List, [], ◌∷◌, ◌++◌, map, take, drop, length, is_some, nat_le, ◌||◌, if◌then◌else◌}
+use Rattle.std.specs.List.{flat_map, range_with_len}
+use Rattle.chip_machine.specs.State.{State}
+use Rattle.chip_machine.specs.Step.{step_of}
+use Rattle.chip_replay.specs.History.{History, state_at}
+use Rattle.chip_replay.specs.Run.{first_below}
+use Rattle.chip_trace.specs.Columns.{header_line}
+use Rattle.chip_trace.specs.Line.{line_of}
+use Rattle.chip_trace.specs.declared.column.Column.{Column}
+
+-- the first step from `from` on, below `to`, at which the machine has stopped, or else `to`, or
+-- `from` where `to` is not above it
+unfoldable pub trace_end : (state : ℕ → State) (from to : ℕ) → ℕ
+trace_end state from to =
+    from + first_below (λ k. is_some (state (from + k)).core.stopped) (to - from)
+
+-- the lines of the steps from `from` on below the end, and the last line, which shows the state at
+-- the end
+unfoldable pub trace_lines : List Column → (state : ℕ → State) (from to : ℕ) → List (List ℕ)
+trace_lines columns state from to =
+    let end = trace_end state from to in
+    map (λ step. line_of columns step (state step) false) (range_with_len from (end - from))
+    ++ line_of columns end (state end) true ∷ []
+
+-- each line with a newline at its end
+abbrev pub newline_ended : List (List ℕ) → List ℕ
+newline_ended lines = flat_map (λ line. line ++ 10 ∷ []) lines
+
+-- a whole trace as text
+abbrev pub trace_text : List Column → (state : ℕ → State) (from to : ℕ) → List ℕ
+trace_text columns state from to =
+    newline_ended (header_line columns ∷ trace_lines columns state from to)
+
+-- the state at each step of a run
+abbrev pub states_of : History State → ℕ → State
+states_of history step = state_at step_of history step
+
+-- A trace of which some lines were taken: those from `next` on remain, or none where it is done.
+pub record Progress : Type 0 where
+  pub columns : List Column
+  pub next : ℕ
+  pub to : ℕ
+  pub is_done : Bool
+
+-- the lines that remain, by the state at each step
+unfoldable pub remaining : (state : ℕ → State) → Progress → List (List ℕ)
+remaining state trace =
+    if trace.is_done then [] else trace_lines trace.columns state trace.next trace.to
+
+-- a run has the same start state, rate, spacing of checkpoints and key events
+pub record SameRun (old new : History State) : Type 0 where
+  pub start : new.start ≡ old.start
+  pub rate : new.rate ≡ old.rate
+  pub spacing : new.spacing ≡ old.spacing
+  pub keys : new.keys ≡ old.keys
+
+-- What taking a line does: with lines left, the first of them is added to the text, and those after
+-- it remain; with none left, nothing changes. The answer is whether a line was added.
+abbrev pub TakesLine : (before : List (List ℕ)) (answer : Bool) (text text_after : List ℕ)
+    (after : List (List ℕ)) → Type 0
+TakesLine [] answer text text_after after =
+    (answer ≡ false) × (text_after ≡ text) × (after ≡ [])
+TakesLine (line ∷ lines) answer text text_after after =
+    (answer ≡ true) × (text_after ≡ text ++ line) × (after ≡ lines)
+
+-- A line that was added to a text is that of a step, and says truly whether it is the last one of a
+-- trace that ends at the step `to`.
+pub record IsLineAt (columns : List Column) (state : ℕ → State) (step to : ℕ) (is_last : Bool)
+    (text text_after : List ℕ) : Type 0 where
+  pub added : text_after ≡ text ++ line_of columns step (state step) is_last
+  pub last : is_last ≡ (nat_le to step || is_some (state step).core.stopped)
+
+-- What taking up to so many lines does: each is added to the text with a newline, those after them
+-- remain, and the answer is whether any do.
+pub record TakesLines (state : ℕ → State) (most : ℕ) (old new : Progress) (text text_after : List ℕ)
+    (more : Bool) : Type 0 where
+  pub added : text_after ≡ text ++ newline_ended (take most (remaining state old))
+  pub left : remaining state new ≡ drop most (remaining state old)
+  pub answer : IsTrue more ↔ (most < length (remaining state old))

@@ -1,0 +1,5 @@
+-- How the models are stored as data (Codes), and how far a comparison has come (Comparing), the names that are left to be read (Naming), and rows as numbers (Rows).
+pub mod Codes
+pub mod Comparing
+pub mod Naming
+pub mod Rows

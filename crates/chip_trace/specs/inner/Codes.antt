@@ -1,0 +1,17 @@
+-- How a trace's progress is stored as data, by which a proof tells two apart (own).
+use Rattle.std.specs.Prelude.{ℕ, Bool, List, refl}
+use Rattle.std.specs.Coded.{Coded, code_by, coded×, coded_ℕ, coded_bool, coded_list}
+use Rattle.chip_trace.specs.Lines.{Progress}
+use Rattle.chip_trace.specs.contracts.column.Column as columns
+use Rattle.chip_trace.specs.declared.column.Column.{Column}
+
+abbrev pub columns_code : Coded (List Column)
+columns_code = coded_list columns.the_row.coded
+
+abbrev pub progress_code : Coded Progress
+progress_code =
+    code_by (List Column × (ℕ × (ℕ × Bool)))
+    (coded× columns_code (coded× coded_ℕ (coded× coded_ℕ coded_bool)))
+    (λ t. (t.columns, (t.next, (t.to, t.is_done))))
+    (λ p. record { columns = p.0; next = p.1.0; to = p.1.1.0; is_done = p.1.1.1 })
+    (λ _. refl)

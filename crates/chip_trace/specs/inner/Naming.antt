@@ -1,0 +1,15 @@
+-- The names of columns that are left to be read (own).
+use Rattle.std.specs.Prelude.{ℕ, ◌+◌, List, [], length, Option, Some, None}
+use Rattle.std.specs.List.{slice_split}
+use Rattle.std.specs.Borrow.{Bor}
+use Rattle.chip_trace.specs.Header.{is_space}
+
+-- the names that are left
+abbrev pub names_left : Option (Bor (List ℕ)) → List (List ℕ)
+names_left None = []
+names_left (Some names) = slice_split is_space names.now
+
+-- how many bytes they have, and one more where there are any
+abbrev pub bytes_left : Option (Bor (List ℕ)) → ℕ
+bytes_left None = 0
+bytes_left (Some names) = length names.now + 1

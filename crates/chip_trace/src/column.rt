@@ -1,0 +1,71 @@
+//! The columns of a trace.
+
+ghost use Rattle.std.specs.Prelude.{◌≡◌};
+ghost use Rattle.chip_trace.specs.Columns.{column_name};
+ghost use Rattle.chip_trace.specs.Header.{is_named};
+
+use chip_lang::Reg;
+
+/// What a column of a trace shows of the state before a step.
+#[derive(Clone, Copy, PartialEq, Eq)]
+pub enum Column {
+    /// The number of the step, in decimal.
+    Step,
+    /// Where the next instruction stands, in four hexadecimal digits.
+    Pc,
+    /// The word there, in four hexadecimal digits.
+    Word,
+    /// A register, in two hexadecimal digits.
+    Register(Reg),
+    /// The register I, in four hexadecimal digits.
+    Index,
+    /// The delay timer, in two hexadecimal digits.
+    Delay,
+    /// The sound timer, in two hexadecimal digits.
+    Sound,
+    /// How many calls are open, in decimal.
+    Depth,
+    /// How many random bytes were drawn, in decimal.
+    Draws,
+    /// The FNV-1a sum of the screen's points, in sixteen hexadecimal digits.
+    Screen,
+    /// The FNV-1a sum of the memory's bytes, in sixteen hexadecimal digits.
+    Memory,
+    /// The source text of the word, or, in the last line, why the machine stopped.
+    Text,
+}
+
+/// The names of the registers' columns, one after another.
+const REGISTER_NAMES: [u8; 32] = *b"v0v1v2v3v4v5v6v7v8v9vavbvcvdvevf";
+
+impl Column {
+    /// The name of the column.
+    pub fn name(self) -> &'static [u8]
+        ensures { result.now ≡ column_name self }
+    {
+        match self {
+            Column::Step => b"step",
+            Column::Pc => b"pc",
+            Column::Word => b"word",
+            Column::Register(register) => {
+                let start = 2 * usize::from(register.number());
+                &REGISTER_NAMES[start..start + 2]
+            }
+            Column::Index => b"i",
+            Column::Delay => b"dt",
+            Column::Sound => b"st",
+            Column::Depth => b"depth",
+            Column::Draws => b"draws",
+            Column::Screen => b"screen",
+            Column::Memory => b"memory",
+            Column::Text => b"text",
+        }
+    }
+
+    /// Whether the column has this name, letters' case ignored.
+    pub(crate) fn is_named(self, name: &[u8]) -> bool
+        ensures { result ≡ is_named name.now self }
+    {
+        name.eq_ignore_ascii_case(self.name())
+    }
+}

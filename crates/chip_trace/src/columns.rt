@@ -1,0 +1,116 @@
+//! The columns that a trace has.
+
+ghost use Rattle.std.specs.Prelude.{◌≡◌, ◌++◌, ◌⊎◌, Some, None, IfOk, IfErr, OnOk};
+ghost use Rattle.std.specs.Str.{str_to_ascii_lowercase};
+ghost use Rattle.chip_trace.specs.Columns.{usual_columns, register_columns, header_line};
+ghost use Rattle.chip_trace.specs.Header.{header_fault};
+
+use crate::column::Column;
+use crate::header::{HeaderError, read_header};
+use chip_lang::Reg;
+use std::alloc::{AllocError, Global};
+use std::marker::Model;
+
+/// The columns of a trace, in their order.
+#[derive(Drop)]
+pub struct Columns {
+    columns: Vec<Column>,
+}
+
+impl Model for Columns {
+    ghost use Rattle.std.specs.Prelude.{List};
+    ghost use Rattle.chip_trace.specs.declared.column.Column.{Column};
+    ghost use Rattle.chip_trace.specs.inner.Codes.{columns_code};
+
+    ghost Value = { List Column };
+
+    ghost coded = { columns_code };
+
+    ghost view = { λ c. c.columns.items };
+}
+
+impl Columns {
+    /// The columns of a trace for which none are asked: all of them, but those of the sums only if
+    /// `sums` says so.
+    ///
+    /// # Errors
+    ///
+    /// Out of memory.
+    pub fn usual(alloc: Global, sums: bool) -> Result<Columns, AllocError>
+        ensures { IfOk result (λ columns. columns ≡ usual_columns sums) }
+    {
+        let mut columns = Vec::from_slice(alloc, &[Column::Step, Column::Pc, Column::Word])?;
+        push_registers(&mut columns)?;
+        columns.extend_from_slice(&[
+            Column::Index,
+            Column::Delay,
+            Column::Sound,
+            Column::Depth,
+            Column::Draws,
+        ])?;
+        if sums {
+            columns.extend_from_slice(&[Column::Screen, Column::Memory])?;
+        }
+        columns.push(Column::Text)?;
+        Ok(Columns { columns })
+    }
+
+    /// The columns that a line names: a `#`, and the names with a space before each, where letters'
+    /// case is ignored.
+    ///
+    /// # Errors
+    ///
+    /// The line does not begin with `# `; a name is no column's; `text` is not the last one. Where
+    /// memory runs out, that error may come in the place of another.
+    pub fn read_header(alloc: Global, line: &[u8]) -> Result<Columns, HeaderError>
+        ensures named { IfOk result (λ columns.
+            header_line columns ≡ str_to_ascii_lowercase line.now) }
+        ensures no_fault { IfOk result (λ _. header_fault line.now ≡ None) }
+        ensures fault { IfErr result (λ why.
+            (why ≡ HeaderError.OutOfMemory) ⊎ (header_fault line.now ≡ Some why)) }
+    {
+        match read_header(alloc, line) {
+            Ok(columns) => Ok(Columns { columns }),
+            Err(why) => Err(why),
+        }
+    }
+
+    /// The columns, in their order.
+    pub fn as_slice(&self) -> &[Column]
+        ensures { result.now ≡ self.now }
+    {
+        &self.columns
+    }
+
+    /// Adds the line that names the columns, without a newline.
+    ///
+    /// # Errors
+    ///
+    /// Out of memory; a part of the line may be added then.
+    pub fn push_header(&self, text: &mut Vec<u8>) -> Result<(), AllocError>
+        ensures { OnOk result (text.new.items ≡ text.old.items ++ header_line self.now) }
+    {
+        text.extend_from_slice(b"# ")?;
+        let Some((first, others)) = self.columns.split_first() else {
+            return Ok(());
+        };
+        text.extend_from_slice(first.name())?;
+        for column in others {
+            text.push(b' ')?;
+            text.extend_from_slice(column.name())?;
+        }
+        Ok(())
+    }
+}
+
+/// Adds V0 to VF.
+fn push_registers(columns: &mut Vec<Column>) -> Result<(), AllocError>
+    ensures { OnOk result (columns.new.items ≡ columns.old.items ++ register_columns) }
+{
+    for number in 0..16 {
+        if let Some(register) = Reg::new(number) {
+            columns.push(Column::Register(register))?;
+        }
+    }
+    Ok(())
+}

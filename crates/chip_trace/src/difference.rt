@@ -1,0 +1,112 @@
+//! Where a trace differs from another one first.
+
+ghost use Rattle.std.specs.Prelude.{◌≡◌, ◌+◌, ◌<◌, ◌≤◌, ◌++◌, ◌∷◌, length, map, IfOk, OnOk, vec_len};
+ghost use Rattle.std.specs.Str.Lines.{lines};
+ghost use Rattle.chip_trace.specs.Lines.{states_of, remaining, SameRun};
+ghost use Rattle.chip_trace.specs.Difference.{bytes_of, IsComparison};
+ghost use Rattle.chip_trace.specs.inner.Comparing.{with_line};
+
+use crate::limits::LINES_BEFORE;
+use crate::trace::Trace;
+use chip_files::first_line;
+use chip_machine::Machine;
+use chip_replay::{AtError, Replay};
+use std::alloc::{AllocError, Global};
+
+/// The first place at which two traces differ.
+#[derive(Drop)]
+pub struct Difference {
+    /// How many lines stand before it.
+    pub index: usize,
+    /// Our line there, if there is one.
+    pub ours: Option<Vec<u8>>,
+    /// Their line there, if there is one.
+    pub theirs: Option<Vec<u8>>,
+    /// Our last lines before it, five at most.
+    pub before: Vec<Vec<u8>>,
+}
+
+/// The first difference between the lines of a trace that remain and those of another trace, which
+/// follow its header. Letters' case is ignored. A line ends with a newline, which the last may
+/// lack, and a carriage return before the newline is no part of it.
+///
+/// # Errors
+///
+/// A step is above the last one that a replay answers; memory ran out.
+pub fn first_difference(
+    alloc: Global,
+    replay: &mut Replay<Machine>,
+    trace: &mut Trace<'_>,
+    theirs: &[u8],
+) -> Result<Option<Difference>, AtError>
+    ensures found { IfOk result (λ found.
+        IsComparison (remaining (states_of replay.old) trace.old) (lines theirs.now) found) }
+    ensures run { SameRun replay.old replay.new }
+{
+    let mut left = theirs;
+    let mut index = 0;
+    let mut before = Vec::new(alloc);
+    let mut ours = Vec::new(alloc);
+    while !left.is_empty() {
+        let (line, after) = first_line(left);
+        ours.clear();
+        let has_line = trace.next_line(replay, &mut ours)?;
+        if !has_line {
+            let theirs = Some(copied(alloc, line)?);
+            return Ok(Some(Difference {
+                index,
+                ours: None,
+                theirs,
+                before,
+            }));
+        }
+        let is_alike = ours.eq_ignore_ascii_case(line);
+        if !is_alike {
+            let theirs = Some(copied(alloc, line)?);
+            return Ok(Some(Difference {
+                index,
+                ours: Some(ours),
+                theirs,
+                before,
+            }));
+        }
+        ours = keep(alloc, &mut before, ours)?;
+        index += 1;
+        left = after;
+    }
+    ours.clear();
+    let is_longer = trace.next_line(replay, &mut ours)?;
+    if !is_longer {
+        return Ok(None);
+    }
+    Ok(Some(Difference {
+        index,
+        ours: Some(ours),
+        theirs: None,
+        before,
+    }))
+}
+
+/// The same bytes.
+fn copied(alloc: Global, line: &[u8]) -> Result<Vec<u8>, AtError>
+    ensures { IfOk result (λ copy. copy.items ≡ line.now) }
+{
+    Vec::from_slice(alloc, line).map_err(|_| AtError::OutOfMemory)
+}
+
+/// Keeps a line as the last one, and gives an empty one that has the room of an earlier one.
+fn keep(alloc: Global, kept: &mut Vec<Vec<u8>>, line: Vec<u8>) -> Result<Vec<u8>, AtError>
+    ensures { OnOk result (map bytes_of kept.new.items
+        ≡ with_line (map bytes_of kept.old.items) line.items) }
+{
+    let mut room = if kept.len() == LINES_BEFORE {
+        kept.remove(0)
+    } else {
+        Vec::new(alloc)
+    };
+    room.clear();
+    match kept.push(line) {
+        Ok(()) => Ok(room),
+        Err(_) => Err(AtError::OutOfMemory),
+    }
+}

@@ -1,0 +1,74 @@
+//! Numbers as digits.
+
+ghost use Rattle.std.specs.Prelude.{◌≡◌, ◌<◌, ◌++◌, slice_index, OnOk};
+ghost use Rattle.std.specs.Fmt.{decimal};
+ghost use Rattle.hex.specs.Hex.{lower_digits};
+ghost use Rattle.chip_trace.specs.Digits.{hex_byte, hex_word, hex_sum};
+
+use itoa::Buffer;
+use std::alloc::AllocError;
+
+/// The hexadecimal digit of a number below 16.
+#[inline(always)]
+#[tactic(auto, using(crate::proofs::DigitLemmas::hex_digit_is))]
+fn hex_digit(value: u8) -> u8
+    requires { value < 16 }
+    ensures { result ≡ slice_index lower_digits value }
+{
+    value + b'0' + if value > 9 { 39 } else { 0 }
+}
+
+/// A byte in two hexadecimal digits.
+#[inline(always)]
+fn byte_digits(byte: u8) -> [u8; 2]
+    ensures { result ≡ hex_byte byte }
+{
+    [hex_digit(byte / 16), hex_digit(byte % 16)]
+}
+
+/// A number of 16 bits in four hexadecimal digits.
+#[inline(always)]
+fn word_digits(word: u16) -> [u8; 4]
+    ensures { result ≡ hex_word word }
+{
+    let high = (word / 256) as u8;
+    let low = (word % 256) as u8;
+    [
+        hex_digit(high / 16),
+        hex_digit(high % 16),
+        hex_digit(low / 16),
+        hex_digit(low % 16),
+    ]
+}
+
+/// Adds a byte in two hexadecimal digits.
+pub(crate) fn push_byte(text: &mut Vec<u8>, byte: u8) -> Result<(), AllocError>
+    ensures { OnOk result (text.new.items ≡ text.old.items ++ hex_byte byte) }
+{
+    text.extend_from_slice(&byte_digits(byte))
+}
+
+/// Adds a number of 16 bits in four hexadecimal digits.
+pub(crate) fn push_word(text: &mut Vec<u8>, word: u16) -> Result<(), AllocError>
+    ensures { OnOk result (text.new.items ≡ text.old.items ++ hex_word word) }
+{
+    text.extend_from_slice(&word_digits(word))
+}
+
+/// Adds a number of 64 bits in sixteen hexadecimal digits.
+pub(crate) fn push_sum(text: &mut Vec<u8>, sum: u64) -> Result<(), AllocError>
+    ensures { OnOk result (text.new.items ≡ text.old.items ++ hex_sum sum) }
+{
+    push_word(text, (sum / 0x1_0000_0000_0000) as u16)?;
+    push_word(text, (sum / 0x1_0000_0000 % 0x1_0000) as u16)?;
+    push_word(text, (sum / 0x1_0000 % 0x1_0000) as u16)?;
+    push_word(text, (sum % 0x1_0000) as u16)
+}
+
+/// Adds a number in decimal.
+pub(crate) fn push_decimal(text: &mut Vec<u8>, number: u64) -> Result<(), AllocError>
+    ensures { OnOk result (text.new.items ≡ text.old.items ++ decimal number) }
+{
+    let mut digits = Buffer::new();
+    text.extend_from_slice(digits.format(number).as_bytes())
+}

@@ -1,0 +1,146 @@
+//! The line that names the columns of a trace, read.
+
+ghost use Rattle.std.specs.Prelude.{◌≡◌, ◌<◌, ◌≤◌, ◌∷◌, ◌⊎◌, ◌-◌, Some, None, IfOk, IfErr, length, take};
+ghost use Rattle.std.specs.List.{find, list_any, position_or_len, slice_split};
+ghost use Rattle.std.specs.Str.{str_to_ascii_lowercase};
+ghost use Rattle.chip_trace.specs.Columns.{header_line, register_columns};
+ghost use Rattle.chip_trace.specs.Header.{is_named, column_of, is_space, header_fault, is_text, other_columns};
+ghost use Rattle.chip_trace.specs.inner.Naming.{names_left, bytes_left};
+
+use crate::column::Column;
+use chip_lang::Reg;
+use std::alloc::Global;
+use thiserror::Error;
+
+/// Why a line does not name the columns of a trace.
+#[derive(Clone, Copy, Debug, PartialEq, Eq, Error)]
+pub enum HeaderError {
+    /// The line does not begin with a `#` and a space.
+    #[error("the first line does not begin with `# `")]
+    NotAHeader,
+    /// No column has one of the names.
+    #[error("a column has an unknown name")]
+    UnknownColumn,
+    /// `text` stands before another column.
+    #[error("the column `text` is not the last one")]
+    TextNotLast,
+    /// Memory ran out.
+    #[error("out of memory")]
+    OutOfMemory,
+}
+
+/// The columns that show no register.
+const OTHERS: [Column; 11] = [
+    Column::Step,
+    Column::Pc,
+    Column::Word,
+    Column::Index,
+    Column::Delay,
+    Column::Sound,
+    Column::Depth,
+    Column::Draws,
+    Column::Screen,
+    Column::Memory,
+    Column::Text,
+];
+
+/// The columns that a line names, in their order.
+pub(crate) fn read_header(alloc: Global, line: &[u8]) -> Result<Vec<Column>, HeaderError>
+    ensures named { IfOk result (λ columns.
+        header_line columns.items ≡ str_to_ascii_lowercase line.now) }
+    ensures no_fault { IfOk result (λ _. header_fault line.now ≡ None) }
+    ensures fault { IfErr result (λ why.
+        (why ≡ HeaderError.OutOfMemory) ⊎ (header_fault line.now ≡ Some why)) }
+{
+    let is_header = line.starts_with(b"# ");
+    if !is_header {
+        return Err(HeaderError::NotAHeader);
+    }
+    let mut columns = Vec::new(alloc);
+    let mut left = Some(&line[2..]);
+    while let Some(names) = left {
+        let (name, others) = first_name(names);
+        let Some(column) = column_of(name) else {
+            return Err(HeaderError::UnknownColumn);
+        };
+        if columns.push(column).is_err() {
+            return Err(HeaderError::OutOfMemory);
+        }
+        left = others;
+    }
+    if has_early_text(&columns) {
+        return Err(HeaderError::TextNotLast);
+    }
+    Ok(columns)
+}
+
+/// Whether `Text` stands before the last of the columns.
+fn has_early_text(columns: &[Column]) -> bool
+    ensures { result ≡ list_any (λ column. is_text (Some column))
+        (take (length columns.now - 1) columns.now) }
+{
+    let early = columns.len().saturating_sub(1);
+    columns[..early].iter().any(|column| is_text(*column))
+}
+
+fn is_text(column: Column) -> bool
+    ensures { result ≡ is_text (Some column) }
+{
+    matches!(column, Column::Text)
+}
+
+/// The first of some names, and those after the space behind it, if one is there.
+fn first_name(names: &[u8]) -> (&[u8], Option<&[u8]>)
+    ensures names { slice_split is_space names.now ≡ result.0.now ∷ names_left result.1 }
+    ensures shorter { bytes_left result.1 ≤ length names.now }
+{
+    let end = name_length(names);
+    if end < names.len() {
+        (&names[..end], Some(&names[end + 1..]))
+    } else {
+        (names, None)
+    }
+}
+
+/// How many bytes stand before the first space, or how many there are.
+fn name_length(names: &[u8]) -> usize
+    ensures value { result ≡ position_or_len is_space names.now }
+    ensures within { result ≤ length names.now }
+{
+    for (place, byte) in names.iter().enumerate() {
+        if *byte == b' ' {
+            return place;
+        }
+    }
+    names.len()
+}
+
+/// The column of a name, its letters' case ignored.
+fn column_of(name: &[u8]) -> Option<Column>
+    ensures { result ≡ column_of name.now }
+{
+    match other_of(name) {
+        Some(column) => Some(column),
+        None => register_of(name),
+    }
+}
+
+/// The column of a name that shows no register, the name's letters' case ignored.
+fn other_of(name: &[u8]) -> Option<Column>
+    ensures { result ≡ find (is_named name.now) other_columns }
+{
+    OTHERS.iter().copied().find(|column| column.is_named(name))
+}
+
+/// The column of a register's name, its letters' case ignored.
+fn register_of(name: &[u8]) -> Option<Column>
+    ensures { result ≡ find (is_named name.now) register_columns }
+{
+    for number in 0..16 {
+        let column = Column::Register(Reg::new(number)?);
+        if column.is_named(name) {
+            return Some(column);
+        }
+    }
+    None
+}

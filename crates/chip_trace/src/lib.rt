@@ -1,0 +1,20 @@
+//! The trace of a run: a line for each step, and its comparison with the trace of another emulator.
+#![tactic(auto)]
+
+mod column;
+mod columns;
+mod difference;
+mod digits;
+mod header;
+mod limits;
+mod line;
+mod report;
+mod sums;
+mod trace;
+
+pub use column::Column;
+pub use columns::Columns;
+pub use difference::{Difference, first_difference};
+pub use header::HeaderError;
+pub use report::difference_text;
+pub use trace::Trace;

@@ -1,0 +1,99 @@
+//! A difference of two traces, as text.
+
+ghost use Rattle.std.specs.Prelude.{IfOk};
+ghost use Rattle.chip_trace.specs.Difference.{IsDifferenceText};
+
+use crate::column::Column;
+use crate::columns::Columns;
+use crate::difference::Difference;
+use itoa::Buffer;
+use std::alloc::{AllocError, Global};
+
+/// What is printed of a difference of traces that begin at the step `from`: its step and the
+/// columns that differ, our lines before it, our line there after `< `, and theirs after `> `.
+///
+/// # Errors
+///
+/// Out of memory.
+pub fn difference_text(
+    alloc: Global,
+    columns: &Columns,
+    from: u32,
+    found: &Difference,
+) -> Result<Vec<u8>, AllocError>
+    ensures { IfOk result (λ text. IsDifferenceText from found.now text.items) }
+{
+    let mut details = Vec::new(alloc);
+    push_changes(&mut details, columns.as_slice(), found)?;
+    push_lines(&mut details, found)?;
+    let step = u128::from(from) + found.index as u128;
+    let mut digits = Buffer::new();
+    let mut text = Vec::from_slice(alloc, b"differs at step ")?;
+    text.extend_from_slice(digits.format(step).as_bytes())?;
+    text.extend_from_slice(&details)?;
+    Ok(text)
+}
+
+/// Adds which columns differ, or that one of the traces has no line there.
+fn push_changes(
+    text: &mut Vec<u8>,
+    columns: &[Column],
+    found: &Difference,
+) -> Result<(), AllocError> {
+    text.push(b':')?;
+    match (&found.ours, &found.theirs) {
+        (Some(ours), Some(theirs)) => push_changed_names(text, columns, ours, theirs)?,
+        (None, _) => text.extend_from_slice(b" no line")?,
+        (Some(_), None) => text.extend_from_slice(b" one line more")?,
+    }
+    text.push(b'\n')?;
+    Ok(())
+}
+
+/// Adds the names of the columns whose fields differ. The last field takes the rest of its line.
+fn push_changed_names(
+    text: &mut Vec<u8>,
+    columns: &[Column],
+    ours: &[u8],
+    theirs: &[u8],
+) -> Result<(), AllocError> {
+    let mut our_fields = ours.splitn(columns.len(), |byte| *byte == b' ');
+    let mut their_fields = theirs.splitn(columns.len(), |byte| *byte == b' ');
+    for column in columns {
+        if !is_same_field(our_fields.next(), their_fields.next()) {
+            text.push(b' ')?;
+            text.extend_from_slice(column.name())?;
+        }
+    }
+    Ok(())
+}
+
+fn is_same_field(ours: Option<&[u8]>, theirs: Option<&[u8]>) -> bool {
+    match (ours, theirs) {
+        (Some(ours), Some(theirs)) => ours.eq_ignore_ascii_case(theirs),
+        (None, None) => true,
+        (Some(_), None) | (None, Some(_)) => false,
+    }
+}
+
+/// Adds our lines before a difference, and both lines there.
+fn push_lines(text: &mut Vec<u8>, found: &Difference) -> Result<(), AllocError> {
+    for line in &found.before {
+        push_marked(text, b"  ", line)?;
+    }
+    if let Some(line) = &found.ours {
+        push_marked(text, b"< ", line)?;
+    }
+    if let Some(line) = &found.theirs {
+        push_marked(text, b"> ", line)?;
+    }
+    Ok(())
+}
+
+/// Adds a line after a mark.
+fn push_marked(text: &mut Vec<u8>, mark: &[u8], line: &[u8]) -> Result<(), AllocError> {
+    text.extend_from_slice(mark)?;
+    text.extend_from_slice(line)?;
+    text.push(b'\n')?;
+    Ok(())
+}

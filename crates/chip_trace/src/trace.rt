@@ -1,0 +1,151 @@
+//! The lines of a trace, one after another.
+
+ghost use Rattle.std.specs.Prelude.{◌≡◌, ◌<◌, ◌++◌, ◌↔◌, ℕ, false, IfOk, OnErr, Err};
+ghost use Rattle.chip_machine.specs.State.{State};
+ghost use Rattle.chip_trace.specs.Lines.{states_of, remaining, trace_lines, SameRun, TakesLine, TakesLines, IsLineAt};
+
+use crate::column::Column;
+use crate::columns::Columns;
+use crate::line::{Workspace, push_line};
+use chip_machine::Machine;
+use chip_replay::{AtError, LAST_STEP, Replay};
+use std::alloc::Global;
+use std::marker::Model;
+
+/// The lines of a trace that remain to be taken.
+#[derive(Drop)]
+pub struct Trace<'a> {
+    columns: &'a Columns,
+    next: u32,
+    to: u32,
+    is_done: bool,
+    workspace: Workspace,
+}
+
+impl<'a> Model for Trace<'a> {
+    ghost use Rattle.chip_trace.specs.Lines.{Progress};
+    ghost use Rattle.chip_trace.specs.inner.Codes.{progress_code};
+
+    ghost Value = { Progress };
+
+    ghost coded = { progress_code };
+
+    ghost view = { λ t. record {
+      columns = t.columns.now;
+      next = t.next;
+      to = t.to;
+      is_done = t.is_done;
+    } };
+}
+
+impl<'a> Trace<'a> {
+    /// The trace of a run from a step on: it ends at the step `to`, or where the machine stopped.
+    /// Each call takes the replay of the run.
+    pub fn new(alloc: Global, columns: &'a Columns, from: u32, to: u32) -> Trace<'a>
+        ensures value { result ≡ record {
+          columns = columns.now;
+          next = from;
+          to = to;
+          is_done = false;
+        } }
+        ensures lines { (state : ℕ → State)
+            → remaining state result ≡ trace_lines columns.now state from to }
+    {
+        Trace {
+            columns,
+            next: from,
+            to,
+            is_done: false,
+            workspace: Workspace::new(alloc),
+        }
+    }
+
+    /// Adds the next line, without a newline, and says whether there was one.
+    ///
+    /// # Errors
+    ///
+    /// The next step is above the last one that a replay answers; memory ran out, where a part of
+    /// the line may be added. What remains is then as before.
+    pub fn next_line(
+        &mut self,
+        replay: &mut Replay<Machine>,
+        text: &mut Vec<u8>,
+    ) -> Result<bool, AtError>
+        ensures line { IfOk result (λ answer. TakesLine (remaining (states_of replay.old) self.old)
+            answer text.old.items text.new.items (remaining (states_of replay.old) self.new)) }
+        ensures step_too_large { (result ≡ Err AtError.StepTooLarge)
+            ↔ ((self.old.is_done ≡ false) × (LAST_STEP < self.old.next)) }
+        ensures run { SameRun replay.old replay.new }
+        ensures err { OnErr result (self.new ≡ self.old) }
+    {
+        if self.is_done {
+            return Ok(false);
+        }
+        let is_last = push_line_at(
+            replay,
+            &mut self.workspace,
+            self.columns.as_slice(),
+            self.next,
+            self.to,
+            text,
+        )?;
+        self.is_done = is_last;
+        if !is_last {
+            self.next += 1;
+        }
+        Ok(true)
+    }
+
+    /// Adds up to `most` of the next lines, each with a newline, and says whether more remain.
+    ///
+    /// # Errors
+    ///
+    /// As `next_line`: lines before the one that failed may be added then.
+    pub fn push_lines(
+        &mut self,
+        replay: &mut Replay<Machine>,
+        text: &mut Vec<u8>,
+        most: usize,
+    ) -> Result<bool, AtError>
+        ensures lines { IfOk result (TakesLines (states_of replay.old) most self.old self.new
+            text.old.items text.new.items) }
+        ensures run { SameRun replay.old replay.new }
+    {
+        for _made in 0..most {
+            let has_line = self.next_line(replay, text)?;
+            if !has_line {
+                return Ok(false);
+            }
+            if text.push(b'\n').is_err() {
+                return Err(AtError::OutOfMemory);
+            }
+        }
+        Ok(!self.is_done)
+    }
+}
+
+/// Adds the line of a step of a trace that ends at the step `to`, and says whether it is the last.
+fn push_line_at(
+    replay: &mut Replay<Machine>,
+    workspace: &mut Workspace,
+    columns: &[Column],
+    step: u32,
+    to: u32,
+    text: &mut Vec<u8>,
+) -> Result<bool, AtError>
+    ensures line { IfOk result (λ is_last. IsLineAt columns.now (states_of replay.old)
+        step to is_last text.old.items text.new.items) }
+    ensures step_too_large { (result ≡ Err AtError.StepTooLarge) ↔ (LAST_STEP < step) }
+    ensures run { SameRun replay.old replay.new }
+{
+    match replay.at(step) {
+        Ok(machine) => {
+            let is_last = step >= to || machine.stopped().is_some();
+            match push_line(text, workspace, columns, machine, step, is_last) {
+                Ok(()) => Ok(is_last),
+                Err(_) => Err(AtError::OutOfMemory),
+            }
+        }
+        Err(error) => Err(error),
+    }
+}
