@@ -10,7 +10,7 @@ use Rattle.chip_views.specs.Dis.{source_of_image}
 use Rattle.chip_bench.specs.Doing.{Assembles, AssemblesBy, Checks, Debugs, Declined, Disassembles, DisassemblesBytes, Does, Explains, FromKeys, FromSource, GivesSource, IfSettled, IsFileWritten, IsShort, IsSourceUnread, IsUnsettled, Lists, Outcome, Pictures, PicturesBy, PrintsPicture, Runs, Traces, TracesBy, WithAsked, image_in}
 use Rattle.chip_bench.specs.inner.Reads.{IsAsked, IsImageHindered, IsImageOrFaults, IsKeysUnread, IsUnasked}
 use Rattle.chip_pages.specs.Pages.{IsPageText}
-use Rattle.chip_bench.specs.Printing.{Prints, PrintsUnder, printed_check, printed_listing, printed_picture, printed, printed_of, printed_run}
+use Rattle.chip_bench.specs.Printing.{IsPrintedCheck, IsPrintedOf, Prints, PrintsSuch, PrintsUnder, printed_listing, printed_picture, printed, printed_of, printed_run}
 use Rattle.chip_arguments.specs.declared.command_line.PictureWords.{PictureWords}
 use Rattle.chip_bench.specs.declared.question.PictureForm.{PictureForm}
 use Rattle.chip_bench.specs.Running.{AnswersScript, IsUnread}
@@ -228,7 +228,7 @@ module _ {R W : Type 0} (remaining : R → Option (List ℕ)) (contents : W → 
       Checks remaining contents in_old in_new output output source ended
   checks_not source ended why e w =
       source_unread remaining in_old in_new (output ≡ output) refl source
-      (λ bytes. Prints contents output output (printed_of (open_fault bytes) (printed_check source.now (lines_of bytes)))) ended why e w
+      (λ bytes. PrintsSuch contents output output (IsPrintedOf (open_fault bytes) (IsPrintedCheck source.now (lines_of bytes)))) ended why e w
 
   pub disassembles_not : (image : Bor (List ℕ)) (ended : Outcome) (why : Failure) → ended ≡ Err why → IsSourceUnread image why →
       Disassembles remaining contents in_old in_new output output image ended
@@ -263,10 +263,10 @@ module _ {R W : Type 0} (remaining : R → Option (List ℕ)) (contents : W → 
       inl (bytes, gives, subst (λ (t : List ℕ). Prints contents old new (printed_of (open_fault t) (printed_listing (lines_of t))) ended) same did)
 
   pub checks : (source : Bor (List ℕ)) (bytes text : List ℕ) (ended : Outcome) → text ≡ bytes → GivesSource remaining in_old in_new source.now bytes →
-      Prints contents old new (printed_of (open_fault text) (printed_check source.now (lines_of text))) ended →
+      PrintsSuch contents old new (IsPrintedOf (open_fault text) (IsPrintedCheck source.now (lines_of text))) ended →
       Checks remaining contents in_old in_new old new source ended
   checks source bytes text ended same gives did =
-      inl (bytes, gives, subst (λ (t : List ℕ). Prints contents old new (printed_of (open_fault t) (printed_check source.now (lines_of t))) ended) same did)
+      inl (bytes, gives, subst (λ (t : List ℕ). PrintsSuch contents old new (IsPrintedOf (open_fault t) (IsPrintedCheck source.now (lines_of t))) ended) same did)
 
   pub disassembles : (image : Bor (List ℕ)) (bytes text : List ℕ) (ended : Outcome) → text ≡ bytes → length bytes ≤ IMAGE_BYTES →
       GivesSource remaining in_old in_new image.now bytes → Prints contents old new (printed (source_of_image text) Done) ended →

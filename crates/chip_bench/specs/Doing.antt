@@ -35,7 +35,7 @@ use Rattle.chip_bench.specs.Tracing.{IsCompared, header_of, lines_after, printed
 use Rattle.chip_bench.specs.declared.tracing.Shown.{Shown}
 use Rattle.chip_pages.specs.Pages.{IsContents, IsPageText}
 use Rattle.chip_arguments.specs.Version.{version_text}
-use Rattle.chip_bench.specs.Printing.{Printed, PrintsSuchUnder, PrintsUnder, Prints, RefusesKeys, StreamsUnder, printed_check, fault_under, printed_faults, printed_listing, printed_picture, printed, printed_of, printed_run}
+use Rattle.chip_bench.specs.Printing.{IsPrintedCheck, IsPrintedOf, Printed, PrintsSuch, PrintsSuchUnder, PrintsUnder, Prints, RefusesKeys, StreamsUnder, fault_under, printed_faults, printed_listing, printed_picture, printed, printed_of, printed_run}
 use Rattle.chip_bench.specs.Running.{AnswersIfAsked, AnswersScript, IsUnread, source_bytes_read, status_of}
 use Rattle.chip_bench.specs.SettingWords.{settings_asked}
 use Rattle.chip_bench.specs.Settings.{SessionSettings}
@@ -270,8 +270,8 @@ module _ {R W : Type 0} (remaining : R → Option (List ℕ)) (contents : W → 
   abbrev pub Checks : Bor (List ℕ) → Outcome → Type 0
   Checks source ended =
       FromSource remaining in_old in_new (out_new ≡ out_old) source (λ bytes.
-      Prints contents out_old out_new
-      (printed_of (open_fault bytes) (printed_check source.now (lines_of bytes)))) ended
+      PrintsSuch contents out_old out_new
+      (IsPrintedOf (open_fault bytes) (IsPrintedCheck source.now (lines_of bytes)))) ended
 
   abbrev pub Disassembles : Bor (List ℕ) → Outcome → Type 0
   Disassembles image ended =

@@ -6,7 +6,7 @@ use Rattle.chip_asm.specs.Program.{image_of, faults_of}
 use Rattle.chip_asm.specs.Listing.{listing_of}
 use Rattle.chip_asm.specs.declared.refusal.OpenError.{OpenError}
 use Rattle.chip_asm.specs.declared.refusal.OpenError.TheVariants as unopened
-use Rattle.chip_views.specs.Check.{check_of}
+use Rattle.chip_check.specs.Check.{IsCheck}
 use Rattle.chip_bench.specs.Answers.{answer_to, faults_text, listing_text}
 use Rattle.std.specs.Borrow.{Bor}
 use Rattle.chip_bench.specs.KeyFile.{key_fault, session_under}
@@ -64,9 +64,10 @@ ending_with None = Faulty
 abbrev pub printed_listing : List (List ℕ) → Printed
 printed_listing lines = printed (listing_text (listing_of lines)) (ending_with (image_of lines))
 
--- `check`
-abbrev pub printed_check : List ℕ → List (List ℕ) → Printed
-printed_check name lines = printed (check_of name lines) (ending_with (image_of lines))
+-- `check`: the reports of the faults, with lines of help among them
+pub record IsPrintedCheck (name : List ℕ) (lines : List (List ℕ)) (wanted : Printed) : Type 0 where
+  pub text : IsCheck name lines wanted.text
+  pub ending : wanted.ending ≡ ending_with (image_of lines)
 
 -- a question that isn't answered: the faults where there is no image, else the refusal's code
 abbrev pub unanswered : Refusal → Printed → Printed

@@ -4,7 +4,7 @@ ghost use Rattle.chip_asm.specs.Lines.{lines_of, open_fault};
 ghost use Rattle.chip_asm.specs.Program.{image_of};
 ghost use Rattle.chip_views.specs.Dis.{source_of_image};
 ghost use Rattle.chip_bench.specs.Transcript.{refused};
-ghost use Rattle.chip_bench.specs.Printing.{Prints, Refuses, printed, printed_of, printed_check, printed_faults, printed_listing, printed_run, printed_picture, unanswered, keys_failure, PrintsUnder, PrintsUnless};
+ghost use Rattle.chip_bench.specs.Printing.{IsPrintedCheck, IsPrintedOf, Prints, PrintsSuch, Refuses, printed, printed_of, printed_faults, printed_listing, printed_run, printed_picture, unanswered, keys_failure, PrintsUnder, PrintsUnless};
 ghost use Rattle.chip_bench.specs.KeyFile.{key_fault, session_under};
 ghost use Rattle.chip_bench.specs.Running.{AnswersScript};
 ghost use Rattle.chip_bench.specs.Doing.{Explains};
@@ -22,9 +22,10 @@ use crate::server::{ServeError, refuse, serve, write_whole};
 use crate::settings::Settings;
 use chip_arguments::VERSION;
 use chip_asm::{OpenError, Source};
+use chip_check::check_text;
 use chip_machine::limits::IMAGE_BYTES;
 use chip_pages::{contents, page_text};
-use chip_views::{check_text, source_of_image};
+use chip_views::source_of_image;
 use std::alloc::Global;
 use std::io::{Read, Write};
 use std::mem;
@@ -110,9 +111,8 @@ pub(crate) fn check_source<'a, O: Write>(
     source: &[u8],
     output: &mut Counted<O>,
 ) -> Result<Ending, Failure<'a>>
-    ensures { Prints O.contents output.old output.new
-        (printed_of (open_fault source.now)
-        (printed_check name.now (lines_of source.now))) result }
+    ensures { PrintsSuch O.contents output.old output.new (IsPrintedOf (open_fault source.now)
+        (IsPrintedCheck name.now (lines_of source.now))) result }
 {
     match Source::open(alloc, source) {
         Ok(opened) => print_check(alloc, name, source, &opened, output),
@@ -348,8 +348,8 @@ fn print_check<'a, O: Write>(
     output: &mut Counted<O>,
 ) -> Result<Ending, Failure<'a>>
     requires { source.now.lines ≡ lines_of bytes.now }
-    ensures { Prints O.contents output.old output.new
-        (printed_check name.now source.now.lines) result }
+    ensures { PrintsSuch O.contents output.old output.new
+        (IsPrintedCheck name.now source.now.lines) result }
 {
     let text = check_text(alloc, name.as_bytes(), bytes, source)?;
     match source.image() {

@@ -1,0 +1,3 @@
+pub mod KnownNames
+pub mod OperandSpans
+pub mod TokenPlaces

@@ -1,0 +1,98 @@
+-- The faults of a source as compilers print them: place, sentence, line and marks, and below them
+-- lines of help, of which only the beginnings are told (own).
+use Rattle.std.specs.Prelude.{◌≡◌, ℕ, ◌+◌, ◌-◌, ◌==◌, List, [], ◌∷◌, ◌++◌, take, replicate, if◌then◌else◌, Option, Some, None, codes}
+use Rattle.std.specs.Fmt.{decimal}
+use Rattle.std.specs.List.{flat_map, position_or_len}
+use Rattle.chip_lang.specs.declared.fault.Fault.{Fault}
+use Rattle.chip_lang.specs.declared.fault.Fault.TheVariants.{BadCharacter, UnfinishedString, UnknownWord, WrongOperands, NumberTooLarge, TooDeep, BadName, DefinedTwice, UndefinedName, OutOfRange, DivisionByZero, Overflow, OrgBelowHere, PastMemory, StrayBranch, UnclosedIf, NotInProfile}
+use Rattle.chip_lang.specs.declared.fault_place.Span.{Span}
+use Rattle.chip_lang.specs.FaultNumber.{number_of_fault}
+use Rattle.chip_lang.specs.FaultPlace.{mnemonic_of}
+use Rattle.chip_lang.specs.Token.{is_between}
+use Rattle.chip_asm.specs.Program.{fault_at}
+use Rattle.chip_asm.specs.Lines.{is_newline}
+use Rattle.chip_check.specs.declared.hint.Hint.{Hint}
+use Rattle.chip_check.specs.declared.hint.HintKind.{HintKind}
+use Rattle.chip_check.specs.declared.hint.HintKind.TheVariants.{Help, Note}
+use Rattle.chip_check.specs.Place.{place_in}
+
+unfoldable pub sentence_of : Fault → List ℕ
+sentence_of BadCharacter = codes "bad character"
+sentence_of UnfinishedString = codes "unfinished string"
+sentence_of UnknownWord = codes "unknown word"
+sentence_of WrongOperands = codes "operands don't fit"
+sentence_of NumberTooLarge = codes "number above 2147483647"
+sentence_of TooDeep = codes "parentheses deeper than 16"
+sentence_of BadName = codes "name reserved or over 64 bytes"
+sentence_of DefinedTwice = codes "name defined on an earlier line"
+sentence_of UndefinedName = codes "undefined name"
+sentence_of OutOfRange = codes "value out of range"
+sentence_of DivisionByZero = codes "division by zero"
+sentence_of Overflow = codes "overflow, or a shift outside 0 to 31"
+sentence_of OrgBelowHere = codes "ORG below the line's address"
+sentence_of PastMemory = codes "past address 4096"
+sentence_of StrayBranch = codes "stray ELSE or ENDIF"
+sentence_of UnclosedIf = codes "IF without ENDIF"
+sentence_of NotInProfile = codes "not in this profile"
+
+-- the sentence of operands that don't fit names the instruction, where there is one
+unfoldable pub sentence_with : Fault → Option (List ℕ) → List ℕ
+sentence_with WrongOperands (Some mnemonic) = codes "the operands fit no form of " ++ mnemonic
+sentence_with fault mnemonic = sentence_of fault
+
+-- file, line and column, each counted from 1, the column in bytes; the fault's code, and its
+-- sentence
+unfoldable pub head : (name : List ℕ) (number : ℕ) → Span → Fault → (sentence : List ℕ) → List ℕ
+head name number span fault sentence =
+    name ++ codes ":" ++ decimal number ++ codes ":" ++ decimal (span.start + 1) ++ codes ": F"
+    ++ decimal (number_of_fault fault) ++ codes ": " ++ sentence ++ codes "\n"
+
+-- what stands below a byte of the line: a tab stays, and the further bytes of a character in UTF-8
+-- take no place
+abbrev pub blank_of : ℕ → List ℕ
+blank_of b = if b == 9 then 9 ∷ [] else (if is_between 128 191 b then [] else 32 ∷ [])
+
+-- a caret below the first byte of the place, and a tilde below each further one
+unfoldable pub marks : (line : List ℕ) → Span → List ℕ
+marks line span =
+    flat_map blank_of (take span.start line) ++ codes "^"
+    ++ replicate (span.end - span.start - 1) 126 ++ codes "\n"
+
+-- what is printed of a fault that lies at a span of its line, without help
+unfoldable pub report_at : (name : List ℕ) (number : ℕ) (line : List ℕ) → Fault → Span → List ℕ
+report_at name number line fault span =
+    head name number span fault (sentence_with fault (mnemonic_of line)) ++ line ++ codes "\n"
+    ++ marks line span
+
+-- how a line of help begins
+abbrev pub beginning : HintKind → List ℕ
+beginning Help = codes "help: "
+beginning Note = codes "note: "
+
+-- a line of help: its beginning, and a sentence up to a newline
+abbrev pub hint_line : Hint → List ℕ
+hint_line hint =
+    beginning hint.kind
+    ++ take (position_or_len is_newline hint.sentence.items) hint.sentence.items ++ codes "\n"
+
+-- what is printed of a line: the report of its fault, and some lines of help; nothing where it has
+-- no fault
+abbrev pub report_of : (name : List ℕ) (all : List (List ℕ)) (number : ℕ) (line : List ℕ)
+    → Option Fault → (hints : List Hint) → List ℕ
+report_of name all number line None hints = []
+report_of name all number line (Some fault) hints =
+    report_at name number line fault (place_in fault all number line) ++ flat_map hint_line hints
+
+-- a text is what is printed of the lines from a number on: of the first one, with some lines of
+-- help, and then of the others
+abbrev pub AreReports : (name : List ℕ) (all : List (List ℕ)) (number : ℕ)
+    → (lines : List (List ℕ)) → (text : List ℕ) → Type 0
+AreReports name all number [] text = text ≡ []
+AreReports name all number (line ∷ lines) text =
+    (hints : List Hint) × (others : List ℕ)
+    × (text ≡ report_of name all number line (fault_at all number) hints ++ others)
+    × AreReports name all (number + 1) lines others
+
+-- a text is what is printed of a source's lines, in their order
+abbrev pub IsCheck : (name : List ℕ) (lines : List (List ℕ)) (text : List ℕ) → Type 0
+IsCheck name lines text = AreReports name lines 1 lines text

@@ -1,0 +1,211 @@
+//! The forms of instructions and directives, as help shows them.
+
+use crate::near::{is_near, most_edits};
+use crate::words::{is_register, is_special, is_word, split_operand, words_of};
+use std::alloc::{AllocError, Global};
+
+/// Each form: the instruction or the directive, and its operands. `Vx` and `Vy` are registers,
+/// `nibble` is a value from 0 to 15, `byte` one from -128 to 255, `addr` one from 0 to 4095.
+const FORMS: &[&str] = &[
+    "CLS",
+    "RET",
+    "JP addr",
+    "JP V0, addr",
+    "CALL addr",
+    "SE Vx, byte",
+    "SE Vx, Vy",
+    "SNE Vx, byte",
+    "SNE Vx, Vy",
+    "LD Vx, byte",
+    "LD Vx, Vy",
+    "LD I, addr",
+    "LD Vx, DT",
+    "LD Vx, K",
+    "LD DT, Vx",
+    "LD ST, Vx",
+    "LD F, Vx",
+    "LD B, Vx",
+    "LD [I], Vx",
+    "LD Vx, [I]",
+    "LD HF, Vx",
+    "LD R, Vx",
+    "LD Vx, R",
+    "ADD Vx, byte",
+    "ADD Vx, Vy",
+    "ADD I, Vx",
+    "OR Vx, Vy",
+    "AND Vx, Vy",
+    "XOR Vx, Vy",
+    "SUB Vx, Vy",
+    "SUBN Vx, Vy",
+    "SHR Vx",
+    "SHR Vx, Vy",
+    "SHL Vx",
+    "SHL Vx, Vy",
+    "RND Vx, byte",
+    "DRW Vx, Vy, nibble",
+    "SKP Vx",
+    "SKNP Vx",
+    "SCD nibble",
+    "SCR",
+    "SCL",
+    "EXIT",
+    "LOW",
+    "HIGH",
+    "SYS addr",
+    "EQU value",
+    "ORG value",
+    "ALIGN ON",
+    "ALIGN OFF",
+    "DB value, ..",
+    "DW value, ..",
+    "DA 'text'",
+    "DS value",
+    "IFDEF name",
+    "IFUND name",
+    "ELSE",
+    "ENDIF",
+    "END",
+    "OPTION BINARY",
+    "OPTION CHIP8",
+    "OPTION CHIP48",
+    "OPTION SCHIP10",
+    "OPTION SCHIP11",
+    "XREF name",
+    "DEFINE name",
+];
+
+/// The most forms that a line of help shows.
+const MOST_SHOWN: usize = 5;
+
+/// How near a form is at most: its first operand counts twice, and no form has over three.
+const NEAREST: usize = 4;
+
+/// The instruction or the directive with which a form begins.
+fn heading(form: &str) -> &str {
+    match form.split_once(" ") {
+        Some((heading, _)) => heading,
+        None => form,
+    }
+}
+
+/// Whether a word in upper case is an instruction or a directive.
+pub(crate) fn is_heading(word: &str) -> bool {
+    for form in FORMS {
+        if heading(*form) == word {
+            return true;
+        }
+    }
+    false
+}
+
+/// Whether an instruction or a directive can stand without operands.
+pub(crate) fn stands_alone(word: &str) -> bool {
+    for form in FORMS {
+        if *form == word {
+            return true;
+        }
+    }
+    false
+}
+
+/// Whether a word in upper case has a meaning of its own, so that it can't be a name.
+pub(crate) fn is_reserved(word: &str) -> bool {
+    is_register(word)
+        || is_special(word)
+        || is_heading(word)
+        || matches!(word, "USED" | "INCLUDE" | "UNDEF")
+}
+
+/// The instruction or the directive that a word comes nearest to, if one is near.
+pub(crate) fn near_heading(word: &str) -> Option<&'static str> {
+    let most = most_edits(word.as_bytes());
+    for edits in 1..=most {
+        for form in FORMS {
+            let heading = heading(*form);
+            if is_near(edits, word.as_bytes(), heading.as_bytes()) {
+                return Some(heading);
+            }
+        }
+    }
+    None
+}
+
+/// The forms of an instruction or a directive, those first that are nearest to what was written
+/// after it; none for another word.
+pub(crate) fn forms_by_nearness(
+    alloc: Global,
+    word: &str,
+    operands: &[String],
+) -> Result<Vec<&'static str>, AllocError> {
+    let mut forms = Vec::new(alloc);
+    for missing in 0..=NEAREST {
+        for form in FORMS {
+            if heading(*form) == word && nearness(alloc, *form, operands)? == NEAREST - missing {
+                forms.push(*form)?;
+            }
+        }
+    }
+    Ok(forms)
+}
+
+/// What an instruction or a directive takes, by its first forms; none where it has no form.
+pub(crate) fn takes(
+    alloc: Global,
+    word: &str,
+    operands: &[String],
+) -> Result<Option<String>, AllocError> {
+    let forms = forms_by_nearness(alloc, word, operands)?;
+    match forms.as_slice() {
+        [] => return Ok(None),
+        [form] if *form == word => {
+            return Ok(Some(format!(in alloc; "{word} takes no operands")?));
+        }
+        _ => {}
+    }
+    let mut text = format!(in alloc; "{word} takes:")?;
+    for (index, form) in forms.iter().enumerate() {
+        if index == MOST_SHOWN {
+            text.push_str(" | ..")?;
+            break;
+        }
+        text.push_str(if index == 0 { " " } else { " | " })?;
+        text.push_str(form)?;
+    }
+    Ok(Some(text))
+}
+
+/// How many operands are what a form wants in their places; the first counts twice.
+fn nearness(alloc: Global, form: &str, operands: &[String]) -> Result<usize, AllocError> {
+    let words = words_of(alloc, form.as_bytes())?;
+    let mut wanted = words.get(1..);
+    let mut given = Some(operands);
+    let mut near = 0usize;
+    for weight in [2usize, 1, 1] {
+        let (Some(wants), Some(gives)) = (wanted, given) else {
+            break;
+        };
+        let (want, more_wanted) = split_operand(wants);
+        let (give, more_given) = split_operand(gives);
+        if fits(want, give) {
+            near = near.saturating_add(weight);
+        }
+        wanted = more_wanted;
+        given = more_given;
+    }
+    Ok(near)
+}
+
+/// Whether an operand is what a form wants in its place.
+fn fits(wanted: &[String], given: &[String]) -> bool {
+    match (wanted, given) {
+        ([wants], [gives]) => match wants.as_str() {
+            "VX" | "VY" => is_register(gives),
+            "NIBBLE" | "BYTE" | "ADDR" | "VALUE" => !is_reserved(gives),
+            "NAME" => is_word(gives) && !is_reserved(gives),
+            _ => wants == gives,
+        },
+        ([wants], [_, ..]) => matches!(wants.as_str(), "NIBBLE" | "BYTE" | "ADDR" | "VALUE"),
+        _ => wanted == given,
+    }
+}

@@ -1,0 +1,136 @@
+//! The names of a source that help looks up.
+
+ghost use Rattle.std.specs.Prelude.{◌≡◌, IfOk};
+ghost use Rattle.chip_asm.specs.Names.{lookup_name, values_of};
+ghost use Rattle.chip_asm.specs.Program.{symbols_of};
+
+use crate::near::{is_near, most_edits};
+use crate::words::{is_word, text_of, words_of};
+use chip_asm::{Source, Symbol};
+use chip_files::first_line;
+use chip_lang::{Bytes, Names};
+use std::alloc::{AllocError, Global};
+
+/// A name on a line with a fault, which gives it no value.
+#[derive(Drop)]
+pub(crate) struct Lost {
+    name: String,
+    line: usize,
+}
+
+/// The names of a source.
+#[derive(Drop)]
+pub(crate) struct Known {
+    /// Those with a value, in line order.
+    symbols: Vec<(Bytes, Symbol)>,
+    /// Those that begin a line with a fault, in line order.
+    lost: Vec<Lost>,
+}
+
+/// The most pairs of a line with a fault and a name, above which no name is compared with others,
+/// so that help takes little time.
+const MOST_PAIRS: usize = 100_000;
+
+impl Names for Known {
+    ghost symbols = { λ k. values_of k.symbols.items };
+
+    #[tactic(auto, using(crate::proofs::KnownNames::known_names))]
+    fn value(&self, name: &[u8]) -> Option<i32> {
+        match self.find(name) {
+            Some(symbol) => Some(symbol.value),
+            None => None,
+        }
+    }
+}
+
+impl Known {
+    /// The names of a source that was opened from these bytes.
+    pub(crate) fn of(alloc: Global, bytes: &[u8], source: &Source) -> Result<Known, AllocError>
+        ensures { IfOk result (λ known. known.symbols.items ≡ symbols_of source.now.lines) }
+    {
+        let symbols = source.symbols(alloc)?;
+        let lost = lost_names(alloc, bytes, source)?;
+        Ok(Known { symbols, lost })
+    }
+
+    /// The value of a name, given in upper case, and its line.
+    fn find(&self, name: &[u8]) -> Option<Symbol>
+        ensures { result ≡ lookup_name self.now.symbols.items name.now }
+    {
+        for (given, symbol) in &self.symbols {
+            if name == given.get() {
+                return Some(*symbol);
+            }
+        }
+        None
+    }
+
+    /// The number of the line that gives a name, in upper case, a value.
+    pub(crate) fn line_of(&self, name: &str) -> Option<usize> {
+        match self.find(name.as_bytes()) {
+            Some(symbol) => Some(symbol.line),
+            None => None,
+        }
+    }
+
+    /// The number of the first line with a fault that begins with a name.
+    pub(crate) fn lost_line_of(&self, name: &str) -> Option<usize> {
+        for lost in &self.lost {
+            if lost.name.as_str() == name {
+                return Some(lost.line);
+            }
+        }
+        None
+    }
+
+    /// The name that a word comes nearest to, if one is near.
+    pub(crate) fn near_name(
+        &self,
+        alloc: Global,
+        word: &str,
+    ) -> Result<Option<String>, AllocError> {
+        if self.lost.len().saturating_mul(self.symbols.len()) > MOST_PAIRS {
+            return Ok(None);
+        }
+        let most = most_edits(word.as_bytes());
+        for edits in 1..=most {
+            for (given, _) in &self.symbols {
+                if is_near(edits, word.as_bytes(), given.get()) {
+                    return Ok(Some(text_of(alloc, given.get())?));
+                }
+            }
+        }
+        Ok(None)
+    }
+}
+
+/// The names that begin the lines with a fault, in line order.
+fn lost_names(alloc: Global, bytes: &[u8], source: &Source) -> Result<Vec<Lost>, AllocError> {
+    let mut lost = Vec::new(alloc);
+    if source.image().is_some() {
+        return Ok(lost);
+    }
+    let mut number = 1usize;
+    let mut rest = bytes;
+    while !rest.is_empty() {
+        let (line, more) = first_line(rest);
+        if source.fault(number).is_some() {
+            if let Some(name) = front_name(alloc, line)? {
+                lost.push(Lost { name, line: number })?;
+            }
+        }
+        number = number.saturating_add(1);
+        rest = more;
+    }
+    Ok(lost)
+}
+
+/// The word that begins a line, or the one after DEFINE.
+fn front_name(alloc: Global, line: &[u8]) -> Result<Option<String>, AllocError> {
+    let words = words_of(alloc, line)?;
+    match words.as_slice() {
+        [define, name, ..] if define.as_str() == "DEFINE" => Ok(Some(name.clone()?)),
+        [name, ..] if is_word(name) => Ok(Some(name.clone()?)),
+        _ => Ok(None),
+    }
+}

@@ -1,0 +1,326 @@
+//! The place of a fault in a source.
+
+ghost use Rattle.std.specs.Prelude.{◌≡◌, ◌≤◌, ◌<◌, IfOk, IfSome, length, map};
+ghost use Rattle.std.specs.Option.{option_copied};
+ghost use Rattle.chip_lang.specs.Code.{datum_of};
+ghost use Rattle.chip_lang.specs.Encoding.{field_of};
+ghost use Rattle.chip_lang.specs.Line.{reading_of};
+ghost use Rattle.chip_lang.specs.Operand.{operand_of};
+ghost use Rattle.chip_lang.specs.SeenLine.{seen_line};
+ghost use Rattle.chip_lang.specs.Scan.{AreTokens};
+ghost use Rattle.chip_lang.specs.Tree.{tree_of};
+ghost use Rattle.chip_asm.specs.Names.{values_of};
+ghost use Rattle.chip_asm.specs.Program.{symbols_of};
+ghost use Rattle.chip_check.specs.Place.{sees_earlier, last_seen, is_unknown_name, is_unknown, first_unknown, undefined_place, is_out, number_in, first_data_out, first_out, out_operand, tokens_after, is_comma, operand_end, operand_span, out_of_range_place, place_in};
+
+use crate::known::Known;
+use chip_asm::Source;
+use chip_lang::{
+    Body, Bytes, Expr, Fault, Kind, Line, Meter, Operand, Pattern, Span, Token, eval, fault_span,
+    name_of_token, read_line, tokens,
+};
+use std::alloc::{AllocError, Global};
+
+/// Where a fault of the line of a number lies: for F9 the first name without a value, for F10 the
+/// first operand whose value is out of range, else what `fault_span` says.
+pub(crate) fn place_in(
+    alloc: Global,
+    source: &Source,
+    known: &Known,
+    number: usize,
+    line: &[u8],
+    fault: Fault,
+) -> Result<Span, AllocError>
+    requires { known.now.symbols.items ≡ symbols_of source.now.lines }
+    ensures span { IfOk result (λ span. span ≡ place_in fault source.now.lines number line.now) }
+    ensures rises { IfOk result (λ span. span.start ≤ span.end) }
+    ensures inside { IfOk result (λ span. span.end ≤ length line.now) }
+{
+    let span = fault_span(alloc, line, fault)?;
+    match fault {
+        Fault::UndefinedName => undefined_place(alloc, source, number, line, span),
+        Fault::OutOfRange => out_of_range_place(alloc, known, line, span),
+        _ => Ok(span),
+    }
+}
+
+/// The first operand whose value is out of range, or else the span.
+fn out_of_range_place(
+    alloc: Global,
+    known: &Known,
+    line: &[u8],
+    span: Span,
+) -> Result<Span, AllocError>
+    requires rises { span.start ≤ span.end }
+    requires inside { span.end ≤ length line.now }
+    ensures span { IfOk result (λ found.
+        found ≡ out_of_range_place (values_of known.now.symbols.items) line.now span) }
+    ensures rises { IfOk result (λ found. found.start ≤ found.end) }
+    ensures inside { IfOk result (λ found. found.end ≤ length line.now) }
+{
+    let index = out_operand(alloc, line, known)?;
+    let tokens = tokens(alloc, line)?;
+    match operand_span(index, tokens_after(span.start, &tokens)) {
+        Some(found) => Ok(found),
+        None => Ok(span),
+    }
+}
+
+/// How many operands of a line stand before the first whose value is out of its place's range.
+pub(crate) fn out_operand(alloc: Global, line: &[u8], names: &Known) -> Result<usize, AllocError>
+    ensures { IfOk result (λ index. index
+        ≡ out_operand (reading_of line.now) (values_of names.now.symbols.items)) }
+{
+    let mut meter = Meter::new();
+    let line = read_line(alloc, &mut meter, line)?;
+    Ok(out_operand_of(&line, names))
+}
+
+fn out_operand_of(line: &Line, names: &Known) -> usize
+    ensures { result ≡ out_operand (seen_line line.now) (values_of names.now.symbols.items) }
+{
+    let Line::Read { body, .. } = line else {
+        return 0;
+    };
+    match body {
+        Body::Db(values) => first_data_out(256, values, names),
+        Body::Dw(values) => first_data_out(65536, values, names),
+        Body::Code(form, operands) => first_out(form.patterns, operands, names),
+        _ => 0,
+    }
+}
+
+/// How many values of DB or DW stand before the first that is out of range.
+fn first_data_out(limit: u32, values: &[Expr], names: &Known) -> usize
+    requires low { 0 < limit }
+    requires high { limit ≤ 65536 }
+    ensures value { result
+        ≡ first_data_out limit (map tree_of values.now) (values_of names.now.symbols.items) }
+    ensures bound { result ≤ length values.now }
+{
+    let Some((value, values)) = values.split_first() else {
+        return 0;
+    };
+    if is_datum_out(limit, value, names) {
+        return 0;
+    }
+    first_data_out(limit, values, names) + 1
+}
+
+/// Whether a value of DB or DW is out of range.
+fn is_datum_out(limit: u32, value: &Expr, names: &Known) -> bool
+    requires low { 0 < limit }
+    requires high { limit ≤ 65536 }
+    ensures { result ≡ is_out
+        (datum_of limit (tree_of value.now) (values_of names.now.symbols.items)) }
+{
+    match eval(value, names) {
+        Ok(number) if number >= 0 => number as u32 >= limit,
+        Ok(number) => (-1 - number) as u32 >= limit / 2,
+        Err(fault) => fault == Fault::OutOfRange,
+    }
+}
+
+/// How many operands stand before the first whose value is out of its place's range.
+fn first_out(patterns: &[Pattern], operands: &[Operand], names: &Known) -> usize
+    ensures value { result ≡ first_out patterns.now (map operand_of operands.now)
+        (values_of names.now.symbols.items) }
+    ensures bound { result ≤ length operands.now }
+{
+    let Some((pattern, patterns)) = patterns.split_first() else {
+        return 0;
+    };
+    let Some((operand, operands)) = operands.split_first() else {
+        return 0;
+    };
+    if is_field_out(*pattern, operand, names) {
+        return 0;
+    }
+    first_out(patterns, operands, names) + 1
+}
+
+/// Whether the value of an operand is out of its place's range.
+#[tactic(auto, unfolding(chip_lang::specs::Encoding::field_of))]
+fn is_field_out(pattern: Pattern, operand: &Operand, names: &Known) -> bool
+    ensures { result ≡ is_out (field_of pattern (operand_of operand.now)
+        (values_of names.now.symbols.items)) }
+{
+    let Operand::Value(expr) = operand else {
+        return false;
+    };
+    match pattern {
+        Pattern::Nibble => is_number_out(16, expr, names),
+        Pattern::Byte => is_datum_out(256, expr, names),
+        Pattern::Address => is_number_out(4096, expr, names),
+        _ => false,
+    }
+}
+
+/// Whether a value that is not negative is out of range.
+fn is_number_out(limit: u16, expr: &Expr, names: &Known) -> bool
+    ensures { result ≡ is_out
+        (number_in limit (tree_of expr.now) (values_of names.now.symbols.items)) }
+{
+    match eval(expr, names) {
+        Ok(number) => match u16::try_from(number) {
+            Ok(number) => number >= limit,
+            Err(_) => true,
+        },
+        Err(fault) => fault == Fault::OutOfRange,
+    }
+}
+
+/// The tokens that begin at a place or after it.
+fn tokens_after(place: usize, tokens: &[Token]) -> &[Token]
+    ensures { result.now ≡ tokens_after place tokens.now }
+{
+    let mut rest = tokens;
+    while let [token, more @ ..] = rest {
+        if place <= token.start {
+            break;
+        }
+        rest = more;
+    }
+    rest
+}
+
+/// The span of the operand of an index, where these tokens begin with the first operand.
+fn operand_span(index: usize, tokens: &[Token]) -> Option<Span>
+    ensures { result ≡ operand_span index tokens.now }
+{
+    let (token, more) = tokens.split_first()?;
+    if index == 0 {
+        return Some(Span {
+            start: token.start,
+            end: operand_end(token.end, more),
+        });
+    }
+    operand_span(if is_comma(*token) { index - 1 } else { index }, more)
+}
+
+/// The end of the last token before the next comma, after a token that ends at a place.
+fn operand_end(place: usize, tokens: &[Token]) -> usize
+    ensures { result ≡ operand_end place tokens.now }
+{
+    match tokens {
+        [token, more @ ..] if !is_comma(*token) => operand_end(token.end, more),
+        _ => place,
+    }
+}
+
+fn is_comma(token: Token) -> bool
+    ensures { result ≡ is_comma token }
+{
+    match token.kind {
+        Kind::Sign(sign) => sign == b',',
+        _ => false,
+    }
+}
+
+/// The first name without a value from the start of a span on, or else the span.
+fn undefined_place(
+    alloc: Global,
+    source: &Source,
+    number: usize,
+    line: &[u8],
+    span: Span,
+) -> Result<Span, AllocError>
+    requires rises { span.start ≤ span.end }
+    requires inside { span.end ≤ length line.now }
+    ensures span { IfOk result (λ found.
+        found ≡ undefined_place source.now.lines number line.now span) }
+    ensures rises { IfOk result (λ found. found.start ≤ found.end) }
+    ensures inside { IfOk result (λ found. found.end ≤ length line.now) }
+{
+    let last = last_seen(alloc, number, source.lines(), line)?;
+    let tokens = tokens(alloc, line)?;
+    match first_unknown(alloc, source, last, line, span.start, &tokens)? {
+        Some(found) => Ok(found),
+        None => Ok(span),
+    }
+}
+
+/// The number of the last line whose names a line sees.
+fn last_seen(alloc: Global, number: usize, count: usize, line: &[u8]) -> Result<usize, AllocError>
+    ensures { IfOk result (λ last. last ≡ last_seen number count (reading_of line.now)) }
+{
+    if sees_earlier(alloc, line)? {
+        Ok(number.saturating_sub(1))
+    } else {
+        Ok(count)
+    }
+}
+
+fn sees_earlier(alloc: Global, line: &[u8]) -> Result<bool, AllocError>
+    ensures { IfOk result (λ answer. answer ≡ sees_earlier (reading_of line.now)) }
+{
+    let mut meter = Meter::new();
+    let line = read_line(alloc, &mut meter, line)?;
+    Ok(is_of_value(&line))
+}
+
+/// Whether a line is EQU, ORG or DS.
+fn is_of_value(line: &Line) -> bool
+    ensures { result ≡ sees_earlier (seen_line line.now) }
+{
+    match line {
+        Line::Read { body, .. } => matches!(body, Body::Equ(_) | Body::Org(_) | Body::Ds(_)),
+        Line::Bad(_) => false,
+    }
+}
+
+/// The first name from a place on that no line up to the last one seen gives a value.
+fn first_unknown(
+    alloc: Global,
+    source: &Source,
+    last: usize,
+    line: &[u8],
+    place: usize,
+    tokens: &[Token],
+) -> Result<Option<Span>, AllocError>
+    requires { AreTokens line.now 0 tokens.now }
+    ensures value { IfOk result (λ found.
+        found ≡ first_unknown (symbols_of source.now.lines) last line.now place tokens.now) }
+    ensures rises { IfOk result (λ found. IfSome found (λ span. span.start ≤ span.end)) }
+    ensures inside { IfOk result (λ found. IfSome found (λ span. span.end ≤ length line.now)) }
+{
+    for token in tokens {
+        if is_unknown(alloc, source, last, line, place, *token)? {
+            return Ok(Some(Span {
+                start: token.start,
+                end: token.end,
+            }));
+        }
+    }
+    Ok(None)
+}
+
+fn is_unknown(
+    alloc: Global,
+    source: &Source,
+    last: usize,
+    line: &[u8],
+    place: usize,
+    token: Token,
+) -> Result<bool, AllocError>
+    requires rises { token.start ≤ token.end }
+    requires inside { token.end ≤ length line.now }
+    ensures { IfOk result (λ answer.
+        answer ≡ is_unknown (symbols_of source.now.lines) last line.now place token) }
+{
+    let name = name_of_token(alloc, line, token)?;
+    Ok(place <= token.start && is_unknown_name(source, last, name.as_ref()))
+}
+
+fn is_unknown_name(source: &Source, last: usize, name: Option<&Bytes>) -> bool
+    ensures { result
+        ≡ is_unknown_name (symbols_of source.now.lines) last (option_copied name.entry) }
+{
+    let Some(name) = name else {
+        return false;
+    };
+    match source.symbol(name.get()) {
+        Some(symbol) => symbol.line > last,
+        None => true,
+    }
+}
