@@ -228,9 +228,7 @@ fn files_argument<'a>(alloc: Global) -> Arg<'a>
     ensures rule { rule_of result ≡ line.files }
     ensures local { result.global ≡ false }
 {
-    Arg::new(alloc, "files")
-        .value_name("FILE")
-        .help("The files of cases, one or more")
+    place(alloc, "files", "FILE", "The files of cases, one or more")
         .action(ArgAction::Append)
         .required(true)
 }
