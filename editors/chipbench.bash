@@ -2,7 +2,7 @@
 _chipbench() {
     local word=${COMP_WORDS[COMP_CWORD]} before=${COMP_WORDS[COMP_CWORD-1]} options=
     if [ "$COMP_CWORD" -eq 1 ]; then
-        COMPREPLY=($(compgen -W "debug asm list dis run trace picture check explain help --help --version" -- "$word"))
+        COMPREPLY=($(compgen -W "debug asm list dis run trace picture check test explain help --help --version" -- "$word"))
         return
     fi
     case $before in
@@ -19,6 +19,7 @@ _chipbench() {
         trace) options="--steps --rate --tape --seed --profile --keys --from --hash --against --help" ;;
         picture) options="--steps --rate --tape --seed --profile --keys --ascii --pbm --png --help" ;;
         check) options=" --help" ;;
+        test) options="--update --tap --help" ;;
         explain) options=" --help" ;;
     esac
     case $word in

@@ -78,9 +78,10 @@ class Words:
             text, re.S)
         self.about = re.search(r'"chipbench",\s*"(.*?)"', functions["program"]).group(1)
         self.commands = [Command(row, arguments) for row in rows]
-        debug = next(command for command in self.commands if command.name == "debug")
-        notes = consts["DEBUG_NOTES"].replace("\\n", "\n")
-        debug.example = re.search(r"Example: (.*)", notes).group(1)
+        for command in self.commands:
+            if not command.example:
+                notes = consts[f"{command.name.upper()}_NOTES"].replace("\\n", "\n")
+                command.example = re.search(r"Example: (.*)", notes).group(1)
 
 
 def bash(words):
@@ -175,6 +176,8 @@ def manual(words):
         places = " ".join(command.places)
         if command.name in ("debug", "explain"):
             places = f"[{places}]"
+        elif command.name == "test":
+            places = f"{places} .."
         options = " ".join(
             f"--{o.long}{' ' + o.value if o.value else ''}" if o.long == "steps"
             else f"[--{o.long}{' ' + o.value if o.value else ''}]" for o in command.options)
@@ -189,7 +192,7 @@ def manual(words):
         value = f" {option.value}" if option.value else ""
         lines += [".TP", f".B {roff('--' + option.long + value)}", roff(option.help) + "."]
     lines += [
-        ".SH EXIT STATUS", ".TP", "0", "Done.", ".TP", "1", "The source has faults, or doesn't open.",
+        ".SH EXIT STATUS", ".TP", "0", "Done.", ".TP", "1", "The source has faults, or doesn't open; traces differ; a case fails.",
         ".TP", "2", "The words, a tape or a file of key events are faulty.", ".TP", "3",
         "A file, the input or the output failed, or there was too much input.", ".TP", "4",
         "Out of memory.", ".SH SEE ALSO", ".BR chipbench\\-page (1),", ".br",

@@ -3,7 +3,7 @@ import pathlib
 from dataclasses import dataclass, field, replace
 
 from .compare import diff, first_difference, lines_of
-from .texts import TOP, Text, bytes_of
+from .texts import Text, bytes_of
 
 # The least and the greatest number of steps between two checkpoints: no answer depends on it.
 EACH_EVERY = ("1000", "100000")
@@ -160,10 +160,10 @@ class _Reader:
         self.cases.append(self.case)
 
     def _file(self, line):
-        """The bytes of a file beside the test or under examples/."""
-        for folder in (self.text.path.parent, TOP / "examples"):
-            if (folder / line.rest).is_file():
-                return (folder / line.rest).read_bytes()
+        """The bytes of a file that is named from the test's folder."""
+        file = self.text.path.parent / line.rest
+        if file.is_file():
+            return file.read_bytes()
         raise self.text.malformed(line.number, f"no such file: {line.rest}")
 
     def _check(self, case):

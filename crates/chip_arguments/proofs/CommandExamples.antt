@@ -1,14 +1,14 @@
 -- Worked examples: command lines with the kinds of fault that `clap` finds in them.
 use Rattle.std.proofs.Common.{◌≡◌, [], ◌∷◌, codes, true, refl, Some, None, option_map}
-use Rattle.clap.specs.Words.{fault_of, first_of, is_simple, is_simple_and_free, subcommand_of, one_of}
+use Rattle.clap.specs.Words.{all_of, fault_of, first_of, is_simple, is_simple_and_free, subcommand_of, one_of}
 use Rattle.clap.specs.declared.error.kind.ErrorKind.TheVariants as kind
 use Rattle.clap.proofs.OnLiterals.{clap_on_literals}
 use Rattle.std.specs.Prelude.{⊤}
-use Rattle.chip_arguments.specs.CommandLine.{against, ascii, asm, check, chipbench, code, debug, dis, every, explain, from, hash, image, keys, list, needed_source, output, pbm, picture, png, profile, rate, run, seed, source, steps, tape, trace, with_settings, with_steps}
+use Rattle.chip_arguments.specs.CommandLine.{against, ascii, asm, check, chipbench, code, debug, dis, every, explain, files, from, hash, image, keys, list, needed_source, output, pbm, picture, png, profile, rate, run, seed, source, steps, tap, tape, test, trace, update, with_settings, with_steps}
 
 -- what is unfolded to judge words that are written out
 unfoldable chipbench_on_literals : ⊤
-unfolding clap_on_literals against ascii asm check chipbench code debug dis every explain from hash image keys list needed_source output pbm picture png profile rate run seed source steps tape trace with_settings with_steps
+unfolding clap_on_literals against ascii asm check chipbench code debug dis every explain files from hash image keys list needed_source output pbm picture png profile rate run seed source steps tap tape test trace update with_settings with_steps
 chipbench_on_literals = tt
 
 pub is_exact : is_simple_and_free chipbench ≡ true
@@ -66,3 +66,16 @@ run_prints_no_sums = refl
 first_step : option_map (λ p. first_of (codes "from") p.1) (subcommand_of chipbench (codes "trace" ∷ codes "a" ∷ codes "--steps" ∷ codes "9" ∷ [])) ≡ Some (Some (codes "0"))
 unfolding chipbench_on_literals
 first_step = refl
+
+test_takes_files : fault_of chipbench (codes "test" ∷ codes "a" ∷ codes "--tap" ∷ codes "b" ∷ codes "--update" ∷ []) ≡ []
+unfolding chipbench_on_literals
+test_takes_files = refl
+
+test_wants_a_file : fault_of chipbench (codes "test" ∷ codes "--tap" ∷ []) ≡ kind.MissingRequiredArgument ∷ []
+unfolding chipbench_on_literals
+test_wants_a_file = refl
+
+takes_each_file : option_map (λ p. all_of (codes "files") p.1) (subcommand_of chipbench (codes "test" ∷ codes "a" ∷ codes "--tap" ∷ codes "b" ∷ []))
+    ≡ Some (Some (codes "a" ∷ codes "b" ∷ []))
+unfolding chipbench_on_literals
+takes_each_file = refl

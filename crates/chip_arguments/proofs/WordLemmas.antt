@@ -1,5 +1,5 @@
 -- What the values of a command ask for, from what `clap` reads in them.
-use Rattle.std.proofs.Common.{◌≡◌, inl, inr, ℕ, Bool, true, false, List, [], ◌∷◌, codes, Option, Some, None, Result, Ok, Err, IfOk, option_map, unwrap_or, refl, sym, ◌∙◌, ap, ap₂, subst}
+use Rattle.std.proofs.Common.{◌≡◌, inl, inr, ℕ, Bool, Bor, map, true, false, List, [], ◌∷◌, codes, Option, Some, None, Result, Ok, Err, IfOk, option_map, unwrap_or, refl, sym, ◌∙◌, ap, ap₂, subst}
 use Rattle.std.specs.Str.{bytes_eq}
 use Rattle.std.proofs.lemmas.Slice.Eq.{bytes_eq-Decides}
 use Rattle.clap.proofs.WalkLemmas.{first_value-rows, one_text-rows}
@@ -137,3 +137,9 @@ pub subcommand_none : (app other : App) (words : List (List ℕ)) (m : ArgMatche
 subcommand_none app other words m e simple has r =
     ap (λ (a : App). subcommand_of a words) (sym e) ∙ sym ((has (ap is_simple e ∙ simple)).1)
     ∙ none_named (out-ArgMatches m).subcommand (λ b. (out-SubCommand (box_value b)).name.now) (λ b. rows_of (found_of (out-SubCommand (box_value b)).matches)) r
+
+-- the texts of an argument, where none stand for no argument
+pub texts_are : (found : Option (Bor (List (Bor (List ℕ))))) (none : Bor (List (Bor (List ℕ)))) (texts : Option (List (List ℕ))) → none.now ≡ [] →
+    option_map (λ s. map (λ v. v.now) s.now) found ≡ texts → map (λ v. v.now) (unwrap_or found none).now ≡ unwrap_or texts []
+texts_are None none texts nothing is = ap (map (λ v. v.now)) nothing ∙ ap (λ (t : Option (List (List ℕ))). unwrap_or t []) is
+texts_are (Some given) none texts nothing is = ap (λ (t : Option (List (List ℕ))). unwrap_or t []) is

@@ -4,7 +4,7 @@ use Rattle.std.specs.Prelude.{List, [], ◌∷◌, Some, codes, true, pos}
 use Rattle.clap.specs.Words.{App, Rule, new_app, new_rule, with_rule, with_subcommand}
 use Rattle.chip_replay.specs.declared.limits.TheConstants.{LAST_STEP, LEAST_SPACING, MOST_SPACING}
 use Rattle.chip_arguments.specs.declared.limits.TheConstants.{MOST_RATE}
-use Rattle.clap.specs.declared.builder.action.ArgAction.TheVariants.{Set, SetTrue}
+use Rattle.clap.specs.declared.builder.action.ArgAction.TheVariants.{Append, Set, SetTrue}
 use Rattle.clap.specs.declared.builder.value_parser.ValueParser.TheVariants as vp
 
 unfoldable pub source : Rule
@@ -95,6 +95,20 @@ png = record (new_rule (codes "png")) { long = Some (codes "png"); value_names =
 unfoldable pub code : Rule
 code = record (new_rule (codes "code")) { value_names = 1; action = Some Set }
 
+-- the files of cases, one or more
+unfoldable pub files : Rule
+files = record (new_rule (codes "files")) {
+  value_names = 1;
+  action = Some Append;
+  required = true;
+}
+
+unfoldable pub update : Rule
+update = record (new_rule (codes "update")) { long = Some (codes "update"); action = Some SetTrue }
+
+unfoldable pub tap : Rule
+tap = record (new_rule (codes "tap")) { long = Some (codes "tap"); action = Some SetTrue }
+
 unfoldable pub from : Rule
 from = record (new_rule (codes "from")) {
   long = Some (codes "from");
@@ -125,6 +139,9 @@ unfoldable pub picture : App
 picture =
     with_rule (with_rule (with_rule (with_steps (new_app (codes "picture"))) ascii) pbm) png
 
+unfoldable pub test : App
+test = with_rule (with_rule (with_rule (new_app (codes "test")) files) update) tap
+
 unfoldable pub explain : App
 explain = with_rule (new_app (codes "explain")) code
 
@@ -143,4 +160,5 @@ with_commands app (command ∷ commands) = with_commands (with_subcommand app co
 unfoldable pub chipbench : App
 chipbench =
     with_commands (without_name (with_version (new_app (codes "chipbench"))))
-    (debug ∷ asm ∷ list ∷ dis ∷ run ∷ trace ∷ picture ∷ check ∷ explain ∷ [])
+    (debug ∷ asm ∷ list ∷ dis ∷ run ∷ trace ∷ picture ∷ check ∷ test ∷ explain
+    ∷ [])

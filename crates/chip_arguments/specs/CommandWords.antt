@@ -1,11 +1,11 @@
 -- What the words of the command line ask for, by the values that `clap` finds in them (own).
-use Rattle.std.specs.Prelude.{◌≡◌, ◌≢◌, ℕ, ◌<◌, ◌^◌, Bool, true, false, List, [], ◌∷◌, codes, Option, Some, None, option_copied, unwrap_or, if◌then◌else◌}
+use Rattle.std.specs.Prelude.{◌≡◌, ◌≢◌, ℕ, ◌<◌, ◌^◌, Bool, true, false, List, [], ◌∷◌, codes, map, Option, Some, None, option_copied, unwrap_or, if◌then◌else◌}
 use Rattle.std.specs.Char.{is_ascii_digit}
 use Rattle.std.specs.List.{list_all, list_any}
 use Rattle.std.specs.Str.{bytes_eq}
 use Rattle.std.specs.Str.Parse.{IsNumeral, digits_value}
 use Rattle.clap.specs.Kinds.{Kinds, or_else}
-use Rattle.clap.specs.Words.{Row, fault_of, first_of, one_of, subcommand_of}
+use Rattle.clap.specs.Words.{Row, all_of, fault_of, first_of, one_of, subcommand_of}
 use Rattle.clap.specs.declared.error.kind.ErrorKind.TheVariants as kind
 use Rattle.chip_machine.specs.Profile.{profile_name, profile_names}
 use Rattle.chip_machine.specs.declared.profile.Profile.{Profile}
@@ -18,6 +18,7 @@ use Rattle.chip_arguments.specs.declared.command_line.CommandLine.TheVariants as
 use Rattle.chip_arguments.specs.declared.command_line.PictureWords.{PictureWords}
 use Rattle.chip_arguments.specs.declared.command_line.RunWords.{RunWords}
 use Rattle.chip_arguments.specs.declared.command_line.SettingWords.{SettingWords}
+use Rattle.chip_arguments.specs.declared.command_line.TestWords.{TestWords}
 use Rattle.chip_arguments.specs.declared.command_line.TraceWords.{TraceWords}
 
 -- the arguments that are numbers
@@ -130,6 +131,12 @@ pub record AsksPicture (rows : List Row) (words : PictureWords) : Type 0 where
   pub bitmap : option_copied words.bitmap ≡ first_of (codes "pbm") rows
   pub png : option_copied words.png ≡ first_of (codes "png") rows
 
+-- the test that they ask for
+pub record AsksTest (rows : List Row) (words : TestWords) : Type 0 where
+  pub files : map (λ file. file.now) words.files.items ≡ unwrap_or (all_of (codes "files") rows) []
+  pub is_update : AsksFlag (one_of (codes "update") rows) words.is_update
+  pub is_tap : AsksFlag (one_of (codes "tap") rows) words.is_tap
+
 -- What the values of a command of that name ask for.
 abbrev pub Asks : List ℕ → List Row → CommandLine → Type 0
 Asks name rows (line.Asm source image) =
@@ -143,12 +150,13 @@ Asks name rows (line.Dis image) = (name ≡ codes "dis") × (image.now ≡ neede
 Asks name rows (line.Run words) = (name ≡ codes "run") × AsksRun rows words
 Asks name rows (line.Trace words) = (name ≡ codes "trace") × AsksTrace rows words
 Asks name rows (line.Picture words) = (name ≡ codes "picture") × AsksPicture rows words
+Asks name rows (line.Test words) = (name ≡ codes "test") × AsksTest rows words
 Asks name rows (line.Explain code) =
     (name ≡ codes "explain") × (option_copied code ≡ first_of (codes "code") rows)
 Asks name rows (line.Debug source settings) =
     (name ≢ codes "asm") × (name ≢ codes "list") × (name ≢ codes "check") × (name ≢ codes "dis")
     × (name ≢ codes "run") × (name ≢ codes "trace")
-    × (name ≢ codes "picture") × (name ≢ codes "explain")
+    × (name ≢ codes "picture") × (name ≢ codes "test") × (name ≢ codes "explain")
     × (option_copied source ≡ first_of (codes "source") rows) × AsksSettings rows settings
 
 -- what the words ask for, by the command that they name; without one, a session on the empty source

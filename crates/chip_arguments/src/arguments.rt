@@ -33,6 +33,9 @@ pub(crate) enum Argument {
     Pbm,
     Png,
     Code,
+    Files,
+    Update,
+    Tap,
     Rate,
     Tape,
     Seed,
@@ -60,6 +63,9 @@ impl Argument {
             Argument::Pbm => pbm_argument(alloc),
             Argument::Png => png_argument(alloc),
             Argument::Code => code_argument(alloc),
+            Argument::Files => files_argument(alloc),
+            Argument::Update => update_argument(alloc),
+            Argument::Tap => tap_argument(alloc),
             Argument::Rate => rate_argument(alloc),
             Argument::Tape => tape_argument(alloc),
             Argument::Seed => seed_argument(alloc),
@@ -214,6 +220,40 @@ fn code_argument<'a>(alloc: Global) -> Arg<'a>
         "code",
         "CODE",
         "F1 to F17, N1 to N10, Q1 to Q4, C1, C2, E1 to E4, O1 to O3 or S1 to S7 [default: all, a line each]",
+    )
+}
+
+#[tactic(auto, unfolding(crate::specs::CommandLine::files))]
+fn files_argument<'a>(alloc: Global) -> Arg<'a>
+    ensures rule { rule_of result ≡ line.files }
+    ensures local { result.global ≡ false }
+{
+    place(alloc, "files", "FILE", "The files of cases, one or more")
+        .action(ArgAction::Append)
+        .required(true)
+}
+
+#[tactic(auto, unfolding(crate::specs::CommandLine::update))]
+fn update_argument<'a>(alloc: Global) -> Arg<'a>
+    ensures rule { rule_of result ≡ line.update }
+    ensures local { result.global ≡ false }
+{
+    flag(
+        alloc,
+        "update",
+        "Also writes the answers that are given into the files, atomically",
+    )
+}
+
+#[tactic(auto, unfolding(crate::specs::CommandLine::tap))]
+fn tap_argument<'a>(alloc: Global) -> Arg<'a>
+    ensures rule { rule_of result ≡ line.tap }
+    ensures local { result.global ≡ false }
+{
+    flag(
+        alloc,
+        "tap",
+        "Prints the outcome of each case in the form of the Test Anything Protocol",
     )
 }
 

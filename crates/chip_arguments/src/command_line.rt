@@ -5,7 +5,7 @@ ghost use Rattle.std.specs.List.{list_all};
 ghost use Rattle.clap.specs.Matches.{found_of};
 ghost use Rattle.clap.specs.Words.{FailsBy, first_of, kind_of, one_of, rows_of};
 ghost use Rattle.chip_arguments.specs.SettingWords.{default_words};
-ghost use Rattle.chip_arguments.specs.CommandWords.{Asks, AsksFor, AsksSettings, IsProfile, ReadsNumber, AsksPicture, AsksRun, AsksTrace, first_fault, new_file_fault, new_files, number_fault, numbers, value_faults, word_faults, needed, profile_fault};
+ghost use Rattle.chip_arguments.specs.CommandWords.{Asks, AsksFor, AsksSettings, IsProfile, ReadsNumber, AsksPicture, AsksRun, AsksTest, AsksTrace, first_fault, new_file_fault, new_files, number_fault, numbers, value_faults, word_faults, needed, profile_fault};
 
 use crate::commands::chipbench;
 use chip_machine::Profile;
@@ -31,7 +31,7 @@ const NUMBERS: [(&str, &str); 5] = [
 const NEW_FILES: [(&str, &str); 3] = [("output", "IMAGE"), ("pbm", "--pbm"), ("png", "--png")];
 
 /// What the program is asked to do.
-#[derive(Clone, Copy)]
+#[derive(Drop)]
 pub enum CommandLine<'a> {
     /// To answer a script.
     Debug {
@@ -61,6 +61,8 @@ pub enum CommandLine<'a> {
     Trace(TraceWords<'a>),
     /// To print the screen of a source's image, or to write it as a picture.
     Picture(PictureWords<'a>),
+    /// To compare the answers of sessions with those that files expect.
+    Test(TestWords<'a>),
     /// To print the page on a code, or the codes.
     Explain {
         code: Option<&'a str>,
@@ -101,6 +103,17 @@ pub struct PictureWords<'a> {
     pub bitmap: Option<&'a str>,
     /// The file for a PNG picture.
     pub png: Option<&'a str>,
+}
+
+/// A test, as the words ask for it.
+#[derive(Drop)]
+pub struct TestWords<'a> {
+    /// The files of cases, in the order of the words.
+    pub files: Vec<&'a str>,
+    /// Whether the answers that are given are written into the files.
+    pub is_update: bool,
+    /// Whether the Test Anything Protocol is printed.
+    pub is_tap: bool,
 }
 
 /// The settings, as the words give them.
@@ -182,6 +195,7 @@ fn command_asked<'a>(
         "run" => CommandLine::Run(run_words(found, profile)),
         "trace" => CommandLine::Trace(trace_words(found, profile)),
         "picture" => CommandLine::Picture(picture_words(found, profile)),
+        "test" => CommandLine::Test(test_words(alloc, found)?),
         "explain" => CommandLine::Explain {
             code: found.get_str("code"),
         },
@@ -323,8 +337,8 @@ fn required_text<'a>(found: &ArgMatches<'a>, id: &str) -> &'a str
     found.get_str(id).unwrap_or("")
 }
 
-// The number that a text of decimal digits stands for, where it fits.
-fn number(text: Option<&str>) -> Option<u32>
+/// The number that a text of decimal digits stands for, where it fits.
+pub fn number(text: Option<&str>) -> Option<u32>
     ensures { ReadsNumber 32 (option_copied text.entry) result }
 {
     let text = text?;
@@ -335,8 +349,8 @@ fn number(text: Option<&str>) -> Option<u32>
     }
 }
 
-// The same, of a seed.
-fn seed(text: Option<&str>) -> Option<u64>
+/// The same, of a seed.
+pub fn seed(text: Option<&str>) -> Option<u64>
     ensures { ReadsNumber 64 (option_copied text.entry) result }
 {
     let text = text?;
@@ -381,6 +395,16 @@ fn picture_words<'a>(found: &ArgMatches<'a>, profile: Profile) -> PictureWords<'
         bitmap: found.get_str("pbm"),
         png: found.get_str("png"),
     }
+}
+
+fn test_words<'a>(alloc: Global, found: &ArgMatches<'a>) -> Result<TestWords<'a>, AllocError>
+    ensures { IfOk result (AsksTest (rows_of (found_of found.now))) }
+{
+    Ok(TestWords {
+        files: Vec::from_slice(alloc, found.get_strs("files").unwrap_or(&[]))?,
+        is_update: found.get_flag("update"),
+        is_tap: found.get_flag("tap"),
+    })
 }
 
 fn setting_words<'a>(found: &ArgMatches<'a>, profile: Profile) -> SettingWords<'a>

@@ -38,6 +38,21 @@ the language of sources: docs/LANGUAGE.md; the machine: docs/MACHINE.md; a guide
 
 Example: chipbench debug game.asm --rate 15 --seed 7";
 
+const TEST_NOTES: &str = "\
+A file of cases, line by line:
+  case NAME            begins a case; a file without it is one case
+  source .. end        the source's lines, between these two
+  source NAME          the source is a file, named from the test's folder
+  keys NAME            the key events, a file of lines `S K down` and `S K up`
+  profile, rate, tape, seed, every     the settings, as `run` and `debug` take them
+  > COMMAND            a command of `debug`; the lines below it are its answer
+  ! COMMAND            a command that is refused; the line below it is `no CODE`
+  ...                  in an answer: any lines, also none
+  # ..                 a comment
+Status: 0 where all cases pass, 1 where one fails, 3 for a file that can't be read.
+
+Example: chipbench test game.test";
+
 /// A command of the program.
 pub(crate) struct CommandRow {
     name: &'static str,
@@ -49,7 +64,7 @@ pub(crate) struct CommandRow {
 }
 
 // The commands, in the order of the help.
-const COMMANDS: [CommandRow; 9] = [
+const COMMANDS: [CommandRow; 10] = [
     CommandRow {
         name: "debug",
         about: "Answers the edits and questions on standard input, one a line",
@@ -134,6 +149,12 @@ const COMMANDS: [CommandRow; 9] = [
         about: "Prints each fault of a source with its place and a sentence",
         notes: "Example: chipbench check game.asm",
         arguments: &[Argument::NeededSource],
+    },
+    CommandRow {
+        name: "test",
+        about: "Compares the answers of sessions with those that files expect",
+        notes: TEST_NOTES,
+        arguments: &[Argument::Files, Argument::Update, Argument::Tap],
     },
     CommandRow {
         name: "explain",

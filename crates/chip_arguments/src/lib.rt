@@ -7,6 +7,7 @@ mod commands;
 pub mod limits;
 
 pub use command_line::{
-    CommandLine, PictureWords, RunWords, SettingWords, TraceWords, not_text, parse_words,
+    CommandLine, PictureWords, RunWords, SettingWords, TestWords, TraceWords, not_text, number,
+    parse_words, seed,
 };
 pub use commands::VERSION;

@@ -9,6 +9,7 @@ pub mod AnswerLemmas
 pub mod ImageLemmas
 pub mod Parts
 pub mod TapeLemmas
+pub mod TestLemmas
 pub mod TextLemmas
 pub mod TraceLemmas
 pub mod RunLemmas

@@ -40,6 +40,7 @@ use Rattle.chip_bench.specs.Running.{AnswersIfAsked, AnswersScript, IsUnread, so
 use Rattle.chip_bench.specs.SettingWords.{settings_asked}
 use Rattle.chip_bench.specs.Settings.{SessionSettings}
 use Rattle.chip_bench.specs.Tally.{Tally}
+use Rattle.chip_bench.specs.Testing.{Tests}
 use Rattle.chip_arguments.specs.declared.command_line.CommandLine.{CommandLine}
 use Rattle.chip_arguments.specs.declared.command_line.CommandLine.TheVariants as line
 use Rattle.chip_arguments.specs.declared.command_line.PictureWords.{PictureWords}
@@ -308,6 +309,7 @@ module _ {R W : Type 0} (remaining : R → Option (List ℕ)) (contents : W → 
   Does (line.Run words) ended = Runs words ended
   Does (line.Trace words) ended = Traces words ended
   Does (line.Picture words) ended = Pictures words ended
+  Does (line.Test words) ended = Tests words ended × (in_new ≡ in_old)
   Does (line.Explain code) ended = Explains contents out_old out_new code ended × (in_new ≡ in_old)
 
   -- what it did for words without a fault: what they ask for, unless there was no memory to read

@@ -21,6 +21,7 @@
 --     SettingWords what the words of the command line say of settings
 --     Tape         the tape of a seed
 --     Tracing      what `trace` prints of a session's run
+--     Testing      what `test` finds of files of cases
 --     Doing        what the program does for each thing that its words can ask for
 --     inner        the models as numbers; for private contracts: how far a script has been carried
 --                  out, how the parts of a kept run fit together, what was read
@@ -47,5 +48,6 @@ pub mod SettingWords
 pub mod Printing
 pub mod KeyFile
 pub mod Tracing
+pub mod Testing
 pub mod Doing
 pub mod inner

@@ -4,6 +4,7 @@ ghost use Rattle.clap.specs.Words.{kind_of};
 ghost use Rattle.chip_bench.specs.Running.{ending_status, failure_status, no_memory, settings_failure, words_failure};
 
 use crate::settings::SetError;
+use chip_cases::CaseFault;
 use chip_trace::HeaderError;
 use clap::error::ErrorKind;
 use std::alloc::AllocError;
@@ -28,6 +29,21 @@ impl fmt::Display for Code {
     }
 }
 
+/// Why a line of a file of cases can't be taken.
+#[derive(Clone, Copy, Debug, Error)]
+pub(crate) enum TestFault {
+    #[error("{0}")]
+    Line(CaseFault),
+    #[error("this is not text in UTF-8")]
+    NotText,
+    #[error("this setting does not take such a number")]
+    Number,
+    #[error("there is no such profile")]
+    Profile,
+    #[error("a tape has 1 to 4096 bytes in hexadecimal, and goes without a seed")]
+    Tape,
+}
+
 /// What hinders the program. The text is for the standard error.
 #[derive(Debug, Drop, Error)]
 pub(crate) enum Failure<'a> {
@@ -41,6 +57,12 @@ pub(crate) enum Failure<'a> {
     /// The first line of a trace doesn't name columns.
     #[error("chipbench: {0} is not a trace: {1}\n")]
     BadTrace(&'a str, HeaderError),
+    /// The line of that number of a file of cases can't be taken.
+    #[error("chipbench: {0}:{1}: {2}\n")]
+    BadTest(&'a str, usize, TestFault),
+    /// The file that the line of that number names can't be read.
+    #[error("chipbench: {0}:{1}: cannot read the file\nreason: {2}\n")]
+    UnreadInTest(&'a str, usize, io::Error),
     #[error("chipbench: no page on {0}; `chipbench explain` lists the codes\n")]
     NoPage(&'a str),
     #[error("chipbench: cannot read {0}\nreason: {1}\n")]
@@ -80,6 +102,8 @@ impl<'a> Failure<'a> {
             | Failure::NoPage(_) => 2,
             Failure::CannotRead(_, _)
             | Failure::CannotWrite(_, _)
+            | Failure::BadTest(_, _, _)
+            | Failure::UnreadInTest(_, _, _)
             | Failure::Input
             | Failure::Output
             | Failure::TooMuchInput => 3,

@@ -24,6 +24,7 @@ use crate::output::{
 use crate::question::PictureForm;
 use crate::settings::Settings;
 use crate::tape::tape_of;
+use crate::testing::test_files;
 use crate::tracing::{Shown, compare_source, trace_source};
 use chip_arguments::{
     CommandLine, PictureWords, RunWords, SettingWords, TraceWords, not_text, parse_words,
@@ -45,7 +46,7 @@ use std::rt::Files;
 const INPUT: &str = "-";
 
 // A source of this length or more doesn't open.
-const MOST_SOURCE: u32 = SOURCE_BYTES as u32 + 1;
+pub(crate) const MOST_SOURCE: u32 = SOURCE_BYTES as u32 + 1;
 
 /// The program, with the words after its name. The answer is its status: 0 where it did what it was
 /// asked, 1 where the source has faults or doesn't open, 2 for words that it doesn't take, 3 where
@@ -168,6 +169,7 @@ fn perform<'a, F: Files, I: Read, O: Write>(
         CommandLine::Run(words) => run(alloc, files, &words, input, output),
         CommandLine::Trace(words) => trace(alloc, files, &words, input, output),
         CommandLine::Picture(words) => picture(alloc, files, &words, input, output),
+        CommandLine::Test(words) => test_files(alloc, files, &words, output),
         CommandLine::Explain { code } => explain(alloc, code, output),
     }
 }
@@ -191,7 +193,7 @@ fn show_help<'a, O: Write>(
 }
 
 // The settings that the words ask for.
-fn settings_of<'a>(alloc: Global, words: &SettingWords<'_>) -> Result<Settings, Failure<'a>>
+pub(crate) fn settings_of<'a>(alloc: Global, words: &SettingWords<'_>) -> Result<Settings, Failure<'a>>
     ensures ok { IfOk result (λ settings. settings_asked words.now ≡ Some settings) }
     ensures err { IfErr result (λ failure. (failure ≡ Failure.OutOfMemory)
         ⊎ ((failure ≡ Failure.BadTape) × (settings_asked words.now ≡ None))) }
@@ -303,7 +305,7 @@ fn file_name(source: &str) -> Option<&str> {
 }
 
 // Writes a file whole, or leaves what was there. A file of the names that are taken stays.
-fn write_image<'a, F: Files>(
+pub(crate) fn write_image<'a, F: Files>(
     alloc: Global,
     files: &F,
     taken: &[Option<&str>],
@@ -623,7 +625,7 @@ fn read_key_file<'a, F: Files>(
 }
 
 // The bytes of a file, unless there are over so many.
-fn read_bounded<'a, F: Files>(
+pub(crate) fn read_bounded<'a, F: Files>(
     alloc: Global,
     files: &F,
     name: &'a str,

@@ -4,6 +4,9 @@
 mod answer;
 mod ask;
 mod bench;
+mod case_report;
+mod case_run;
+mod case_setup;
 mod change;
 mod command;
 mod counted;
@@ -20,13 +23,14 @@ mod refusal;
 mod server;
 mod settings;
 mod tape;
+mod testing;
 mod text;
 mod tracing;
 
 pub use bench::Bench;
 pub use change::Change;
 pub use chip_arguments::{
-    CommandLine, PictureWords, RunWords, SettingWords, TraceWords, parse_words,
+    CommandLine, PictureWords, RunWords, SettingWords, TestWords, TraceWords, parse_words,
 };
 pub use chip_asm::OpenError;
 pub use chip_pages::{Example, Page, all_pages};

@@ -14,3 +14,6 @@ pub const KEY_FILE_BYTES: u32 = 10_000_000;
 
 /// The most bytes of a file with a trace.
 pub const TRACE_FILE_BYTES: u32 = 250_000_000;
+
+/// The most bytes of a file of cases.
+pub const TEST_FILE_BYTES: u32 = 10_000_000;

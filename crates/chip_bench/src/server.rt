@@ -374,8 +374,8 @@ pub(crate) fn write_whole<W: Write>(writer: &mut Counted<W>, bytes: &[u8]) -> Re
     Ok(())
 }
 
-// Puts the answer to one line of a script in the place of `answer`.
-fn respond(
+/// Puts the answer to one line of a script in the place of `answer`.
+pub(crate) fn respond(
     alloc: Global,
     bench: &mut Bench,
     line: &[u8],

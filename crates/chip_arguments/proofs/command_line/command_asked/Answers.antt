@@ -2,7 +2,7 @@ use Rattle.std.proofs.Common.{◌≡◌, ◌≢◌, codes, rules}
 use Rattle.clap.specs.Words.{found_of}
 use Rattle.chip_arguments.proofs.WordLemmas.{first_is}
 use Rattle.chip_arguments.proofs.command_line.command_asked.Goals as goal
-use Rattle.chip_arguments.proofs.command_line.command_asked.Goals.{in-asm, in-list, in-check, in-dis, in-run, in-trace, in-picture, in-explain, in_default}
+use Rattle.chip_arguments.proofs.command_line.command_asked.Goals.{in-asm, in-list, in-check, in-dis, in-run, in-trace, in-picture, in-test+in_ok-test_words-in-test, in-explain, in_default}
 
 pub returns-clause-asked : goal.returns-clause-asked
 returns-clause-asked c =
@@ -29,6 +29,9 @@ returns-clause-asked c =
       | in-picture w ↦
           let named : c.args.name.now ≡ codes "picture" = search rules in
           rw w.result-is (named, w.picture_words.ensures profile)
+      | in-test+in_ok-test_words-in-test w ↦
+          let named : c.args.name.now ≡ codes "test" = search rules in
+          rw w.result-is (named, w.in_ok-test_words-in-test.ensures)
       | in-explain w ↦
           let named : c.args.name.now ≡ codes "explain" = search rules in
           let code = first_is (found_of c.args.found.now) (codes "code") _ w.get_str.ensures in
@@ -41,7 +44,8 @@ returns-clause-asked c =
           let not_run : c.args.name.now ≢ codes "run" = search rules in
           let not_trace : c.args.name.now ≢ codes "trace" = search rules in
           let not_picture : c.args.name.now ≢ codes "picture" = search rules in
+          let not_test : c.args.name.now ≢ codes "test" = search rules in
           let not_explain : c.args.name.now ≢ codes "explain" = search rules in
           let source = first_is (found_of c.args.found.now) (codes "source") _ w.get_str-in_default.ensures in
-          rw w.result-is (not_asm, not_list, not_check, not_dis, not_run, not_trace, not_picture, not_explain, source, w.setting_words.ensures profile)
+          rw w.result-is (not_asm, not_list, not_check, not_dis, not_run, not_trace, not_picture, not_test, not_explain, source, w.setting_words.ensures profile)
     ]

@@ -42,6 +42,11 @@ returns-in-Picture g c =
     does_it g.I.Read.remaining g.O.Write.contents c.args.input.now c.picture.new.input c.args.output.now c.picture.new.output c.args.line _ c.picture.result
     c.in-Picture.is c.picture.ensures
 
+pub returns-in-Test : goal.returns-in-Test
+returns-in-Test g c =
+    does_it g.I.Read.remaining g.O.Write.contents c.args.input.now c.args.input.now c.args.output.now c.test_files.new.output c.args.line _ c.test_files.result
+    c.in-Test.is (c.test_files.ensures, refl)
+
 pub returns-in-Explain : goal.returns-in-Explain
 returns-in-Explain g c =
     does_it g.I.Read.remaining g.O.Write.contents c.args.input.now c.args.input.now c.args.output.now c.explain.new.output c.args.line _ c.explain.result

@@ -1,0 +1,118 @@
+-- What `test` finds of files of cases (own).
+--     Passes, CasePasses     each answer of a case's session is as expected
+--     SetBy, IsCaseSource, IsCaseKeys     what the lines of a case ask for
+--     Judges                 a case, the cases of a file and those of all files, and whether all pass
+--     Tests                  how the program ends
+use Rattle.std.specs.Prelude.{◌≡◌, ◌⊎◌, ℕ, ◌==◌, ◌&&◌, Bool, true, false, IsTrue, ◌↔◌, List, [], ◌∷◌, length, map, Option, Some, None, option_copied, Result, Ok, Err, if◌then◌else◌}
+use Rattle.std.specs.Borrow.{Bor}
+use Rattle.chip_arguments.specs.CommandWords.{IsProfile, ReadsNumber, ReadsOr}
+use Rattle.chip_arguments.specs.declared.command_line.SettingWords.{SettingWords}
+use Rattle.chip_arguments.specs.declared.command_line.TestWords.{TestWords}
+use Rattle.chip_asm.specs.Lines.{open_fault}
+use Rattle.chip_cases.specs.Cases.{AreCases}
+use Rattle.chip_cases.specs.Matching.{IsAnswered}
+use Rattle.chip_cases.specs.Steps.{Expectation, expectation_of}
+use Rattle.chip_cases.specs.declared.case.Case.{Case}
+use Rattle.chip_cases.specs.declared.case.Placed.{Placed}
+use Rattle.chip_cases.specs.declared.case.Setup.{Setup}
+use Rattle.chip_cases.specs.declared.case.SourceWords.{SourceWords}
+use Rattle.chip_cases.specs.declared.case.SourceWords.TheVariants as words
+use Rattle.chip_replay.specs.declared.limits.TheConstants.{LEAST_SPACING}
+use Rattle.chip_bench.specs.KeyFile.{key_fault, session_under}
+use Rattle.chip_bench.specs.Running.{failure_status}
+use Rattle.chip_bench.specs.Session.{Session, session_of}
+use Rattle.chip_bench.specs.SettingWords.{settings_asked}
+use Rattle.chip_bench.specs.Settings.{SessionSettings}
+use Rattle.chip_bench.specs.Transcript.{after, reply}
+use Rattle.chip_bench.specs.declared.case_run.Verdict.{Verdict}
+use Rattle.chip_bench.specs.declared.case_run.Verdict.TheVariants as verdict
+use Rattle.chip_bench.specs.declared.ending.Ending.{Ending}
+use Rattle.chip_bench.specs.declared.ending.Ending.TheVariants.{Done, Faulty}
+use Rattle.chip_bench.specs.declared.ending.Failure.{Failure}
+
+-- the answer of the session to each of these commands, one after another, is as expected
+abbrev pub Passes : Session → List Expectation → Type 0
+Passes session [] = Unit {0}
+Passes session (step ∷ steps) =
+    IsAnswered step.expected (reply session step.command)
+    × Passes (after session step.command) steps
+
+-- under the key events of a file, all of which can be made
+pub record PassesUnder (session : Session) (file : List ℕ) (steps : List Expectation) : Type 0 where
+  pub keys : key_fault session file ≡ None
+  pub answers : Passes (session_under session file) steps
+
+-- A case passes where its source opens, its key events can be made, and each answer of its session
+-- is as expected.
+pub record CasePasses (settings : SessionSettings) (source keys : List ℕ)
+    (steps : List Expectation) : Type 0 where
+  pub opens : open_fault source ≡ None
+  pub passes : PassesUnder (session_of settings source) keys steps
+
+-- all answers were as expected
+abbrev pub has_passed : Verdict → Bool
+has_passed (verdict.Unopened fault) = false
+has_passed (verdict.BadKeys number code) = false
+has_passed (verdict.Answered others) = length others.items == 0
+
+-- what a line of a case says, if there is one
+abbrev pub text_of : Option Placed → Option (List ℕ)
+text_of None = None
+text_of (Some placed) = Some placed.text.now
+
+-- the settings that the lines of a case ask for, as the words of the program ask for them
+pub record SetBy (setup : Setup) (words : SettingWords) : Type 0 where
+  pub rate : ReadsOr 32 (text_of setup.rate) 10 words.rate
+  pub tape : option_copied words.tape ≡ text_of setup.tape
+  pub seed : ReadsNumber 64 (text_of setup.seed) words.seed
+  pub profile : IsProfile (text_of setup.profile) words.profile
+  pub spacing : ReadsOr 32 (text_of setup.every) LEAST_SPACING words.spacing
+
+-- the source of a case: nothing, its lines, or the bytes of a file, of which no contract speaks
+abbrev pub IsCaseSource : SourceWords → List ℕ → Type 0
+IsCaseSource words.Empty source = source ≡ []
+IsCaseSource (words.Lines lines) source = source ≡ lines.now
+IsCaseSource (words.File name) source = Unit {0}
+
+-- its key events: none, or those of a file
+abbrev pub IsCaseKeys : Option Placed → List ℕ → Type 0
+IsCaseKeys None keys = keys ≡ []
+IsCaseKeys (Some name) keys = Unit {0}
+
+-- whether a case passes, on the source, the key events and the settings that its lines ask for
+pub record JudgesCase (case : Case) (passes : Bool) : Type 0 where
+  pub words : SettingWords
+  pub settings : SessionSettings
+  pub source : List ℕ
+  pub keys : List ℕ
+  pub set_by : SetBy case.setup words
+  pub settings_are : settings_asked words ≡ Some settings
+  pub source_is : IsCaseSource case.setup.source source
+  pub keys_are : IsCaseKeys case.setup.keys keys
+  pub judged : IsTrue passes
+      ↔ CasePasses settings source keys (map expectation_of case.steps.items)
+
+-- whether all of these pass, where `Judges` says it of one
+abbrev pub JudgesAll : {A : Type 0} → (A → Bool → Type 0) → List A → Bool → Type 0
+JudgesAll Judges [] passes = passes ≡ true
+JudgesAll Judges (x ∷ xs) passes =
+    (one : Bool) × ((others : Bool)
+    × Judges x one × JudgesAll Judges xs others × (passes ≡ (one && others)))
+
+-- the cases of a file, of whose bytes no contract speaks
+abbrev pub JudgesFile : Bor (List ℕ) → Bool → Type 0
+JudgesFile name passes =
+    (text : List ℕ) × ((cases : List Case)
+    × AreCases text cases × JudgesAll JudgesCase cases passes)
+
+-- what hinders a test: a file that can't be read or written, one that isn't of cases, an output
+-- that fails, or that memory ran out
+abbrev pub IsHindrance : Failure → Type 0
+IsHindrance why = (failure_status why ≡ 3) ⊎ (failure_status why ≡ 4)
+
+-- `test`: the status is 0 where all cases of all files pass, and 1 where one doesn't
+abbrev pub Tests : TestWords → Result Ending Failure → Type 0
+Tests words (Ok ending) =
+    (passes : Bool) × JudgesAll JudgesFile words.files.items passes
+    × (ending ≡ (if passes then Done else Faulty))
+Tests words (Err why) = IsHindrance why

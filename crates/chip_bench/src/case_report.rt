@@ -1,0 +1,208 @@
+//! What is printed of cases: those that failed, and how many passed.
+
+use crate::case_run::Verdict;
+use chip_cases::{Case, Given, Step, difference_text};
+use chip_pages::all_pages;
+use itoa::Buffer;
+use std::alloc::{AllocError, Global};
+use std::fmt::Write;
+
+/// The outcomes of cases, as text.
+#[derive(Drop)]
+pub(crate) struct Report {
+    text: Vec<u8>,
+    is_tap: bool,
+    passed: u64,
+    failed: u64,
+}
+
+impl Report {
+    /// Of no case, in the form of the Test Anything Protocol if `is_tap` says so.
+    pub(crate) fn new(alloc: Global, is_tap: bool) -> Self {
+        Report {
+            text: Vec::new(alloc),
+            is_tap,
+            passed: 0,
+            failed: 0,
+        }
+    }
+
+    /// What is to be printed.
+    pub(crate) fn text(&self) -> &[u8] {
+        &self.text
+    }
+
+    /// Forgets what was printed.
+    pub(crate) fn clear(&mut self) {
+        self.text.clear();
+    }
+
+    /// Adds the outcome of a case of a file.
+    pub(crate) fn push_case(
+        &mut self,
+        alloc: Global,
+        file: &str,
+        case: &Case<'_>,
+        verdict: &Verdict,
+    ) -> Result<(), AllocError> {
+        let has_passed = verdict.has_passed();
+        if has_passed {
+            self.passed = self.passed.saturating_add(1);
+        } else {
+            self.failed = self.failed.saturating_add(1);
+        }
+        if self.is_tap {
+            self.push_tap_line(file, case, has_passed)?;
+        }
+        if !has_passed {
+            let details = failure_text(alloc, file, case, verdict)?;
+            self.push_details(&details)?;
+        }
+        Ok(())
+    }
+
+    /// Adds how many cases passed, and how many failed.
+    pub(crate) fn push_counts(&mut self) -> Result<(), AllocError> {
+        if self.is_tap {
+            self.text.extend_from_slice(b"1..")?;
+            push_number(&mut self.text, self.passed.saturating_add(self.failed))?;
+        } else {
+            push_number(&mut self.text, self.passed)?;
+            self.text.extend_from_slice(b" passed, ")?;
+            push_number(&mut self.text, self.failed)?;
+            self.text.extend_from_slice(b" failed")?;
+        }
+        self.text.extend_from_slice(b"\n")
+    }
+
+    fn push_tap_line(
+        &mut self,
+        file: &str,
+        case: &Case<'_>,
+        has_passed: bool,
+    ) -> Result<(), AllocError> {
+        if !has_passed {
+            self.text.extend_from_slice(b"not ")?;
+        }
+        self.text.extend_from_slice(b"ok ")?;
+        push_number(&mut self.text, self.passed.saturating_add(self.failed))?;
+        self.text.extend_from_slice(b" - ")?;
+        self.text.extend_from_slice(file.as_bytes())?;
+        if !case.name.is_empty() {
+            self.text.extend_from_slice(b": ")?;
+            self.text.extend_from_slice(case.name)?;
+        }
+        self.text.extend_from_slice(b"\n")
+    }
+
+    // Adds lines, which are comments in the Test Anything Protocol.
+    fn push_details(&mut self, details: &[u8]) -> Result<(), AllocError> {
+        if !self.is_tap {
+            return self.text.extend_from_slice(details);
+        }
+        let mut is_begun = true;
+        for byte in details {
+            if is_begun {
+                self.text.extend_from_slice(b"# ")?;
+            }
+            self.text.push(*byte)?;
+            is_begun = *byte == b'\n';
+        }
+        Ok(())
+    }
+}
+
+// Why a case failed.
+fn failure_text(
+    alloc: Global,
+    file: &str,
+    case: &Case<'_>,
+    verdict: &Verdict,
+) -> Result<Vec<u8>, AllocError> {
+    let mut text = Vec::new(alloc);
+    match verdict {
+        Verdict::Unopened(why) => {
+            push_place(&mut text, file, case.line, case.name)?;
+            let why = format!(in alloc; "the source does not open: {why}\n")?;
+            text.extend_from_slice(why.as_bytes())?;
+        }
+        Verdict::BadKeys(number, code) => {
+            push_place(&mut text, file, case.line, case.name)?;
+            let line = format!(in alloc; "line {number} of the key events: no ")?;
+            text.extend_from_slice(line.as_bytes())?;
+            text.extend_from_slice(code.0)?;
+            push_title(&mut text, code.0)?;
+            text.push(b'\n')?;
+        }
+        Verdict::Answered(others) => {
+            for step in &case.steps {
+                if let Some(given) = answer_at(others, step.line) {
+                    push_place(&mut text, file, step.line, case.name)?;
+                    push_other_answer(alloc, &mut text, step, given)?;
+                }
+            }
+        }
+    }
+    Ok(text)
+}
+
+// The answer to the command of that line.
+fn answer_at(others: &[Given], line: usize) -> Option<&Given> {
+    others.iter().find(|given| given.line == line)
+}
+
+// Adds the place of a failure: the file, the line and the case.
+fn push_place(
+    text: &mut Vec<u8>,
+    file: &str,
+    line: usize,
+    name: &[u8],
+) -> Result<(), AllocError> {
+    text.extend_from_slice(file.as_bytes())?;
+    text.push(b':')?;
+    push_number(text, line as u64)?;
+    text.extend_from_slice(b": ")?;
+    if !name.is_empty() {
+        text.extend_from_slice(b"case ")?;
+        text.extend_from_slice(name)?;
+        text.extend_from_slice(b": ")?;
+    }
+    Ok(())
+}
+
+// Adds a command, why it was refused where that isn't expected, and what its answer is in the place
+// of what is expected.
+fn push_other_answer(
+    alloc: Global,
+    text: &mut Vec<u8>,
+    step: &Step<'_>,
+    given: &Given,
+) -> Result<(), AllocError> {
+    text.extend_from_slice(step.command)?;
+    if let [b'n', b'o', b' ', code @ .., b'\n'] = given.answer.as_slice()
+        && given.is_refused
+    {
+        push_title(text, code)?;
+    }
+    text.push(b'\n')?;
+    let difference = difference_text(alloc, &step.expected, &given.answer)?;
+    text.extend_from_slice(&difference)
+}
+
+// Adds what a code means, where it is known.
+fn push_title(text: &mut Vec<u8>, code: &[u8]) -> Result<(), AllocError> {
+    for group in &all_pages() {
+        for page in *group {
+            if page.code.as_bytes() == code {
+                text.extend_from_slice(b": refused, ")?;
+                text.extend_from_slice(page.title.as_bytes())?;
+            }
+        }
+    }
+    Ok(())
+}
+
+fn push_number(text: &mut Vec<u8>, number: u64) -> Result<(), AllocError> {
+    let mut digits = Buffer::new();
+    text.extend_from_slice(digits.format(number).as_bytes())
+}

@@ -1,0 +1,113 @@
+//! A case that is carried out: the answers of its session, beside those that are expected.
+ghost use Rattle.std.specs.Prelude.{◌≡◌, ◌↔◌, [], IsTrue, IfOk, OnOk, map};
+ghost use Rattle.chip_cases.specs.Steps.{expectation_of};
+ghost use Rattle.chip_bench.specs.Testing.{CasePasses, Passes, PassesUnder, has_passed};
+
+use crate::bench::Bench;
+use crate::ending::Code;
+use crate::key_file::{KeyFileError, insert_keys};
+use crate::server::respond;
+use crate::settings::Settings;
+use chip_asm::OpenError;
+use chip_cases::{Given, Step, is_answered, is_refusal};
+use std::alloc::{AllocError, Global};
+
+/// How a case ended.
+#[derive(Drop)]
+pub(crate) enum Verdict {
+    /// Its source doesn't open.
+    Unopened(OpenError),
+    /// The line of that number of its key events is refused.
+    BadKeys(usize, Code),
+    /// All commands were answered. These are the answers that were not as expected, in their order.
+    Answered(Vec<Given>),
+}
+
+impl Verdict {
+    /// Whether all answers were as expected.
+    pub(crate) fn has_passed(&self) -> bool
+        ensures { result ≡ has_passed self.now }
+    {
+        match self {
+            Verdict::Answered(others) => others.is_empty(),
+            Verdict::Unopened(_) | Verdict::BadKeys(_, _) => false,
+        }
+    }
+}
+
+/// Carries out the commands of a case on a source, under key events and settings.
+///
+/// # Errors
+///
+/// Out of memory.
+pub(crate) fn run_case(
+    alloc: Global,
+    source: &[u8],
+    settings: Settings,
+    keys: &[u8],
+    steps: &[Step<'_>],
+) -> Result<Verdict, AllocError>
+    ensures { IfOk result (λ verdict. IsTrue (has_passed verdict)
+        ↔ CasePasses settings source.now keys.now (map expectation_of steps.now)) }
+{
+    match Bench::open(alloc, source, settings) {
+        Ok(mut bench) => run_under(alloc, &mut bench, keys, steps),
+        Err(OpenError::OutOfMemory) => Err(AllocError),
+        Err(error) => Ok(Verdict::Unopened(error)),
+    }
+}
+
+fn run_under(
+    alloc: Global,
+    bench: &mut Bench,
+    keys: &[u8],
+    steps: &[Step<'_>],
+) -> Result<Verdict, AllocError>
+    ensures { IfOk result (λ verdict. IsTrue (has_passed verdict)
+        ↔ PassesUnder bench.old.session keys.now (map expectation_of steps.now)) }
+{
+    match insert_keys(alloc, bench, keys) {
+        Ok(()) => Ok(Verdict::Answered(other_answers(alloc, bench, steps)?)),
+        Err(KeyFileError::OutOfMemory) => Err(AllocError),
+        Err(KeyFileError::Line(number, code)) => Ok(Verdict::BadKeys(number, Code(code))),
+    }
+}
+
+// The answers that are not as expected. All commands are carried out.
+fn other_answers(
+    alloc: Global,
+    bench: &mut Bench,
+    steps: &[Step<'_>],
+) -> Result<Vec<Given>, AllocError>
+    ensures { IfOk result (λ others. (others.items ≡ [])
+        ↔ Passes bench.old.session (map expectation_of steps.now)) }
+{
+    let mut others = Vec::new(alloc);
+    for step in steps {
+        let mut answer = Vec::new(alloc);
+        respond(alloc, bench, step.command, &mut answer)?;
+        let is_expected = is_answered(alloc, &step.expected, &answer)?;
+        keep_other(&mut others, step.line, answer, is_expected)?;
+    }
+    Ok(others)
+}
+
+// Keeps the answer to the command of a line where it is not as expected.
+fn keep_other(
+    others: &mut Vec<Given>,
+    line: usize,
+    answer: Vec<u8>,
+    is_expected: bool,
+) -> Result<(), AllocError>
+    ensures { OnOk result ((others.new.items ≡ [])
+        ↔ ((others.old.items ≡ []) × IsTrue is_expected)) }
+{
+    if !is_expected {
+        others.push(Given {
+            line,
+            is_refused: is_refusal(&answer),
+            answer,
+        })?;
+    }
+    Ok(())
+}

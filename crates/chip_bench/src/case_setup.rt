@@ -1,0 +1,190 @@
+//! The settings, the source and the key events that the lines of a case ask for.
+ghost use Rattle.std.specs.Prelude.{◌≡◌, IfOk, IfErr, Some, option_copied};
+ghost use Rattle.chip_arguments.specs.CommandWords.{IsProfile, ReadsNumber, ReadsOr};
+ghost use Rattle.chip_bench.specs.SettingWords.{settings_asked};
+ghost use Rattle.chip_bench.specs.Testing.{IsCaseKeys, IsCaseSource, IsHindrance, SetBy, text_of};
+
+use crate::ending::{Failure, TestFault};
+use crate::entry::{MOST_SOURCE, settings_of};
+use crate::limits::KEY_FILE_BYTES;
+use crate::settings::Settings;
+use chip_arguments::limits::MOST_RATE;
+use chip_arguments::{SettingWords, number, seed};
+use chip_cases::{Placed, Setup, SourceWords};
+use chip_files::read_file;
+use chip_machine::Profile;
+use chip_replay::{LEAST_SPACING, MOST_SPACING};
+use std::alloc::Global;
+use std::path::Path;
+use std::rt::Files;
+use std::{io, str};
+
+// Why a line of a case can't be met, with its number.
+#[derive(Clone, Copy)]
+struct BadLine {
+    line: usize,
+    why: TestFault,
+}
+
+/// The settings that the lines of a case ask for.
+pub(crate) fn case_settings<'a>(
+    alloc: Global,
+    name: &'a str,
+    setup: &Setup<'_>,
+) -> Result<Settings, Failure<'a>>
+    ensures ok { IfOk result (λ settings. (words : SettingWords) × SetBy setup.now words
+        × (settings_asked words ≡ Some settings)) }
+    ensures err { IfErr result IsHindrance }
+{
+    let words = match setting_words(setup) {
+        Ok(words) => words,
+        Err(bad) => return Err(Failure::BadTest(name, bad.line, bad.why)),
+    };
+    match settings_of(alloc, &words) {
+        Ok(settings) => Ok(settings),
+        Err(Failure::OutOfMemory) => Err(Failure::OutOfMemory),
+        Err(_) => {
+            let line = setup.tape.map_or(1, |tape| tape.line);
+            Err(Failure::BadTest(name, line, TestFault::Tape))
+        }
+    }
+}
+
+fn setting_words<'t>(setup: &Setup<'t>) -> Result<SettingWords<'t>, BadLine>
+    ensures { IfOk result (SetBy setup.now) }
+{
+    Ok(SettingWords {
+        rate: number_of(setup.rate, SettingWords::DEFAULT.rate, 1, MOST_RATE)?,
+        tape: text_of(setup.tape)?,
+        seed: seed_of(setup.seed)?,
+        profile: profile_of(setup.profile)?,
+        spacing: number_of(setup.every, LEAST_SPACING, LEAST_SPACING, MOST_SPACING)?,
+    })
+}
+
+fn text_of(placed: Option<Placed<'_>>) -> Result<Option<&str>, BadLine>
+    ensures { IfOk result (λ text. option_copied text ≡ text_of placed.entry) }
+{
+    let Some(Placed { line, text }) = placed else {
+        return Ok(None);
+    };
+    match str::from_utf8(text) {
+        Ok(text) => Ok(Some(text)),
+        Err(_) => Err(BadLine {
+            line,
+            why: TestFault::NotText,
+        }),
+    }
+}
+
+// A number from `least` to `most`, or the default without a text.
+fn number_of(
+    placed: Option<Placed<'_>>,
+    default: u32,
+    least: u32,
+    most: u32,
+) -> Result<u32, BadLine>
+    ensures { IfOk result (ReadsOr 32 (text_of placed.entry) default) }
+{
+    let read = number(text_of(placed)?);
+    match (read, placed) {
+        (Some(number), Some(placed)) if number < least || number > most => Err(BadLine {
+            line: placed.line,
+            why: TestFault::Number,
+        }),
+        (Some(number), _) => Ok(number),
+        (None, Some(placed)) => Err(BadLine {
+            line: placed.line,
+            why: TestFault::Number,
+        }),
+        (None, None) => Ok(default),
+    }
+}
+
+fn seed_of(placed: Option<Placed<'_>>) -> Result<Option<u64>, BadLine>
+    ensures { IfOk result (ReadsNumber 64 (text_of placed.entry)) }
+{
+    let read = seed(text_of(placed)?);
+    match (read, placed) {
+        (None, Some(placed)) => Err(BadLine {
+            line: placed.line,
+            why: TestFault::Number,
+        }),
+        _ => Ok(read),
+    }
+}
+
+fn profile_of(placed: Option<Placed<'_>>) -> Result<Profile, BadLine>
+    ensures { IfOk result (IsProfile (text_of placed.entry)) }
+{
+    let (Some(name), Some(placed)) = (text_of(placed)?, placed) else {
+        return Ok(Profile::Schip);
+    };
+    match Profile::from_name(name) {
+        Some(profile) => Ok(profile),
+        None => Err(BadLine {
+            line: placed.line,
+            why: TestFault::Profile,
+        }),
+    }
+}
+
+/// The source of a case.
+pub(crate) fn case_source<'a, F: Files>(
+    alloc: Global,
+    files: &F,
+    name: &'a str,
+    source: SourceWords<'_>,
+) -> Result<Vec<u8>, Failure<'a>>
+    ensures ok { IfOk result (λ bytes. IsCaseSource source.entry bytes.items) }
+    ensures err { IfErr result IsHindrance }
+{
+    match source {
+        SourceWords::Empty => Ok(Vec::new(alloc)),
+        SourceWords::Lines(lines) => Ok(Vec::from_slice(alloc, lines)?),
+        SourceWords::File(placed) => read_named(alloc, files, name, placed, MOST_SOURCE),
+    }
+}
+
+/// The bytes of a case's file of key events, or none without one.
+pub(crate) fn case_keys<'a, F: Files>(
+    alloc: Global,
+    files: &F,
+    name: &'a str,
+    keys: Option<Placed<'_>>,
+) -> Result<Vec<u8>, Failure<'a>>
+    ensures ok { IfOk result (λ bytes. IsCaseKeys keys.entry bytes.items) }
+    ensures err { IfErr result IsHindrance }
+{
+    let Some(placed) = keys else {
+        return Ok(Vec::new(alloc));
+    };
+    let most = KEY_FILE_BYTES.saturating_add(1);
+    let bytes = read_named(alloc, files, name, placed, most)?;
+    if bytes.len() > KEY_FILE_BYTES as usize {
+        let error = io::Error::new(io::ErrorKind::InvalidData, "it has over 10000000 bytes");
+        return Err(Failure::UnreadInTest(name, placed.line, error));
+    }
+    Ok(bytes)
+}
+
+// The bytes of a file that is named from the folder of the file of cases.
+fn read_named<'a, F: Files>(
+    alloc: Global,
+    files: &F,
+    name: &'a str,
+    placed: Placed<'_>,
+    most: u32,
+) -> Result<Vec<u8>, Failure<'a>>
+    ensures { IfErr result IsHindrance }
+{
+    let Ok(own_name) = str::from_utf8(placed.text) else {
+        return Err(Failure::BadTest(name, placed.line, TestFault::NotText));
+    };
+    let path = Path::new(name).with_file_name(alloc, own_name)?;
+    match read_file(alloc, files, path.as_str(), most) {
+        Ok(bytes) => Ok(bytes),
+        Err(error) if error.kind() == io::ErrorKind::OutOfMemory => Err(Failure::OutOfMemory),
+        Err(error) => Err(Failure::UnreadInTest(name, placed.line, error)),
+    }
+}

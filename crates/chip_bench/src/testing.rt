@@ -1,0 +1,127 @@
+//! `test`: the cases of files, beside the answers that they expect.
+ghost use Rattle.std.specs.Prelude.{IfOk, IfErr};
+ghost use Rattle.chip_bench.specs.Testing.{IsHindrance, JudgesAll, JudgesCase, JudgesFile, Tests, has_passed};
+
+use crate::case_report::Report;
+use crate::case_run::{Verdict, run_case};
+use crate::case_setup::{case_keys, case_settings, case_source};
+use crate::counted::Counted;
+use crate::ending::{Ending, Failure, TestFault};
+use crate::entry::{read_bounded, write_image};
+use crate::limits::TEST_FILE_BYTES;
+use crate::output::print;
+use chip_arguments::TestWords;
+use chip_cases::{Case, FileFault, Given, misplaced_refusal, read_cases, updated_text};
+use std::alloc::{AllocError, Global};
+use std::io::Write;
+use std::rt::Files;
+
+/// `test`: carries out the cases of the files, one file after another, and prints what failed.
+pub(crate) fn test_files<'a, F: Files, O: Write>(
+    alloc: Global,
+    files: &F,
+    words: &TestWords<'a>,
+    output: &mut Counted<O>,
+) -> Result<Ending, Failure<'a>>
+    ensures { Tests words.now result }
+{
+    let mut report = Report::new(alloc, words.is_tap);
+    let mut has_passed = true;
+    for name in &words.files {
+        let passes = test_file(alloc, files, name, words.is_update, &mut report)?;
+        has_passed = has_passed && passes;
+        print(report.text(), Ending::Done, output)?;
+        report.clear();
+    }
+    report.push_counts()?;
+    print(report.text(), Ending::Done, output)?;
+    Ok(if has_passed {
+        Ending::Done
+    } else {
+        Ending::Faulty
+    })
+}
+
+// Carries out the cases of a file, and says whether all pass.
+fn test_file<'a, F: Files>(
+    alloc: Global,
+    files: &F,
+    name: &'a str,
+    is_update: bool,
+    report: &mut Report,
+) -> Result<bool, Failure<'a>>
+    ensures ok { IfOk result (JudgesFile name.entry) }
+    ensures err { IfErr result IsHindrance }
+{
+    let text = read_bounded(
+        alloc,
+        files,
+        name,
+        TEST_FILE_BYTES,
+        "it has over 10000000 bytes",
+    )?;
+    let cases = match read_cases(alloc, &text) {
+        Ok(cases) => cases,
+        Err(FileFault::OutOfMemory) => return Err(Failure::OutOfMemory),
+        Err(FileFault::Line(line, why)) => {
+            return Err(Failure::BadTest(name, line, TestFault::Line(why)));
+        }
+    };
+    if !is_update && let Some((line, why)) = misplaced_refusal(&cases) {
+        return Err(Failure::BadTest(name, line, TestFault::Line(why)));
+    }
+    let mut others = Vec::new(alloc);
+    let passes = test_cases(alloc, files, name, &cases, report, &mut others)?;
+    if is_update && !others.is_empty() {
+        let updated = updated_text(alloc, &text, &others)?;
+        write_image(alloc, files, &[], name, &updated)?;
+    }
+    Ok(passes)
+}
+
+// Carries out cases, says whether all pass, and adds the answers that are not as expected.
+fn test_cases<'a, F: Files>(
+    alloc: Global,
+    files: &F,
+    name: &'a str,
+    cases: &[Case<'_>],
+    report: &mut Report,
+    others: &mut Vec<Given>,
+) -> Result<bool, Failure<'a>>
+    ensures ok { IfOk result (JudgesAll JudgesCase cases.now) }
+    ensures err { IfErr result IsHindrance }
+{
+    let mut has_passed = true;
+    for case in cases {
+        let verdict = test_case(alloc, files, name, case)?;
+        has_passed = has_passed && verdict.has_passed();
+        report.push_case(alloc, name, case, &verdict)?;
+        if let Verdict::Answered(given) = verdict {
+            push_all(others, given)?;
+        }
+    }
+    Ok(has_passed)
+}
+
+fn push_all(others: &mut Vec<Given>, given: Vec<Given>) -> Result<(), AllocError> {
+    for answer in given {
+        others.push(answer)?;
+    }
+    Ok(())
+}
+
+// Carries out a case on the source, the key events and the settings that its lines ask for.
+fn test_case<'a, F: Files>(
+    alloc: Global,
+    files: &F,
+    name: &'a str,
+    case: &Case<'_>,
+) -> Result<Verdict, Failure<'a>>
+    ensures ok { IfOk result (λ verdict. JudgesCase case.now (has_passed verdict)) }
+    ensures err { IfErr result IsHindrance }
+{
+    let settings = case_settings(alloc, name, &case.setup)?;
+    let source = case_source(alloc, files, name, case.setup.source)?;
+    let keys = case_keys(alloc, files, name, case.setup.keys)?;
+    Ok(run_case(alloc, &source, settings, &keys, &case.steps)?)
+}

@@ -1,0 +1,2 @@
+pub mod CaseLemmas
+pub mod RowLemmas

@@ -1,0 +1,13 @@
+use Rattle.std.proofs.Common.{◌≡◌, ◌≤◌, length, true}
+use Rattle.std.specs.Str.Lines.{lines}
+use Rattle.chip_cases.specs.Cases.{behind_setup}
+use Rattle.chip_cases.proofs.reading.read_source.Given as goal
+
+abbrev pub invariant-loop-place : goal.invariant-loop-place
+invariant-loop-place l = record {
+  behind : behind_setup true (lines l.place.rest.now) ≡ behind_setup true (lines l.fn.begun.rest.now);
+  shorter : length l.place.rest.now ≤ length l.fn.begun.rest.now;
+}
+
+abbrev pub decreases-loop-place : goal.decreases-loop-place
+decreases-loop-place l = length l.place.rest.now

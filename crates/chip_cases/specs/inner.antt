@@ -1,0 +1,2 @@
+-- What private contracts say.
+pub mod Rows

@@ -1,0 +1,18 @@
+//! Files of cases: sessions of the workbench, each with the answers that are expected.
+#![tactic(auto)]
+
+mod case;
+mod difference;
+mod fault;
+mod line;
+mod matching;
+mod place;
+mod reading;
+mod update;
+
+pub use case::{Case, Placed, Setup, SourceWords, Step};
+pub use difference::difference_text;
+pub use fault::{CaseFault, FileFault};
+pub use matching::{is_answered, is_refusal};
+pub use reading::{misplaced_refusal, read_cases};
+pub use update::{Given, updated_text};

@@ -1,0 +1,77 @@
+//! A file of cases with other answers.
+
+use crate::line::{begins_part, is_skipped};
+use crate::place::Place;
+use std::alloc::{AllocError, Global};
+
+/// An answer that was given to a command.
+#[derive(Drop)]
+pub struct Given {
+    /// The number of the command's line, from 1.
+    pub line: usize,
+    /// Whether the command was refused.
+    pub is_refused: bool,
+    pub answer: Vec<u8>,
+}
+
+/// The text of a file of cases with these answers in the place of what is expected of their
+/// commands, which stand in the order of their lines. Comments and all other lines stay, in their
+/// order.
+///
+/// # Errors
+///
+/// Out of memory.
+pub fn updated_text(alloc: Global, text: &[u8], given: &[Given]) -> Result<Vec<u8>, AllocError> {
+    let mut updated = Vec::with_capacity(alloc, text.len())?;
+    let mut left = given;
+    let mut is_replaced = false;
+    let mut place = Place::start(text);
+    while !place.rest.is_empty() {
+        let (line, next) = place.next_line();
+        let whole = &place.rest[..place.rest.len() - next.rest.len()];
+        place = next;
+        if let [answered, others @ ..] = left
+            && answered.line == next.number
+        {
+            push_answered(&mut updated, whole, answered)?;
+            is_replaced = true;
+            left = others;
+            continue;
+        }
+        if begins_part(line) {
+            is_replaced = false;
+        }
+        if !is_replaced || is_skipped(line) {
+            updated.extend_from_slice(whole)?;
+        }
+    }
+    Ok(updated)
+}
+
+// Adds a command's line with the mark that its answer asks for, and the answer without empty lines.
+fn push_answered(updated: &mut Vec<u8>, whole: &[u8], given: &Given) -> Result<(), AllocError> {
+    updated.push(if given.is_refused { b'!' } else { b'>' })?;
+    if let [_, rest @ ..] = whole {
+        updated.extend_from_slice(rest)?;
+    }
+    push_newline(updated)?;
+    let mut place = Place::start(&given.answer);
+    while !place.rest.is_empty() {
+        let (line, next) = place.next_line();
+        if !line.is_empty() {
+            updated.extend_from_slice(line)?;
+            updated.push(b'\n')?;
+        }
+        place = next;
+    }
+    Ok(())
+}
+
+// Ends a last line that no newline ends.
+fn push_newline(updated: &mut Vec<u8>) -> Result<(), AllocError> {
+    match updated.last() {
+        Some(b'\n') => {}
+        _ => updated.push(b'\n')?,
+    }
+    Ok(())
+}
