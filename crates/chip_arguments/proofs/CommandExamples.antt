@@ -1,5 +1,8 @@
 -- Worked examples: command lines with the kinds of fault that `clap` finds in them.
-use Rattle.std.proofs.Common.{◌≡◌, [], ◌∷◌, codes, true, refl, Some, None, option_map}
+use Rattle.std.proofs.Common.{◌≡◌, List, Bool, [], ◌∷◌, ◌++◌, codes, true, false, map, refl, Some, None, option_map}
+use Rattle.std.specs.List.{list_all}
+use Rattle.clap.specs.Simple.{Shape, built}
+use Rattle.chip_arguments.specs.inner.Built.{command_names}
 use Rattle.clap.specs.Words.{fault_of, first_of, is_simple, is_simple_and_free, subcommand_of, one_of}
 use Rattle.clap.specs.declared.error.kind.ErrorKind.TheVariants as kind
 use Rattle.clap.proofs.OnLiterals.{clap_on_literals}
@@ -66,3 +69,19 @@ run_prints_no_sums = refl
 first_step : option_map (λ p. first_of (codes "from") p.1) (subcommand_of chipbench (codes "trace" ∷ codes "a" ∷ codes "--steps" ∷ codes "9" ∷ [])) ≡ Some (Some (codes "0"))
 unfolding chipbench_on_literals
 first_step = refl
+
+pub names_built : map (λ (s : Shape). s.name) (built chipbench).subs ≡ command_names ++ codes "help" ∷ []
+unfolding chipbench_on_literals
+names_built = refl
+
+abbrev pub has_none : {T : Type 0} → List T → Bool
+has_none [] = true
+has_none (x ∷ xs) = false
+
+pub no_aliases : list_all (λ (s : Shape). has_none s.aliases) (built chipbench).subs ≡ true
+unfolding chipbench_on_literals
+no_aliases = refl
+
+pub takes_help : (built chipbench).top.disable_help_subcommand ≡ false
+unfolding chipbench_on_literals
+takes_help = refl

@@ -1,5 +1,5 @@
 -- What the words of the command line ask for, by the values that `clap` finds in them (own).
-use Rattle.std.specs.Prelude.{◌≡◌, ◌≢◌, ℕ, ◌<◌, ◌^◌, Bool, true, false, List, [], ◌∷◌, codes, Option, Some, None, option_copied, unwrap_or, if◌then◌else◌}
+use Rattle.std.specs.Prelude.{◌≡◌, ℕ, ◌<◌, ◌^◌, Bool, true, false, List, [], ◌∷◌, codes, Option, Some, None, option_copied, unwrap_or, if◌then◌else◌}
 use Rattle.std.specs.Char.{is_ascii_digit}
 use Rattle.std.specs.List.{list_all, list_any}
 use Rattle.std.specs.Str.{bytes_eq}
@@ -146,9 +146,7 @@ Asks name rows (line.Picture words) = (name ≡ codes "picture") × AsksPicture 
 Asks name rows (line.Explain code) =
     (name ≡ codes "explain") × (option_copied code ≡ first_of (codes "code") rows)
 Asks name rows (line.Debug source settings) =
-    (name ≢ codes "asm") × (name ≢ codes "list") × (name ≢ codes "check") × (name ≢ codes "dis")
-    × (name ≢ codes "run") × (name ≢ codes "trace")
-    × (name ≢ codes "picture") × (name ≢ codes "explain")
+    (name ≡ codes "debug")
     × (option_copied source ≡ first_of (codes "source") rows) × AsksSettings rows settings
 
 -- what the words ask for, by the command that they name; without one, a session on the empty source
