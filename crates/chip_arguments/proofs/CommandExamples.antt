@@ -1,6 +1,9 @@
 -- Worked examples: command lines with the kinds of fault that `clap` finds in them.
-use Rattle.std.proofs.Common.{◌≡◌, [], ◌∷◌, codes, true, refl, Some, None, option_map}
+use Rattle.std.proofs.Common.{◌≡◌, [], ◌∷◌, codes, true, refl, Some, None, option_map, List, Bool, ◌++◌, false, map}
 use Rattle.clap.specs.Words.{all_of, fault_of, first_of, is_simple, is_simple_and_free, subcommand_of, one_of}
+use Rattle.std.specs.List.{list_all}
+use Rattle.clap.specs.Simple.{Shape, built}
+use Rattle.chip_arguments.specs.inner.Built.{command_names}
 use Rattle.clap.specs.declared.error.kind.ErrorKind.TheVariants as kind
 use Rattle.clap.proofs.OnLiterals.{clap_on_literals}
 use Rattle.std.specs.Prelude.{⊤}
@@ -79,3 +82,19 @@ takes_each_file : option_map (λ p. all_of (codes "files") p.1) (subcommand_of c
     ≡ Some (Some (codes "a" ∷ codes "b" ∷ []))
 unfolding chipbench_on_literals
 takes_each_file = refl
+
+pub names_built : map (λ (s : Shape). s.name) (built chipbench).subs ≡ command_names ++ codes "help" ∷ []
+unfolding chipbench_on_literals
+names_built = refl
+
+abbrev pub has_none : {T : Type 0} → List T → Bool
+has_none [] = true
+has_none (x ∷ xs) = false
+
+pub no_aliases : list_all (λ (s : Shape). has_none s.aliases) (built chipbench).subs ≡ true
+unfolding chipbench_on_literals
+no_aliases = refl
+
+pub takes_help : (built chipbench).top.disable_help_subcommand ≡ false
+unfolding chipbench_on_literals
+takes_help = refl

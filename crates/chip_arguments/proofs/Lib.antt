@@ -1,5 +1,6 @@
 pub mod CommandLemmas
 pub mod CommandExamples
 pub mod FaultLemmas
+pub mod NameLemmas
 pub mod NumberLemmas
 pub mod WordLemmas

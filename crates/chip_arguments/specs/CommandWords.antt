@@ -154,9 +154,7 @@ Asks name rows (line.Test words) = (name ≡ codes "test") × AsksTest rows word
 Asks name rows (line.Explain code) =
     (name ≡ codes "explain") × (option_copied code ≡ first_of (codes "code") rows)
 Asks name rows (line.Debug source settings) =
-    (name ≢ codes "asm") × (name ≢ codes "list") × (name ≢ codes "check") × (name ≢ codes "dis")
-    × (name ≢ codes "run") × (name ≢ codes "trace")
-    × (name ≢ codes "picture") × (name ≢ codes "test") × (name ≢ codes "explain")
+    (name ≡ codes "debug")
     × (option_copied source ≡ first_of (codes "source") rows) × AsksSettings rows settings
 
 -- what the words ask for, by the command that they name; without one, a session on the empty source

@@ -6,6 +6,7 @@ ghost use Rattle.clap.specs.Matches.{found_of};
 ghost use Rattle.clap.specs.Words.{FailsBy, first_of, kind_of, one_of, rows_of};
 ghost use Rattle.chip_arguments.specs.SettingWords.{default_words};
 ghost use Rattle.chip_arguments.specs.CommandWords.{Asks, AsksFor, AsksSettings, IsProfile, ReadsNumber, AsksPicture, AsksRun, AsksTest, AsksTrace, first_fault, new_file_fault, new_files, number_fault, numbers, value_faults, word_faults, needed, profile_fault};
+ghost use Rattle.chip_arguments.specs.inner.Built.{IsOneOf, command_names};
 
 use crate::commands::chipbench;
 use chip_machine::Profile;
@@ -168,12 +169,13 @@ pub fn parse_words<'a, S: AsStr>(alloc: Global, words: &'a [S]) -> Result<Comman
     }
 }
 
-// What the values of a command of that name ask for.
+// What the values of a command of that name ask for. The last arm is that of `debug`.
 fn command_asked<'a>(
     alloc: Global,
     name: &str,
     found: &ArgMatches<'a>,
 ) -> Result<CommandLine<'a>, Error>
+    requires { IsOneOf name.now command_names }
     ensures asked { IfOk result (Asks name.now (rows_of (found_of found.now))) }
     ensures fault { FailsBy (value_faults (rows_of (found_of found.now))) result }
 {

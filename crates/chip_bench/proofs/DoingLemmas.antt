@@ -7,9 +7,9 @@ use Rattle.std.specs.declared.io.Error.{Error as IoError}
 use Rattle.chip_asm.specs.Lines.{lines_of, open_fault}
 use Rattle.chip_lang.specs.declared.limits.TheConstants.{IMAGE_BYTES}
 use Rattle.chip_views.specs.Dis.{source_of_image}
-use Rattle.chip_bench.specs.Doing.{Assembles, AssemblesBy, Checks, Debugs, Declined, Disassembles, DisassemblesBytes, Does, Explains, FromKeys, FromSource, GivesSource, IfSettled, IsFileWritten, IsShort, IsSourceUnread, IsUnsettled, Lists, Outcome, Pictures, PicturesBy, PrintsPicture, Runs, Traces, TracesBy, WithAsked, image_in}
+use Rattle.chip_bench.specs.Doing.{Assembles, AssemblesBy, Checks, Debugs, Declined, Disassembles, DisassemblesBytes, Does, Explains, FromKeys, FromSource, GivesSource, IfSettled, IsFileWritten, IsShort, IsSourceUnread, IsUnsettled, Lists, Outcome, Pictures, PicturesBy, PrintsPage, PrintsPicture, Runs, Traces, TracesBy, WithAsked, image_in}
 use Rattle.chip_bench.specs.inner.Reads.{IsAsked, IsImageHindered, IsImageOrFaults, IsKeysUnread, IsUnasked}
-use Rattle.chip_pages.specs.Pages.{IsPageText}
+use Rattle.chip_pages.specs.Pages.{IsExplained}
 use Rattle.chip_bench.specs.Printing.{IsPrintedCheck, IsPrintedOf, Prints, PrintsSuch, PrintsUnder, printed_listing, printed_picture, printed, printed_of, printed_run}
 use Rattle.chip_arguments.specs.declared.command_line.PictureWords.{PictureWords}
 use Rattle.chip_bench.specs.declared.question.PictureForm.{PictureForm}
@@ -55,8 +55,8 @@ module _ {R : Type 0} (remaining : R → Option (List ℕ)) (in_old in_new : Tal
       subst (λ (o : Option SessionSettings). IfSettled remaining in_old in_new Unwritten o Did ended) (sym e) (inl did)
 
   pub source_unread : (name : Bor (List ℕ)) (Did : List ℕ → Outcome → Type 0) (ended : Outcome) (why : Failure) → ended ≡ Err why →
-      IsSourceUnread name why → FromSource remaining in_old in_new Unwritten name Did ended
-  source_unread name Did ended why e w = inr (fails (IsSourceUnread name) ended why e w, quiet)
+      IsSourceUnread in_old in_new name why → FromSource remaining in_old in_new Unwritten name Did ended
+  source_unread name Did ended why e w = inr (fails (IsSourceUnread in_old in_new name) ended why e w, quiet)
 
   pub source_read : (name : Bor (List ℕ)) (bytes text : List ℕ) (Did : List ℕ → Outcome → Type 0) (ended : Outcome) → text ≡ bytes →
       GivesSource remaining in_old in_new name.now bytes → Did text ended → FromSource remaining in_old in_new Unwritten name Did ended
@@ -81,7 +81,7 @@ module _ {R : Type 0} (remaining : R → Option (List ℕ)) (in_old in_new : Tal
   source_next : (name : Bor (List ℕ)) (Did Next : List ℕ → Outcome → Type 0) → ((bytes : List ℕ) → Did bytes ended → Next bytes other) →
       FromSource remaining in_old in_new U name Did ended → FromSource remaining in_old in_new V name Next other
   source_next name Did Next f (inl (bytes, gives, did)) = inl (bytes, gives, f bytes did)
-  source_next name Did Next f (inr (why, u)) = inr (errs (IsSourceUnread name) why)
+  source_next name Did Next f (inr (why, u)) = inr (errs (IsSourceUnread in_old in_new name) why)
 
   keys_next : (keys : Option (Bor (List ℕ))) (Did Next : List ℕ → Outcome → Type 0) → ((bytes : List ℕ) → Did bytes ended → Next bytes other) →
       FromKeys remaining in_old in_new U keys Did ended → FromKeys remaining in_old in_new V keys Next other
@@ -197,17 +197,11 @@ module _ {R W : Type 0} (remaining : R → Option (List ℕ)) (contents : W → 
       rw (some, asked) (inl (inr (declines remaining input input (output ≡ output) refl (IsUnread name) ended why e w refl)))
 
 module _ {W : Type 0} (contents : W → Option (List ℕ)) (old new : Tally W) where
-  -- the page on a code is printed
-  pub explained : (code : Option (Bor (List ℕ))) (name : Bor (List ℕ)) (found : Option (Vec ℕ)) (page : Vec ℕ) (text : List ℕ) (ended : Outcome) →
-      code ≡ Some name → IfSome found (λ v. IsPageText name.now v.items) → found ≡ Some page → text ≡ page.items →
-      Prints contents old new (printed text Done) ended → Explains contents old new code ended
-  explained code name found page text ended is named some same prints =
-      subst (λ (c : Option (Bor (List ℕ))). Explains contents old new c ended) (sym is)
-      (inl (
-        page.items,
-        subst (λ (f : Option (Vec ℕ)). IfSome f (λ v. IsPageText name.now v.items)) some named,
-        subst (λ (t : List ℕ). Prints contents old new (printed t Done) ended) same prints,
-      ))
+  -- a page is printed, or there is none
+  pub explained : (code : Option (Bor (List ℕ))) (name : Bor (List ℕ)) (page : Option (List ℕ)) (ended : Outcome) → code ≡ Some name →
+      IsExplained name.now page → PrintsPage contents old new name page ended → Explains contents old new code ended
+  explained code name page ended is found prints =
+      subst (λ (c : Option (Bor (List ℕ))). Explains contents old new c ended) (sym is) (inl (page, found, prints))
 
 pub three_parts : (t₀ t₁ t₂ t₃ a b c d : List ℕ) → t₀ ≡ [] → t₁ ≡ t₀ ++ a → t₂ ≡ t₁ ++ b → b ≡ d → t₃ ≡ t₂ ++ c → t₃ ≡ a ++ (d ++ c)
 three_parts t₀ t₁ t₂ t₃ a b c d e₀ e₁ e₂ e e₃ =
@@ -218,24 +212,24 @@ three_parts t₀ t₁ t₂ t₃ a b c d e₀ e₁ e₂ e e₃ =
 
 module _ {R W : Type 0} (remaining : R → Option (List ℕ)) (contents : W → Option (List ℕ)) (in_old in_new : Tally R) (output : Tally W) where
   -- the source can't be read
-  pub lists_not : (source : Bor (List ℕ)) (ended : Outcome) (why : Failure) → ended ≡ Err why → IsSourceUnread source why →
+  pub lists_not : (source : Bor (List ℕ)) (ended : Outcome) (why : Failure) → ended ≡ Err why → IsSourceUnread in_old in_new source why →
       Lists remaining contents in_old in_new output output source ended
   lists_not source ended why e w =
       source_unread remaining in_old in_new (output ≡ output) refl source
       (λ bytes. Prints contents output output (printed_of (open_fault bytes) (printed_listing (lines_of bytes)))) ended why e w
 
-  pub checks_not : (source : Bor (List ℕ)) (ended : Outcome) (why : Failure) → ended ≡ Err why → IsSourceUnread source why →
+  pub checks_not : (source : Bor (List ℕ)) (ended : Outcome) (why : Failure) → ended ≡ Err why → IsSourceUnread in_old in_new source why →
       Checks remaining contents in_old in_new output output source ended
   checks_not source ended why e w =
       source_unread remaining in_old in_new (output ≡ output) refl source
       (λ bytes. PrintsSuch contents output output (IsPrintedOf (open_fault bytes) (IsPrintedCheck source.now (lines_of bytes)))) ended why e w
 
-  pub disassembles_not : (image : Bor (List ℕ)) (ended : Outcome) (why : Failure) → ended ≡ Err why → IsSourceUnread image why →
+  pub disassembles_not : (image : Bor (List ℕ)) (ended : Outcome) (why : Failure) → ended ≡ Err why → IsSourceUnread in_old in_new image why →
       Disassembles remaining contents in_old in_new output output image ended
   disassembles_not image ended why e w =
       source_unread remaining in_old in_new (output ≡ output) refl image (DisassemblesBytes contents output output image) ended why e w
 
-  pub assembles_unread : (source name : Bor (List ℕ)) (ended : Outcome) (why : Failure) → ended ≡ Err why → IsSourceUnread source why →
+  pub assembles_unread : (source name : Bor (List ℕ)) (ended : Outcome) (why : Failure) → ended ≡ Err why → IsSourceUnread in_old in_new source why →
       Assembles remaining contents in_old in_new output output source name ended
   assembles_unread source name ended why e w =
       source_unread remaining in_old in_new (output ≡ output) refl source
@@ -320,7 +314,7 @@ module _ {R : Type 0} (remaining : R → Option (List ℕ)) (in_old in_new : Tal
 
   -- the source wasn't
   pub unasked_source : {T : Type 0} (settings : SessionSettings) (bytes : List ℕ) (result : Result T Failure) (why : Failure) → result ≡ Err why →
-      settings_asked words.settings ≡ Some settings → (words.keys ≡ None → bytes ≡ []) → IsSourceUnread words.source why →
+      settings_asked words.settings ≡ Some settings → (words.keys ≡ None → bytes ≡ []) → IsSourceUnread in_old in_new words.source why →
       IfErr result (λ y. IsUnasked remaining in_old in_new words y)
   unasked_source {T} settings bytes result why e settled keys w =
       subst (λ (r : Result T Failure). IfErr r (λ y. IsUnasked remaining in_old in_new words y)) (sym e)

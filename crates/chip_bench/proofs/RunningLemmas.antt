@@ -9,7 +9,7 @@ use Rattle.chip_bench.specs.Settings.{SessionSettings, default_settings}
 use Rattle.chip_bench.specs.Serving.{Exchanges}
 use Rattle.chip_bench.specs.Printing.{Refuses}
 use Rattle.chip_bench.specs.Running.{AnswersAs, AnswersIfAsked, AnswersScript, Converses, Declines, RunsSession, status_after, status_of}
-use Rattle.chip_bench.specs.Tally.{Tally}
+use Rattle.chip_bench.specs.Tally.{Tally, failures_after_flush}
 use Rattle.chip_bench.specs.declared.ending.Ending.{Ending}
 use Rattle.chip_bench.specs.declared.ending.Failure.{Failure}
 use Rattle.chip_bench.specs.declared.ending.Failure.TheVariants as failure
@@ -71,18 +71,6 @@ module _ {R W : Type 0} (remaining : R → Option (List ℕ)) (contents : W → 
       some_is_none : Some settings ≡ None → ⊥
       some_is_none h = cc
 
-  -- the writer is flushed after the session
-  converses_flushed : (settings : SessionSettings) (source : List ℕ) (in_old in_new : Tally R) (out_old out_mid out_new : Tally W) (served : Result Unit ServeError) →
-      Keeps (contents out_mid.inner) (contents out_new.inner) → out_new.failures ≡ out_mid.failures →
-      Converses remaining contents settings source in_old in_new out_old out_mid served →
-      Converses remaining contents settings source in_old in_new out_old out_new served
-  converses_flushed settings source in_old in_new out_old out_mid out_new served kept same c = record {
-    transcript = exchanges_kept _ _ _ _ _ _ kept c.transcript;
-    opens = c.opens;
-    reader_failed = c.reader_failed;
-    writer_failed = same ∙ c.writer_failed;
-  }
-
   -- the empty source opens unless there is no memory
   declined : (settings : SessionSettings) (in_old in_new : Tally R) (out_old out_mid : Tally W) (e : OpenError) (ended : Result Ending Failure) →
       Declines remaining contents settings [] in_old in_new out_old out_mid e ended →
@@ -112,7 +100,8 @@ module _ {R W : Type 0} (remaining : R → Option (List ℕ)) (contents : W → 
 
   -- from a session and a flush to the program's status
   pub runs_session : (in_old in_new : Tally R) (out_old out_mid out_new : Tally W) (ended : Result Ending Failure) (flushed : Bool) (status : ℕ) →
-      Keeps (contents out_mid.inner) (contents out_new.inner) → out_new.failures ≡ out_mid.failures → status ≡ status_of ended flushed →
+      Keeps (contents out_mid.inner) (contents out_new.inner) → out_new.failures ≡ failures_after_flush flushed out_mid.failures →
+      status ≡ status_of ended flushed →
       AnswersScript remaining contents default_settings [] in_old in_new out_old out_mid ended →
       RunsSession remaining contents in_old in_new out_old out_new status
   runs_session in_old in_new out_old out_mid out_new ended flushed status kept same s (served, a) = by_ending served a
@@ -122,7 +111,10 @@ module _ {R W : Type 0} (remaining : R → Option (List ℕ)) (contents : W → 
       finished served c e = record {
         served = served;
         flushed = flushed;
-        conversed = converses_flushed default_settings [] in_old in_new out_old out_mid out_new served kept same c;
+        transcript = exchanges_kept _ _ _ _ _ _ kept c.transcript;
+        opens = c.opens;
+        reader_failed = c.reader_failed;
+        writer_failed = same ∙ ap (failures_after_flush flushed) c.writer_failed;
         status_is = s ∙ e;
       }
 

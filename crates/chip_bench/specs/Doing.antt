@@ -1,13 +1,13 @@
 -- What the program does for each thing that its words can ask for (own).
---     IsSourceUnread, IsUnwritten, IsFileWritten   what hinders reading a source or writing a file;
---                                                  that it was written
+--     IsInputUnread, IsSourceUnread  what hinders reading a source
+--     IsUnwritten, IsFileWritten     what hinders writing a file; that it was written
 --     GivesSource                    the bytes of a source of that name
 --     FromSource, FromFile, FromKeys, WithAsked    what a command did with the bytes that it read,
 --                                                  or why it read none
 --     Debugs, Assembles, Lists, Checks, Disassembles, Runs, Pictures, Explains    what each command
 --         did
 --     Does                           the same, by what was asked
---     Performs, ShowsVersion         the same, for the words of the command line
+--     Performs, ShowsHelp, ShowsVersion   the same, for the words of the command line
 --     Ends                           how the program ended after that
 -- No contract says what bytes a file gives or takes: of a file's bytes these words say that there
 -- are some.
@@ -33,13 +33,13 @@ use Rattle.chip_trace.specs.declared.column.Column.{Column}
 use Rattle.chip_trace.specs.declared.header.HeaderError.{HeaderError}
 use Rattle.chip_bench.specs.Tracing.{IsCompared, header_of, lines_after, printed_trace}
 use Rattle.chip_bench.specs.declared.tracing.Shown.{Shown}
-use Rattle.chip_pages.specs.Pages.{IsContents, IsPageText}
+use Rattle.chip_pages.specs.Pages.{IsContents, IsExplained}
 use Rattle.chip_arguments.specs.Version.{version_text}
 use Rattle.chip_bench.specs.Printing.{IsPrintedCheck, IsPrintedOf, Printed, PrintsSuch, PrintsSuchUnder, PrintsUnder, Prints, RefusesKeys, StreamsUnder, fault_under, printed_faults, printed_listing, printed_picture, printed, printed_of, printed_run}
 use Rattle.chip_bench.specs.Running.{AnswersIfAsked, AnswersScript, IsUnread, source_bytes_read, status_of}
 use Rattle.chip_bench.specs.SettingWords.{settings_asked}
 use Rattle.chip_bench.specs.Settings.{SessionSettings}
-use Rattle.chip_bench.specs.Tally.{Tally}
+use Rattle.chip_bench.specs.Tally.{Tally, failures_after_flush}
 use Rattle.chip_bench.specs.Testing.{Tests}
 use Rattle.chip_arguments.specs.declared.command_line.CommandLine.{CommandLine}
 use Rattle.chip_arguments.specs.declared.command_line.CommandLine.TheVariants as line
@@ -69,10 +69,6 @@ IsShort why = why ≡ failure.OutOfMemory
 abbrev pub IsUnsettled : Failure → Type 0
 IsUnsettled why = (why ≡ failure.BadTape) ⊎ (why ≡ failure.OutOfMemory)
 
--- what hinders reading a source of that name
-abbrev pub IsSourceUnread : Bor (List ℕ) → Failure → Type 0
-IsSourceUnread name why = IsUnread name why ⊎ ((why ≡ failure.Input) × (name.now ≡ standard_input))
-
 -- what hinders writing a file of that name
 abbrev pub IsUnwritten : Bor (List ℕ) → Failure → Type 0
 IsUnwritten name why =
@@ -98,6 +94,19 @@ module _ {R : Type 0} (remaining : R → Option (List ℕ)) (in_old in_new : Tal
         → IfSome (remaining in_old.inner) (λ all. bytes ≡ take source_bytes_read all)
     pub untouched : name ≢ standard_input → in_new ≡ in_old
 
+module _ {R : Type 0} (in_old in_new : Tally R) where
+  -- what hinders reading standard input: a read failed, or there was no memory and none failed
+  abbrev pub IsInputUnread : Failure → Type 0
+  IsInputUnread why =
+      ((why ≡ failure.Input) × (in_new.failures ≢ in_old.failures))
+      ⊎ ((why ≡ failure.OutOfMemory) × (in_new.failures ≡ in_old.failures))
+
+  -- what hinders reading a source of that name; a file is read without standard input
+  abbrev pub IsSourceUnread : Bor (List ℕ) → Failure → Type 0
+  IsSourceUnread name why =
+      ((name.now ≡ standard_input) × IsInputUnread why)
+      ⊎ ((name.now ≢ standard_input) × (in_new ≡ in_old) × IsUnread name why)
+
 -- the part of a run that a trace with these columns shows
 abbrev pub shown_by : TraceWords → List Column → Shown
 shown_by words columns = record { columns = columns; from = words.from; to = words.run.steps }
@@ -117,7 +126,7 @@ module _ {R : Type 0} (remaining : R → Option (List ℕ)) (in_old in_new : Tal
   abbrev pub FromSource : Bor (List ℕ) → (List ℕ → Outcome → Type 0) → Outcome → Type 0
   FromSource name Did ended =
       ((bytes : List ℕ) × GivesSource remaining in_old in_new name.now bytes × Did bytes ended)
-      ⊎ (IsErrAnd ended (IsSourceUnread name) × Unwritten)
+      ⊎ (IsErrAnd ended (IsSourceUnread in_old in_new name) × Unwritten)
 
   -- with the bytes of a file
   abbrev pub FromFile : Bor (List ℕ) → (List ℕ → Outcome → Type 0) → Outcome → Type 0
@@ -201,7 +210,8 @@ module _ {W : Type 0} (contents : W → Option (List ℕ)) (out_old out_new : Ta
   PicturesBy settings source keys words (Some bitmap) (Some png) ended =
       (WritesPicture settings source keys words.run.steps form.Bitmap bitmap ended
       × (ended ≢ Ok Done))
-      ⊎ WritesPicture settings source keys words.run.steps form.Png png ended
+      ⊎ (WritesPicture settings source keys words.run.steps form.Bitmap bitmap (Ok Done)
+      × WritesPicture settings source keys words.run.steps form.Png png ended)
 
   -- `trace` without another trace: the lines of the run
   abbrev pub TracesAlone : TraceWords → SessionSettings → (keys source : List ℕ) → Outcome → Type 0
@@ -228,12 +238,20 @@ module _ {W : Type 0} (contents : W → Option (List ℕ)) (out_old out_new : Ta
       ((bytes : List ℕ) × TracesBeside words settings keys source name (lines bytes) ended)
       ⊎ Fails (IsUnread name) ended
 
-  -- `explain`: the page on the code, where there is one
+  -- a text, whatever it is, was printed
+  abbrev pub PrintsText : Outcome → Type 0
+  PrintsText ended = (text : List ℕ) × Prints contents out_old out_new (printed text Done) ended
+
+  -- a page, where there is one
+  abbrev pub PrintsPage : Bor (List ℕ) → Option (List ℕ) → Outcome → Type 0
+  PrintsPage code None ended = Fails (λ why. why ≡ failure.NoPage code) ended
+  PrintsPage code (Some page) ended = Prints contents out_old out_new (printed page Done) ended
+
+  -- `explain`: the page on the code
   abbrev pub ExplainsCode : Bor (List ℕ) → Outcome → Type 0
   ExplainsCode code ended =
-      ((page : List ℕ) × IsPageText code.now page
-      × Prints contents out_old out_new (printed page Done) ended)
-      ⊎ Fails (λ why. (why ≡ failure.NoPage code) ⊎ IsShort why) ended
+      ((page : Option (List ℕ)) × IsExplained code.now page × PrintsPage code page ended)
+      ⊎ Fails IsShort ended
 
   -- or all codes
   abbrev pub Explains : Option (Bor (List ℕ)) → Outcome → Type 0
@@ -319,12 +337,17 @@ module _ {R W : Type 0} (remaining : R → Option (List ℕ)) (contents : W → 
       ((asked : CommandLine) × AsksFor words asked × Does asked ended)
       ⊎ Declined remaining in_old in_new (out_new ≡ out_old) IsShort ended
 
+  -- what it did for the word for help
+  abbrev pub ShowsHelp : Outcome → Type 0
+  ShowsHelp ended = PrintsText contents out_old out_new ended × (in_new ≡ in_old)
+
   -- what it did for the version's word
   abbrev pub ShowsVersion : Outcome → Type 0
   ShowsVersion ended =
       Prints contents out_old out_new (printed version_text Done) ended × (in_new ≡ in_old)
 
--- How the program ended: `Did` says what it did, after which the output was flushed.
+-- How the program ended: `Did` says what it did, after which the output was flushed. `flushed` says
+-- whether that went well; a flush that failed is counted.
 pub record Ends {W : Type 0} (contents : W → Option (List ℕ)) (Did : Tally W → Outcome → Type 0)
     (out_new : Tally W) (status : ℕ) : Type 0 where
   pub written : Tally W
@@ -332,5 +355,5 @@ pub record Ends {W : Type 0} (contents : W → Option (List ℕ)) (Did : Tally W
   pub flushed : Bool
   pub did : Did written ended
   pub kept : Keeps (contents written.inner) (contents out_new.inner)
-  pub failures : out_new.failures ≡ written.failures
+  pub failures : out_new.failures ≡ failures_after_flush flushed written.failures
   pub status_is : status ≡ status_of ended flushed

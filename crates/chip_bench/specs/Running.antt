@@ -16,7 +16,7 @@ use Rattle.chip_bench.specs.Settings.{SessionSettings, default_settings}
 use Rattle.chip_bench.specs.Session.{session_of}
 use Rattle.chip_bench.specs.Serving.{Served, Exchanges, Opens, reader_failures, writer_failures}
 use Rattle.chip_bench.specs.Printing.{Refuses}
-use Rattle.chip_bench.specs.Tally.{Tally}
+use Rattle.chip_bench.specs.Tally.{Tally, failures_after_flush}
 use Rattle.chip_bench.specs.declared.ending.Ending.{Ending}
 use Rattle.chip_bench.specs.declared.ending.Ending.TheVariants.{Done, Faulty}
 use Rattle.chip_bench.specs.declared.ending.Failure.{Failure}
@@ -87,14 +87,19 @@ module _ {R W : Type 0} (remaining : R → Option (List ℕ)) (contents : W → 
       × (out_new ≡ out_old)
 
 -- The program without words: a session on the empty source, which opens unless there is no memory.
--- `flushed` says whether the flush at the end went well.
+-- `flushed` says whether the flush at the end went well; one that failed is counted.
 module _ {R W : Type 0} (remaining : R → Option (List ℕ)) (contents : W → Option (List ℕ))
     (in_old in_new : Tally R) (out_old out_new : Tally W) where
   pub record RunsSession (status : ℕ) : Type 0 where
     pub served : Result Unit ServeError
     pub flushed : Bool
-    pub conversed : Converses remaining contents default_settings [] in_old in_new out_old out_new
-        served
+    pub transcript : Exchanges (remaining in_old.inner) (remaining in_new.inner)
+        (contents out_old.inner) (contents out_new.inner)
+        (Served served (session_of default_settings []))
+    pub opens : Opens (open_fault []) served
+    pub reader_failed : in_new.failures ≡ reader_failures served in_old.failures
+    pub writer_failed : out_new.failures
+        ≡ failures_after_flush flushed (writer_failures served out_old.failures)
     pub status_is : status ≡ status_after served flushed
 
 abbrev pub settings_failure : SetError → Failure

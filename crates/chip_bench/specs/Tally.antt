@@ -6,6 +6,10 @@ pub record Tally (T : Type 0) : Type 0 where
   pub inner : T
   pub failures : ℕ
 
+-- a count of failures, after a flush that went well or didn't
+abbrev pub failures_after_flush : Bool → ℕ → ℕ
+failures_after_flush went_well failures = if went_well then failures else one_more failures
+
 -- a read fails where it answers an error of any kind
 abbrev pub failures_after_read : {E : Type 0} → ℕ → Result ℕ E → ℕ
 failures_after_read failures result = if is_err result then one_more failures else failures

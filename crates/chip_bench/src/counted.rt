@@ -1,8 +1,8 @@
 //! A reader or a writer whose failures are counted.
-ghost use Rattle.std.specs.Prelude.{◌≡◌, List, ℕ, MatchResult};
+ghost use Rattle.std.specs.Prelude.{◌≡◌, List, ℕ, MatchResult, is_ok};
 ghost use Rattle.std.specs.Io.{ReadsAtMost, WritesAtMost};
 ghost use Rattle.std.specs.Io.KnownBytes.{Keeps, ReadConsumes, WriteAppends};
-ghost use Rattle.chip_bench.specs.Tally.{failures_after_read, failures_after_write, write_failed};
+ghost use Rattle.chip_bench.specs.Tally.{failures_after_flush, failures_after_read, failures_after_write, write_failed};
 
 use std::io::{Read, Result, Write};
 use std::marker::Model;
@@ -83,12 +83,17 @@ impl<W: Write> Write for Counted<W> {
         result
     }
 
-    /// One flush of the inner writer, which isn't counted.
+    /// One flush of the inner writer. An error of any kind counts.
     fn flush(&mut self) -> Result<()>
         ensures bytes { Keeps (W.contents self.old.inner) (W.contents self.new.inner) }
-        ensures failures { self.new.failures ≡ self.old.failures }
+        ensures failures { self.new.failures
+            ≡ failures_after_flush (is_ok result) self.old.failures }
     {
-        self.inner.flush()
+        let result = self.inner.flush();
+        if result.is_err() {
+            self.failures = self.failures.saturating_add(1);
+        }
+        result
     }
 }
 

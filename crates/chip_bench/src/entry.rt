@@ -9,7 +9,7 @@ ghost use Rattle.chip_bench.specs.Settings.{default_settings};
 ghost use Rattle.chip_bench.specs.SettingWords.{settings_asked, tape_asked};
 ghost use Rattle.chip_bench.specs.Running.{AnswersScript, RunsSession, status_of, failure_status, AreFaulty, IsWithoutWords, IsUnread, source_bytes_read};
 ghost use Rattle.chip_bench.specs.inner.Reads.{IsAsked, IsKeysUnread, IsUnasked, IsUsage};
-ghost use Rattle.chip_bench.specs.Doing.{Assembles, Checks, Debugs, Disassembles, Does, Ends, GivesSource, IsFileWritten, IsSourceUnread, Lists, Performs, Pictures, PicturesBy, PrintsPicture, Runs, ShowsVersion, Traces, TracesAlone, TracesBeside, WritesPicture, letters_of};
+ghost use Rattle.chip_bench.specs.Doing.{Assembles, Checks, Debugs, Disassembles, Does, Ends, GivesSource, IsFileWritten, IsInputUnread, IsSourceUnread, Lists, Performs, Pictures, PicturesBy, PrintsPicture, PrintsText, Runs, ShowsHelp, ShowsVersion, Traces, TracesAlone, TracesBeside, WritesPicture, letters_of};
 ghost use Rattle.chip_arguments.specs.CommandWords.{word_faults};
 ghost use Rattle.std.specs.Io.KnownBytes.{Keeps};
 ghost use Rattle.std.specs.IoError.{error_kind};
@@ -79,6 +79,11 @@ pub fn program<F: Files, S: AsStr, I: Read, O: Write, E: Write>(
         Performs I.remaining O.contents input.old input.new output.old written
         (map S.text words.now) ended)
         output.new result }
+    // The word for help has help printed: of its text, which `clap` makes, no contract speaks.
+    ensures help { word_faults (map S.text words.now) ≡ ErrorKind.DisplayHelp ∷ []
+        → Ends O.contents (λ written ended.
+        ShowsHelp I.remaining O.contents input.old input.new output.old written ended)
+        output.new result }
     // The version's word has the version printed.
     ensures version { word_faults (map S.text words.now) ≡ ErrorKind.DisplayVersion ∷ []
         → Ends O.contents (λ written ended.
@@ -137,6 +142,8 @@ fn carry_out<'a, F: Files, S: AsStr, I: Read, O: Write>(
         × (input.new ≡ input.old) × (output.new ≡ output.old) }
     ensures good { word_faults (map S.text words.entry.now) ≡ [] → Performs I.remaining O.contents
         input.old input.new output.old output.new (map S.text words.entry.now) result }
+    ensures help { word_faults (map S.text words.entry.now) ≡ ErrorKind.DisplayHelp ∷ []
+        → ShowsHelp I.remaining O.contents input.old input.new output.old output.new result }
     ensures version { word_faults (map S.text words.entry.now) ≡ ErrorKind.DisplayVersion ∷ []
         → ShowsVersion I.remaining O.contents input.old input.new output.old output.new result }
 {
@@ -174,21 +181,23 @@ fn perform<'a, F: Files, I: Read, O: Write>(
     }
 }
 
-// Shows help or the version, of which only the version's text is known to contracts.
+// Prints help or the version, of which only the version's text is known to contracts.
 fn show_help<'a, O: Write>(
     alloc: Global,
     help: &clap::Error,
     output: &mut Counted<O>,
 ) -> Result<Ending, Failure<'a>>
-    ensures { kind_of help.now ≡ ErrorKind.DisplayVersion
+    ensures version { kind_of help.now ≡ ErrorKind.DisplayVersion
         → Prints O.contents output.old output.new (printed version_text Ending.Done) result }
+    ensures help { kind_of help.now ≡ ErrorKind.DisplayHelp
+        → PrintsText O.contents output.old output.new result }
 {
     match help.kind() {
         ErrorKind::DisplayVersion => print_version(alloc, output),
-        _ => match write!(output, "{help}") {
-            Ok(()) => Ok(Ending::Done),
-            Err(_) => Err(Failure::Output),
-        },
+        _ => {
+            let text = format!(in alloc; "{help}")?;
+            print(text.as_bytes(), Ending::Done, output)
+        }
     }
 }
 
@@ -651,7 +660,7 @@ fn read_source<'a, F: Files, I: Read>(
 ) -> Result<Vec<u8>, Failure<'a>>
     ensures ok { IfOk result (λ bytes. GivesSource I.remaining input.old input.new
         name.entry.now bytes.items) }
-    ensures err { IfErr result (IsSourceUnread name.entry) }
+    ensures err { IfErr result (IsSourceUnread input.old input.new name.entry) }
 {
     if name == INPUT {
         read_input(alloc, input)
@@ -663,12 +672,14 @@ fn read_source<'a, F: Files, I: Read>(
 fn read_input<'a, I: Read>(alloc: Global, input: &mut Counted<I>) -> Result<Vec<u8>, Failure<'a>>
     ensures ok { IfOk result (λ bytes. IfSome (I.remaining input.old.inner)
         (λ all. bytes.items ≡ take source_bytes_read all)) }
-    ensures err { IfErr result (λ why. (why ≡ Failure.OutOfMemory) ⊎ (why ≡ Failure.Input)) }
+    ensures err { IfErr result (IsInputUnread input.old input.new) }
 {
+    let failures = input.failures();
     let mut bytes = Vec::new(alloc);
-    match read_most(input, &mut bytes, MOST_SOURCE) {
+    match read_most(&mut *input, &mut bytes, MOST_SOURCE) {
         Ok(()) => Ok(bytes),
-        Err(error) if error.kind() == io::ErrorKind::OutOfMemory => Err(Failure::OutOfMemory),
+        // Where no read failed there was no memory for the bytes.
+        Err(_) if input.failures() == failures => Err(Failure::OutOfMemory),
         Err(_) => Err(Failure::Input),
     }
 }

@@ -33,7 +33,6 @@ pub use chip_arguments::{
     CommandLine, PictureWords, RunWords, SettingWords, TestWords, TraceWords, parse_words,
 };
 pub use chip_asm::OpenError;
-pub use chip_pages::{Example, Page, all_pages};
 pub use chip_views::Letters;
 pub use command::{Command, CommandFault, read_command};
 pub use counted::Counted;

@@ -8,12 +8,14 @@
 //! - `open EVERY`: opens a session on the source. `do COMMAND` carries out a command of it. `parsed
 //!   N`, `encoded N`, `ran N` and `reach N`: `yes` where so many lines were parsed, at most so many
 //!   were encoded, the last command made at most so many steps, or the kept run is sound up to this
-//!   step or further; else `no` and the count.
+//!   step or further; else `no` and the count. `encoded LEAST MOST` and `ran LEAST MOST`: the same,
+//!   with a least number.
 //! - `streams NAME=NUMBER..`: how the reader and the writer behave from then on (`Plan`). `serve`
 //!   answers the script by `serve`; `each NAME FIRST LAST` does so with each of these numbers.
 //! - `program WORD..`: the status of the program with these arguments, and what it prints.
 //! - `refuse REASON`: the same where the arguments can't be read.
-//! - `counted`: how often a reader and a writer that fail are called.
+//! - `counted`: a read, a write and a flush, which calls of the reader and the writer these were, and
+//!   which failures were counted.
 #![tactic(auto)]
 
 mod session;
@@ -58,7 +60,7 @@ impl Calls {
             "each" => each(alloc, &self.source, &self.script, &self.plan, rest),
             "program" => run(rt, rest, &self.script, &self.plan),
             "refuse" => refuse(alloc, rest),
-            "counted" => counted(alloc),
+            "counted" => counted(alloc, &self.plan),
             _ => {
                 self.prepare(alloc, word, rest)?;
                 Ok(String::new(alloc))
@@ -155,17 +157,18 @@ fn refuse(alloc: Global, reason: &str) -> Result<String, Error> {
     told(alloc, status, b"", &errors)
 }
 
-/// Reads, writes and flushes once where each call fails, and tells the calls and the failures.
-fn counted(alloc: Global) -> Result<String, Error> {
-    let mut reader = Counted::new(Feed::new(b"", &Plan::FAILING));
-    let mut writer = Counted::new(Sink::new(alloc, &Plan::FAILING));
-    let is_well = reader.read(&mut [0]).is_ok()
-        | writer.write(&[0]).is_ok()
-        | writer.flush().is_ok();
-    let (read, unread) = (reader.get().calls, reader.failures());
-    let (written, unwritten) = (writer.get().calls, writer.failures());
+/// Reads, writes and flushes once, and tells what went well, the calls and the failures.
+fn counted(alloc: Global, plan: &Plan) -> Result<String, Error> {
+    let mut reader = Counted::new(Feed::new(b"x", plan));
+    let mut writer = Counted::new(Sink::new(alloc, plan));
+    let read = reader.read(&mut [0]).is_ok();
+    let written = writer.write(b"x").is_ok();
+    let flushed = writer.flush().is_ok();
+    let (reads, unread) = (reader.get().calls, reader.failures());
+    let (writes, flushes) = (writer.get().calls, writer.get().flushes);
+    let unwritten = writer.failures();
     Ok(format!(in alloc;
-        "a call went well: {is_well}\nreads {read}, failures {unread}\nwrites {written}, failures {unwritten}"
+        "went well: read {read}, write {written}, flush {flushed}\n{reads} reads, {unread} failures\n{writes} writes, {flushes} flushes, {unwritten} failures"
     )?)
 }
 

@@ -71,28 +71,29 @@ impl Session {
         Ok(None)
     }
 
-    /// Whether a count is as wanted: `yes`, or `no` and the count.
+    /// Whether a count is as wanted, `LEAST MOST` or `MOST`: `yes`, or `no` and the count.
     pub(crate) fn judge(&self, alloc: Global, word: &str, wanted: &str) -> Result<String, Error> {
-        let wanted = wanted.parse::<u64>()?;
-        let (count, is_so) = match word {
-            "parsed" => (self.bench.work().parsed, self.bench.work().parsed == wanted),
-            "encoded" => (
-                self.bench.work().encoded,
-                self.bench.work().encoded <= wanted,
-            ),
-            "ran" => {
-                let ran = self.bench.ran().saturating_sub(self.ran_before);
-                (ran, ran <= wanted)
-            }
-            "reach" => {
-                let reach = u64::from(self.bench.reach());
-                (reach, reach >= wanted)
-            }
-            _ => bail!("no such count"),
+        let (least, most) = wanted.split_once(" ").unwrap_or(("0", wanted));
+        let (least, most) = (least.parse::<u64>()?, most.parse::<u64>()?);
+        let count = self.count(word)?;
+        let is_so = match word {
+            "parsed" => count == most,
+            "reach" => count >= most,
+            _ => least <= count && count <= most,
         };
         if is_so {
             return Ok(String::from_str(alloc, "yes")?);
         }
         Ok(format!(in alloc; "no {count}")?)
+    }
+
+    fn count(&self, word: &str) -> Result<u64, Error> {
+        match word {
+            "parsed" => Ok(self.bench.work().parsed),
+            "encoded" => Ok(self.bench.work().encoded),
+            "ran" => Ok(self.bench.ran().saturating_sub(self.ran_before)),
+            "reach" => Ok(u64::from(self.bench.reach())),
+            _ => bail!("no such count"),
+        }
     }
 }

@@ -40,16 +40,6 @@ impl Plan {
         reason: ErrorKind::Interrupted,
     };
 
-    /// A reader and a writer of which each call fails.
-    pub(crate) const FAILING: Plan = Plan {
-        front: 0,
-        reader_fails: true,
-        room: 0,
-        writer_fails: true,
-        flush_fails: true,
-        ..Plan::PLAIN
-    };
-
     /// The plan that parts `NAME=NUMBER` make of a plain one.
     pub(crate) fn read(parts: &str) -> Result<Plan, Error> {
         let mut plan = Plan::PLAIN;
@@ -119,6 +109,7 @@ pub(crate) struct Sink {
     pub(crate) taken: Vec<u8>,
     plan: Plan,
     pub(crate) calls: u64,
+    pub(crate) flushes: u64,
     failures: u64,
 }
 
@@ -128,6 +119,7 @@ impl Sink {
             taken: Vec::new(alloc),
             plan: *plan,
             calls: 0,
+            flushes: 0,
             failures: 0,
         }
     }
@@ -149,6 +141,7 @@ impl Write for Sink {
     }
 
     fn flush(&mut self) -> io::Result<()> {
+        self.flushes = self.flushes.saturating_add(1);
         if self.plan.flush_fails {
             return Err(io::Error::from(ErrorKind::Other));
         }

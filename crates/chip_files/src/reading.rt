@@ -1,5 +1,5 @@
 //! The bytes of a file or of a stream, up to a number.
-ghost use Rattle.std.specs.Prelude.{◌≡◌, ◌++◌, IfSome, OnOk, take};
+ghost use Rattle.std.specs.Prelude.{◌≡◌, ◌++◌, IfOk, IfSome, OnOk, take};
 
 use std::alloc::Global;
 use std::fs::OpenFile;
@@ -13,7 +13,10 @@ pub fn read_file<F: Files>(alloc: Global, files: &F, name: &str, most: u32) -> i
 }
 
 // What a file has. Room for it is taken at once, where the file tells its length.
-fn read_whole<F: OpenFile + Read + Drop>(alloc: Global, file: F, most: u32) -> io::Result<Vec<u8>> {
+fn read_whole<F: OpenFile + Read + Drop>(alloc: Global, file: F, most: u32) -> io::Result<Vec<u8>>
+    ensures { IfOk result (λ bytes. IfSome (F.remaining file)
+        (λ all. bytes.items ≡ take most all)) }
+{
     let length = match file.metadata() {
         Ok(metadata) => metadata.len().min(u64::from(most)),
         Err(_) => 0,

@@ -1,9 +1,12 @@
 -- The text of a page, put together from its parts.
-use Rattle.std.proofs.Common.{◌≡◌, ℕ, List, [], ◌++◌, codes, Option, Some, Result, Ok, Err, OnOk, option_copied, Bool, true, false, cond, ◌∷◌, refl, ap, sym, ◌∙◌, append_assoc}
-use Rattle.std.proofs.lemmas.List.{append-nil}
+use Rattle.std.proofs.Common.{◌≡◌, ℕ, List, [], ◌++◌, codes, Option, Some, None, Result, Ok, Err, OnOk, option_copied, refl, ap, sym, ◌∙◌, append_assoc}
+use Rattle.std.proofs.lemmas.List.{append-nil, map-append}
+use Rattle.std.proofs.lemmas.List.Folds.{find-append}
+use Rattle.std.proofs.lemmas.Grind.{flat_map-append}
+use Rattle.std.specs.Option.{option_or}
 use Rattle.std.specs.Borrow.{Bor}
 use Rattle.std.specs.List.{find}
-use Rattle.chip_pages.specs.Pages.{IsContents, IsPageText, contents_text, example_text, has_code, page_of, page_text, title_line}
+use Rattle.chip_pages.specs.Pages.{AreAllPages, codes_of, command_codes, contents_text, end_codes, example_text, fault_codes, has_code, page_of, page_text, title_line}
 use Rattle.chip_pages.specs.declared.pages.Page.{Page}
 
 module _ {E : Type 0} (result : Result Unit E) where
@@ -32,34 +35,33 @@ page_is page t₀ t₁ t₂ t₃ e₀ e₁ e₂ e₃ =
     ∙ parts page.code.now (codes ": ") page.title.now (codes "\n\n") page.meaning.now (codes "\n\n") (example_text page.example)
     (codes "\nThe fix: ") page.fix.now (codes "\n")
 
--- the page that was found has the code
-has_it : (code : List ℕ) (pages : List Page) (page : Page) → page_of pages code ≡ Some page → has_code code page ≡ true
+-- the first that has the code, of three tables
+pub found_in : (code : List ℕ) (a b c : List Page) → page_of (a ++ (b ++ c)) code ≡ option_or (option_or (page_of a code) (page_of b code)) (page_of c code)
 unfolding page_of
-has_it code [] page e = cc
-has_it code (x ∷ pages) page e = by_test (has_code code x) refl e (has_it code pages page)
+found_in code a b c =
+    find-append (has_code code) a (b ++ c) ∙ ap (option_or (find (has_code code) a)) (find-append (has_code code) b c)
+    ∙ sym (one (find (has_code code) a) (find (has_code code) b) (find (has_code code) c))
   where
-    by_test : (b : Bool) → has_code code x ≡ b → cond b (Some x) (find (has_code code) pages) ≡ Some page →
-        (find (has_code code) pages ≡ Some page → has_code code page ≡ true) → has_code code page ≡ true
-    by_test true is e later = let same : x ≡ page = cc in ap (has_code code) (sym same) ∙ is
-    by_test false is e later = later e
+    one : (x y z : Option Page) → option_or (option_or x y) z ≡ option_or x (option_or y z)
+    one None y z = refl
+    one (Some p) y z = refl
 
-pub page_found : (pages : List Page) (code text : List ℕ) (found : Option (Bor Page)) (page : Bor Page) → option_copied found ≡ page_of pages code →
-    found ≡ Some page → text ≡ page_text page.now → IsPageText code text
-page_found pages code text found page e is t = record {
-  page = page.now;
-  on_code = has_it code pages page.now (sym e ∙ ap option_copied is);
-  text_is = t;
-}
+pub copied_or : (x y : Option (Bor Page)) → option_copied (option_or x y) ≡ option_or (option_copied x) (option_copied y)
+copied_or None y = refl
+copied_or (Some p) y = refl
+
+pub all_codes : (a b c : List Page) → codes_of a ≡ fault_codes → codes_of b ≡ command_codes → codes_of c ≡ end_codes → AreAllPages (a ++ (b ++ c))
+all_codes a b c on_a on_b on_c =
+    map-append (λ (page : Page). page.code.now) a (b ++ c) ∙ ap (λ t. codes_of a ++ t) (map-append (λ (page : Page). page.code.now) b c)
+    ∙ rw (on_a, on_b, on_c) refl
 
 contents-append : (a b : List Page) → contents_text (a ++ b) ≡ contents_text a ++ contents_text b
 unfolding contents_text
-contents-append [] b = refl
-contents-append (x ∷ a) b = ap (λ t. title_line x ++ t) (contents-append a b) ∙ sym (append_assoc (title_line x) (contents_text a) (contents_text b))
+contents-append a b = flat_map-append title_line a b
 
-pub no_contents : (text : List ℕ) → text ≡ [] → IsContents text
-unfolding contents_text
-no_contents text e = ([], e)
-
-pub more_contents : (text new : List ℕ) (group : List Page) → IsContents text → new ≡ text ++ contents_text group → IsContents new
-more_contents text new group (pages, e) h =
-    (pages ++ group, h ∙ ap (λ t. t ++ contents_text group) e ∙ sym (contents-append pages group))
+pub contents_of : (text t₀ t₁ t₂ : List ℕ) (a b c : List Page) → t₀ ≡ [] → t₁ ≡ t₀ ++ contents_text a → t₂ ≡ t₁ ++ contents_text b
+    → text ≡ t₂ ++ contents_text c → text ≡ contents_text (a ++ (b ++ c))
+contents_of text t₀ t₁ t₂ a b c e₀ e₁ e₂ e₃ =
+    e₃ ∙ ap (λ t. t ++ contents_text c) (e₂ ∙ ap (λ t. t ++ contents_text b) (e₁ ∙ ap (λ t. t ++ contents_text a) e₀))
+    ∙ append_assoc (contents_text a) (contents_text b) (contents_text c) ∙ ap (λ t. contents_text a ++ t) (sym (contents-append b c))
+    ∙ sym (contents-append a (b ++ c))

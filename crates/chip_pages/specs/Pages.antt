@@ -1,8 +1,9 @@
 -- What `explain` prints (own).
 --     page_of                    the page on a code, in either case
 --     page_text, contents_text   a page as it is printed, and all codes with their titles
---     IsPageText, IsContents     the texts that are printed for a code, and without one
-use Rattle.std.specs.Prelude.{◌≡◌, ℕ, List, ◌++◌, codes, flat_map, find, Bool, true, Option}
+--     AreAllPages                pages on all codes
+--     IsExplained, IsContents    the texts that are printed for a code, and without one
+use Rattle.std.specs.Prelude.{◌≡◌, ℕ, List, [], ◌∷◌, ◌++◌, codes, flat_map, map, find, Bool, Option, option_map}
 use Rattle.std.specs.Str.{str_eq_ignore_ascii_case}
 use Rattle.std.specs.Str.Lines.{lines}
 use Rattle.chip_pages.specs.declared.pages.Page.{Page}
@@ -48,14 +49,42 @@ title_line page = page.code.now ++ (codes "  " ++ (page.title.now ++ codes "\n")
 unfoldable pub contents_text : List Page → List ℕ
 contents_text pages = flat_map title_line pages
 
--- The pages are statics, which no clause can name: these say that there is such a page, or are such
--- pages. The tests go through all.
--- the text of a page on that code
-pub record IsPageText (code text : List ℕ) : Type 0 where
-  pub page : Page
-  pub on_code : has_code code page ≡ true
-  pub text_is : text ≡ page_text page
+-- the codes that some pages are on
+abbrev pub codes_of : List Page → List (List ℕ)
+codes_of pages = map (λ page. page.code.now) pages
 
--- the codes and titles of some pages
-abbrev pub IsContents : List ℕ → Type 0
-IsContents text = (pages : List Page) × (text ≡ contents_text pages)
+-- the codes of faults, F1 to F17
+abbrev pub fault_codes : List (List ℕ)
+fault_codes = codes "F1" ∷ codes "F2" ∷ codes "F3" ∷ codes "F4" ∷ codes "F5" ∷ codes "F6" ∷ codes "F7" ∷ codes "F8" ∷ codes "F9" ∷ codes "F10" ∷ codes "F11" ∷ codes "F12" ∷ codes "F13" ∷ codes "F14" ∷ codes "F15" ∷ codes "F16" ∷ codes "F17" ∷ []
+
+-- those of refused commands: of edits N1 to N10, of questions Q1 to Q4, of lines C1 and C2
+abbrev pub command_codes : List (List ℕ)
+command_codes = codes "N1" ∷ codes "N2" ∷ codes "N3" ∷ codes "N4" ∷ codes "N5" ∷ codes "N6" ∷ codes "N7" ∷ codes "N8" ∷ codes "N9" ∷ codes "N10" ∷ codes "Q1" ∷ codes "Q2" ∷ codes "Q3" ∷ codes "Q4" ∷ codes "C1" ∷ codes "C2" ∷ []
+
+-- those of how something ends: a session E1 to E4, a source that doesn't open O1 to O3, a machine
+-- S1 to S7
+abbrev pub end_codes : List (List ℕ)
+end_codes = codes "E1" ∷ codes "E2" ∷ codes "E3" ∷ codes "E4" ∷ codes "O1" ∷ codes "O2" ∷ codes "O3" ∷ codes "S1" ∷ codes "S2" ∷ codes "S3" ∷ codes "S4" ∷ codes "S5" ∷ codes "S6" ∷ codes "S7" ∷ []
+
+-- Pages on all codes, in the order of the documents. The pages themselves are statics, which no
+-- clause can name.
+abbrev pub AreAllPages : List Page → Type 0
+AreAllPages pages = codes_of pages ≡ fault_codes ++ (command_codes ++ end_codes)
+
+-- the page on a code, where there is one
+pub record IsPageOn (code : List ℕ) (page : Option Page) : Type 0 where
+  pub pages : List Page
+  pub all : AreAllPages pages
+  pub found : page ≡ page_of pages code
+
+-- the text that is printed for a code: that of its page, where there is one
+pub record IsExplained (code : List ℕ) (text : Option (List ℕ)) : Type 0 where
+  pub page : Option Page
+  pub on_code : IsPageOn code page
+  pub text_is : text ≡ option_map page_text page
+
+-- what is printed without a code: all codes with their titles
+pub record IsContents (text : List ℕ) : Type 0 where
+  pub pages : List Page
+  pub all : AreAllPages pages
+  pub text_is : text ≡ contents_text pages

@@ -1,20 +1,27 @@
 //! The pages on codes, as `explain` prints them.
-ghost use Rattle.std.specs.Prelude.{◌≡◌, ◌++◌, IfOk, IfSome, OnOk, option_copied, flat_map};
-ghost use Rattle.chip_pages.specs.Pages.{IsContents, IsPageText, contents_text, example_text, indented, page_of, page_text};
+ghost use Rattle.std.specs.Prelude.{◌≡◌, ◌++◌, IfOk, OnOk, option_copied, option_map, flat_map};
+ghost use Rattle.chip_pages.specs.Pages.{IsExplained, IsContents, IsPageOn, contents_text, example_text, indented, page_of, page_text};
 
-use crate::pages::{Example, Page, all_pages};
+use crate::pages::{Example, Page, command_pages, end_pages, fault_pages};
 use std::alloc::{AllocError, Global};
 
 /// The page on a code, in either case, as text; nothing where there is no such code.
 pub fn page_text(alloc: Global, code: &str) -> Result<Option<Vec<u8>>, AllocError>
-    ensures { IfOk result (λ text. IfSome text (λ page. IsPageText code.now page.items)) }
+    ensures { IfOk result (λ text. IsExplained code.now (option_map (λ page. page.items) text)) }
 {
-    for group in &all_pages() {
-        if let Some(page) = page_among(group, code) {
-            return Ok(Some(text_of(alloc, page)?));
-        }
+    match page_on(code) {
+        Some(page) => Ok(Some(text_of(alloc, page)?)),
+        None => Ok(None),
     }
-    Ok(None)
+}
+
+// The page on a code, in either case.
+fn page_on(code: &str) -> Option<&'static Page>
+    ensures { IsPageOn code.now (option_copied result) }
+{
+    page_among(fault_pages(), code)
+        .or(page_among(command_pages(), code))
+        .or(page_among(end_pages(), code))
 }
 
 #[tactic(auto, unfolding(crate::specs::Pages::page_of))]
@@ -31,9 +38,9 @@ pub fn contents(alloc: Global) -> Result<Vec<u8>, AllocError>
     ensures { IfOk result (λ text. IsContents text.items) }
 {
     let mut text = Vec::new(alloc);
-    for group in &all_pages() {
-        push_titles(&mut text, group)?;
-    }
+    push_titles(&mut text, fault_pages())?;
+    push_titles(&mut text, command_pages())?;
+    push_titles(&mut text, end_pages())?;
     Ok(text)
 }
 

@@ -5,4 +5,4 @@ mod explain;
 mod pages;
 
 pub use explain::{contents, page_text};
-pub use pages::{Example, Page, all_pages};
+pub use pages::{Example, Page};

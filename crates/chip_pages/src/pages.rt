@@ -1,4 +1,6 @@
 //! A page on each code that the workbench prints.
+ghost use Rattle.std.specs.Prelude.{◌≡◌};
+ghost use Rattle.chip_pages.specs.Pages.{codes_of, command_codes, end_codes, fault_codes};
 
 /// What has a code, so that it can be seen.
 #[derive(Clone, Copy)]
@@ -26,23 +28,27 @@ pub struct Page {
     pub fix: &'static str,
 }
 
-/// All pages, in the order of the documents.
-pub fn all_pages() -> [&'static [Page]; 3] {
-    [fault_pages(), command_pages(), end_pages()]
-}
-
 // Each table is read by one function alone, since the proof of a function reads the whole of each
 // static that it names.
 
-fn fault_pages() -> &'static [Page] {
+/// The pages on the faults of a source's lines.
+pub(crate) fn fault_pages() -> &'static [Page]
+    ensures { codes_of result.now ≡ fault_codes }
+{
     &FAULT_PAGES
 }
 
-fn command_pages() -> &'static [Page] {
+/// The pages on the refusals of commands.
+pub(crate) fn command_pages() -> &'static [Page]
+    ensures { codes_of result.now ≡ command_codes }
+{
     &COMMAND_PAGES
 }
 
-fn end_pages() -> &'static [Page] {
+/// The pages on how a session, a source or a program ends.
+pub(crate) fn end_pages() -> &'static [Page]
+    ensures { codes_of result.now ≡ end_codes }
+{
     &END_PAGES
 }
 

@@ -1,5 +1,5 @@
 -- What is built of a command (own).
-use Rattle.std.specs.Prelude.{◌≡◌, List, [], ◌∷◌, false}
+use Rattle.std.specs.Prelude.{◌≡◌, ◌⊎◌, ℕ, List, [], ◌∷◌, codes, false}
 use Rattle.clap.specs.Words.{App, Rule, app_of, new_app, with_rule}
 use Rattle.chip_arguments.specs.CommandLine as line
 use Rattle.chip_arguments.specs.declared.arguments.Argument.{Argument}
@@ -7,6 +7,17 @@ use Rattle.chip_arguments.specs.declared.arguments.Argument.TheVariants as argum
 use Rattle.chip_arguments.specs.declared.commands.CommandRow.{CommandRow}
 use Rattle.clap.specs.declared.builder.command.Command.{Command}
 use Rattle.clap.specs.declared.builder.command.Command.TheViews.{out-Command as fields_of}
+
+-- the names of the program's commands
+abbrev pub command_names : List (List ℕ)
+command_names =
+    codes "debug" ∷ codes "asm" ∷ codes "list" ∷ codes "dis" ∷ codes "run" ∷ codes "trace"
+    ∷ codes "picture" ∷ codes "check" ∷ codes "test" ∷ codes "explain" ∷ []
+
+-- a name is one of these
+abbrev pub IsOneOf : List ℕ → List (List ℕ) → Type 0
+IsOneOf name [] = ⊥
+IsOneOf name (known ∷ others) = (name ≡ known) ⊎ IsOneOf name others
 
 -- a command that `clap` sees so, without an argument that its own commands have too
 pub record Makes (app : App) (command : Command) : Type 0 where

@@ -1,5 +1,6 @@
 use Rattle.std.proofs.Common.{◌≡◌, ◌≢◌, codes, rules}
 use Rattle.clap.specs.Words.{found_of}
+use Rattle.chip_arguments.proofs.NameLemmas.{debug_is_left}
 use Rattle.chip_arguments.proofs.WordLemmas.{first_is}
 use Rattle.chip_arguments.proofs.command_line.command_asked.Goals as goal
 use Rattle.chip_arguments.proofs.command_line.command_asked.Goals.{in-asm, in-list, in-check, in-dis, in-run, in-trace, in-picture, in-test+in_ok-test_words-in-test, in-explain, in_default}
@@ -46,6 +47,7 @@ returns-clause-asked c =
           let not_picture : c.args.name.now ≢ codes "picture" = search rules in
           let not_test : c.args.name.now ≢ codes "test" = search rules in
           let not_explain : c.args.name.now ≢ codes "explain" = search rules in
+          let debug = debug_is_left c.args.name.now c.requires not_asm not_list not_dis not_run not_trace not_picture not_check not_test not_explain in
           let source = first_is (found_of c.args.found.now) (codes "source") _ w.get_str-in_default.ensures in
-          rw w.result-is (not_asm, not_list, not_check, not_dis, not_run, not_trace, not_picture, not_test, not_explain, source, w.setting_words.ensures profile)
+          rw w.result-is (debug, source, w.setting_words.ensures profile)
     ]

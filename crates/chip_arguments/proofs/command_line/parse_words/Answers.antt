@@ -7,6 +7,7 @@ use Rattle.chip_arguments.specs.CommandWords.{AsksFor, word_faults}
 use Rattle.chip_arguments.specs.SettingWords.{default_words}
 use Rattle.chip_arguments.specs.declared.command_line.CommandLine.TheVariants.{Debug}
 use Rattle.chip_arguments.proofs.CommandExamples.{is_exact, is_plain, no_words, no_words_no_command}
+use Rattle.chip_arguments.proofs.NameLemmas.{command_is}
 use Rattle.chip_arguments.proofs.WordLemmas.{asked_for, asked_none, fails_by_clap, judged, subcommand_named, subcommand_none, without_command}
 use Rattle.chip_arguments.proofs.command_line.parse_words.Goals as goal
 
@@ -62,3 +63,12 @@ returns-clause-asked g c =
     let words = map g.S.AsStr.text c.args.words.now in
     let named = subcommand_none _ line.chipbench words c.in_ok-matches.matches app_is is_plain c.in_ok-matches.ensures.matches c.in-None.ensures.rows in
     asked_none words named
+
+pub command_asked-requires : goal.command_asked-requires
+command_asked-requires g c =
+    let app_is : app_of c.in_ok-chipbench.field-0 ≡ line.chipbench = c.in_ok-chipbench.ensures in
+    let words = map g.S.AsStr.text c.args.words.now in
+    let named = subcommand_named _ line.chipbench words c.in_ok-matches.matches c.in-Some.name.now (rows_of (found_of c.in-Some.found.now))
+    app_is is_plain c.in_ok-matches.ensures.matches c.in-Some.ensures.name c.in-Some.ensures.rows in
+    let taken = subst (λ (app : App). fault_of app words ≡ []) app_is (c.in_ok-matches.ensures.kinds (ap is_simple_and_free app_is ∙ is_exact)) in
+    command_is words _ _ taken named

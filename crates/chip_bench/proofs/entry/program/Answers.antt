@@ -5,7 +5,7 @@ pub returns-clause-session : goal.returns-clause-session
 returns-clause-session g c = λ none.
     runs_session g.I.Read.remaining g.O.Write.contents c.args.input.now c.carry_out-ended.new.input c.args.output.now
     c.carry_out-ended.new.output c.flush-flushed.new.self c.carry_out-ended.result c.is_ok.result c.finish.result
-    c.flush-flushed.ensures.bytes c.flush-flushed.ensures.failures c.finish.ensures (c.carry_out-ended.ensures.session none)
+    c.flush-flushed.ensures.bytes (rw c.is_ok.ensures.value c.flush-flushed.ensures.failures) c.finish.ensures (c.carry_out-ended.ensures.session none)
 
 pub returns-clause-good : goal.returns-clause-good
 returns-clause-good g c = λ none. record {
@@ -14,7 +14,7 @@ returns-clause-good g c = λ none. record {
   flushed = c.is_ok.result;
   did = c.carry_out-ended.ensures.good none;
   kept = c.flush-flushed.ensures.bytes;
-  failures = c.flush-flushed.ensures.failures;
+  failures = rw c.is_ok.ensures.value c.flush-flushed.ensures.failures;
   status_is = c.finish.ensures;
 }
 
@@ -25,6 +25,17 @@ returns-clause-version g c = λ asked. record {
   flushed = c.is_ok.result;
   did = c.carry_out-ended.ensures.version asked;
   kept = c.flush-flushed.ensures.bytes;
-  failures = c.flush-flushed.ensures.failures;
+  failures = rw c.is_ok.ensures.value c.flush-flushed.ensures.failures;
+  status_is = c.finish.ensures;
+}
+
+pub returns-clause-help : goal.returns-clause-help
+returns-clause-help g c = λ asked. record {
+  written = c.carry_out-ended.new.output;
+  ended = c.carry_out-ended.result;
+  flushed = c.is_ok.result;
+  did = c.carry_out-ended.ensures.help asked;
+  kept = c.flush-flushed.ensures.bytes;
+  failures = rw c.is_ok.ensures.value c.flush-flushed.ensures.failures;
   status_is = c.finish.ensures;
 }

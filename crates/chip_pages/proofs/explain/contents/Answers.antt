@@ -1,8 +1,10 @@
-use Rattle.chip_pages.proofs.PageLemmas.{more_contents, no_contents}
+use Rattle.std.proofs.Common.{◌++◌}
+use Rattle.chip_pages.proofs.PageLemmas.{all_codes, contents_of}
 use Rattle.chip_pages.proofs.explain.contents.Goals as goal
 
-pub loop-group-init : goal.loop-group-init
-loop-group-init c = no_contents _ c.new-text.ensures.items
-
-pub loop-group-preserved : goal.loop-group-preserved
-loop-group-preserved c = more_contents c.loop-group.text.items _ _ c.loop-group.invariant c.in_ok-push_titles.ensures
+pub returns : goal.returns
+returns c = record {
+  pages = c.fault_pages.result.now ++ (c.command_pages.result.now ++ c.end_pages.result.now);
+  all = all_codes _ _ _ c.fault_pages.ensures c.command_pages.ensures c.end_pages.ensures;
+  text_is = contents_of _ _ _ _ _ _ _ c.new-text.ensures.items c.in_ok-push_titles.ensures c.in_ok-push_titles-2.ensures c.in_ok-push_titles-3.ensures;
+}
