@@ -9,7 +9,7 @@ import { Completion } from './completion.mjs';
 import { Coverage } from './coverage.mjs';
 import { DisassemblyView } from './disassembly_view.mjs';
 import { Documents } from './documents.mjs';
-import { byId, grouped, setText } from './dom.mjs';
+import { byId, grouped, setText, setTitle } from './dom.mjs';
 import { Editor } from './editor.mjs';
 import { EventsView } from './events_view.mjs';
 import { Exports } from './exports.mjs';
@@ -332,7 +332,7 @@ class Page {
 
   #tellEdit(text) {
     setText(byId('edit-effect'), text);
-    if (byId('edit-effect').title !== text) byId('edit-effect').title = text;
+    setTitle(byId('edit-effect'), text);
   }
 
   // What goes wrong -----------------------------------------------------------------------------------------------------------

@@ -24,6 +24,8 @@ export class Workbench {
   #sent = 0;
   #held = null;
   #turn = Promise.resolve();
+  /** The requests on their way that change nothing. */
+  #asked = new Set();
   #taken = false;
 
   /** The greatest step that the program takes, found by trying. */
@@ -45,13 +47,37 @@ export class Workbench {
   }
 
   /**
-   * Makes the program hold what is wanted (`lines`, `keys`, `options`) and answers the questions about it. Requests are
-   * carried out one after another.
+   * Makes the program hold what is wanted (`lines`, `keys`, `options`) and answers the questions about it. Requests that change
+   * what it holds are carried out one after another; questions alone don't wait for the answers of those before.
    */
   answers(wanted, questions) {
-    const answered = this.#turn.then(() => this.#answer(wanted, questions));
-    this.#turn = answered.catch(() => {});
-    return answered;
+    const begun = this.#turn.then(() => this.#begin(wanted, questions));
+    this.#turn = begun.catch(() => {});
+    return begun.then(({ answers }) => answers);
+  }
+
+  /** Resolves when the next request may begin, with the answers, which may come later. */
+  async #begin(wanted, questions) {
+    if (!this.#taken && this.#held === wanted && this.#sent + questions.length <= COMMANDS_A_SESSION) {
+      return { answers: this.#askOnly(wanted, questions) };
+    }
+    await Promise.allSettled(this.#asked);
+    return { answers: await this.#answer(wanted, questions) };
+  }
+
+  /** Asks a program that holds what is wanted. Where it ends, it is started anew in turn, and asked again. */
+  async #askOnly(wanted, questions) {
+    const sent = this.#send('ask', { session: this.#session, commands: questions });
+    const forget = () => this.#asked.delete(sent);
+    this.#asked.add(sent);
+    sent.then(forget, forget);
+    const reply = await sent.catch((fault) => this.#throwFault(fault));
+    if (!reply.ended) return reply.answers;
+    if (this.#held === wanted) {
+      this.#held = null;
+      this.#onEnded(reply.ended.status, firstPart(reply.ended.text));
+    }
+    return this.answers(wanted, questions);
   }
 
   async #answer(wanted, questions) {
@@ -64,11 +90,16 @@ export class Workbench {
       }
       return await this.#ask(wanted, edits, questions);
     } catch (fault) {
-      if (fault instanceof BridgeFault) this.#held = null;
-      if (!(fault instanceof BridgeFault && fault.status === 409)) throw fault;
-      this.#taken = true;
-      throw new TakenOver();
+      return this.#throwFault(fault);
     }
+  }
+
+  /** After a fault of the bridge it isn't known what the program holds. */
+  #throwFault(fault) {
+    if (fault instanceof BridgeFault) this.#held = null;
+    if (!(fault instanceof BridgeFault && fault.status === 409)) throw fault;
+    this.#taken = true;
+    throw new TakenOver();
   }
 
   /** The edits from what the program holds to what is wanted, or null where it has to be started anew. */
