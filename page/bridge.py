@@ -1,7 +1,8 @@
 """The bridge between the page in a browser and the program `chipbench debug`.
 
 It serves the files of page/static on 127.0.0.1, keeps one program running, and passes commands and answers through. It knows the
-words of the command line and where an answer ends, and nothing else of what the program does. Nothing of it is proved.
+words of the command line, where an answer ends and the columns of a trace, and nothing else of what the program does. Nothing of it
+is proved.
 """
 
 from __future__ import annotations

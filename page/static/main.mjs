@@ -86,6 +86,7 @@ class Page {
   #makeSearch() {
     this.search = new SearchView(this.model, {
       ask: (questions) => this.workbench.answers(this.model.wanted, questions),
+      scan: (question) => this.workbench.steps(this.model.wanted, question),
       symbols: () => this.viewer.assembled.symbols,
       lineAddress: async () => {
         await this.viewer.settle();

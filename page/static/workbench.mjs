@@ -2,7 +2,7 @@
 
 import { BridgeFault, request } from './bridge.mjs';
 import { refusal } from './answers.mjs';
-import { keyCommands, KeyScript } from './key_script.mjs';
+import { keyCommands, KeyScript, writeKeys } from './key_script.mjs';
 import { lineCommands } from './line_changes.mjs';
 
 /** A session takes 100,000 commands (docs/FORMATS.md: E4); before it has had them, the program is started anew. */
@@ -102,6 +102,14 @@ export class Workbench {
     throw new TakenOver();
   }
 
+  /** Which steps of a run have something: a question of finder.mjs, which the bridge asks of a program of its own. */
+  async steps(wanted, question) {
+    const about = { source: sourceOf(wanted), keys: writeKeys(wanted.keys), options: wanted.options };
+    const { refused, ...found } = await this.#request('search', { ...about, ...question });
+    if (!refused) return found;
+    throw new ProgramEnded(refused.status === 1 ? 'there is no run, since a line has a fault' : firstPart(refused.text) || `the program ended with status ${refused.status}`);
+  }
+
   /** The edits from what the program holds to what is wanted, or null where it has to be started anew. */
   #editsFor(wanted) {
     if (this.#held === null || this.#held.options !== wanted.options) return null;
@@ -134,7 +142,7 @@ export class Workbench {
     this.#held = null;
     this.#sent = 0;
     this.starts += 1;
-    const source = wanted.lines.map((line) => `${line}\n`).join('');
+    const source = sourceOf(wanted);
     const events = keyCommands(new KeyScript(), wanted.keys);
     const reply = await this.#send('open', { session: this.#session, source, options: wanted.options, commands: events });
     if (reply.ended) this.#throwEnded(reply.ended);
@@ -172,6 +180,8 @@ export class Workbench {
     throw new ProgramEnded(`the program ended ${how}${said ? `: ${said}` : ''}`);
   }
 }
+
+const sourceOf = ({ lines }) => lines.map((line) => `${line}\n`).join('');
 
 /** What a program said at its end, without its usage, which follows after a blank line. */
 function firstPart(text) {
