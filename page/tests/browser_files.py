@@ -2,9 +2,11 @@
 
 from __future__ import annotations
 
+import contextlib
 import json
 import os
 import signal
+import socket
 import subprocess
 import sys
 import time
@@ -231,6 +233,49 @@ class FileTests(PageTests):
             browser.wait("document.getElementById('file-state').textContent === 'saved'")
             assert self.path.read_text() == "LD V0, 1 ; mine\n"
             self.browser.console = [line for line in self.browser.console if "409" not in line]
+
+    def test_a_full_disk(self) -> None:
+        """Saving says so, and neither the file nor what was typed is lost."""
+        place = self.folder / "small"
+        place.mkdir()
+        if subprocess.run(["mount", "-t", "tmpfs", "-o", "size=64k", "tmpfs", str(place)], capture_output=True).returncode != 0:
+            print("    nothing is tried: this user can't mount a small disk")
+            return
+        try:
+            with self.page("CLS ; first\n", "small/game.asm") as browser:
+                with contextlib.suppress(OSError), (place / "filler").open("wb", buffering=0) as filler:
+                    while filler.write(bytes(4096)):
+                        pass
+                self.put_line(1, "LD V0, 1 ; mine")
+                browser.press("s", "KeyS", CONTROL)
+                browser.wait("/It wasn't saved: .*No space left/.test(document.getElementById('notices').textContent)")
+                assert (self.path.read_text(), sorted(os.listdir(place))) == ("CLS ; first\n", ["filler", "game.asm"])
+                assert self.source() == "LD V0, 1 ; mine\n"
+                assert self.text_of("#file-state").startswith("not saved")
+                self.reload()
+                assert self.source() == "LD V0, 1 ; mine\n"
+                (place / "filler").unlink()
+                browser.press("s", "KeyS", CONTROL)
+                browser.wait("document.getElementById('file-state').textContent === 'saved'")
+                assert self.path.read_text() == "LD V0, 1 ; mine\n"
+                self.browser.console = [line for line in self.browser.console if "500" not in line]
+        finally:
+            subprocess.run(["umount", "--lazy", str(place)], check=True)
+
+    def test_a_hundred_connections(self) -> None:
+        """The page goes on while a hundred others are connected: some say nothing, some a part of a request."""
+        text = self.example("bounce")
+        with self.page(text) as browser, contextlib.ExitStack() as stack:
+            host, port = self.address.split("/")[2].split(":")
+            for number in range(100):
+                other = stack.enter_context(socket.create_connection((host, int(port)), timeout=5))
+                other.sendall([b"", b"G", b"GET / HTTP/1.1\r\nHost: x\r\n"][number % 3])
+            self.check_step(text, 1000, [])
+            self.put_line(5, "        LD V2, 255")
+            self.rest()
+            self.check_step(text.replace("LD V2, 1\n", "LD V2, 255\n", 1), 1000, [])
+            self.reload()
+            self.check_step(text.replace("LD V2, 1\n", "LD V2, 255\n", 1), 7, [])
 
     def test_key_files(self) -> None:
         """Files of key events are read as the program reads them, comments and all; what it refuses is told with the line."""

@@ -635,6 +635,20 @@ class TheScript(unittest.TestCase):
             self.assertNotIn("Traceback", run.stderr)
             self.assertNotIn("http", run.stdout if status else "")
 
+    def test_faulty_arguments_are_told_before_a_build(self) -> None:
+        """A build takes long: what is wrong with the arguments is told first. A build that fails ends the command with its status."""
+        build, built = self.folder / "build", self.folder / "built"
+        build.write_text(f'#!/bin/sh\n: > "{built}"\nexit 7\n')
+        build.chmod(0o755)
+        words = [sys.executable, "-B", str(FOLDER.parent / "bridge.py"), "--program", fake_program(self.folder), "--build", str(build), "--no-open"]
+        for faulty in (("--port", "99999"), ("--seed", "1x"), ("--what",), ("a", "b"), ("--rate",), (str(self.folder),)):
+            run = subprocess.run([*words, *faulty], capture_output=True, text=True, timeout=20)
+            self.assertEqual((run.returncode, run.stdout, built.exists()), (2, "", False), faulty)
+            self.assertNotIn("Traceback", run.stderr)
+            self.assertNotIn("--build", run.stderr)
+        run = subprocess.run(words, capture_output=True, text=True, timeout=20)
+        self.assertEqual((run.returncode, run.stdout, built.exists()), (7, "", True))
+
     def test_the_token_is_in_no_command_line(self) -> None:
         """The browser is given a file that only this user can read, and which leads on to the address."""
         browser, told = self.folder / "browser", self.folder / "told"
