@@ -17,7 +17,8 @@ export class DisassemblyView {
   constructor(goToLine) {
     this.#goToLine = goToLine;
     const head = element('tr', {}, ...HEAD.map((name) => element('th', { textContent: name, scope: 'col' })));
-    const table = element('table', {}, element('thead', { className: 'unseen' }, head), this.#body);
+    const columns = HEAD.map(() => element('col'));
+    const table = element('table', {}, element('colgroup', {}, ...columns), element('thead', { className: 'unseen' }, head), this.#body);
     table.setAttribute('aria-labelledby', 'disassembly-title');
     byId('disassembly').append(table);
   }

@@ -52,7 +52,7 @@ export class Editor extends EventTarget {
     }
     this.#scroller.addEventListener('scroll', () => this.#lookedAt(), { passive: true });
     this.#scroller.addEventListener('pointerdown', (event) => this.#pointed(event));
-    new ResizeObserver(() => this.#lookedAt()).observe(this.#scroller);
+    new ResizeObserver(() => this.#resizedSight()).observe(this.#scroller);
     this.breakpoints.addEventListener('change', () => this.#drawRows());
   }
 
@@ -140,10 +140,21 @@ export class Editor extends EventTarget {
   }
 
   #reveal(line) {
-    const top = (line - 1) * ROW;
-    if (top >= this.#sight.top && top + ROW <= this.#sight.top + this.#sight.height) return;
-    this.#scroller.scrollTop = top - this.#sight.height / 2;
+    if (this.#isInSight(line)) return;
+    this.#scroller.scrollTop = (line - 1) * ROW - this.#sight.height / 2;
     this.#lookedAt();
+  }
+
+  #isInSight(line) {
+    const top = (line - 1) * ROW;
+    return top >= this.#sight.top && top + ROW <= this.#sight.top + this.#sight.height;
+  }
+
+  /** The line that pc is at stays in sight where it was, and comes into sight where the source was behind a tab. */
+  #resizedSight() {
+    const follows = this.#here !== null && (this.#sight.height === 0 || this.#isInSight(this.#here));
+    this.#lookedAt();
+    if (follows && this.#sight.height > 0) this.#reveal(this.#here);
   }
 
   /** Another part of the source is in sight. */

@@ -11,6 +11,7 @@ const MOST_WORDS = 400;
 const WORDS_PAST_IMAGE = 8;
 const WORDS_BEFORE = 5;
 const WORDS_SHOWN = 15;
+const WORDS_NEAR = 3;
 const ABOUT_TEXT = ['list', 'faults', 'syms', 'image'];
 /** How many questions about steps of one text are on their way at a time: while one is answered, the next is sent. */
 const MOST_LOOKS = 2;
@@ -126,10 +127,11 @@ export class Viewer extends EventTarget {
       machine.words = refusal(words) === null ? readWords(words) : [];
     }
     const place = machine.words.findIndex(({ address }) => address === pc);
-    const before = machine.words.findIndex(({ address }) => address === this.#firstWord);
-    // the words that were shown stay as long as pc is among them
-    const isAmong = before >= 0 && before <= place && place < before + WORDS_SHOWN;
-    const first = Math.max(0, Math.min(isAmong ? before : place - WORDS_BEFORE, machine.words.length - WORDS_SHOWN));
+    const shown = machine.words.findIndex(({ address }) => address === this.#firstWord);
+    const latest = machine.words.length - WORDS_SHOWN;
+    // the words that were shown stay as long as pc isn't near their ends
+    const stays = shown >= 0 && (shown === 0 || place >= shown + WORDS_NEAR) && (shown >= latest || place < shown + WORDS_SHOWN - WORDS_NEAR);
+    const first = Math.max(0, Math.min(stays ? shown : place - WORDS_BEFORE, latest));
     machine.words = machine.words.slice(first, first + WORDS_SHOWN);
     this.#firstWord = machine.words[0]?.address ?? null;
   }
