@@ -25,7 +25,7 @@ OPTION_VALUES = {
     "profile": re.compile(r"[a-z0-9]{1,20}"),
     "every": re.compile(r"[0-9]{1,9}"),
 }
-WORDS = ("dis", "explain", "check", "trace")
+WORDS = ("dis", "explain", "check", "trace", "test")
 NAMES = ("about", "open", "ask", "search", "word", "keys", "files", "read", "save")
 TAKEN = "another window has started the program anew"
 

@@ -59,7 +59,7 @@ class Page {
     this.documents = new Documents(about, { model: this.model, editor: this.editor, askName });
     const parts = { documents: this.documents, model: this.model, workbench: this.workbench };
     this.files = new FileDialogs(about, parts);
-    this.exports = new Exports({ ...parts, breakpoints: this.editor.breakpoints });
+    this.exports = new Exports(parts);
     this.#begin();
   }
 
@@ -174,6 +174,7 @@ class Page {
     this.#listenToStep(byId('step'));
     byId('show-settings').addEventListener('click', () => this.settings.open());
     byId('show-help').addEventListener('click', () => byId('help').showModal());
+    byId('download-case').hidden = !this.#about.words.includes('test');
     this.#listenToMenu(byId('file-menu'));
     listen(this.player, (name) => this.#act(name));
   }

@@ -5,6 +5,7 @@ from __future__ import annotations
 import contextlib
 import json
 import os
+import re
 import signal
 import socket
 import subprocess
@@ -335,6 +336,30 @@ class FileTests(PageTests):
             size = "new Promise((done, fail) => { const image = new Image(); image.onload = () => done([image.width, image.height]); image.onerror = fail; image.src = URL.createObjectURL(new Blob([new Uint8Array(%s)], { type: 'image/gif' })); })"
             browser.open("about:blank")
             assert browser.value(size % list(animation)) == [512, 256]
+
+    def test_cases(self) -> None:
+        """A case for `test` has the source, the settings, the keys and the answers at their steps; a program with that word carries it out."""
+        text = self.example("guess")
+        place = self.folder / "cases"
+        place.mkdir(exist_ok=True)
+        with self.page(text, "guess.asm", ("--tape", "05")) as browser:
+            browser.downloads(place)
+            browser.value("chipbenchPage.model.setKeys(chipbenchPage.model.keys.with(20, 3, true).with(44, 3, false))")
+            self.step(100)
+            browser.value("document.getElementById('download-case').click()")
+            wait_for(lambda: (place / "guess.test").exists(), "the case")
+            events = ["kins 20 3 down", "kins 44 3 up"]
+            questions = [f"{word} {step}" for step in (20, 44, 100) for word in ("regs", "screen")]
+            answers = [self.said(text, [*events, question], ("--tape", "05")).removeprefix("ok\nok\n") for question in questions]
+            asked = "".join(f"> {command}\n{answer}" for command, answer in zip([*events, *questions], ["ok\n", "ok\n", *answers]))
+            assert (place / "guess.test").read_text() == f"case guess at step 100\nsource\n{text}end\nrate 10\ntape 05\n{asked}"
+            if re.search(r"^\s+test\b", subprocess.run([self.program, "--help"], capture_output=True, text=True).stdout, re.MULTILINE):
+                run = subprocess.run([self.program, "test", str(place / "guess.test")], capture_output=True, text=True)
+                assert (run.returncode, run.stdout) == (0, "1 passed, 0 failed\n"), run
+                assert not browser.value("document.getElementById('download-case').hidden")
+            self.put_line(1, "end")
+            browser.value("document.getElementById('download-case').click()")
+            browser.wait("/can't hold a source with a line `end`/.test(document.getElementById('notices').textContent)")
 
     def test_addresses_and_arguments(self) -> None:
         """An address without its last slash is the page; faulty arguments end with a sentence before anything starts."""
