@@ -128,10 +128,12 @@ def find_steps(arguments: list[str], pattern: re.Pattern[bytes], most: int, is_l
                 process.kill()
         if reader.is_done:
             return {"steps": list(reader.steps), "end": None}
-        if process.returncode != 0 or not reader.is_trace:
+        if process.returncode != 0:
             errors.seek(0)
             said = errors.read(10_000).decode("utf-8", "replace").strip()
             return {"refused": {"status": process.returncode, "text": said}}
+    if not reader.is_trace:
+        return {"refused": {"status": 0, "text": "`trace` prints other columns than the page knows"}}
     step, *_, text = reader.last.split(b" ")
     return {"steps": list(reader.steps), "end": {"step": int(step), "text": text.decode("ascii")}}
 

@@ -96,29 +96,29 @@ class RunTests(PageTests):
         return found
 
     def test_speed(self) -> None:
-        """From typing to the picture, at step 100,000: where the run is kept, and where it is made anew."""
+        """From a typed character to the drawn screen at step 100,000: where the run is kept, and where it is made anew."""
         text = self.example("bounce")
         with self.page(text) as browser:
             self.step(100_000)
-            for name, line, change, most in (
-                ("kept", 1, "; {}", 50),
-                ("made anew", 7, "        LD I, BALL {}", 1000),
-                ("made anew", 5, "        LD V2, {}", 1000),
-            ):
-                times, took = [], []
-                for count in range(8):
-                    self.browser.value(
-                        "globalThis.answered = new Promise((done) => chipbenchPage.viewer.addEventListener('shown', () => done(performance.now()), { once: true }));"
-                        "document.addEventListener('input', () => { globalThis.typed = performance.now(); }, { once: true, capture: true });"
-                    )
-                    self.put_line(line, change.format(("; " + str(count)) if line == 7 else count + 2))
-                    times.append(self.browser.value("answered.then((at) => at - typed)"))
-                    took.append(self.browser.value("chipbenchPage.viewer.took"))
-                    self.rest()
-                times.sort()
-                took.sort()
-                print(f"    {name}, line {line}: {times[0]:.1f} to {times[-1]:.1f} ms, the middle {times[len(times) // 2]:.1f} ms, of which {took[len(took) // 2]:.1f} ms for the answers")
-                assert times[len(times) // 2] < most, times
+            for name, line, change in (("kept", 1, "; {}"), ("made anew", 7, "        LD I, BALL ; {}"), ("made anew", 5, "        LD V2, {}")):
+                # other work on this machine may slow a try down
+                tries = [sorted(self.typing_times(line, change)) for _ in range(3)]
+                middle, most = min((times[len(times) // 2], times[len(times) * 9 // 10]) for times in tries)
+                print(f"    {name}, line {line}: the middle {middle:.1f} ms, nine in ten within {most:.1f} ms; of which {browser.value('chipbenchPage.viewer.took'):.1f} ms for the last answers")
+                assert middle < 25 * browser.patience and most < 50 * browser.patience, tries
+
+    def typing_times(self, line: int, change: str) -> list[float]:
+        """The milliseconds of twenty changes of a line."""
+        times = []
+        for count in range(20):
+            self.browser.value(
+                "globalThis.answered = new Promise((done) => chipbenchPage.viewer.addEventListener('shown', () => done(performance.now()), { once: true }));"
+                "document.addEventListener('input', () => { globalThis.typed = performance.now(); }, { once: true, capture: true });"
+            )
+            self.put_line(line, change.format(count + 2))
+            times.append(self.browser.value("answered.then((at) => at - typed)"))
+            self.rest()
+        return times
 
     def test_keys_while_it_plays(self) -> None:
         """Guess is played by the keyboard; what is recorded is what the program answers for."""

@@ -392,7 +392,7 @@ class Searching(Running):
         self.assertEqual(self.good("search", **self.body(pc, source="fault\n"))["refused"]["status"], 1)
         refused = self.good("search", **self.body(pc, options={"rate": "99999"}))["refused"]
         self.assertEqual((refused["status"], refused["text"][:5]), (2, "error"))
-        self.assertIn("refused", self.good("search", **self.body(pc, source="columns\n")))
+        self.assertIn("other columns", self.good("search", **self.body(pc, source="columns\n"))["refused"]["text"])
         # what `trace` doesn't take makes no difference to a run
         self.assertEqual(self.steps(pc, options={"every": "5000"}), [3])
 
