@@ -17,6 +17,11 @@ from browser_page import SETTLED, PageTests, wait_for
 from driver import CONTROL
 
 
+def has_arrived(path: Path) -> bool:
+    """Whether a download is there: a browser makes an empty file at first."""
+    return path.exists() and path.stat().st_size > 0
+
+
 class FileTests(PageTests):
     def test_reload(self) -> None:
         text = self.example("guess")
@@ -72,7 +77,7 @@ class FileTests(PageTests):
             for kind in ("source", "keys", "image"):
                 browser.value(f"document.getElementById('download-{kind}').click()")
             for name in ("guess.asm", "guess.keys", "guess.ch8"):
-                wait_for(lambda: (place / name).exists(), name)
+                wait_for(lambda: has_arrived(place / name), name)
             assert (place / "guess.asm").read_text() == text
             assert (place / "guess.keys").read_text() == "20 3 down\n"
             assert (place / "guess.ch8").read_bytes().hex() + "\n" == self.said(text, ["image"])
@@ -104,7 +109,7 @@ class FileTests(PageTests):
         self.rest()
         (place / "guess.ch8").unlink()
         self.browser.value("document.getElementById('download-image').click()")
-        wait_for(lambda: (place / "guess.ch8").exists(), "the edited image")
+        wait_for(lambda: has_arrived(place / "guess.ch8"), "the edited image")
         assert (place / "guess.ch8").read_bytes().hex() + "\n" == self.said(self.browser.value("document.getElementById('source-text').value"), ["image"])
         assert (place / "guess.ch8").read_bytes()[:2] == b"\xc0\x07"
         large = self.folder / "large.ch8"
@@ -302,7 +307,7 @@ class FileTests(PageTests):
             browser.downloads(place)
             browser.value("chipbenchPage.model.setKeys(chipbenchPage.model.keys.with(20, 3, true).with(44, 3, false)); chipbenchPage.model.setStep(77)")
             browser.value("document.getElementById('download-game').click()")
-            wait_for(lambda: (place / "guess.game.asm").exists(), "the game")
+            wait_for(lambda: has_arrived(place / "guess.game.asm"), "the game")
             assert self.said((place / "guess.game.asm").read_text(), ["image"]) == self.said(text, ["image"])
             browser.value("chipbenchPage.model.setKeys(chipbenchPage.model.keys.without(20, 3).with(5, 5, true)); chipbenchPage.model.setStep(3)")
             self.upload(place / "guess.game.asm")
@@ -326,7 +331,7 @@ class FileTests(PageTests):
             browser.value("{ const { elements } = document.querySelector('#animation form'); elements.first.value = 0; elements.last.value = 400; }")
             browser.click("#animation [value=save]")
             for name in ("bounce-400.png", "bounce.script", "bounce.out", "bounce-0-400.gif"):
-                wait_for(lambda: (place / name).exists(), name)
+                wait_for(lambda: has_arrived(place / name), name)
             assert (place / "bounce-400.png").read_bytes()[16:24] == bytes([0, 0, 4, 0, 0, 0, 2, 0])
             script = (place / "bounce.script").read_text().splitlines()
             assert script[0] == "kins 20 3 down"
@@ -347,7 +352,7 @@ class FileTests(PageTests):
             browser.value("chipbenchPage.model.setKeys(chipbenchPage.model.keys.with(20, 3, true).with(44, 3, false))")
             self.step(100)
             browser.value("document.getElementById('download-case').click()")
-            wait_for(lambda: (place / "guess.test").exists(), "the case")
+            wait_for(lambda: has_arrived(place / "guess.test"), "the case")
             events = ["kins 20 3 down", "kins 44 3 up"]
             questions = [f"{word} {step}" for step in (20, 44, 100) for word in ("regs", "screen")]
             answers = [self.said(text, [*events, question], ("--tape", "05")).removeprefix("ok\nok\n") for question in questions]
