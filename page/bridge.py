@@ -1,7 +1,8 @@
 """The bridge between the page in a browser and the program `chipbench debug`.
 
 It serves the files of page/static on 127.0.0.1, keeps one program running, and passes commands and answers through. It knows the
-words of the command line and where an answer ends, and nothing else of what the program does. Nothing of it is proved.
+words of the command line, where an answer ends and the columns of a trace, and nothing else of what the program does. Nothing of it
+is proved.
 """
 
 from __future__ import annotations
@@ -16,6 +17,7 @@ import os
 import re
 import secrets
 import signal
+import subprocess
 import sys
 import webbrowser
 from pathlib import Path
@@ -218,12 +220,15 @@ def make_server(port: int | None, bridge: Bridge) -> Server:
 def parser() -> argparse.ArgumentParser:
     words = argparse.ArgumentParser(
         prog="chipbench-page",
+        usage="%(prog)s [SOURCE] [OPTIONS]",
         description="Opens a page in the browser beside a source: its listing and faults, and the machine at any step.",
         epilog="The page and this bridge stand beside the proved workbench and are no part of it.",
         allow_abbrev=False,
     )
     words.add_argument("source", nargs="?", metavar="SOURCE", help="the source; a file that isn't there is made when you save")
     words.add_argument("--program", metavar="PATH", required=True, help="the chipbench to run (default: the proved one)")
+    # a command that makes the program, once the arguments are seen to be good
+    words.add_argument("--build", metavar="COMMAND", help=argparse.SUPPRESS)
     words.add_argument("--port", metavar="N", help=f"the port (default: the first free one from {FIRST_PORT} on)")
     words.add_argument("--no-open", action="store_true", help="print the address and open no browser")
     for name in OPTION_VALUES:
@@ -270,6 +275,8 @@ def main(arguments: list[str]) -> int:
     settings = {name: value for name in OPTION_VALUES if (value := getattr(words, name)) is not None}
     if (reason := faulty_argument(words, settings)) is not None:
         return fail(reason, 2)
+    if words.build is not None and (status := subprocess.run([words.build, "--help"], stdout=subprocess.DEVNULL).returncode) != 0:
+        return status
     try:
         bridge = Bridge(words.program, Files(Path(words.source) if words.source is not None else None), settings)
     except OSError as error:

@@ -11,6 +11,7 @@ from typing import Any
 
 from files import MAX_FILE, Files, Refused, digest_of, shown
 from program import Ended, Program, TooMuch, run_once
+from trace_search import MOST_STEPS, find_steps, pattern_of
 
 MAX_BODY = 8_000_000
 MAX_COMMANDS = 25_000
@@ -24,8 +25,8 @@ OPTION_VALUES = {
     "profile": re.compile(r"[a-z0-9]{1,20}"),
     "every": re.compile(r"[0-9]{1,9}"),
 }
-WORDS = ("dis", "explain", "check")
-NAMES = ("about", "open", "ask", "word", "keys", "files", "read", "save")
+WORDS = ("dis", "explain", "check", "trace", "test")
+NAMES = ("about", "open", "ask", "search", "word", "keys", "files", "read", "save")
 TAKEN = "another window has started the program anew"
 
 
@@ -37,6 +38,12 @@ def bytes_of(value: Any, most: int) -> bytes:
         return value.encode("latin-1")
     except UnicodeEncodeError:
         raise Refused(400, "a character that is no byte") from None
+
+
+def number_of(value: Any) -> int:
+    if not isinstance(value, int) or isinstance(value, bool) or not 0 <= value < 10**9:
+        raise Refused(400, "a number is missing or too large")
+    return value
 
 
 def commands_of(value: Any) -> list[bytes]:
@@ -74,9 +81,11 @@ class Bridge:
         self._start = secrets.token_hex(8)
         self._lock = threading.Lock()
         self._saving = threading.Lock()
+        self._searching = threading.Lock()
         self._options = [name for name in OPTION_VALUES if name in self._options_of("debug")]
         self._takes_keys = "keys" in self._options_of("run")
         self._words = self._known_words()
+        self._trace_options = self._options_of("trace") if "trace" in self._words else set()
         self._folder = tempfile.TemporaryDirectory(prefix="chipbench-page-")
         self.place = Path(self._folder.name)
 
@@ -200,6 +209,29 @@ class Bridge:
         with self._lock:
             self._close()
         self._folder.cleanup()
+
+    # Searches in a run ---------------------------------------------------------------------------------------------------
+
+    def search(self, request: dict[str, Any]) -> dict[str, Any]:
+        """The first steps from `first` to `last`, or the last ones, whose lines in `trace` have what is looked for; at most `most`."""
+        if not self._trace_options:
+            raise Refused(409, "this program has no word `trace`")
+        source, keys = bytes_of(request.get("source"), MAX_FILE), bytes_of(request.get("keys"), MAX_FILE)
+        options = request.get("options")
+        # what `trace` doesn't take makes no difference to a run
+        arguments = option_arguments({name: value for name, value in options.items() if name in self._trace_options} if isinstance(options, dict) else None)
+        first, last, most = (number_of(request.get(name)) for name in ("first", "last", "most"))
+        if not 0 < most <= MOST_STEPS:
+            raise Refused(400, f"at most {MOST_STEPS:,} steps are told")
+        pattern = pattern_of(request.get("where"))
+        with self._searching:
+            place, events = self._new_file(source), self._new_file(keys)
+            try:
+                words = ["trace", *arguments, "--from", str(first), "--steps", str(last), "--keys", str(events), str(place)]
+                return find_steps([self._program, *words], pattern, most, request.get("isLast") is True)
+            finally:
+                place.unlink()
+                events.unlink()
 
     # Words of the program that are run once ------------------------------------------------------------------------------
 

@@ -1,6 +1,6 @@
 // The words around pc, each with its line of the source.
 
-import { byId, element, setText } from './dom.mjs';
+import { byId, element, setText, setTitle } from './dom.mjs';
 import { hex } from './answers.mjs';
 
 const HEAD = ['', 'Address', 'Word', 'Instruction', 'Line of the source'];
@@ -17,7 +17,8 @@ export class DisassemblyView {
   constructor(goToLine) {
     this.#goToLine = goToLine;
     const head = element('tr', {}, ...HEAD.map((name) => element('th', { textContent: name, scope: 'col' })));
-    const table = element('table', {}, element('thead', { className: 'unseen' }, head), this.#body);
+    const columns = HEAD.map(() => element('col'));
+    const table = element('table', {}, element('colgroup', {}, ...columns), element('thead', { className: 'unseen' }, head), this.#body);
     table.setAttribute('aria-labelledby', 'disassembly-title');
     byId('disassembly').append(table);
   }
@@ -50,11 +51,12 @@ export class DisassemblyView {
     const name = target === null ? null : names.at(parseInt(target[1], 16));
     const texts = [here ? '▸' : '', hex(address, 4), word, name === null ? text : `${text} ${name}`];
     texts.forEach((shown, place) => setText(row.cells[place], shown));
-    row.cells[1].title = names.at(address) ?? '';
+    setTitle(row.cells[1], names.at(address) ?? '');
+    setTitle(row.cells[3], texts[3]);
     row.element.classList.toggle('here', here);
-    row.element.ariaCurrent = here ? 'true' : null;
+    if (here !== (row.element.ariaCurrent === 'true')) row.element.ariaCurrent = here ? 'true' : null;
     row.cells[2].classList.toggle('changed', assembled !== word);
-    row.cells[2].title = assembled === word ? '' : `the source has ${assembled} here`;
+    setTitle(row.cells[2], assembled === word ? '' : `the source has ${assembled} here`);
     row.line = line;
     row.number.hidden = line === null;
     setText(row.number, line === null ? '' : String(line));

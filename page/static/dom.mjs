@@ -9,9 +9,24 @@ export function element(name, properties = {}, ...children) {
   return made;
 }
 
-/** Sets a text where it isn't there yet, so that nothing is drawn anew for it. */
+/** Sets a text where it isn't there yet, so that nothing is drawn anew for it; the node of a text stays. */
 export function setText(place, text) {
-  if (place.textContent !== text) place.textContent = text;
+  const node = place.firstChild;
+  if (node instanceof Text && node === place.lastChild) {
+    if (node.data !== text) node.data = text;
+  } else if (place.textContent !== text) {
+    place.textContent = text;
+  }
+}
+
+/** Sets what the pointer on an element tells, where it isn't so yet. */
+export function setTitle(place, title) {
+  if (place.title !== title) place.title = title;
+}
+
+/** Sets an attribute where it isn't so yet. */
+export function setAttribute(place, name, value) {
+  if (place.getAttribute(name) !== value) place.setAttribute(name, value);
 }
 
 /** Sets the children of an element; those that stay are left alone, so that only what changes is drawn anew. */

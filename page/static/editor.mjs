@@ -31,6 +31,8 @@ export class Editor extends EventTarget {
   /** A hundred columns, to know how wide one is. */
   #measure = element('span', { className: 'measure', textContent: '0'.repeat(100) });
   #draw = oncePerFrame(() => this.#drawRows());
+  /** What is in sight, in pixels, as the browser told it last: to ask it would have it lay the page out at once. */
+  #sight = { top: 0, height: 0 };
   #before = '';
   #selection = [0, 0];
 
@@ -48,9 +50,9 @@ export class Editor extends EventTarget {
         if (document.activeElement === this.#text) this.#tellCursor();
       });
     }
-    this.#scroller.addEventListener('scroll', this.#draw, { passive: true });
+    this.#scroller.addEventListener('scroll', () => this.#lookedAt(), { passive: true });
     this.#scroller.addEventListener('pointerdown', (event) => this.#pointed(event));
-    new ResizeObserver(this.#draw).observe(this.#scroller);
+    new ResizeObserver(() => this.#resizedSight()).observe(this.#scroller);
     this.breakpoints.addEventListener('change', () => this.#drawRows());
   }
 
@@ -138,9 +140,27 @@ export class Editor extends EventTarget {
   }
 
   #reveal(line) {
-    const { scrollTop, clientHeight } = this.#scroller;
+    if (this.#isInSight(line)) return;
+    this.#scroller.scrollTop = (line - 1) * ROW - this.#sight.height / 2;
+    this.#lookedAt();
+  }
+
+  #isInSight(line) {
     const top = (line - 1) * ROW;
-    if (top < scrollTop || top + ROW > scrollTop + clientHeight) this.#scroller.scrollTop = top - clientHeight / 2;
+    return top >= this.#sight.top && top + ROW <= this.#sight.top + this.#sight.height;
+  }
+
+  /** The line that pc is at stays in sight where it was, and comes into sight where the source was behind a tab. */
+  #resizedSight() {
+    const follows = this.#here !== null && (this.#sight.height === 0 || this.#isInSight(this.#here));
+    this.#lookedAt();
+    if (follows && this.#sight.height > 0) this.#reveal(this.#here);
+  }
+
+  /** Another part of the source is in sight. */
+  #lookedAt() {
+    this.#sight = { top: this.#scroller.scrollTop, height: this.#scroller.clientHeight };
+    this.#draw();
   }
 
   goToLine(line) {
@@ -285,9 +305,9 @@ export class Editor extends EventTarget {
 
   /** Makes the rows that are in sight, or nearly so. */
   #drawRows() {
-    const { scrollTop, clientHeight } = this.#scroller;
-    const first = Math.max(0, Math.floor(scrollTop / ROW) - SPARE_ROWS);
-    const last = Math.min(this.#lines.length, Math.ceil((scrollTop + clientHeight) / ROW) + SPARE_ROWS);
+    const { top, height } = this.#sight;
+    const first = Math.max(0, Math.floor(top / ROW) - SPARE_ROWS);
+    const last = Math.min(this.#lines.length, Math.ceil((top + height) / ROW) + SPARE_ROWS);
     this.#rows = new Map();
     const [bands, marks, colours] = [[this.#band], [this.#measure], []];
     for (let line = first + 1; line <= last; line += 1) {

@@ -1,6 +1,7 @@
 // Pictures of the screen, animations of a part of the run, and scripts with their answers, as downloads.
 
 import { readScreen, refusal } from './answers.mjs';
+import { canHold, markedSteps, writeCase } from './case_file.mjs';
 import { byId, colour } from './dom.mjs';
 import { download } from './files.mjs';
 import { encodeGif } from './gif.mjs';
@@ -22,16 +23,15 @@ export class Exports {
   #model;
   #workbench;
   #documents;
-  #breakpoints;
 
-  constructor({ model, workbench, documents, breakpoints }) {
+  constructor({ model, workbench, documents }) {
     this.#model = model;
     this.#workbench = workbench;
     this.#documents = documents;
-    this.#breakpoints = breakpoints;
     byId('download-picture').addEventListener('click', () => this.#picture());
     byId('show-animation').addEventListener('click', () => this.#askSpan());
     byId('download-script').addEventListener('click', () => this.#script());
+    byId('download-case').addEventListener('click', () => this.#case());
   }
 
   get #name() {
@@ -100,5 +100,20 @@ export class Exports {
     if (answers === null) return;
     download(`${this.#name}.script`, [...events, ...questions].map((command) => `${command}\n`).join(''));
     download(`${this.#name}.out`, [...events.map(() => 'ok\n'), ...answers].join(''));
+  }
+
+  /** The source, the settings and the keys, with what `debug` answers at their steps and at the one looked at. */
+  async #case() {
+    const { keys, step, options, wanted } = this.#model;
+    const questions = markedSteps(keys, step).flatMap((at) => [`regs ${at}`, `screen ${at}`]);
+    const answers = await this.#answers(questions);
+    if (answers === null) return;
+    if (!canHold(wanted.lines)) {
+      notice('export', 'A case for `test` can\'t hold a source with a line `end`.');
+      return;
+    }
+    const events = keyCommands(new KeyScript(), keys).map((command) => [command, 'ok\n']);
+    const exchanges = [...events, ...questions.map((question, place) => [question, answers[place]])];
+    download(`${this.#name}.test`, writeCase({ name: `${this.#name} at step ${step}`, lines: wanted.lines, options, exchanges }));
   }
 }

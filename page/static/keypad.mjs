@@ -1,6 +1,6 @@
 // The sixteen keys, in their places on the machine, and the keys of the keyboard that stand for them.
 
-import { byId, element } from './dom.mjs';
+import { byId, element, setAttribute } from './dom.mjs';
 import { hex } from './answers.mjs';
 
 const PLACES = [0x1, 0x2, 0x3, 0xc, 0x4, 0x5, 0x6, 0xd, 0x7, 0x8, 0x9, 0xe, 0xa, 0x0, 0xb, 0xf];
@@ -45,6 +45,6 @@ export class Keypad {
   /** Which keys are down at a step. */
   show(keys, step) {
     const held = keys.held(step);
-    for (const [key, button] of this.#buttons) button.setAttribute('aria-pressed', String(held[key]));
+    for (const [key, button] of this.#buttons) setAttribute(button, 'aria-pressed', String(held[key]));
   }
 }

@@ -9,7 +9,7 @@ import { Completion } from './completion.mjs';
 import { Coverage } from './coverage.mjs';
 import { DisassemblyView } from './disassembly_view.mjs';
 import { Documents } from './documents.mjs';
-import { byId, grouped, setText } from './dom.mjs';
+import { byId, grouped, setText, setTitle } from './dom.mjs';
 import { Editor } from './editor.mjs';
 import { EventsView } from './events_view.mjs';
 import { Exports } from './exports.mjs';
@@ -59,7 +59,7 @@ class Page {
     this.documents = new Documents(about, { model: this.model, editor: this.editor, askName });
     const parts = { documents: this.documents, model: this.model, workbench: this.workbench };
     this.files = new FileDialogs(about, parts);
-    this.exports = new Exports({ ...parts, breakpoints: this.editor.breakpoints });
+    this.exports = new Exports(parts);
     this.#begin();
   }
 
@@ -86,6 +86,7 @@ class Page {
   #makeSearch() {
     this.search = new SearchView(this.model, {
       ask: (questions) => this.workbench.answers(this.model.wanted, questions),
+      scan: (question) => this.workbench.steps(this.model.wanted, question),
       symbols: () => this.viewer.assembled.symbols,
       lineAddress: async () => {
         await this.viewer.settle();
@@ -173,6 +174,7 @@ class Page {
     this.#listenToStep(byId('step'));
     byId('show-settings').addEventListener('click', () => this.settings.open());
     byId('show-help').addEventListener('click', () => byId('help').showModal());
+    byId('download-case').hidden = !this.#about.words.includes('test');
     this.#listenToMenu(byId('file-menu'));
     listen(this.player, (name) => this.#act(name));
   }
@@ -332,7 +334,7 @@ class Page {
 
   #tellEdit(text) {
     setText(byId('edit-effect'), text);
-    if (byId('edit-effect').title !== text) byId('edit-effect').title = text;
+    setTitle(byId('edit-effect'), text);
   }
 
   // What goes wrong -----------------------------------------------------------------------------------------------------------

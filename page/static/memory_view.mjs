@@ -1,6 +1,6 @@
 // A page of the memory in hexadecimal, with what the step before changed marked.
 
-import { byId, element, setText } from './dom.mjs';
+import { byId, element, setText, setTitle } from './dom.mjs';
 import { hex } from './answers.mjs';
 
 const ROWS = 16;
@@ -80,7 +80,7 @@ export class MemoryView {
     const name = marks.filter(Boolean).join(' ');
     if (cell.className !== name) cell.className = name;
     const label = this.#names.at(address) ?? '';
-    if (cell.title !== label) cell.title = label;
+    setTitle(cell, label);
   }
 
   /** Makes the cells anew where there is room for other columns. */

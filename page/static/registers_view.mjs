@@ -1,6 +1,6 @@
 // Registers, timers, flags and stack, with what the step before changed marked.
 
-import { byId, element, setText } from './dom.mjs';
+import { byId, element, setText, setTitle } from './dom.mjs';
 import { hex } from './answers.mjs';
 
 /** The fields that are shown, in order: a name, its text in the registers of a machine, and what it means where the name doesn't say. */
@@ -52,7 +52,7 @@ export class RegistersView {
       cell.classList.toggle('changed', now !== was);
       const name = address === null ? null : names.at(address(registers));
       const description = describe([meaning, name].filter(Boolean).join(''), now, was);
-      if (cell.title !== description) cell.title = description;
+      setTitle(cell, description);
     }
   }
 }

@@ -1,7 +1,7 @@
 // Runs on, or back, to a breakpoint, over a call, or out of one.
 
 import { byId } from './dom.mjs';
-import { atOneOf, subject } from './finder.mjs';
+import { subject } from './finder.mjs';
 
 export class RunControl {
   #editor;
@@ -26,13 +26,13 @@ export class RunControl {
     const frames = machine.registers.stack.length;
     const most = name.startsWith('out') ? frames - 1 : frames;
     if (most < 0) return this.#tell('the call stack is empty');
-    return this.#find(forward, { of: subject('frames'), relation: 'at-most', wanted: most });
+    return this.#find(forward, { of: subject('frames'), relation: 'is', wanted: Array.from({ length: most + 1 }, (_, count) => count) });
   }
 
   #toBreakpoint(forward) {
     const addresses = this.#editor.breakpoints.lines.map((line) => this.#editor.listing[line - 1]?.address ?? null).filter((address) => address !== null);
     if (addresses.length === 0) return this.#tell('no line with an address has a breakpoint: press its number, or F9 in the source');
-    return this.#find(forward, { of: atOneOf(addresses), relation: 'is', wanted: 1 });
+    return this.#find(forward, { of: subject('pc'), relation: 'is', wanted: addresses });
   }
 
   async #find(forward, question) {

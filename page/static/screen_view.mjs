@@ -1,6 +1,6 @@
 // The screen on a canvas of 128 by 64 stored pixels.
 
-import { byId, colour, onTheme, setText } from './dom.mjs';
+import { byId, colour, onTheme, setText, setTitle } from './dom.mjs';
 import { codeText } from './codes.mjs';
 
 const WIDTH = 128;
@@ -11,6 +11,8 @@ export class ScreenView {
   #canvas = byId('screen');
   #state = byId('machine-state');
   #context = this.#canvas.getContext('2d');
+  #picture = this.#context.createImageData(WIDTH, HEIGHT);
+  #colours = new Uint32Array(this.#picture.data.buffer);
   #rows = [];
   #flashing = 0;
 
@@ -35,14 +37,14 @@ export class ScreenView {
 
   #tell(text) {
     setText(this.#state, text);
-    if (this.#state.title !== text) this.#state.title = text;
+    setTitle(this.#state, text);
   }
 
   /** Shows for a moment which pixels differ from those of another screen. */
   flash(other) {
     if (matchMedia('(prefers-reduced-motion: reduce)').matches) return;
     const theirs = pixelsOf(other.rows);
-    const marked = pixelsOf(this.#rows).map((pixel, place) => pixel !== theirs[place]);
+    const marked = pixelsOf(this.#rows).map((pixel, place) => pixel ^ theirs[place]);
     this.#draw(marked);
     clearTimeout(this.#flashing);
     this.#flashing = setTimeout(() => this.#draw(), FLASH_MILLISECONDS);
@@ -52,12 +54,11 @@ export class ScreenView {
   #draw(marked = null) {
     const plain = ['--screen-dark', '--screen-lit'].map((name) => bytesOf(colour(name)));
     const changed = ['--changed-ground', '--changed'].map((name) => bytesOf(colour(name)));
-    const picture = this.#context.createImageData(WIDTH, HEIGHT);
-    const colours = new Uint32Array(picture.data.buffer);
-    pixelsOf(this.#rows).forEach((pixel, place) => {
-      colours[place] = (marked !== null && marked[place] ? changed : plain)[pixel];
-    });
-    this.#context.putImageData(picture, 0, 0);
+    const pixels = pixelsOf(this.#rows);
+    const colours = this.#colours;
+    for (let place = 0; place < pixels.length; place += 1) colours[place] = plain[pixels[place]];
+    if (marked !== null) marked.forEach((isMarked, place) => { if (isMarked) colours[place] = changed[pixels[place]]; });
+    this.#context.putImageData(this.#picture, 0, 0);
   }
 }
 
@@ -68,7 +69,7 @@ function stopText(state, profile) {
 
 /** The pixels of the stored rows, row after row: 1 where one is lit. */
 export function pixelsOf(rows) {
-  const pixels = Array(WIDTH * HEIGHT).fill(0);
+  const pixels = new Uint8Array(WIDTH * HEIGHT);
   for (const { row, digits } of rows) {
     for (let place = 0; place < digits.length; place += 1) {
       const digit = parseInt(digits[place], 16);
@@ -87,5 +88,5 @@ function bytesOf(name) {
 /** How many pixels differ between two screens. */
 export function pixelsApart(one, other) {
   const theirs = pixelsOf(other.rows);
-  return pixelsOf(one.rows).filter((pixel, place) => pixel !== theirs[place]).length;
+  return pixelsOf(one.rows).reduce((count, pixel, place) => count + (pixel ^ theirs[place]), 0);
 }

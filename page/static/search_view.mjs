@@ -15,6 +15,7 @@ const SUBJECTS = [
 export class SearchView {
   #model;
   #ask;
+  #scan;
   #symbols;
   #lineAddress;
   #form = byId('search');
@@ -26,12 +27,13 @@ export class SearchView {
   #names = '';
 
   /**
-   * `ask(questions)` answers about what the model wants; `symbols()` are the names; `lineAddress()` is the cursor line's, or
-   * null, once it is known.
+   * `ask(questions)` answers about what the model wants; `scan(question)` tells which steps of its run have something (finder.mjs);
+   * `symbols()` are the names; `lineAddress()` is the cursor line's, or null, once it is known.
    */
-  constructor(model, { ask, symbols, lineAddress }) {
+  constructor(model, { ask, scan, symbols, lineAddress }) {
     this.#model = model;
     this.#ask = ask;
+    this.#scan = scan;
     this.#symbols = symbols;
     this.#lineAddress = lineAddress;
     const { elements } = this.#form;
@@ -98,7 +100,7 @@ export class SearchView {
     if (kind !== 'changes' && wanted === null) return this.#tell(`'${value.value}' is no number and no name of the source`);
     if (chosen.value === 'byte' && !(at !== null && at < 4096)) return this.#tell(`'${address.value}' is no address`);
     this.#tell('');
-    const told = await this.find(forward, { of: subject(chosen.value, at ?? 0), relation: kind, wanted });
+    const told = await this.find(forward, { of: subject(chosen.value, at ?? 0), relation: kind, wanted: [wanted] });
     if (told !== null) this.#tell(told);
   }
 
@@ -122,15 +124,13 @@ export class SearchView {
   }
 
   #found(forward, question, from) {
-    const { lastStep, rate, keys } = this.#model;
     return findStep({
       ...question,
-      ask: (questions) => this.#askOn(questions),
+      ask: (questions) => this.#unlessStopped(() => this.#ask(questions)),
+      scan: (part) => this.#unlessStopped(() => this.#scan(part)),
       from,
       forward,
-      lastStep,
-      rate,
-      lastEvent: keys.events.at(-1)?.step ?? 0,
+      lastStep: this.#model.lastStep,
       progress: (part) => {
         this.#progress.value = part;
         return this.#goOn;
@@ -139,9 +139,9 @@ export class SearchView {
   }
 
   /** An edit stops the search, since its answers would be of two runs. */
-  #askOn(questions) {
+  #unlessStopped(ask) {
     if (!this.#goOn) throw new SearchStopped();
-    return this.#ask(questions);
+    return ask();
   }
 
   #show(running) {

@@ -1,6 +1,6 @@
 // The memory at I as a sprite, eight pixels a row; and a sprite that is drawn here as the DB line of the source.
 
-import { byId, element, setText } from './dom.mjs';
+import { byId, element, setAttribute, setText } from './dom.mjs';
 import { hex } from './answers.mjs';
 
 const COLUMNS = 8;
@@ -71,7 +71,7 @@ export class SpriteView {
     while (this.#place.children.length < bytes.length * COLUMNS) this.#place.append(this.#pixel(this.#place.children.length));
     [...this.#place.children].forEach((pixel, place) => {
       const isLit = String(((bytes[Math.floor(place / COLUMNS)] >> (7 - (place % COLUMNS))) & 1) === 1);
-      if (pixel.getAttribute('aria-pressed') !== isLit) pixel.setAttribute('aria-pressed', isLit);
+      setAttribute(pixel, 'aria-pressed', isLit);
     });
     const at = this.#machine === null ? '' : `#${hex(this.#machine.registers.i, 3)}`;
     setText(this.#state, this.#drawn === null ? at : 'drawn here');

@@ -1,10 +1,13 @@
 // The two timelines: the whole run, and a part of it close up, with a lane for each key that has events.
 
-import { byId, colour, grouped, oncePerFrame, onTheme } from './dom.mjs';
+import { byId, colour, grouped, oncePerFrame, onTheme, setAttribute } from './dom.mjs';
 
 const GRAB_PIXELS = 6;
 const LABEL_PIXELS = 16;
 const AXIS_PIXELS = 14;
+const AXIS_FONT = '10px system-ui, sans-serif';
+/** At most so wide is a digit of the axis. */
+const DIGIT_PIXELS = 7;
 
 export class Timeline {
   #model;
@@ -27,7 +30,7 @@ export class Timeline {
         event.preventDefault();
         move(name);
       });
-      new ResizeObserver(this.#draw).observe(track);
+      new ResizeObserver(() => this.#resized(track)).observe(track);
     }
     this.#closeUp.addEventListener('wheel', (event) => this.#wheeled(event), { passive: false });
     this.#zoom.addEventListener('change', this.#draw);
@@ -38,6 +41,20 @@ export class Timeline {
 
   focus() {
     this.#closeUp.focus();
+  }
+
+  /** The sizes of the tracks, in pixels, as the browser told them last, with the pen of each. */
+  #sizes = new Map();
+
+  #resized(track) {
+    const { width, height } = track.getBoundingClientRect();
+    const canvas = track.firstElementChild;
+    canvas.width = Math.round(width * devicePixelRatio);
+    canvas.height = Math.round(height * devicePixelRatio);
+    const pen = canvas.getContext('2d');
+    pen.scale(devicePixelRatio, devicePixelRatio);
+    this.#sizes.set(track, { width, height, pen, scale: devicePixelRatio });
+    this.#drawBoth();
   }
 
   /** The first and the last step of the close-up. */
@@ -134,10 +151,10 @@ export class Timeline {
     this.#drawTrack(this.#overview, 0, lastStep, [this.#from, this.#from + width]);
     this.#drawTrack(this.#closeUp, ...this.#window, null);
     for (const track of [this.#overview, this.#closeUp]) {
-      track.setAttribute('aria-valuemin', '0');
-      track.setAttribute('aria-valuemax', String(lastStep));
-      track.setAttribute('aria-valuenow', String(step));
-      track.setAttribute('aria-valuetext', `step ${grouped(step)} of ${grouped(lastStep)}`);
+      setAttribute(track, 'aria-valuemin', '0');
+      setAttribute(track, 'aria-valuemax', String(lastStep));
+      setAttribute(track, 'aria-valuenow', String(step));
+      setAttribute(track, 'aria-valuetext', `step ${grouped(step)} of ${grouped(lastStep)}`);
     }
   }
 
@@ -154,14 +171,13 @@ export class Timeline {
   }
 
   #drawTrack(track, from, to, shaded) {
-    const canvas = track.firstElementChild;
-    const { width, height } = track.getBoundingClientRect();
+    const { width, height, pen, scale } = this.#sizes.get(track) ?? { width: 0 };
     if (width === 0) return;
-    const scale = devicePixelRatio;
-    canvas.width = Math.round(width * scale);
-    canvas.height = Math.round(height * scale);
-    const pen = canvas.getContext('2d');
-    pen.scale(scale, scale);
+    if (scale !== devicePixelRatio) {
+      this.#resized(track);
+      return;
+    }
+    pen.clearRect(0, 0, width, height);
     const left = this.#left(track);
     const x = (step) => left + ((step - from) / Math.max(1, to - from)) * (width - left);
     if (shaded !== null) {
@@ -182,13 +198,13 @@ export class Timeline {
   #drawFrames(pen, x, from, to, height) {
     const unit = niceUnit((to - from) / Math.max(2, (x(to) - x(from)) / 90));
     pen.fillStyle = colour('--faint');
-    pen.font = '10px system-ui, sans-serif';
+    setFont(pen, AXIS_FONT);
     for (let step = Math.ceil(from / unit) * unit; step <= to; step += unit) {
       pen.globalAlpha = 0.35;
       pen.fillRect(x(step), 0, 1, height - AXIS_PIXELS + 3);
       pen.globalAlpha = 1;
       const label = grouped(step);
-      const room = x(to) - x(step) > pen.measureText(label).width + 4;
+      const room = x(to) - x(step) > DIGIT_PIXELS * label.length + 4;
       if (room) pen.fillText(label, x(step) + 2, height - 3);
     }
   }
@@ -223,9 +239,14 @@ export class Timeline {
     }
     for (const [key, start] of downs) bar(key, start, this.#model.lastStep + 1);
     pen.fillStyle = colour('--text');
-    pen.font = `${Math.max(7, Math.min(11, tall))}px ui-monospace, monospace`;
+    if (lanes.length > 0) setFont(pen, `${Math.max(7, Math.min(11, tall))}px ui-monospace, monospace`);
     lanes.forEach((key, lane) => pen.fillText(key.toString(16).toUpperCase(), 4, (lane + 1) * tall - Math.max(0, tall - 9) / 2));
   }
+}
+
+/** Sets the font where it isn't the one: the browser looks up the styles of the page for it. */
+function setFont(pen, font) {
+  if (pen.font !== font) pen.font = font;
 }
 
 /** The least of 1, 2, 5, 10, 20 .. that isn't below a number. */

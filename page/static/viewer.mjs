@@ -11,16 +11,24 @@ const MOST_WORDS = 400;
 const WORDS_PAST_IMAGE = 8;
 const WORDS_BEFORE = 5;
 const WORDS_SHOWN = 15;
+const WORDS_NEAR = 3;
 const ABOUT_TEXT = ['list', 'faults', 'syms', 'image'];
+/** How many questions about steps of one text are on their way at a time: while one is answered, the next is sent. */
+const MOST_LOOKS = 2;
 
 export class Viewer extends EventTarget {
   #model;
   #workbench;
   #again = false;
   #asked = null;
-  #running = false;
+  /** How many looks are on their way, what the last of them wants, and the numbers of the last one and of the one shown. */
+  #looks = 0;
+  #wanted = null;
+  #last = 0;
+  #shown = 0;
   #listed = null;
   #words = { from: IMAGE_START, count: WORDS_SHOWN };
+  #firstWord = null;
 
   /** The machine at the step that was asked last; `code` is that of the refusal where there is no such machine. */
   machine = null;
@@ -35,33 +43,44 @@ export class Viewer extends EventTarget {
     this.#workbench = workbench;
   }
 
-  /** Asks anew as soon as the question before is answered. */
+  /** Asks anew as soon as the questions before are answered, or nearly so. */
   refresh() {
     this.#again = true;
     this.#asked = this.#asked ?? performance.now();
-    if (!this.#running) this.#run();
+    this.#goOn();
   }
 
   /** Resolves when all that changed is shown. */
   settle() {
-    if (!this.#running) return Promise.resolve();
+    if (this.#looks === 0) return Promise.resolve();
     return new Promise((done) => this.addEventListener('settled', done, { once: true }));
   }
 
-  async #run() {
-    this.#running = true;
-    while (this.#again) {
+  #goOn() {
+    while (this.#again && this.#mayLook) {
       this.#again = false;
       const asked = this.#asked;
       this.#asked = null;
-      try {
-        await this.#look(asked);
-      } catch (fault) {
-        this.#tell('fault', fault);
-      }
+      this.#run(asked);
     }
-    this.#running = false;
-    this.#tell('settled');
+  }
+
+  /** A changed text, keys and settings are asked about alone. */
+  get #mayLook() {
+    const { wanted } = this.#model;
+    return this.#looks === 0 || (this.#looks < MOST_LOOKS && this.#wanted === wanted && this.#listed === wanted.lines);
+  }
+
+  async #run(asked) {
+    this.#looks += 1;
+    try {
+      await this.#look(asked);
+    } catch (fault) {
+      this.#tell('fault', fault);
+    }
+    this.#looks -= 1;
+    this.#goOn();
+    if (this.#looks === 0) this.#tell('settled');
   }
 
   #tell(name, detail) {
@@ -70,12 +89,18 @@ export class Viewer extends EventTarget {
 
   async #look(asked) {
     const { wanted, step } = this.#model;
+    this.#last += 1;
+    const number = this.#last;
+    this.#wanted = wanted;
     const isNew = this.#listed !== wanted.lines;
     const about = isNew ? ABOUT_TEXT : [];
     const answers = await this.#workbench.answers(wanted, [...about, ...this.#questions(step)]);
     const assembled = isNew ? assembledOf(answers.splice(0, about.length)) : this.assembled;
     const machine = machineOf(wanted, step, answers);
     if (machine.code === null) await this.#findWords(machine);
+    // a newer one may have been answered first
+    if (number < this.#shown) return;
+    this.#shown = number;
     this.machine = machine;
     this.assembled = assembled;
     this.#listed = wanted.lines;
@@ -102,8 +127,13 @@ export class Viewer extends EventTarget {
       machine.words = refusal(words) === null ? readWords(words) : [];
     }
     const place = machine.words.findIndex(({ address }) => address === pc);
-    const first = Math.max(0, Math.min(place - WORDS_BEFORE, machine.words.length - WORDS_SHOWN));
+    const shown = machine.words.findIndex(({ address }) => address === this.#firstWord);
+    const latest = machine.words.length - WORDS_SHOWN;
+    // the words that were shown stay as long as pc isn't near their ends
+    const stays = shown >= 0 && (shown === 0 || place >= shown + WORDS_NEAR) && (shown >= latest || place < shown + WORDS_SHOWN - WORDS_NEAR);
+    const first = Math.max(0, Math.min(stays ? shown : place - WORDS_BEFORE, latest));
     machine.words = machine.words.slice(first, first + WORDS_SHOWN);
+    this.#firstWord = machine.words[0]?.address ?? null;
   }
 }
 

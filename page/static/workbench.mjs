@@ -2,7 +2,7 @@
 
 import { BridgeFault, request } from './bridge.mjs';
 import { refusal } from './answers.mjs';
-import { keyCommands, KeyScript } from './key_script.mjs';
+import { keyCommands, KeyScript, writeKeys } from './key_script.mjs';
 import { lineCommands } from './line_changes.mjs';
 
 /** A session takes 100,000 commands (docs/FORMATS.md: E4); before it has had them, the program is started anew. */
@@ -24,6 +24,8 @@ export class Workbench {
   #sent = 0;
   #held = null;
   #turn = Promise.resolve();
+  /** The requests on their way that change nothing. */
+  #asked = new Set();
   #taken = false;
 
   /** The greatest step that the program takes, found by trying. */
@@ -45,13 +47,37 @@ export class Workbench {
   }
 
   /**
-   * Makes the program hold what is wanted (`lines`, `keys`, `options`) and answers the questions about it. Requests are
-   * carried out one after another.
+   * Makes the program hold what is wanted (`lines`, `keys`, `options`) and answers the questions about it. Requests that change
+   * what it holds are carried out one after another; questions alone don't wait for the answers of those before.
    */
   answers(wanted, questions) {
-    const answered = this.#turn.then(() => this.#answer(wanted, questions));
-    this.#turn = answered.catch(() => {});
-    return answered;
+    const begun = this.#turn.then(() => this.#begin(wanted, questions));
+    this.#turn = begun.catch(() => {});
+    return begun.then(({ answers }) => answers);
+  }
+
+  /** Resolves when the next request may begin, with the answers, which may come later. */
+  async #begin(wanted, questions) {
+    if (!this.#taken && this.#held === wanted && this.#sent + questions.length <= COMMANDS_A_SESSION) {
+      return { answers: this.#askOnly(wanted, questions) };
+    }
+    await Promise.allSettled(this.#asked);
+    return { answers: await this.#answer(wanted, questions) };
+  }
+
+  /** Asks a program that holds what is wanted. Where it ends, it is started anew in turn, and asked again. */
+  async #askOnly(wanted, questions) {
+    const sent = this.#send('ask', { session: this.#session, commands: questions });
+    const forget = () => this.#asked.delete(sent);
+    this.#asked.add(sent);
+    sent.then(forget, forget);
+    const reply = await sent.catch((fault) => this.#throwFault(fault));
+    if (!reply.ended) return reply.answers;
+    if (this.#held === wanted) {
+      this.#held = null;
+      this.#onEnded(reply.ended.status, firstPart(reply.ended.text));
+    }
+    return this.answers(wanted, questions);
   }
 
   async #answer(wanted, questions) {
@@ -64,11 +90,24 @@ export class Workbench {
       }
       return await this.#ask(wanted, edits, questions);
     } catch (fault) {
-      if (fault instanceof BridgeFault) this.#held = null;
-      if (!(fault instanceof BridgeFault && fault.status === 409)) throw fault;
-      this.#taken = true;
-      throw new TakenOver();
+      return this.#throwFault(fault);
     }
+  }
+
+  /** After a fault of the bridge it isn't known what the program holds. */
+  #throwFault(fault) {
+    if (fault instanceof BridgeFault) this.#held = null;
+    if (!(fault instanceof BridgeFault && fault.status === 409)) throw fault;
+    this.#taken = true;
+    throw new TakenOver();
+  }
+
+  /** Which steps of a run have something: a question of finder.mjs, which the bridge asks of a program of its own. */
+  async steps(wanted, question) {
+    const about = { source: sourceOf(wanted), keys: writeKeys(wanted.keys), options: wanted.options };
+    const { refused, ...found } = await this.#request('search', { ...about, ...question });
+    if (!refused) return found;
+    throw new ProgramEnded(refused.status === 1 ? 'there is no run, since a line has a fault' : firstPart(refused.text) || `the program ended with status ${refused.status}`);
   }
 
   /** The edits from what the program holds to what is wanted, or null where it has to be started anew. */
@@ -103,7 +142,7 @@ export class Workbench {
     this.#held = null;
     this.#sent = 0;
     this.starts += 1;
-    const source = wanted.lines.map((line) => `${line}\n`).join('');
+    const source = sourceOf(wanted);
     const events = keyCommands(new KeyScript(), wanted.keys);
     const reply = await this.#send('open', { session: this.#session, source, options: wanted.options, commands: events });
     if (reply.ended) this.#throwEnded(reply.ended);
@@ -141,6 +180,8 @@ export class Workbench {
     throw new ProgramEnded(`the program ended ${how}${said ? `: ${said}` : ''}`);
   }
 }
+
+const sourceOf = ({ lines }) => lines.map((line) => `${line}\n`).join('');
 
 /** What a program said at its end, without its usage, which follows after a blank line. */
 function firstPart(text) {

@@ -2,9 +2,12 @@
 
 from __future__ import annotations
 
+import contextlib
 import json
 import os
+import re
 import signal
+import socket
 import subprocess
 import sys
 import time
@@ -12,6 +15,11 @@ from pathlib import Path
 
 from browser_page import SETTLED, PageTests, wait_for
 from driver import CONTROL
+
+
+def has_arrived(path: Path) -> bool:
+    """Whether a download is there: a browser makes an empty file at first."""
+    return path.exists() and path.stat().st_size > 0
 
 
 class FileTests(PageTests):
@@ -69,7 +77,7 @@ class FileTests(PageTests):
             for kind in ("source", "keys", "image"):
                 browser.value(f"document.getElementById('download-{kind}').click()")
             for name in ("guess.asm", "guess.keys", "guess.ch8"):
-                wait_for(lambda: (place / name).exists(), name)
+                wait_for(lambda: has_arrived(place / name), name)
             assert (place / "guess.asm").read_text() == text
             assert (place / "guess.keys").read_text() == "20 3 down\n"
             assert (place / "guess.ch8").read_bytes().hex() + "\n" == self.said(text, ["image"])
@@ -101,7 +109,7 @@ class FileTests(PageTests):
         self.rest()
         (place / "guess.ch8").unlink()
         self.browser.value("document.getElementById('download-image').click()")
-        wait_for(lambda: (place / "guess.ch8").exists(), "the edited image")
+        wait_for(lambda: has_arrived(place / "guess.ch8"), "the edited image")
         assert (place / "guess.ch8").read_bytes().hex() + "\n" == self.said(self.browser.value("document.getElementById('source-text').value"), ["image"])
         assert (place / "guess.ch8").read_bytes()[:2] == b"\xc0\x07"
         large = self.folder / "large.ch8"
@@ -232,6 +240,49 @@ class FileTests(PageTests):
             assert self.path.read_text() == "LD V0, 1 ; mine\n"
             self.browser.console = [line for line in self.browser.console if "409" not in line]
 
+    def test_a_full_disk(self) -> None:
+        """Saving says so, and neither the file nor what was typed is lost."""
+        place = self.folder / "small"
+        place.mkdir()
+        if subprocess.run(["mount", "-t", "tmpfs", "-o", "size=64k", "tmpfs", str(place)], capture_output=True).returncode != 0:
+            print("    nothing is tried: this user can't mount a small disk")
+            return
+        try:
+            with self.page("CLS ; first\n", "small/game.asm") as browser:
+                with contextlib.suppress(OSError), (place / "filler").open("wb", buffering=0) as filler:
+                    while filler.write(bytes(4096)):
+                        pass
+                self.put_line(1, "LD V0, 1 ; mine")
+                browser.press("s", "KeyS", CONTROL)
+                browser.wait("/It wasn't saved: .*No space left/.test(document.getElementById('notices').textContent)")
+                assert (self.path.read_text(), sorted(os.listdir(place))) == ("CLS ; first\n", ["filler", "game.asm"])
+                assert self.source() == "LD V0, 1 ; mine\n"
+                assert self.text_of("#file-state").startswith("not saved")
+                self.reload()
+                assert self.source() == "LD V0, 1 ; mine\n"
+                (place / "filler").unlink()
+                browser.press("s", "KeyS", CONTROL)
+                browser.wait("document.getElementById('file-state').textContent === 'saved'")
+                assert self.path.read_text() == "LD V0, 1 ; mine\n"
+                self.browser.console = [line for line in self.browser.console if "500" not in line]
+        finally:
+            subprocess.run(["umount", "--lazy", str(place)], check=True)
+
+    def test_a_hundred_connections(self) -> None:
+        """The page goes on while a hundred others are connected: some say nothing, some a part of a request."""
+        text = self.example("bounce")
+        with self.page(text) as browser, contextlib.ExitStack() as stack:
+            host, port = self.address.split("/")[2].split(":")
+            for number in range(100):
+                other = stack.enter_context(socket.create_connection((host, int(port)), timeout=5))
+                other.sendall([b"", b"G", b"GET / HTTP/1.1\r\nHost: x\r\n"][number % 3])
+            self.check_step(text, 1000, [])
+            self.put_line(5, "        LD V2, 255")
+            self.rest()
+            self.check_step(text.replace("LD V2, 1\n", "LD V2, 255\n", 1), 1000, [])
+            self.reload()
+            self.check_step(text.replace("LD V2, 1\n", "LD V2, 255\n", 1), 7, [])
+
     def test_key_files(self) -> None:
         """Files of key events are read as the program reads them, comments and all; what it refuses is told with the line."""
         text = self.example("guess")
@@ -256,7 +307,7 @@ class FileTests(PageTests):
             browser.downloads(place)
             browser.value("chipbenchPage.model.setKeys(chipbenchPage.model.keys.with(20, 3, true).with(44, 3, false)); chipbenchPage.model.setStep(77)")
             browser.value("document.getElementById('download-game').click()")
-            wait_for(lambda: (place / "guess.game.asm").exists(), "the game")
+            wait_for(lambda: has_arrived(place / "guess.game.asm"), "the game")
             assert self.said((place / "guess.game.asm").read_text(), ["image"]) == self.said(text, ["image"])
             browser.value("chipbenchPage.model.setKeys(chipbenchPage.model.keys.without(20, 3).with(5, 5, true)); chipbenchPage.model.setStep(3)")
             self.upload(place / "guess.game.asm")
@@ -280,7 +331,7 @@ class FileTests(PageTests):
             browser.value("{ const { elements } = document.querySelector('#animation form'); elements.first.value = 0; elements.last.value = 400; }")
             browser.click("#animation [value=save]")
             for name in ("bounce-400.png", "bounce.script", "bounce.out", "bounce-0-400.gif"):
-                wait_for(lambda: (place / name).exists(), name)
+                wait_for(lambda: has_arrived(place / name), name)
             assert (place / "bounce-400.png").read_bytes()[16:24] == bytes([0, 0, 4, 0, 0, 0, 2, 0])
             script = (place / "bounce.script").read_text().splitlines()
             assert script[0] == "kins 20 3 down"
@@ -290,6 +341,30 @@ class FileTests(PageTests):
             size = "new Promise((done, fail) => { const image = new Image(); image.onload = () => done([image.width, image.height]); image.onerror = fail; image.src = URL.createObjectURL(new Blob([new Uint8Array(%s)], { type: 'image/gif' })); })"
             browser.open("about:blank")
             assert browser.value(size % list(animation)) == [512, 256]
+
+    def test_cases(self) -> None:
+        """A case for `test` has the source, the settings, the keys and the answers at their steps; a program with that word carries it out."""
+        text = self.example("guess")
+        place = self.folder / "cases"
+        place.mkdir(exist_ok=True)
+        with self.page(text, "guess.asm", ("--tape", "05")) as browser:
+            browser.downloads(place)
+            browser.value("chipbenchPage.model.setKeys(chipbenchPage.model.keys.with(20, 3, true).with(44, 3, false))")
+            self.step(100)
+            browser.value("document.getElementById('download-case').click()")
+            wait_for(lambda: has_arrived(place / "guess.test"), "the case")
+            events = ["kins 20 3 down", "kins 44 3 up"]
+            questions = [f"{word} {step}" for step in (20, 44, 100) for word in ("regs", "screen")]
+            answers = [self.said(text, [*events, question], ("--tape", "05")).removeprefix("ok\nok\n") for question in questions]
+            asked = "".join(f"> {command}\n{answer}" for command, answer in zip([*events, *questions], ["ok\n", "ok\n", *answers]))
+            assert (place / "guess.test").read_text() == f"case guess at step 100\nsource\n{text}end\nrate 10\ntape 05\n{asked}"
+            if re.search(r"^\s+test\b", subprocess.run([self.program, "--help"], capture_output=True, text=True).stdout, re.MULTILINE):
+                run = subprocess.run([self.program, "test", str(place / "guess.test")], capture_output=True, text=True)
+                assert (run.returncode, run.stdout) == (0, "1 passed, 0 failed\n"), run
+                assert not browser.value("document.getElementById('download-case').hidden")
+            self.put_line(1, "end")
+            browser.value("document.getElementById('download-case').click()")
+            browser.wait("/can't hold a source with a line `end`/.test(document.getElementById('notices').textContent)")
 
     def test_addresses_and_arguments(self) -> None:
         """An address without its last slash is the page; faulty arguments end with a sentence before anything starts."""

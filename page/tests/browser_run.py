@@ -8,6 +8,51 @@ import time
 from browser_page import EXAMPLES, REGISTERS, PageTests
 from driver import CONTROL, SHIFT
 
+FRAMES = 150
+# how many pictures a second a page draws that only draws a small canvas and a number
+EMPTY_PAGE = f"""new Promise((done) => {{
+    document.body.innerHTML = '<canvas width="128" height="64"></canvas><p></p>';
+    const pen = document.querySelector('canvas').getContext('2d');
+    const picture = pen.createImageData(128, 64);
+    const colours = new Uint32Array(picture.data.buffer);
+    let [count, began] = [0, 0];
+    const tick = (now) => {{
+        if (count === 0) began = now;
+        if (count === {FRAMES}) return done(1000 * count / (now - began));
+        colours.fill(0xff000000 + 777 * count);
+        pen.putImageData(picture, 0, 0);
+        document.querySelector('p').textContent = count;
+        count += 1;
+        return requestAnimationFrame(tick);
+    }};
+    requestAnimationFrame(tick);
+}})"""
+# the pointer that is held goes over the whole run, to another place before each picture: by events that are made here, since a
+# protocol of a browser moves the pointer only as often as it answers
+DRAGGED = f"""new Promise((done) => {{
+    const track = document.getElementById('overview');
+    const {{ viewer, model }} = chipbenchPage;
+    const box = track.getBoundingClientRect();
+    const steps = [];
+    const show = () => steps.push(viewer.machine.step);
+    viewer.addEventListener('shown', show);
+    let [count, began] = [0, 0];
+    const tick = (now) => {{
+        if (count === 0) began = now;
+        if (count === {FRAMES}) {{
+            viewer.removeEventListener('shown', show);
+            const seconds = (now - began) / 1000;
+            const places = new Set(steps.map((step) => Math.floor(20 * step / model.lastStep))).size;
+            return done({{ shown: steps.length / seconds, frames: count / seconds, places }});
+        }}
+        count += 1;
+        const clientX = box.x + 2 + (box.width - 4) * count / {FRAMES};
+        track.dispatchEvent(new PointerEvent('pointermove', {{ pointerId: held, clientX, clientY: box.y + 5, bubbles: true, buttons: 1 }}));
+        return requestAnimationFrame(tick);
+    }};
+    requestAnimationFrame(tick);
+}})"""
+
 
 class RunTests(PageTests):
     def test_each_example(self) -> None:
@@ -26,58 +71,54 @@ class RunTests(PageTests):
                 self.picture(f"page-{name}")
 
     def test_dragging(self) -> None:
+        """As many places are shown in a second as the browser draws pictures of a page that does nothing but draw."""
         text = self.example("bounce")
+        self.browser.open("about:blank")
+        drawn = max(self.browser.value(EMPTY_PAGE) for _ in range(2))
         with self.page(text) as browser:
-            last = browser.value("chipbenchPage.model.lastStep")
-            browser.value("globalThis.shown = []; chipbenchPage.viewer.addEventListener('shown', () => shown.push(chipbenchPage.viewer.machine.step))")
+            browser.value("document.getElementById('overview').addEventListener('pointerdown', (event) => { globalThis.held = event.pointerId; })")
             # other work on this machine may slow a try down
-            rate, share = max(self.drag(last) for _ in range(3))
-            assert rate > 30 or share > 0.9, (rate, share)
+            tries = [self.drag() for _ in range(6 if drawn > 55 else 3)]
+            best = max(tries, key=lambda one: one["shown"])
+            print(f"    dragging: {best['shown']:.0f} places a second, {best['frames']:.0f} pictures a second; an empty page draws {drawn:.0f}")
+            assert best["shown"] > 0.9 * min(drawn, 60) / browser.patience, (drawn, tries)
+            assert best["places"] >= 18, tries
             assert browser.value("chipbenchPage.viewer.machine.step") == browser.value("chipbenchPage.model.step")
             self.check_step(text, browser.value("chipbenchPage.model.step"), [])
 
-    def drag(self, last: int) -> tuple[float, float]:
-        """Drags over the whole run, and returns how many places were shown in a second, and of those that were dragged to."""
-        x, y, width, height = self.browser.value(
-            "(() => { shown.length = 0; const b = document.getElementById('overview').getBoundingClientRect(); return [b.x, b.y, b.width, b.height]; })()"
-        )
-        self.browser.mouse("mousePressed", x + 2, y + height / 2)
-        began = time.monotonic()
-        moves = 120
-        for move in range(1, moves + 1):
-            self.browser.mouse("mouseMoved", x + 2 + (width - 4) * move / moves, y + height / 2)
-        took = time.monotonic() - began
-        self.browser.mouse("mouseReleased", x + width - 2, y + height / 2, 0)
+    def drag(self) -> dict[str, float]:
+        """Drags over the whole run: to another place before each picture."""
+        x, y = self.browser.center("#overview")
+        self.browser.mouse("mousePressed", x, y)
+        found = self.browser.value(DRAGGED)
+        self.browser.mouse("mouseReleased", x, y, 0)
         self.rest()
-        shown = self.browser.value("shown")
-        print(f"    dragging: {len(shown)} of {moves} places shown in {took:.2f} s, {len(shown) / took:.0f} a second")
-        assert len({place // (last // 20) for place in shown}) >= 18
-        return len(shown) / took, len(shown) / moves
+        return found
 
     def test_speed(self) -> None:
-        """From typing to the picture, at step 100,000: where the run is kept, and where it is made anew."""
+        """From a typed character to the drawn screen at step 100,000: where the run is kept, and where it is made anew."""
         text = self.example("bounce")
         with self.page(text) as browser:
             self.step(100_000)
-            for name, line, change, most in (
-                ("kept", 1, "; {}", 50),
-                ("made anew", 7, "        LD I, BALL {}", 1000),
-                ("made anew", 5, "        LD V2, {}", 1000),
-            ):
-                times, took = [], []
-                for count in range(8):
-                    self.browser.value(
-                        "globalThis.answered = new Promise((done) => chipbenchPage.viewer.addEventListener('shown', () => done(performance.now()), { once: true }));"
-                        "document.addEventListener('input', () => { globalThis.typed = performance.now(); }, { once: true, capture: true });"
-                    )
-                    self.put_line(line, change.format(("; " + str(count)) if line == 7 else count + 2))
-                    times.append(self.browser.value("answered.then((at) => at - typed)"))
-                    took.append(self.browser.value("chipbenchPage.viewer.took"))
-                    self.rest()
-                times.sort()
-                took.sort()
-                print(f"    {name}, line {line}: {times[0]:.1f} to {times[-1]:.1f} ms, the middle {times[len(times) // 2]:.1f} ms, of which {took[len(took) // 2]:.1f} ms for the answers")
-                assert times[len(times) // 2] < most, times
+            for name, line, change in (("kept", 1, "; {}"), ("made anew", 7, "        LD I, BALL ; {}"), ("made anew", 5, "        LD V2, {}")):
+                # other work on this machine may slow a try down
+                tries = [sorted(self.typing_times(line, change)) for _ in range(3)]
+                middle, most = min((times[len(times) // 2], times[len(times) * 9 // 10]) for times in tries)
+                print(f"    {name}, line {line}: the middle {middle:.1f} ms, nine in ten within {most:.1f} ms; of which {browser.value('chipbenchPage.viewer.took'):.1f} ms for the last answers")
+                assert middle < 25 * browser.patience and most < 50 * browser.patience, tries
+
+    def typing_times(self, line: int, change: str) -> list[float]:
+        """The milliseconds of twenty changes of a line."""
+        times = []
+        for count in range(20):
+            self.browser.value(
+                "globalThis.answered = new Promise((done) => chipbenchPage.viewer.addEventListener('shown', () => done(performance.now()), { once: true }));"
+                "document.addEventListener('input', () => { globalThis.typed = performance.now(); }, { once: true, capture: true });"
+            )
+            self.put_line(line, change.format(count + 2))
+            times.append(self.browser.value("answered.then((at) => at - typed)"))
+            self.rest()
+        return times
 
     def test_keys_while_it_plays(self) -> None:
         """Guess is played by the keyboard; what is recorded is what the program answers for."""
@@ -341,22 +382,21 @@ class RunTests(PageTests):
             self.check_step(self.example("guess"), events[2]["step"] + 9, script, ("--tape", "05"))
 
     def test_search_for_what_cannot_be(self) -> None:
-        """A value that no step can have, and one that no step of a run that repeats itself has, are told at once."""
+        """A value that no step can have is told at once; one that no step of this run has, once the run was looked at."""
         text = self.example("bounce")
         with self.page(text) as browser:
-            for value, most, told in (("#fff", 5.0, "the run repeats"), ("#7000", 1.0, "never above 4350")):
-                began = time.monotonic()
-                assert told in self.searched(value, "next"), self.text_of("#search-result")
-                assert time.monotonic() - began < most, (value, time.monotonic() - began)
-            browser.value("chipbenchPage.model.setStep(chipbenchPage.model.lastStep)")
-            self.rest()
             began = time.monotonic()
-            assert self.searched("#fff", "last").startswith("no such step before")
-            assert time.monotonic() - began < 5.0, time.monotonic() - began
+            assert "never above 4350" in self.searched("#7000", "next"), self.text_of("#search-result")
+            assert time.monotonic() - began < 1.0 * self.browser.patience
+            for direction, step in (("next", 0), ("last", browser.value("chipbenchPage.model.lastStep"))):
+                self.step(step)
+                began = time.monotonic()
+                assert self.searched("#fff", direction).startswith("no such step"), self.text_of("#search-result")
+                assert time.monotonic() - began < 5.0 * self.browser.patience, time.monotonic() - began
 
-    def searched(self, value: str, direction: str) -> str:
+    def searched(self, value: str, direction: str, subject: str = "pc") -> str:
         self.browser.value(
-            "{ const { elements } = document.getElementById('search'); elements.subject.value = 'pc'; elements.relation.value = 'is';"
+            f"{{ const {{ elements }} = document.getElementById('search'); elements.subject.value = {json.dumps(subject)}; elements.relation.value = 'is';"
             f"elements.value.value = {json.dumps(value)}; document.getElementById('search-result').textContent = '';"
             f"document.querySelector('#search [value={direction}]').click(); }}"
         )
@@ -364,19 +404,54 @@ class RunTests(PageTests):
         return self.text_of("#search-result")
 
     def test_progress_and_stop_of_a_search(self) -> None:
-        """In a run that never repeats itself: both directions, with progress and a stop."""
+        """In both directions, with progress and a stop."""
         text = "LOOP: RND V0, 255\nADD V1, 1\nJP LOOP\n"
         with self.page(text, words=("--seed", "1")) as browser:
             for direction, step in (("next", 0), ("last", browser.value("chipbenchPage.model.lastStep"))):
                 self.step(step)
+                # it is stopped as soon as there is some progress
                 browser.value(
                     "{ const { elements } = document.getElementById('search'); elements.subject.value = 'pc'; elements.relation.value = 'is'; elements.value.value = '#300';"
-                    f"document.querySelector('#search [value={direction}]').click(); }}"
+                    "globalThis.parts = []; const progress = document.getElementById('search-progress'); const stop = document.getElementById('search-stop');"
+                    "const watch = () => { parts.push(progress.value); if (stop.hidden) return; if (progress.value > 0) stop.click(); requestAnimationFrame(watch); };"
+                    f"document.querySelector('#search [value={direction}]').click(); watch(); }}"
                 )
-                browser.wait("document.getElementById('search-progress').value > 0")
-                browser.click("#search-stop")
-                browser.wait("document.getElementById('search-result').textContent === 'stopped'", 10.0)
+                browser.wait("document.getElementById('search-stop').hidden")
+                assert self.text_of("#search-result") == "stopped", self.text_of("#search-result")
+                parts = browser.value("parts.filter((part) => part > 0)")
+                assert parts and all(0 < part < 1 for part in parts), parts
                 assert browser.value("chipbenchPage.model.step") == step
+
+    def test_speed_of_a_search(self) -> None:
+        """A million steps a second, both ways, in a run that never repeats itself and has what is looked for nowhere."""
+        text = "LOOP: RND V0, 255\nADD V1, 1\nSE V1, 0\nJP LOOP\nADD V2, 1\nJP LOOP\n"
+        with self.page(text, words=("--seed", "1")) as browser:
+            last = browser.value("chipbenchPage.model.lastStep")
+            for direction, step in (("next", 0), ("last", last)):
+                self.step(step)
+                speeds = []
+                for _ in range(3):
+                    began = time.monotonic()
+                    assert self.searched("#300", direction).startswith("no such step"), self.text_of("#search-result")
+                    speeds.append(last / (time.monotonic() - began))
+                print(f"    search, {direction}: {max(speeds):,.0f} steps a second")
+                assert max(speeds) > 1_000_000 / self.browser.patience, speeds
+
+    def test_search_for_a_byte(self) -> None:
+        """A byte of the memory is found by the instructions that write it."""
+        text = "LD I, DATA\nLOOP: ADD V0, 1\nSE V0, 200\nJP LOOP\nLD B, V0\nADD V1, 1\nLD V0, 0\nJP LOOP\nDATA: DB 9, 9, 9\n"
+        with self.page(text) as browser:
+            assert self.searched_byte("DATA", "2", "next") == "step 601"
+            assert self.searched_byte("DATA", "9", "last") == "step 600"
+            self.step(browser.value("chipbenchPage.model.lastStep"))
+            assert self.searched_byte("DATA", "9", "last") == "step 600"
+            assert self.searched_byte("DATA", "77", "last").startswith("no such step")
+            for step, byte in ((600, "09"), (601, "02")):
+                assert self.said(text, [f"mem {step} #210 1"]) == f"{byte}\n", step
+
+    def searched_byte(self, address: str, value: str, direction: str) -> str:
+        self.browser.value(f"{{ const {{ elements }} = document.getElementById('search'); elements.address.value = {json.dumps(address)}; }}")
+        return self.searched(value, direction, "byte")
 
     def test_breakpoints_and_calls(self) -> None:
         """To lines, over calls and out of them, forwards and back."""

@@ -5,7 +5,7 @@ from __future__ import annotations
 import json
 import time
 
-from browser_page import PageTests
+from browser_page import REST, PageTests
 from driver import ALT, CONTROL, SHIFT
 
 
@@ -133,6 +133,11 @@ class ShapeTests(PageTests):
             "return [box('#gutter .here'), box('#editor'), box('#screen'), box('#overview'), box('#close-up'), box('#play'), scrollY]; })()"
         )
         for step in (3, 30, 31, 60, 61, 90, 114, 116):
+            if width < 700 and step in (61, 116):
+                # it is so when the source comes back from behind a tab
+                self.browser.value("chipbenchPage.appearance.showTab('machine')")
+                self.step(step)
+                self.browser.value(f"chipbenchPage.appearance.showTab('source'); {REST}")
             self.step(step)
             here, editor, *others, scrolled = self.browser.value(boxes)
             assert scrolled == 0, (width, height, step)

@@ -11,7 +11,9 @@ import sys
 import time
 
 HELP = "Usage: chipbench debug [OPTIONS] [SOURCE]\n\n  --rate <N>\n  --seed <N>\n  --tape <HEX>\n"
-WORDS_HELP = "Commands:\n  debug    Answers a script\n  dis      Prints a source of an image\n"
+TRACE_HELP = "Usage: chipbench trace [OPTIONS] SOURCE\n\n  --rate <N>\n  --seed <N>\n  --tape <HEX>\n"
+WORDS_HELP = "Commands:\n  debug    Answers a script\n  dis      Prints a source of an image\n  trace    Prints a line for each step\n"
+COLUMNS = ["step", "pc", "word", *(f"v{register:x}" for register in range(16)), "i", "dt", "st", "depth", "draws", "text"]
 
 
 def numeral(text: str) -> int:
@@ -83,6 +85,32 @@ def debug(words: list[str]) -> int:
     return 0
 
 
+def trace(words: list[str]) -> int:
+    """Lines of a run whose pc goes round seven addresses, and which stops at the step that a line `stop N` of the source says. A
+    source with a line `fault` has one, and one with `columns` has other columns. `hang` hangs."""
+    with open(words[-1], encoding="latin-1") as file:
+        source = file.read().split("\n")
+    if "fault" in source:
+        sys.stdout.write("1 F1\n.\n")
+        return 1
+    if "--rate=99999" in words:
+        sys.stderr.write("error: 99999 is not in 1..=1000\n\nUsage: chipbench trace\n")
+        return 2
+    if "hang" in source:
+        time.sleep(60)
+    with open(words[words.index("--keys") + 1], encoding="latin-1") as file:
+        events = len(file.read().splitlines())
+    stop = next((int(line[5:]) for line in source if line.startswith("stop ")), 1 << 30)
+    first, last = (int(words[words.index(name) + 1]) for name in ("--from", "--steps"))
+    end = min(last, stop)
+    sys.stdout.write("# " + " ".join(COLUMNS if "columns" not in source else COLUMNS[:2]) + "\n")
+    for step in range(min(first, end), end + 1):
+        text = "LD V0, #05" if step < end else "S1" if end == stop else "run"
+        registers = f"{step % 256:02x} {events:02x}" + " 00" * 14
+        sys.stdout.write(f"{step} {0x200 + 2 * (step % 7):04x} 6005 {registers} 0300 00 00 {step % 3} {step // 10} {text}\n")
+    return 0
+
+
 def main(words: list[str]) -> int:
     if words == ["debug", "--help"]:
         sys.stdout.write(HELP)
@@ -94,6 +122,11 @@ def main(words: list[str]) -> int:
         with open(words[1], "rb") as file:
             sys.stdout.write(f"DW #{file.read().hex()}\n")
         return 0
+    if words == ["trace", "--help"]:
+        sys.stdout.write(TRACE_HELP)
+        return 0
+    if words[:1] == ["trace"]:
+        return trace(words[1:])
     return debug(words[1:]) if words[:1] == ["debug"] else 2
 
 

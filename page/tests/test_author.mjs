@@ -1,4 +1,4 @@
-// The modules of the page that need no browser: what an author undoes, searches, reads and takes away.
+// The modules of the page that need no browser: what an author undoes, reads and takes away.
 
 import assert from 'node:assert/strict';
 import { readFileSync } from 'node:fs';
@@ -8,7 +8,6 @@ import { Breakpoints } from '../static/breakpoints.mjs';
 import { columnOf, indentAfter, outdentLength, placeOf } from '../static/columns.mjs';
 import { completionsOf } from '../static/completion.mjs';
 import { readPlaces } from '../static/fault_places.mjs';
-import { atOneOf, findStep, NoSuchStep, subject } from '../static/finder.mjs';
 import { readGame, writeGame } from '../static/game_file.mjs';
 import { encodeGif } from '../static/gif.mjs';
 import { KeyScript } from '../static/key_script.mjs';
@@ -130,80 +129,6 @@ test('breakpoints go along with their lines', () => {
   assert.deepEqual(breakpoints.lines, [3, 4]);
   breakpoints.follow('A\nX\nB\nD', 'A\nX\nB!\nD');
   assert.deepEqual(breakpoints.lines, [3, 4]);
-});
-
-// What is searched ---------------------------------------------------------------------------------------------------------------
-
-/** A run that repeats itself from a step on; its timers run or don't, and its memory may count on. */
-function cyclicRun({ start, length, timers = 0, counts = false }) {
-  const asked = [];
-  const ask = async (questions) => {
-    asked.push(...questions);
-    return questions.map((question) => {
-      const step = Number(question.split(' ')[1]);
-      const place = step < start ? step : start + ((step - start) % length);
-      if (question.startsWith('mem')) return counts ? `${step.toString(16)}\n` : '00\n';
-      if (question.startsWith('screen')) return 'low\n.\n';
-      const pc = (0x200 + 2 * place).toString(16).padStart(4, '0');
-      const frames = ' 0200'.repeat(place % 4);
-      return `v ${'00 '.repeat(15)}00\npc ${pc} i 0000 dt 0${timers} st 00 draws 0 low run\nflags 00 00 00 00 00 00 00 00 stack${frames}\n`;
-    });
-  };
-  return { ask, asked, lastStep: 1_000_000 };
-}
-
-test('search: a run that repeats itself is known after some rounds of it, forwards and back', async () => {
-  for (const [start, length, timers] of [[0, 1, 0], [3, 7, 0], [40, 370, 0], [100, 1000, 3], [900, 333, 0]]) {
-    const forwards = cyclicRun({ start, length, timers });
-    const search = { of: subject('pc'), relation: 'is', wanted: 0x201, rate: 10 };
-    await assert.rejects(findStep({ ...forwards, ...search, from: 0, forward: true }), (fault) => fault instanceof NoSuchStep && /repeats every/.test(fault.message));
-    assert.ok(forwards.asked.length < 60_000, `${start} ${length}: ${forwards.asked.length}`);
-    const back = cyclicRun({ start, length, timers });
-    assert.equal(await findStep({ ...back, ...search, from: 900_000, forward: false }), null);
-    assert.ok(back.asked.length < 60_000, `${start} ${length}: ${back.asked.length}`);
-    const first = { ...search, wanted: 0x200 + 2 * Math.max(0, start - 1) };
-    if (start > 0) assert.equal(await findStep({ ...back, ...first, from: 900_000, forward: false }), start - 1);
-  }
-});
-
-test('search: in a cycle the nearest step is found, each way', async () => {
-  const random = generator(7);
-  for (let round = 0; round < 60; round += 1) {
-    const [start, length] = [random(50), 1 + random(60)];
-    const run = { ...cyclicRun({ start, length, timers: random(2) }), lastStep: 5000 };
-    const wanted = 0x200 + 2 * random(start + length + 3);
-    const from = random(4000);
-    const forward = random(2) === 1;
-    const holds = (step) => 0x200 + 2 * (step < start ? step : start + ((step - start) % length)) === wanted;
-    const steps = Array.from({ length: 5001 }, (_, step) => step).filter(holds);
-    const least = forward ? steps.find((step) => step > from) : steps.findLast((step) => step < from);
-    const found = await findStep({ ...run, of: subject('pc'), relation: 'is', wanted, from, forward, rate: 10 }).catch((fault) => {
-      assert.ok(fault instanceof NoSuchStep, fault);
-      return null;
-    });
-    assert.equal(found, least ?? null, `${start} ${length} ${wanted} ${from} ${forward}`);
-  }
-});
-
-test('search: a memory that counts on, timers and later events are no cycle', async () => {
-  const search = { of: subject('pc'), relation: 'is', wanted: 0x201, from: 0, forward: true, rate: 10, lastStep: 3000 };
-  assert.equal(await findStep({ ...cyclicRun({ start: 0, length: 10, counts: true }), ...search, lastStep: 3000 }), null);
-  assert.equal(await findStep({ ...cyclicRun({ start: 0, length: 7, timers: 1 }), ...search, lastStep: 60 }), null);
-  assert.equal(await findStep({ ...cyclicRun({ start: 0, length: 10 }), ...search, lastStep: 3000, lastEvent: 2995 }), null);
-});
-
-test('search: what can be at no step is known at once', async () => {
-  const ask = async () => assert.fail('nothing is asked');
-  for (const [name, wanted] of [['pc', 4351], ['v3', 256], ['byte', 300], ['dt', 256], ['i', 65_536], ['frames', 17]]) {
-    await assert.rejects(findStep({ ask, of: subject(name, 0x300), relation: 'is', wanted, from: 0, forward: true, lastStep: 100 }), NoSuchStep);
-  }
-});
-
-test('search: addresses, and frames of the call stack', async () => {
-  const run = { ...cyclicRun({ start: 0, length: 20 }), lastStep: 100, rate: 10 };
-  assert.equal(await findStep({ ...run, of: atOneOf([0x20c, 0x20a]), relation: 'is', wanted: 1, from: 0, forward: true }), 5);
-  assert.equal(await findStep({ ...run, of: subject('frames'), relation: 'at-most', wanted: 0, from: 5, forward: true }), 8);
-  assert.equal(await findStep({ ...run, of: subject('frames'), relation: 'at-most', wanted: 1, from: 8, forward: false }), 5);
 });
 
 // What is read and written -------------------------------------------------------------------------------------------------------

@@ -28,6 +28,7 @@ import bridge  # noqa: E402
 import connections  # noqa: E402
 import files  # noqa: E402
 import page_requests  # noqa: E402
+import trace_search  # noqa: E402
 
 PROVED = TOP / "crates/chipbench/out/chipbench"
 
@@ -240,7 +241,7 @@ class PassingThrough(Running):
         self.assertEqual(about["text"], "LD V0, 5\nCLS\n")
         self.assertEqual(about["settings"], {"rate": "7"})
         self.assertEqual(about["options"], ["rate", "tape", "seed"])
-        self.assertEqual(about["words"], ["dis"])
+        self.assertEqual(about["words"], ["dis", "trace"])
 
     def test_each_command_has_its_answer(self) -> None:
         commands = ["ins 1 .", "list", "regs 3", "nonsense", "mem 0 0 0", "screen 0", "dis 0 0 1", "del 9", "faults", "ins 1 ", "image"]
@@ -342,6 +343,77 @@ class PassingThrough(Running):
         for thread in threads:
             thread.join()
         self.assertEqual(wrong, [])
+
+
+class Searching(Running):
+    """Which steps have something, by the lines of `trace`."""
+
+    def body(self, *where: list[Any], first: int = 0, last: int = 5000, source: str = "CLS\n", **more: Any) -> dict[str, Any]:
+        return {"source": source, "keys": "", "options": {}, "first": first, "last": last, "most": 1, "isLast": False, "where": list(where), **more}
+
+    def steps(self, *where: list[Any], **more: Any) -> list[int]:
+        return self.good("search", **self.body(*where, **more))["steps"]
+
+    def test_first_and_last(self) -> None:
+        pc = ["pc", ["0206"], False]
+        self.assertEqual(self.steps(pc), [3])
+        self.assertEqual(self.steps(pc, first=4), [10])
+        self.assertEqual(self.steps(pc, most=3), [3, 10, 17])
+        self.assertEqual(self.steps(pc, isLast=True), [4994])
+        self.assertEqual(self.steps(pc, isLast=True, most=2, last=20), [10, 17])
+        self.assertEqual(self.steps(["pc", ["0207"], False]), [])
+
+    def test_each_column(self) -> None:
+        self.assertEqual(self.steps(["v0", ["ff"], False]), [255])
+        self.assertEqual(self.steps(["vf", ["ff"], False]), [])
+        self.assertEqual(self.steps(["depth", ["2"], False]), [2])
+        self.assertEqual(self.steps(["draws", ["37"], False]), [370])
+        self.assertEqual(self.steps(["v0", ["00", "01", "02"], True]), [3])
+        self.assertEqual(self.steps(["v0", ["05"], False], ["pc", ["020a"], False], ["depth", ["0", "1"], False], first=6), [1797])
+        self.assertEqual(self.steps(["v1", ["02"], False], keys="1 2 down\n2 2 up\n"), [0])
+
+    def test_the_end(self) -> None:
+        """The last line is told, where all were read: its step, and whether the machine has stopped there."""
+        self.assertEqual(self.good("search", **self.body(["pc", ["0fff"], False]))["end"], {"step": 5000, "text": "run"})
+        self.assertEqual(self.good("search", **self.body(["pc", ["0fff"], False], source="stop 70\n"))["end"], {"step": 70, "text": "S1"})
+        after = self.good("search", **self.body(["pc", ["0200"], False], source="stop 70\n", first=90, isLast=True))
+        self.assertEqual(after, {"steps": [70], "end": {"step": 70, "text": "S1"}})
+        self.assertIsNone(self.good("search", **self.body(["pc", ["0206"], False]))["end"])
+
+    def test_lines_in_pieces(self) -> None:
+        """Long traces come in pieces, whose lines are cut anywhere."""
+        self.addCleanup(setattr, trace_search, "BLOCK", trace_search.BLOCK)
+        for trace_search.BLOCK in (7, 60, 4096):
+            self.assertEqual(self.steps(["v0", ["11"], False], most=10, last=500), [17, 273])
+            self.assertEqual(self.steps(["v0", ["f4"], False], isLast=True, last=500), [500])
+
+    def test_what_the_program_refuses(self) -> None:
+        pc = ["pc", ["0206"], False]
+        self.assertEqual(self.good("search", **self.body(pc, source="fault\n"))["refused"]["status"], 1)
+        refused = self.good("search", **self.body(pc, options={"rate": "99999"}))["refused"]
+        self.assertEqual((refused["status"], refused["text"][:5]), (2, "error"))
+        self.assertIn("other columns", self.good("search", **self.body(pc, source="columns\n"))["refused"]["text"])
+        # what `trace` doesn't take makes no difference to a run
+        self.assertEqual(self.steps(pc, options={"every": "5000"}), [3])
+
+    def test_a_trace_that_hangs(self) -> None:
+        self.addCleanup(setattr, trace_search, "SECONDS", trace_search.SECONDS)
+        trace_search.SECONDS = 0.3
+        self.assertEqual(self.ask("search", **self.body(["pc", ["0206"], False], source="hang\n"))[0], 504)
+
+    def test_faulty_requests(self) -> None:
+        pc = ["pc", ["0206"], False]
+        for wrong in (
+            {"where": []}, {"where": None}, {"where": [["pc", [], False]]}, {"where": [["text", ["00"], False]]}, {"where": [["pc", ["02.."], False]]},
+            {"where": [[["pc"], ["0206"], False]]}, {"where": [["pc", [518], False]]}, {"where": [["pc", ["0206"]]]}, {"first": -1}, {"last": 10**9}, {"first": True},
+            {"most": 0}, {"most": 10**6}, {"source": None}, {"keys": 5}, {"options": None}, {"options": {"rate": "--help"}},
+        ):  # fmt: skip
+            self.assertEqual(self.ask("search", **{**self.body(pc), **wrong})[0], 400, wrong)
+        self.assertEqual(sorted(place.name for place in self.bridge.place.iterdir()), [])
+
+    def test_a_program_without_a_trace(self) -> None:
+        self.bridge._trace_options = set()
+        self.assertEqual(self.ask("search", **self.body(["pc", ["0206"], False]))[0], 409)
 
 
 class Saving(Running):
@@ -563,6 +635,20 @@ class TheScript(unittest.TestCase):
             self.assertNotIn("Traceback", run.stderr)
             self.assertNotIn("http", run.stdout if status else "")
 
+    def test_faulty_arguments_are_told_before_a_build(self) -> None:
+        """A build takes long: what is wrong with the arguments is told first. A build that fails ends the command with its status."""
+        build, built = self.folder / "build", self.folder / "built"
+        build.write_text(f'#!/bin/sh\n: > "{built}"\nexit 7\n')
+        build.chmod(0o755)
+        words = [sys.executable, "-B", str(FOLDER.parent / "bridge.py"), "--program", fake_program(self.folder), "--build", str(build), "--no-open"]
+        for faulty in (("--port", "99999"), ("--seed", "1x"), ("--what",), ("a", "b"), ("--rate",), (str(self.folder),)):
+            run = subprocess.run([*words, *faulty], capture_output=True, text=True, timeout=20)
+            self.assertEqual((run.returncode, run.stdout, built.exists()), (2, "", False), faulty)
+            self.assertNotIn("Traceback", run.stderr)
+            self.assertNotIn("--build", run.stderr)
+        run = subprocess.run(words, capture_output=True, text=True, timeout=20)
+        self.assertEqual((run.returncode, run.stdout, built.exists()), (7, "", True))
+
     def test_the_token_is_in_no_command_line(self) -> None:
         """The browser is given a file that only this user can read, and which leads on to the address."""
         browser, told = self.folder / "browser", self.folder / "told"
@@ -604,6 +690,27 @@ class TheProgram(Running):
         self.assertEqual(reply["answers"][1].splitlines()[1], "pc 0202 i 0000 dt 00 st 00 draws 0 low run")
         self.assertEqual(reply["answers"][2], "LOOP 514 2\n.\n")
         self.assertEqual(reply["answers"][5:], ["600570011202\n", "0202 7001 ADD V0, #01\n.\n", "ok\n", "no Q1\n"])
+
+    def test_a_search_against_each_step(self) -> None:
+        """Of each example, the columns against the answers of `regs`."""
+        for name in ("bounce", "guess", "profiles", "scroller"):
+            source = (TOP / f"examples/{name}.asm").read_text()
+            answers = self.opened(source, [f"regs {step}" for step in range(2001)])["answers"]
+            lines = [answer.split("\n") for answer in answers]
+            columns = {
+                "pc": [second.split()[1] for _, second, *_ in lines], "i": [second.split()[3] for _, second, *_ in lines],
+                "dt": [second.split()[5] for _, second, *_ in lines], "st": [second.split()[7] for _, second, *_ in lines],
+                "draws": [second.split()[9] for _, second, *_ in lines], "depth": [str(len(third.split("stack")[1].split())) for *_, third, _ in lines],
+                **{f"v{register:x}": [first.split()[1 + register] for first, *_ in lines] for register in range(16)},
+            }  # fmt: skip
+            stop = next((step for step, line in enumerate(lines) if not line[1].endswith(" run")), 2000)
+            for column, values in columns.items():
+                for value in sorted(set(values)):
+                    where = {"source": source, "keys": "", "options": {}, "where": [[column, [value], False]], "first": 0, "last": 2000, "isLast": False, "most": 10_000}
+                    found = self.good("search", **where)
+                    self.assertEqual(found["steps"], [step for step in range(stop + 1) if values[step] == value], (name, column, value))
+                    if len(set(values)) > 20:
+                        break
 
 
 if __name__ == "__main__":

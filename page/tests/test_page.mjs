@@ -6,7 +6,6 @@ import test from 'node:test';
 
 import * as answers from '../static/answers.mjs';
 import { codeText } from '../static/codes.mjs';
-import { findStep, NoSuchStep, SearchStopped, subject } from '../static/finder.mjs';
 import { keyCommands, KeyScript, readKeys, writeKeys } from '../static/key_script.mjs';
 import { lineCommands } from '../static/line_changes.mjs';
 import { Model } from '../static/model.mjs';
@@ -206,70 +205,6 @@ test('source map: the line at an address', () => {
 test('numbers', () => {
   const symbols = [{ name: 'LOOP', value: 514 }];
   assert.deepEqual(['#1F', '0x1f', '31', ' 31 ', 'loop', '', '#', '1f', '-1', 'NONE'].map((text) => readNumber(text, symbols)), [31, 31, 31, 31, 514, null, null, null, null, null]);
-});
-
-/** A run for searches: its register V0 is the step divided by ten, and it stops at a step. */
-function run(lastStep, stop) {
-  const asked = [];
-  const ask = async (questions) => {
-    asked.push(...questions);
-    return questions.map((question) => {
-      const step = Math.min(Number(question.split(' ')[1]), stop);
-      if (question.startsWith('mem')) return `${answers.hex(step % 251, 2)}\n`;
-      const v0 = answers.hex(Math.floor(step / 10) % 256, 2);
-      return `v ${v0}\npc ${answers.hex(0x200 + 2 * (step % 7), 4)} i 0000 dt 00 st 00 draws ${Math.floor(step / 100)} low ${step >= stop ? 'S1' : 'run'}\nflags stack\n`;
-    });
-  };
-  return { ask, asked, lastStep };
-}
-
-/** No step, where it is known that there can be none. */
-function noStep(fault) {
-  if (fault instanceof NoSuchStep) return null;
-  throw fault;
-}
-
-test('search: next and last, against asking every step', async () => {
-  const random = generator(3);
-  for (let round = 0; round < 150; round += 1) {
-    const { ask, lastStep } = run(1500, 400 + random(2000));
-    const name = ['v0', 'byte', 'pc', 'draws', 'stopped'][random(5)];
-    const of = subject(name, 0x300);
-    const relation = name === 'stopped' ? 'is' : ['is', 'not', 'changes'][random(3)];
-    const wanted = name === 'stopped' ? random(2) : name === 'pc' ? 0x200 + 2 * random(9) : random(20);
-    const from = random(1501);
-    const forward = random(2) === 1;
-    const found = await findStep({ ask, of, relation, wanted, from, forward, lastStep }).catch(noStep);
-    const values = (await ask(Array.from({ length: lastStep + 1 }, (_, step) => of.question(step)))).map(of.value);
-    const holds = (step) => (relation === 'changes' ? step > 0 && values[step] !== values[step - 1] : (values[step] === wanted) === (relation === 'is'));
-    const steps = values.map((_, step) => step).filter(holds);
-    const least = forward ? steps.find((step) => step > from) : steps.findLast((step) => step < from);
-    assert.equal(found, least ?? null, `${name} ${relation} ${wanted} from ${from}, ${forward ? 'next' : 'last'}`);
-  }
-});
-
-test('search: bisection where a value only grows, and no further than the stop', async () => {
-  const growing = run(1_000_000, 2_000_000);
-  assert.equal(await findStep({ ...growing, of: subject('draws'), relation: 'is', wanted: 7777, from: 5, forward: true }), 777_700);
-  assert.ok(growing.asked.length < 50);
-  const stopping = run(1_000_000, 5000);
-  assert.equal(await findStep({ ...stopping, of: subject('stopped'), relation: 'is', wanted: 1, from: 0, forward: true }), 5000);
-  assert.equal(await findStep({ ...stopping, of: subject('v0'), relation: 'is', wanted: 255, from: 0, forward: true }).catch(noStep), 2550);
-  assert.equal(await findStep({ ...stopping, of: subject('v0'), relation: 'is', wanted: 254, from: 2555, forward: true }).catch(noStep), null);
-  assert.ok(stopping.asked.length < 20_000);
-});
-
-test('search: progress and a stop', async () => {
-  const parts = [];
-  const progress = (part) => parts.push(part) < 3;
-  const search = findStep({ ...run(1_000_000, 2_000_000), of: subject('pc'), relation: 'is', wanted: 999, from: 0, forward: true, progress });
-  await assert.rejects(search, SearchStopped);
-  assert.ok(parts[0] > 0 && parts[0] < parts[1] && parts[1] < parts[2] && parts[2] < 1);
-});
-
-test('search: a refusal is told', async () => {
-  const ask = async (questions) => questions.map(() => 'no Q1\n');
-  await assert.rejects(findStep({ ask, of: subject('pc'), relation: 'is', wanted: 0, from: 0, forward: true, lastStep: 10 }), /Q1: no image/);
 });
 
 /** A bridge over a small program that holds lines and events, and ends when it is asked `die`. */
