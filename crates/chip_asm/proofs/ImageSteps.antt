@@ -50,6 +50,10 @@ write-none image bytes here k = rw (no_bytes here k) refl
 
 -- codes
 
+pub code-read : (line : Reading) (names : Symbols) → has_code (body_of line) ≡ true → code_of line names ≡ coded (own_bytes (body_of line) names)
+code-read (bad f) names h = cc
+code-read (read label body) names h = refl
+
 pub no-code : (b : Body) (names : Symbols) → has_code b ≡ false → own_bytes b names ≡ Ok []
 unfolding own_bytes
 no-code (db es) names h = cc

@@ -38,23 +38,6 @@ may-relayout r kept m lines layout settled stays steady = record {
   steady = rw lines steady;
 }
 
-pub may-recode : (r : Recoding) (kept : Kept) → MayEdit kept r.edit.now → r.lines.now ≡ kept.lines.items → r.old.now ≡ kept.layout → r.codes.now ≡ kept.codes → r.names.now.keys ≡ kept.names.keys
-    → r.names.now.symbols ≡ names_of_lines (readings_in (lines_after kept.lines.items r.edit.now)) → r.names.now.before ≡ kept.names.symbols
-    → IsLayoutOf r.new.now (readings_in (lines_after kept.lines.items r.edit.now))
-    → r.first ≤ first_changed r.edit.now → AreSteady kept.lines.items r.first → IsRecoding r
-may-recode r kept m lines layout codes keys symbols before laid stays steady = record {
-  within = rw lines (within-lines kept r.edit.now m);
-  few = rw lines (few-after kept r.edit.now m);
-  infos = rw (lines, keys) m.infos;
-  symbols = rw lines symbols;
-  before = rw lines (before ∙ m.kept.symbols);
-  old = rw (lines, layout) m.kept.laid_out;
-  new = rw lines laid;
-  codes = rw (lines, codes) m.kept.codes;
-  stays = stays;
-  steady = rw lines steady;
-}
-
 -- the spare layout begins with what holds of fewer lines too
 pub fewer-begin : (kept : Kept) (spare : Layout) (count : ℕ) → IsKept kept → spare ≡ kept.spare_layout → count ≤ kept.settled → take count spare.placements.items ≡ take count kept.layout.placements.items
 fewer-begin kept spare count k is fewer = rw is (shorter count kept.settled kept.spare_layout.placements.items kept.layout.placements.items fewer k.settled.begins)

@@ -293,6 +293,7 @@ impl Kept {
             old: &self.layout,
             new: &layout,
             names: &self.names,
+            same_names: self.names.keeps_all_values(),
             codes: &self.codes,
         };
         match recoding.codes(alloc, meter, spare_codes) {

@@ -85,6 +85,7 @@ pub(crate) fn keeps_values(names: &Table, kept: &BoxedLine) -> bool
 impl<'a> Relayout<'a> {
     /// The value of the expression of the line at a place after the edit, where it is known: it is
     /// constant, or the line was accepted before and its names keep their values.
+    #[inline(never)]
     fn known_value(&self, names: &Table, place: usize) -> Option<i32>
         requires relayout { IsRelayout names.now.keys self.now }
         requires place { place < count_then self.now }
@@ -137,6 +138,7 @@ impl<'a> Relayout<'a> {
     }
 
     /// What is found of the lines from a place on, behind what was found of those before it.
+    #[inline(never)]
     fn walk(
         &self,
         placements: &mut Vec<Placement>,
