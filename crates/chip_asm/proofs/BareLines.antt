@@ -24,11 +24,6 @@ use Rattle.chip_asm.proofs.NextLine.{placement-at, follows-push, Advances}
 pub bare-unnamed : (keys : List Name) (defines : Option NameId) (line : Reading) (size : ℕ) → IsNumberOf keys defines (name_defined line) → defines ≡ None → IsBare line (name_defined line) size → IsBare line None size
 bare-unnamed keys defines line size n e b = subst (λ name. IsBare line name size) (subst (λ (d : Option NameId). IsNumberOf keys d (name_defined line)) e n) b
 
-pub record IsLabelled (keys : List Name) (id : NameId) (line : Reading) (size : ℕ) : Type 0 where
-  pub name : Name
-  pub number : IsNumber keys id name
-  pub bare : IsBare line (Some name) size
-
 -- such a line isn't padded
 pub bare-size : (aligning : Bool) (here : ℕ) (body : Body) → is_bare body ≡ true → full_size aligning here body (pos 0) ≡ own_size body (pos 0)
 bare-size true here empty b = refl

@@ -17,9 +17,6 @@ use Rattle.chip_asm.specs.inner.Records.{reading_in, readings_in, texts_in}
 use Rattle.chip_asm.specs.inner.Tables.{Extends, key_at}
 use Rattle.chip_asm.proofs.InfoSteps.{infos-extend}
 
-pub same-keys : (old new : List Name) → new ≡ old → Extends old new
-same-keys old new e = record { longer = omega (arith, ap length e); same = λ number h. ap (λ keys. key_at keys number) e }
-
 -- what was made for these lines is right for them
 pub kept-by : (kept : Kept) (lines : List KeptLine) → kept.lines.items ≡ lines → length lines ≤ MOST_LINES → readings_in lines ≡ map reading_of (texts_in lines) → AreInfos kept.names.keys lines
     → kept.names.symbols ≡ names_of_lines (readings_in lines) → IsLayoutOf kept.layout (readings_in lines) → AreCodesOf kept.codes (readings_in lines)

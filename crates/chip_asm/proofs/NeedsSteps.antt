@@ -33,20 +33,6 @@ count-le {X} p q h (x ∷ xs) =
     step true true e = omega arith
     step true false e = absurd (false≢true (e refl))
 
-lines-fold : (before : List Placed) (lines : List Reading) → map (λ (p : Placed). p.line) (reverse (fold onto before lines)) ≡ map (λ (p : Placed). p.line) (reverse before) ++ lines
-unfolding place
-lines-fold before [] = sym (append-nil (map (λ (p : Placed). p.line) (reverse before)))
-lines-fold before (line ∷ lines) =
-    lines-fold (onto before line) lines
-    ∙ ap (λ xs. map (λ (p : Placed). p.line) xs ++ lines) (reverse-cons (place before line) before)
-    ∙ ap (λ xs. xs ++ lines) (map-append (λ (p : Placed). p.line) (reverse before) (place before line ∷ []))
-    ∙ append_assoc (map (λ (p : Placed). p.line) (reverse before)) (line ∷ []) lines
-
--- each placed line is the line at its place
-pub lines-placed : (lines : List Reading) → map (λ (p : Placed). p.line) (reverse (placed lines)) ≡ lines
-unfolding placed
-lines-placed lines = lines-fold [] lines
-
 -- what the pass keeps says which lines are accepted
 pub placed-at : (lines : List Reading) (i : ℕ) → is_placed_at (placements_of lines) i ≡ is_accepted_at lines i
 unfolding placements_of

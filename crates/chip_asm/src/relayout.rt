@@ -129,7 +129,8 @@ impl<'a> Relayout<'a> {
         let info = kept.info();
         let Some(size) = info.bare_size() else {
             let known = self.known_value(&pass.names, place);
-            return pass.step(place + 1, known, kept.line(), info.defines);
+            let placement = pass.step(place + 1, known, kept.line(), info.defines)?;
+            return Ok(placement);
         };
         match info.defines {
             Some(id) => pass.step_labelled(place + 1, size, id),
