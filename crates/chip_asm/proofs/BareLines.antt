@@ -15,7 +15,6 @@ use Rattle.chip_asm.specs.computed.Walk.{place, placed, is_live, first_fault, fa
 use Rattle.chip_asm.specs.inner.Follows.{Follows, placement_of}
 use Rattle.chip_asm.specs.inner.Placements.{is_placed}
 use Rattle.chip_asm.specs.inner.Infos.{IsNumberOf}
-use Rattle.chip_asm.specs.inner.Tables.{IsNumber}
 use Rattle.chip_asm.specs.declared.table.NameId.{NameId}
 use Rattle.chip_asm.proofs.Placing.{length-placed}
 use Rattle.chip_asm.proofs.NextLine.{placement-at, follows-push, Advances}

@@ -1,18 +1,16 @@
 -- What an edit of what is kept asks of the layout and of the codes.
-use Rattle.std.proofs.Common.{◌≡◌, ℕ, ◌+◌, ◌≤◌, List, length, subst, take, ◌∙◌, arith}
+use Rattle.std.proofs.Common.{◌≡◌, ℕ, ◌+◌, ◌≤◌, List, length, subst, take, arith}
 use Rattle.chip_asm.specs.Program.{names_of_lines}
 use Rattle.chip_asm.specs.declared.edit.Edit.{Edit}
 use Rattle.chip_asm.specs.declared.kept.Kept.{Kept}
 use Rattle.chip_asm.specs.declared.layout.Layout.{Layout}
 use Rattle.chip_asm.specs.declared.limits.TheConstants.{MOST_LINES}
-use Rattle.chip_asm.specs.declared.recoding.Recoding.{Recoding}
 use Rattle.chip_asm.specs.declared.relayout.Relayout.{Relayout}
 use Rattle.chip_asm.specs.inner.Codes.{AreCodesOf}
 use Rattle.chip_asm.specs.inner.Kept.{IsKept, MayEdit, needed_by}
 use Rattle.chip_asm.specs.inner.KeptLine.{KeptLine}
 use Rattle.chip_asm.specs.inner.Layouts.{IsLayoutOf}
 use Rattle.chip_asm.specs.inner.Recode.{count_again}
-use Rattle.chip_asm.specs.inner.Recoding.{IsRecoding}
 use Rattle.chip_asm.specs.inner.Records.{IsPlaceWithin, count_after, lines_after, place_before, readings_in}
 use Rattle.chip_asm.specs.inner.Resume.{AreSteady, IsRelayout, first_changed}
 use Rattle.chip_asm.proofs.KeptSteps.{kept-by}

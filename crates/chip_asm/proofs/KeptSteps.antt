@@ -5,7 +5,6 @@ use Rattle.chip_lang.specs.Line.{reading_of}
 use Rattle.chip_asm.specs.declared.kept.Kept.{Kept}
 use Rattle.chip_asm.specs.declared.layout.Layout.{Layout}
 use Rattle.chip_asm.specs.declared.limits.TheConstants.{MOST_LINES}
-use Rattle.chip_asm.specs.Names.{Name}
 use Rattle.chip_asm.specs.Program.{names_of_lines}
 use Rattle.chip_asm.specs.computed.Walk.{placed, symbols}
 use Rattle.chip_asm.specs.inner.Codes.{AreCodesOf}
@@ -14,7 +13,7 @@ use Rattle.chip_asm.specs.inner.Kept.{IsKept, IsSettled}
 use Rattle.chip_asm.specs.inner.KeptLine.{KeptLine}
 use Rattle.chip_asm.specs.inner.Layouts.{IsLayoutOf}
 use Rattle.chip_asm.specs.inner.Records.{reading_in, readings_in, texts_in}
-use Rattle.chip_asm.specs.inner.Tables.{Extends, key_at}
+use Rattle.chip_asm.specs.inner.Tables.{Extends}
 use Rattle.chip_asm.proofs.InfoSteps.{infos-extend}
 
 -- what was made for these lines is right for them

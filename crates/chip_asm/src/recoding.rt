@@ -47,6 +47,7 @@ pub(crate) struct Recoding<'a> {
 }
 
 /// The code of a line, which is encoded where it has bytes of its own.
+#[inline(always)]
 pub(crate) fn code_of(
     alloc: Global,
     meter: &mut Meter,
@@ -199,7 +200,7 @@ impl<'a> Recoding<'a> {
         ensures parsed { meter.new.parsed ≡ meter.old.parsed }
     {
         let placement = &self.new.placements[place];
-        if !placement.is_accepted() {
+        if placement.size == 0 || !placement.is_accepted() {
             return Ok(placement.fault);
         }
         let kept = kept_after(self.lines, self.edit, place);

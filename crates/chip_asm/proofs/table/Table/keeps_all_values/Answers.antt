@@ -1,4 +1,4 @@
-use Rattle.std.proofs.Common.{◌≡◌, ◌∙◌, ◌<◌, ℕ, ap, sym, length, map, None, arith, List, get_or}
+use Rattle.std.proofs.Common.{◌∙◌, ℕ, ap, sym, map, arith, List}
 use Rattle.std.specs.Global.{Vec}
 use Rattle.chip_lang.specs.Value.{value_of_name}
 use Rattle.chip_asm.specs.Names.{Name, values_of}
