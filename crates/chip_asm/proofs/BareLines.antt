@@ -15,7 +15,6 @@ use Rattle.chip_asm.specs.computed.Walk.{place, placed, is_live, first_fault, fa
 use Rattle.chip_asm.specs.inner.Follows.{Follows, placement_of}
 use Rattle.chip_asm.specs.inner.Placements.{is_placed}
 use Rattle.chip_asm.specs.inner.Infos.{IsNumberOf}
-use Rattle.chip_asm.specs.inner.Tables.{IsNumber}
 use Rattle.chip_asm.specs.declared.table.NameId.{NameId}
 use Rattle.chip_asm.proofs.Placing.{length-placed}
 use Rattle.chip_asm.proofs.NextLine.{placement-at, follows-push, Advances}
@@ -23,11 +22,6 @@ use Rattle.chip_asm.proofs.NextLine.{placement-at, follows-push, Advances}
 -- what is kept beside a line says whether it has a name
 pub bare-unnamed : (keys : List Name) (defines : Option NameId) (line : Reading) (size : ℕ) → IsNumberOf keys defines (name_defined line) → defines ≡ None → IsBare line (name_defined line) size → IsBare line None size
 bare-unnamed keys defines line size n e b = subst (λ name. IsBare line name size) (subst (λ (d : Option NameId). IsNumberOf keys d (name_defined line)) e n) b
-
-pub record IsLabelled (keys : List Name) (id : NameId) (line : Reading) (size : ℕ) : Type 0 where
-  pub name : Name
-  pub number : IsNumber keys id name
-  pub bare : IsBare line (Some name) size
 
 -- such a line isn't padded
 pub bare-size : (aligning : Bool) (here : ℕ) (body : Body) → is_bare body ≡ true → full_size aligning here body (pos 0) ≡ own_size body (pos 0)

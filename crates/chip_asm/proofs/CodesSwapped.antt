@@ -104,10 +104,6 @@ accepted-now : (lines : List Reading) (at : ℕ) (new : Reading) (q : Placement)
     → (e.swap.x.live && is_none (first_pass_fault (placed (set lines at new)) (with_line e.swap.x new))) ≡ b
 accepted-now lines at new q e b p = ap is_placed (sym e.placement_now) ∙ p
 
-accepted-then : (lines : List Reading) (at : ℕ) (new : Reading) (q : Placement) (e : Exchange lines at new q) (b : Bool) → is_placed q ≡ b
-    → (e.swap.x.live && is_none (first_pass_fault (placed lines) e.swap.x)) ≡ b
-accepted-then lines at new q e b p = ap is_placed (sym e.placement) ∙ p
-
 fault-accepted : (live : Bool) (fault o : Option Fault) → (live && is_none fault) ≡ true → cond live (cond (is_some fault) fault o) None ≡ o
 fault-accepted false fault o h = cc
 fault-accepted true (Some f) o h = cc

@@ -1,6 +1,6 @@
 -- The first lines, which stay where they are: each byte and each fault of them, while the lines are
 -- gone through whose names may have other values.
-use Rattle.std.proofs.Common.{◌≡◌, ℕ, ◌+◌, ◌-◌, ◌<◌, ◌≤◌, Bool, true, false, eqb, List, [], length, take, get_or, slice_get, refl, ap, sym, subst, ◌∙◌, arith, ◌⊎◌, inl, inr, Some, None, Option}
+use Rattle.std.proofs.Common.{◌≡◌, ℕ, suc, zero, ◌+◌, ◌-◌, ◌<◌, ◌≤◌, Bool, true, false, eqb, List, [], length, take, get_or, slice_get, refl, ap, sym, subst, ◌∙◌, arith, ◌⊎◌, inl, inr, Some, None, Option}
 use Rattle.std.proofs.lemmas.Bool.{and_from, cases_lt, eqb-false, eqb-true, false_from_ne_true}
 use Rattle.std.proofs.lemmas.List.{ext_get_or, get_or-take, length-map, length-take-le}
 use Rattle.std.proofs.lemmas.Option.{get_or_from_slice_get, same_Some, slice_get-get_or}
@@ -28,6 +28,7 @@ use Rattle.chip_asm.specs.inner.Resume.{first_changed}
 use Rattle.chip_asm.proofs.Bounds.{end-high}
 use Rattle.chip_asm.proofs.CodeSteps.{IsByte, fault-at, length-faults}
 use Rattle.chip_asm.proofs.LinesAfter.{Stood, length-lines_after, length-readings_after, stood, stood-at}
+use Rattle.chip_asm.proofs.NameValues.{all-agree}
 use Rattle.chip_asm.proofs.LinesByPlace.{AtPlace, accepted-fault, byte-line, byte-nowhere, covered-once, covered-parts, ends-by, refused-byte, refused-fault, starts-by, uncoded-byte}
 use Rattle.chip_asm.proofs.RecodingSteps.{Carried, LineThen, SameCode, agree-kept, carried, kept-is, line-then, long-before, long-then, placed-before, placed-then}
 use Rattle.chip_asm.proofs.RelayoutSteps.{Begun, begun}
@@ -288,3 +289,30 @@ faults-done r k faults known =
     ext_get_or None faults (take r.first all) (known.long ∙ sym long) (λ i h.
     (let below : i < r.first = omega (arith, h, known.long) in
     known.done i below ∙ sym (get_or-take r.first all i None below)))
+
+-- where all names keep their values, the first lines stay as they are
+
+pub all-stay : SameCode → (r : Recoding) → IsRecoding r → r.same_names ≡ true → (place : ℕ) → place < r.first → (q : Placement) → slice_get r.new.now.placements.items place ≡ Some q → Stays r place q
+all-stay law r k same place h q there =
+    stays law r k place q h there (λ line at. all-agree (values_of r.names.now.before) (values_of r.names.now.symbols) (k.same same) line)
+
+pub bytes-stay : SameCode → (r : Recoding) → IsRecoding r → (count : ℕ) → (0 < count → r.same_names ≡ true) → count ≤ r.first → (k byte : ℕ) → IsFrontByte r 0 k byte → IsFrontByte r count k byte
+bytes-stay law r known zero same h k byte is = is
+bytes-stay law r known (suc place) same h k byte is =
+    let found : FoundThen r place = found-then r known place (omega arith) in
+    let so_far : IsFrontByte r place k byte = bytes-stay law r known place (λ some. same (omega arith)) (omega arith) k byte is in
+    let s : Stays r place found.q = all-stay law r known (same (omega arith)) place (omega arith) found.q found.there in
+    subst (λ n. IsFrontByte r n k byte) (next place)
+    (front-more r known place found.q k byte byte (omega arith) found.there so_far (λ covered. so_far.kept place found.q (omega arith) (omega arith) found.there covered ∙ s.byte k covered) (λ apart. refl))
+  where
+    next : (n : ℕ) → n + 1 ≡ suc n
+    next n = omega arith
+
+pub faults-stay : SameCode → (r : Recoding) → IsRecoding r → (count : ℕ) → (0 < count → r.same_names ≡ true) → count ≤ r.first → (faults : List (Option Fault)) → AreFrontFaults r 0 faults → AreFrontFaults r count faults
+faults-stay law r known count same h faults is = record {
+  long = is.long;
+  done = λ i below.
+      (let found : FoundThen r i = found-then r known i (omega arith) in
+      is.kept i (omega arith) (omega arith) ∙ (all-stay law r known (same (omega arith)) i (omega arith) found.q found.there).fault);
+  kept = λ i above first. is.kept i (omega arith) first;
+}

@@ -50,6 +50,21 @@ write-none image bytes here k = rw (no_bytes here k) refl
 
 -- codes
 
+pub code-read : (line : Reading) (names : Symbols) → has_code (body_of line) ≡ true → code_of line names ≡ coded (own_bytes (body_of line) names)
+code-read (bad f) names h = cc
+code-read (read label body) names h = refl
+
+pub empty-code : (b : Body) (names : Symbols) (value : ℤ) → own_size b value ≤ 0 → own_bytes b names ≡ Ok []
+unfolding own_bytes
+empty-code (db []) names value h = refl
+empty-code (db (e ∷ es)) names value h = absurd (omega (arith, h))
+empty-code (dw []) names value h = refl
+empty-code (dw (e ∷ es)) names value h = absurd (omega (arith, h))
+empty-code (da []) names value h = refl
+empty-code (da (x ∷ xs)) names value h = absurd (omega (arith, h))
+empty-code (code f os) names value h = absurd (omega (arith, h))
+empty-code _ names value h = refl
+
 pub no-code : (b : Body) (names : Symbols) → has_code b ≡ false → own_bytes b names ≡ Ok []
 unfolding own_bytes
 no-code (db es) names h = cc

@@ -104,3 +104,13 @@ put-all keys lines before infos k a past long are i d lt =
     let line : slice_get lines i ≡ Some (get_or lines i d) = slice_get-get_or lines i d lt in
     let read : slice_get (readings_in before) i ≡ Some (reading_in (get_or lines i d)) = ap (λ ls. slice_get ls i) (sym a.readings) ∙ slice_get-map reading_in lines i ∙ ap (option_map reading_in) line in
     are.1 i x (reading_in (get_or lines i d)) there read
+
+-- the one name that a line uses
+pub record UsesOne (keys : List Name) (id : NameId) (names : List Name) : Type 0 where
+  pub name : Name
+  pub number : IsNumber keys id name
+  pub is : names ≡ name ∷ []
+
+pub uses-one : (keys : List Name) (id : NameId) (names : List Name) → AreUses keys (One id) names → UsesOne keys id names
+uses-one keys id [] u = absurd u
+uses-one keys id (name ∷ names) u = record { name = name; number = u.0; is = ap (λ ns. name ∷ ns) u.1 }

@@ -1,22 +1,22 @@
 -- What an edit of what is kept asks of the layout and of the codes.
-use Rattle.std.proofs.Common.{◌≡◌, ℕ, ◌+◌, ◌≤◌, List, length, subst, ◌∙◌, arith}
+use Rattle.std.proofs.Common.{◌≡◌, ℕ, ◌+◌, ◌≤◌, List, length, subst, take, arith}
 use Rattle.chip_asm.specs.Program.{names_of_lines}
 use Rattle.chip_asm.specs.declared.edit.Edit.{Edit}
 use Rattle.chip_asm.specs.declared.kept.Kept.{Kept}
+use Rattle.chip_asm.specs.declared.layout.Layout.{Layout}
 use Rattle.chip_asm.specs.declared.limits.TheConstants.{MOST_LINES}
-use Rattle.chip_asm.specs.declared.recoding.Recoding.{Recoding}
 use Rattle.chip_asm.specs.declared.relayout.Relayout.{Relayout}
 use Rattle.chip_asm.specs.inner.Codes.{AreCodesOf}
 use Rattle.chip_asm.specs.inner.Kept.{IsKept, MayEdit, needed_by}
 use Rattle.chip_asm.specs.inner.KeptLine.{KeptLine}
 use Rattle.chip_asm.specs.inner.Layouts.{IsLayoutOf}
 use Rattle.chip_asm.specs.inner.Recode.{count_again}
-use Rattle.chip_asm.specs.inner.Recoding.{IsRecoding}
 use Rattle.chip_asm.specs.inner.Records.{IsPlaceWithin, count_after, lines_after, place_before, readings_in}
 use Rattle.chip_asm.specs.inner.Resume.{AreSteady, IsRelayout, first_changed}
 use Rattle.chip_asm.proofs.KeptSteps.{kept-by}
-use Rattle.chip_asm.proofs.LinesAfter.{length-lines_after}
+use Rattle.chip_asm.proofs.LinesAfter.{length-lines_after, shorter}
 use Rattle.chip_asm.proofs.NeedsSteps.{count-needed}
+use Rattle.chip_asm.proofs.RelayoutSteps.{begun-alike, begun-steady}
 
 within-lines : (kept : Kept) (edit : Edit) → MayEdit kept edit → IsPlaceWithin (length kept.lines.items) edit
 within-lines kept edit m = subst (λ n. IsPlaceWithin n edit) kept.lines.ok.0 m.within
@@ -24,39 +24,32 @@ within-lines kept edit m = subst (λ n. IsPlaceWithin n edit) kept.lines.ok.0 m.
 few-after : (kept : Kept) (edit : Edit) → MayEdit kept edit → count_after (length kept.lines.items) edit ≤ MOST_LINES
 few-after kept edit m = omega (arith, m.few, length-lines_after kept.lines.items edit (within-lines kept edit m))
 
-pub may-relayout : (r : Relayout) (kept : Kept) → MayEdit kept r.edit.now → r.lines.now ≡ kept.lines.items → r.old.now ≡ kept.layout → r.first ≤ first_changed r.edit.now → AreSteady kept.lines.items r.first → IsRelayout kept.names.keys r
-may-relayout r kept m lines layout stays steady = record {
+pub may-relayout : (r : Relayout) (kept : Kept) → MayEdit kept r.edit.now → r.lines.now ≡ kept.lines.items → r.old.now ≡ kept.layout → r.settled ≤ r.first → r.first ≤ first_changed r.edit.now → AreSteady kept.lines.items r.first → IsRelayout kept.names.keys r
+may-relayout r kept m lines layout settled stays steady = record {
   within = rw lines (within-lines kept r.edit.now m);
   few = rw lines (few-after kept r.edit.now m);
   were_few = rw lines m.kept.few;
   infos = rw lines m.infos;
   laid_out = rw (lines, layout) m.kept.laid_out;
+  settled = settled;
   stays = stays;
   steady = rw lines steady;
 }
 
-pub may-recode : (r : Recoding) (kept : Kept) → MayEdit kept r.edit.now → r.lines.now ≡ kept.lines.items → r.old.now ≡ kept.layout → r.codes.now ≡ kept.codes → r.names.now.keys ≡ kept.names.keys
-    → r.names.now.symbols ≡ names_of_lines (readings_in (lines_after kept.lines.items r.edit.now)) → r.names.now.before ≡ kept.names.symbols
-    → IsLayoutOf r.new.now (readings_in (lines_after kept.lines.items r.edit.now))
-    → r.first ≤ first_changed r.edit.now → AreSteady kept.lines.items r.first → IsRecoding r
-may-recode r kept m lines layout codes keys symbols before laid stays steady = record {
-  within = rw lines (within-lines kept r.edit.now m);
-  few = rw lines (few-after kept r.edit.now m);
-  infos = rw (lines, keys) m.infos;
-  symbols = rw lines symbols;
-  before = rw lines (before ∙ m.kept.symbols);
-  old = rw (lines, layout) m.kept.laid_out;
-  new = rw lines laid;
-  codes = rw (lines, codes) m.kept.codes;
-  stays = stays;
-  steady = rw lines steady;
-}
+-- the spare layout begins with what holds of fewer lines too
+pub fewer-begin : (kept : Kept) (spare : Layout) (count : ℕ) → IsKept kept → spare ≡ kept.spare_layout → count ≤ kept.settled → take count spare.placements.items ≡ take count kept.layout.placements.items
+fewer-begin kept spare count k is fewer = rw is (shorter count kept.settled kept.spare_layout.placements.items kept.layout.placements.items fewer k.settled.begins)
 
 -- after the edit all is right again
 pub kept-edited : (old new : Kept) (edit : Edit) → MayEdit old edit → new.lines.items ≡ lines_after old.lines.items edit → new.names.keys ≡ old.names.keys
     → new.names.symbols ≡ names_of_lines (readings_in (lines_after old.lines.items edit)) → IsLayoutOf new.layout (readings_in (lines_after old.lines.items edit))
-    → AreCodesOf new.codes (readings_in (lines_after old.lines.items edit)) → IsKept new
-kept-edited old new edit m lines keys symbols laid codes = kept-by new (lines_after old.lines.items edit) lines m.few m.are_read (rw keys m.infos) symbols laid codes
+    → AreCodesOf new.codes (readings_in (lines_after old.lines.items edit))
+    → (first : ℕ) → first ≤ first_changed edit → AreSteady old.lines.items first → new.spare_layout ≡ old.layout → new.settled ≡ first → IsKept new
+kept-edited old new edit m lines keys symbols laid codes first stays steady spare settled =
+    kept-by new (lines_after old.lines.items edit) lines m.few m.are_read (rw keys m.infos) symbols laid codes (rw (settled, spare) (record {
+      steady = begun-steady old.lines.items edit first (within-lines old edit m) stays steady;
+      begins = begun-alike old.names.keys old.lines.items edit first old.layout new.layout (within-lines old edit m) m.infos stays steady m.kept.laid_out laid;
+    }))
 
 -- what is encoded is needed
 pub again-needed : (kept : Kept) (edit : Edit) (lines : List KeptLine) (old new : ℕ) → lines ≡ kept.lines.items

@@ -2,7 +2,7 @@
 use Rattle.std.proofs.Common.{◌≡◌, ℕ, suc, ◌+◌, ◌-◌, ◌<◌, ◌≤◌, Bool, true, false, cond, nat_lt, nat_eq, List, ◌∷◌, ◌++◌, length, take, drop, get_or, slice_get, refl, ap, sym, subst, ◌∙◌, arith, Option, None, Some, option_map, length-append, length-drop, length-set}
 use Rattle.std.proofs.Math.Seq.{take-append_seam}
 use Rattle.std.proofs.lemmas.Bool.{ltb-true, ltb-false, eqb-false}
-use Rattle.std.proofs.lemmas.List.{length-take, length-take-le, length-map, take-map, take-set, get_or-set_other}
+use Rattle.std.proofs.lemmas.List.{length-take, length-take-le, length-map, take-map, take-set, take-take, get_or-set_other}
 use Rattle.std.proofs.lemmas.List.Elements.{All-get_or}
 use Rattle.std.proofs.lemmas.List.Edits.{get_or-insert_below, get_or-insert_above, get_or-remove_below, get_or-remove_above}
 use Rattle.std.proofs.lemmas.Option.{slice_get-get_or, slice_get-map, get_or_from_slice_get, slice_get_within}
@@ -14,6 +14,10 @@ use Rattle.chip_asm.specs.declared.edit.Edit.{Edit}
 use Rattle.chip_asm.specs.declared.edit.Edit.TheVariants.{Insert, Replace, Delete, Open}
 use Rattle.chip_asm.specs.inner.Records.{reading_in, readings_in, IsPlaceWithin, lines_after, count_after, place_before}
 use Rattle.chip_asm.specs.inner.Resume.{first_changed}
+
+-- two lists that begin alike begin alike for less of them
+pub shorter : {X : Type 0} (n m : ℕ) (xs ys : List X) → n ≤ m → take m xs ≡ take m ys → take n xs ≡ take n ys
+shorter n m xs ys h e = sym (take-take n m xs h) ∙ ap (take n) e ∙ take-take n m ys h
 
 pub length-lines_after : (lines : List KeptLine) (edit : Edit) → IsPlaceWithin (length lines) edit → length (lines_after lines edit) ≡ count_after (length lines) edit
 length-lines_after lines (Insert at line) h =

@@ -20,7 +20,7 @@ use Rattle.chip_asm.specs.inner.Placements.{is_placed}
 use Rattle.chip_asm.specs.inner.Recode.{has_code}
 use Rattle.chip_asm.specs.Program.{code_under, bytes_in_code, fault_in_code, covers, byte_at, fault_of, first_pass_fault, is_unclosed}
 use Rattle.chip_asm.proofs.Bounds.{IsWithinMemory, no_fault, passes, stands-here, within-memory}
-use Rattle.chip_asm.proofs.ImageSteps.{no-code, code-no_if, own-short}
+use Rattle.chip_asm.proofs.ImageSteps.{empty-code, no-code, code-no_if, own-short}
 use Rattle.chip_asm.proofs.LinesApart.{one-covers}
 use Rattle.chip_asm.proofs.NextLine.{none_from}
 use Rattle.chip_asm.proofs.Placing.{onto, length-numbered}
@@ -350,11 +350,33 @@ accepted-effect all x accepted =
     let none : x.fault ≡ None = (no_fault (is_unclosed all x) UnclosedIf x.fault (none_from (first_pass_fault all x) both.1)).1 in
     and_from _ _ both.0 (ap is_none none)
 
-pub bytes-fit : (lines : List Reading) (n : ℕ) (q : Placement) (a : AtPlace lines n q) → is_placed q ≡ true → length (bytes_in_code (code_under (placed lines) a.x)) ≤ q.size
-bytes-fit lines n q a accepted =
+own-room : (lines : List Reading) (n : ℕ) (q : Placement) (a : AtPlace lines n q) → is_placed q ≡ true → own_size (body_of a.x.line) (place (placed (take n lines)) a.x.line).value ≤ q.size
+own-room lines n q a accepted =
     let effect : takes_effect a.x ≡ true = accepted-effect (placed lines) a.x (ap is_placed (sym a.placement) ∙ accepted) in
     let room : own_size (body_of a.x.line) (place (placed (take n lines)) a.x.line).value ≤ (place (placed (take n lines)) a.x.line).size
     = taken-size (placed (take n lines)) a.x.line (ap takes_effect (sym a.follows) ∙ effect) in
     let size : (place (placed (take n lines)) a.x.line).size ≡ q.size = ap (λ (p : Placed). p.size) (sym a.follows) ∙ ap (λ (p : Placement). p.size) (sym a.placement) in
+    omega arith
+
+pub bytes-fit : (lines : List Reading) (n : ℕ) (q : Placement) (a : AtPlace lines n q) → is_placed q ≡ true → length (bytes_in_code (code_under (placed lines) a.x)) ≤ q.size
+bytes-fit lines n q a accepted =
+    let room = own-room lines n q a accepted in
     let short = own-short (body_of a.x.line) (values_of (symbols (placed lines))) (place (placed (take n lines)) a.x.line).value in
     omega arith
+
+-- the fault of a line that takes no space is that of the first pass
+
+no-fault : (live : Bool) (fault : Option Fault) → (live && is_none fault) ≡ true → fault ≡ None
+no-fault false fault h = cc
+no-fault true None h = refl
+no-fault true (Some f) h = cc
+
+pub small-fault : (lines : List Reading) (n : ℕ) (q : Placement) (a : AtPlace lines n q) → q.size ≡ 0 → q.fault ≡ fault_of (placed lines) a.x
+small-fault lines n q a none = by (is_placed q) refl
+  where
+    by : (b : Bool) → is_placed q ≡ b → q.fault ≡ fault_of (placed lines) a.x
+    by true accepted =
+        no-fault q.live q.fault accepted
+        ∙ sym (accepted-fault lines n q a accepted
+        ∙ ap fault_in_code (empty-code (body_of a.x.line) (values_of (symbols (placed lines))) (place (placed (take n lines)) a.x.line).value (omega (arith, own-room lines n q a accepted, none))))
+    by false refused = refused-fault lines n q a refused

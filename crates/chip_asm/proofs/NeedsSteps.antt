@@ -1,23 +1,20 @@
 -- What is encoded again is needed.
-use Rattle.std.proofs.Common.{◌≡◌, ℕ, ◌≤◌, Bool, true, false, cond, not, ◌&&◌, List, [], ◌∷◌, ◌++◌, map, reverse, count_by, slice_get, fold, refl, ap, sym, ◌∙◌, arith, Option, Some, None, option_map, append_assoc}
+use Rattle.std.proofs.Common.{◌≡◌, ℕ, ◌≤◌, Bool, true, false, cond, not, ◌&&◌, List, [], ◌∷◌, reverse, count_by, slice_get, refl, ap, sym, ◌∙◌, arith, Option, Some, None, option_map}
 use Rattle.std.specs.List.{enumerate_from}
 use Rattle.std.specs.Option.{option_map_or}
 use Rattle.std.proofs.lemmas.Bool.{and_parts, and_from, false≢true}
-use Rattle.std.proofs.lemmas.List.{map-append, append-nil}
 use Rattle.std.proofs.lemmas.List.Sums.{sum_by-cons}
 use Rattle.std.proofs.lemmas.Option.{slice_get-map}
 use Rattle.chip_lang.specs.Line.{Reading}
 use Rattle.chip_lang.specs.Uses.{agree_on}
 use Rattle.chip_asm.specs.Names.{values_of}
 use Rattle.chip_asm.specs.Layout.{Placed}
-use Rattle.chip_asm.specs.computed.Walk.{placed, place}
+use Rattle.chip_asm.specs.computed.Walk.{placed}
 use Rattle.chip_asm.specs.inner.Layouts.{placements_of, final_placement}
 use Rattle.chip_asm.specs.inner.Placements.{is_placed}
 use Rattle.chip_asm.specs.Program.{names_of_lines}
 use Rattle.chip_asm.specs.Work.{needs, needs_count, is_accepted_at, is_accepted_in, accepted_lines}
 use Rattle.chip_asm.specs.inner.Recode.{count_again, is_encoded_again, is_placed_at}
-use Rattle.chip_asm.proofs.BlockSteps.{reverse-cons}
-use Rattle.chip_asm.proofs.Placing.{onto}
 
 count-le : {X : Type 0} (p q : X → Bool) → ((x : X) → p x ≡ true → q x ≡ true) → (xs : List X) → count_by p xs ≤ count_by q xs
 count-le p q h [] = omega arith
@@ -32,20 +29,6 @@ count-le {X} p q h (x ∷ xs) =
     step false b e = omega arith
     step true true e = omega arith
     step true false e = absurd (false≢true (e refl))
-
-lines-fold : (before : List Placed) (lines : List Reading) → map (λ (p : Placed). p.line) (reverse (fold onto before lines)) ≡ map (λ (p : Placed). p.line) (reverse before) ++ lines
-unfolding place
-lines-fold before [] = sym (append-nil (map (λ (p : Placed). p.line) (reverse before)))
-lines-fold before (line ∷ lines) =
-    lines-fold (onto before line) lines
-    ∙ ap (λ xs. map (λ (p : Placed). p.line) xs ++ lines) (reverse-cons (place before line) before)
-    ∙ ap (λ xs. xs ++ lines) (map-append (λ (p : Placed). p.line) (reverse before) (place before line ∷ []))
-    ∙ append_assoc (map (λ (p : Placed). p.line) (reverse before)) (line ∷ []) lines
-
--- each placed line is the line at its place
-pub lines-placed : (lines : List Reading) → map (λ (p : Placed). p.line) (reverse (placed lines)) ≡ lines
-unfolding placed
-lines-placed lines = lines-fold [] lines
 
 -- what the pass keeps says which lines are accepted
 pub placed-at : (lines : List Reading) (i : ℕ) → is_placed_at (placements_of lines) i ≡ is_accepted_at lines i

@@ -1,10 +1,12 @@
 -- What is known of the lines before an edit, where its pass begins, and of all lines where it ends.
-use Rattle.std.proofs.Common.{◌≡◌, ℕ, ◌<◌, ◌≤◌, true, false, List, [], ◌++◌, length, take, get_or, ap, sym, subst, ◌∙◌, arith, All}
-use Rattle.std.proofs.lemmas.List.{length-map, length-take-le, take-map, take-take, take_all, get_or-take}
+use Rattle.std.proofs.Common.{◌≡◌, ℕ, ◌+◌, ◌-◌, ◌<◌, ◌≤◌, true, false, List, [], ◌++◌, length, take, drop, get_or, ap, sym, subst, ◌∙◌, arith, All}
+use Rattle.std.proofs.lemmas.List.{length-map, length-take-le, take-map, take_all, get_or-take}
 use Rattle.std.proofs.lemmas.List.Elements.{All-map}
+use Rattle.std.proofs.Math.Seq.{take-add}
 use Rattle.chip_lang.specs.Line.{Reading}
 use Rattle.chip_lang.specs.declared.limits.TheConstants.{MEMORY_BYTES}
 use Rattle.chip_asm.specs.declared.edit.Edit.{Edit}
+use Rattle.chip_asm.specs.declared.layout.Layout.{Layout}
 use Rattle.chip_asm.specs.declared.pass.Pass.{Pass}
 use Rattle.chip_asm.specs.declared.placement.Placement.{Placement}
 use Rattle.chip_asm.specs.declared.relayout.Relayout.{Relayout}
@@ -16,12 +18,12 @@ use Rattle.chip_asm.specs.computed.Walk.{address, enclosing, is_aligning, placed
 use Rattle.chip_asm.specs.inner.Follows.{Follows}
 use Rattle.chip_asm.specs.inner.Infos.{AreInfos, is_steady}
 use Rattle.chip_asm.specs.inner.KeptLine.{KeptLine}
-use Rattle.chip_asm.specs.inner.Layouts.{first_placements}
+use Rattle.chip_asm.specs.inner.Layouts.{IsLayoutOf, first_placements}
 use Rattle.chip_asm.specs.inner.Records.{IsPlaceWithin, count_after, lines_after, reading_in, readings_in}
-use Rattle.chip_asm.specs.inner.Resume.{AreSteady, IsRelayout, IsWalked, count_then, first_changed, lines_before, lines_then}
+use Rattle.chip_asm.specs.inner.Resume.{AreSteady, BeginsAsOld, IsRelayout, IsWalked, count_then, first_changed, lines_before, lines_then}
 use Rattle.chip_asm.specs.inner.Tables.{AreOver, AreUpTo, Tables}
 use Rattle.chip_asm.proofs.Bounds.{end-high}
-use Rattle.chip_asm.proofs.LinesAfter.{first-before, first-kept, first-same, first-within, length-lines_after, length-readings_after}
+use Rattle.chip_asm.proofs.LinesAfter.{first-before, first-kept, first-same, first-within, length-lines_after, length-readings_after, shorter}
 use Rattle.chip_asm.proofs.Resumed.{AllSteady, NamesSplit, Resumes, first-laid, names-split, resumes}
 
 -- the first lines stay, and are steady
@@ -30,9 +32,6 @@ pub record Begun (lines : List KeptLine) (edit : Edit) (first : ℕ) : Type 0 wh
   pub within : first ≤ count_after (length lines) edit
   pub same : take first (readings_in lines) ≡ take first (readings_in (lines_after lines edit))
   pub steady : AllSteady (take first (readings_in (lines_after lines edit)))
-
-shorter : {X : Type 0} (n m : ℕ) (xs ys : List X) → n ≤ m → take m xs ≡ take m ys → take n xs ≡ take n ys
-shorter n m xs ys h e = sym (take-take n m xs h) ∙ ap (take n) e ∙ take-take n m ys h
 
 -- what is kept beside the first lines says that they are steady
 steady-readings : (keys : List Name) (old : List KeptLine) (edit : Edit) (first : ℕ) → IsPlaceWithin (length old) edit → AreInfos keys (lines_after old edit) → first ≤ first_changed edit → AreSteady old first
@@ -68,6 +67,33 @@ begun-placements keys r k =
     let b : Begun r.lines.now r.edit.now r.first = begun-relayout keys r k in
     let inside : r.first ≤ length (lines_before r) = omega (arith, b.long, length-map r.lines.now reading_in) in
     first-laid r.old.now (lines_before r) r.first k.laid_out inside (subst AllSteady (sym b.same) b.steady) ∙ ap first_placements b.same
+
+-- the new layout begins with them too
+pub begun-alike : (keys : List Name) (lines : List KeptLine) (edit : Edit) (first : ℕ) (old new : Layout) → IsPlaceWithin (length lines) edit → AreInfos keys (lines_after lines edit) → first ≤ first_changed edit → AreSteady lines first
+    → IsLayoutOf old (readings_in lines) → IsLayoutOf new (readings_in (lines_after lines edit)) → take first old.placements.items ≡ take first new.placements.items
+begun-alike keys lines edit first old new where_is infos stays steady was is =
+    let b : Begun lines edit first = begun keys lines edit first where_is infos stays steady in
+    first-laid old (readings_in lines) first was (omega (arith, b.long, length-map lines reading_in)) (subst AllSteady (sym b.same) b.steady)
+    ∙ ap first_placements b.same
+    ∙ sym (first-laid new (readings_in (lines_after lines edit)) first is (omega (arith, b.within, length-readings_after lines edit where_is)) b.steady)
+
+-- the lines stay steady
+pub begun-steady : (lines : List KeptLine) (edit : Edit) (first : ℕ) → IsPlaceWithin (length lines) edit → first ≤ first_changed edit → AreSteady lines first → AreSteady (lines_after lines edit) first
+begun-steady lines edit first where_is stays steady place other h =
+    let new : List KeptLine = lines_after lines edit in
+    let same : take first lines ≡ take first new = shorter first (first_changed edit) lines new stays (first-kept lines edit where_is) in
+    ap (λ (x : KeptLine). x.info.is_steady) (sym (get_or-take first new place other h) ∙ ap (λ xs. get_or xs place other) (sym same) ∙ get_or-take first lines place other h) ∙ steady place other h
+
+-- the first part of the other layout, and what comes behind it up to the first lines' end
+pub spare-more : (r : Relayout) (spare : Layout) → r.settled ≤ r.first → BeginsAsOld spare r
+    → take r.settled spare.placements.items ++ take (r.first - r.settled) (drop r.settled r.old.now.placements.items) ≡ take r.first r.old.now.placements.items
+spare-more r spare h same =
+    ap (λ ps. ps ++ take (r.first - r.settled) (drop r.settled r.old.now.placements.items)) same
+    ∙ sym (take-add r.settled (r.first - r.settled) r.old.now.placements.items)
+    ∙ ap (λ n. take n r.old.now.placements.items) (sum r.settled r.first h)
+  where
+    sum : (a b : ℕ) → a ≤ b → a + (b - a) ≡ b
+    sum a b h = omega arith
 
 -- the symbols that are left of those before the edit
 pub begun-symbols : (r : Relayout) → Begun r.lines.now r.edit.now r.first → (old left : List (Name × Symbol)) → old ≡ names_of_lines (lines_before r)

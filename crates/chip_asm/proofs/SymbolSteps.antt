@@ -344,6 +344,17 @@ value-found keys d name i a h same = a.valued i h ∙ ap (value_among (symbols_i
 pub value-missing : (keys : List Name) (d : Definitions) (name : Name) → AreDefined keys d → ((i : ℕ) → i < length keys → key_at keys i ≡ name → ⊥) → value_among (symbols_in keys d.entries.items) name ≡ None
 value-missing keys d name a none = ap (option_map (λ (s : Symbol). s.value)) (lookup-missing keys d.entries.items name a.inside none)
 
+-- tables with the same values at all numbers give all names the same values
+pub same-values : (keys : List Name) (past current : Definitions) → AreDefined keys past → AreDefined keys current → ((i : ℕ) → i < length keys → get_or past.values.items i None ≡ get_or current.values.items i None)
+    → (name : Name) → value_among (symbols_in keys past.entries.items) name ≡ value_among (symbols_in keys current.entries.items) name
+same-values keys past current a b same name = by (position (bytes_eq name) keys) refl
+  where
+    by : (o : Option ℕ) → position (bytes_eq name) keys ≡ o → value_among (symbols_in keys past.entries.items) name ≡ value_among (symbols_in keys current.entries.items) name
+    by None e = value-missing keys past name a (absent-key keys name e) ∙ sym (value-missing keys current name b (absent-key keys name e))
+    by (Some i) e =
+        let f = found-key keys name i e in
+        sym (value-found keys past name i a f.0 f.1) ∙ same i f.0 ∙ value-found keys current name i b f.0 f.1
+
 -- symbols one by one
 
 pub lookup-at : (names : List (Name × Symbol)) (k : ℕ) (e : Name × Symbol) (name : Name) → k < length names → get_or names k e ≡ e → lookup_name (take k names) name ≡ None → bytes_eq name e.0 ≡ true

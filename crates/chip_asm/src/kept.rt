@@ -57,6 +57,8 @@ pub(crate) struct Kept {
     /// Room for the layout and the codes after an edit.
     spare_layout: Layout,
     spare_codes: Codes,
+    /// So many first lines are steady, and the spare layout begins with what holds of them.
+    settled: usize,
 }
 
 impl Kept {
@@ -74,6 +76,7 @@ impl Kept {
             codes: Codes::new(alloc),
             spare_layout: Layout::new(alloc),
             spare_codes: Codes::new(alloc),
+            settled: 0,
         }
     }
 
@@ -173,6 +176,7 @@ impl Kept {
         }
         if let Ok((names, infos)) = self.numbered_anew(alloc) {
             self.names = names;
+            self.settled = 0;
             set_infos(&mut self.lines, &infos);
         }
     }
@@ -251,6 +255,7 @@ impl Kept {
             let code = code_of(alloc, meter, &self.names, &added)?;
             self.codes.put(at, &placement, &code);
         }
+        self.settled = self.settled.min(at);
         replace_line(&mut self.lines, at, added);
         Ok(())
     }
@@ -270,11 +275,14 @@ impl Kept {
         self.lines.reserve(1)?;
         let spare_layout = mem::replace(&mut self.spare_layout, Layout::new(alloc));
         let spare_codes = mem::replace(&mut self.spare_codes, Codes::new(alloc));
-        let first = steady_lines(&self.lines, first_changed(&edit));
+        let place = first_changed(&edit);
+        let settled = mem::replace(&mut self.settled, 0).min(place);
+        let first = steady_lines(&self.lines, settled, place);
         let relayout = Relayout {
             lines: &self.lines,
             old: &self.layout,
             edit: &edit,
+            settled,
             first,
         };
         let layout = relayout.layout(alloc, spare_layout, &mut self.names)?;
@@ -285,6 +293,7 @@ impl Kept {
             old: &self.layout,
             new: &layout,
             names: &self.names,
+            same_names: self.names.keeps_all_values(),
             codes: &self.codes,
         };
         match recoding.codes(alloc, meter, spare_codes) {
@@ -292,6 +301,7 @@ impl Kept {
                 make_edit(&mut self.lines, edit);
                 self.spare_layout = mem::replace(&mut self.layout, layout);
                 self.spare_codes = mem::replace(&mut self.codes, codes);
+                self.settled = first;
                 Ok(())
             }
             Err(error) => {

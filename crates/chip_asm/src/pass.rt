@@ -356,6 +356,7 @@ impl Pass {
     }
 
     /// Goes on by one line, and says what holds of it. The value of its expression may be known.
+    #[inline(never)]
     pub(crate) fn step(
         &mut self,
         number: usize,

@@ -7,6 +7,7 @@ ghost use Rattle.chip_asm.specs.Program.{fault_in_code, fault_of};
 ghost use Rattle.chip_asm.specs.computed.Walk.{placed};
 ghost use Rattle.chip_asm.specs.Layout.{Placed, body_of};
 ghost use Rattle.chip_asm.specs.Names.{values_of};
+ghost use Rattle.chip_lang.specs.Uses.{agree_on};
 ghost use Rattle.chip_asm.specs.inner.Infos.{IsInfo};
 ghost use Rattle.chip_asm.specs.inner.Codes.{AreCodesOf, IsWritten, covers_byte, right_byte};
 ghost use Rattle.chip_asm.specs.inner.Recoding.{IsAcceptedAt, IsPlacedThen, IsRecoding, IsUncodedAt, code_bytes, code_then, count_then, is_again, is_kept, lines_again, lines_then};
@@ -17,6 +18,7 @@ use crate::codes::{Codes, bytes_of, count_faults, fault_in, write_line};
 use crate::edit::{Edit, kept_after, place_before};
 use crate::kept_line::BoxedLine;
 use crate::layout::Layout;
+use crate::line_info::Uses;
 use crate::placement::Placement;
 use crate::relayout::keeps_values;
 use crate::table::{Scope, Table, Time};
@@ -38,11 +40,14 @@ pub(crate) struct Recoding<'a> {
     pub(crate) new: &'a Layout,
     /// The symbols before and after it.
     pub(crate) names: &'a Table,
+    /// Every name keeps its value.
+    pub(crate) same_names: bool,
     /// The codes before it.
     pub(crate) codes: &'a Codes,
 }
 
 /// The code of a line, which is encoded where it has bytes of its own.
+#[inline(always)]
 pub(crate) fn code_of(
     alloc: Global,
     meter: &mut Meter,
@@ -57,8 +62,12 @@ pub(crate) fn code_of(
     ensures not_lowered { meter.old.encoded ≤ meter.new.encoded }
     ensures parsed { meter.new.parsed ≡ meter.old.parsed }
 {
+    same_code();
     if !kept.info().is_coded {
         return Ok(Coded::Bytes(ShortBytes::empty(alloc)));
+    }
+    if let Uses::One(id) = kept.info().uses {
+        return encode(alloc, meter, kept.line(), &names.only(id));
     }
     let scope = Scope {
         table: names,
@@ -68,8 +77,20 @@ pub(crate) fn code_of(
 }
 
 impl<'a> Recoding<'a> {
+    /// Whether the names of a line have the values, or none, that they had before the edit.
+    #[inline(always)]
+    fn keeps_values(&self, kept: &BoxedLine) -> bool
+        requires recoding { IsRecoding self.now }
+        requires info { IsInfo self.now.names.now.keys kept.now.info (reading_in kept.now) }
+        ensures { result ≡ agree_on (values_of self.now.names.now.before)
+            (values_of self.now.names.now.symbols) (reading_in kept.now) }
+    {
+        self.same_names || keeps_values(self.names, kept)
+    }
+
     /// Where the line at a place stood before the edit, if its code is still the one that it had:
     /// it was accepted there, and its names keep their values.
+    #[inline(always)]
     fn kept_place(&self, place: usize, kept: &BoxedLine) -> Option<usize>
         requires recoding { IsRecoding self.now }
         requires place { place < count_then self.now }
@@ -81,7 +102,7 @@ impl<'a> Recoding<'a> {
             ≡ Some before) }
     {
         let before = place_before(self.edit, place)?;
-        if self.old.placements[before].is_accepted() && keeps_values(self.names, kept) {
+        if self.old.placements[before].is_accepted() && self.keeps_values(kept) {
             Some(before)
         } else {
             None
@@ -179,7 +200,7 @@ impl<'a> Recoding<'a> {
         ensures parsed { meter.new.parsed ≡ meter.old.parsed }
     {
         let placement = &self.new.placements[place];
-        if !placement.is_accepted() {
+        if placement.size == 0 || !placement.is_accepted() {
             return Ok(placement.fault);
         }
         let kept = kept_after(self.lines, self.edit, place);
@@ -194,6 +215,7 @@ impl<'a> Recoding<'a> {
 
     /// The codes of all lines after the edit, in the room of others. The bytes and faults of the
     /// first lines stay, except where a name has another value.
+    #[inline(never)]
     pub(crate) fn codes(
         &self,
         alloc: Global,
@@ -215,8 +237,9 @@ impl<'a> Recoding<'a> {
             &self.codes.faults[..self.first],
             count,
         )?;
-        for place in 0..self.first {
-            if keeps_values(self.names, &self.lines[place]) {
+        let changed = if self.same_names { self.first } else { 0 };
+        for place in changed..self.first {
+            if self.keeps_values(&self.lines[place]) {
                 continue;
             }
             let fault = self.write(alloc, meter, &mut codes.image, place)?;

@@ -10,7 +10,7 @@ ghost use Rattle.chip_asm.specs.inner.HeldLine.{IsKnownUnder};
 ghost use Rattle.chip_asm.specs.inner.Infos.{IsInfo};
 ghost use Rattle.chip_asm.specs.inner.Layouts.{IsLayoutOf};
 ghost use Rattle.chip_asm.specs.inner.Records.{reading_in};
-ghost use Rattle.chip_asm.specs.inner.Resume.{AreSteady, IsRelayout, IsWalked, count_then, lines_before, lines_then};
+ghost use Rattle.chip_asm.specs.inner.Resume.{AreSteady, BeginsAsOld, IsRelayout, IsWalked, count_then, lines_before, lines_then};
 ghost use Rattle.chip_asm.specs.inner.Tables.{KeepsBefore};
 
 use crate::edit::{Edit, count_after, kept_after, place_before};
@@ -33,17 +33,23 @@ pub(crate) struct Relayout<'a> {
     /// Their layout.
     pub(crate) old: &'a Layout,
     pub(crate) edit: &'a Edit,
+    /// The spare layout begins with what holds of so many of these lines.
+    pub(crate) settled: usize,
     /// So many first lines stay, and are steady: the pass begins behind them.
     pub(crate) first: usize,
 }
 
-/// How many lines before a place are steady, up to the first that isn't.
-pub(crate) fn steady_lines(lines: &[BoxedLine], place: usize) -> usize
-    requires { place ≤ length lines.now }
+/// How many lines before a place are steady, up to the first that isn't, where so many are known to
+/// be.
+pub(crate) fn steady_lines(lines: &[BoxedLine], known: usize, place: usize) -> usize
+    requires place { place ≤ length lines.now }
+    requires within { known ≤ place }
+    requires known { AreSteady lines.now known }
+    ensures after { known ≤ result }
     ensures within { result ≤ place }
     ensures steady { AreSteady lines.now result }
 {
-    for index in 0..place {
+    for index in known..place {
         if !lines[index].info().is_steady {
             return index;
         }
@@ -79,6 +85,7 @@ pub(crate) fn keeps_values(names: &Table, kept: &BoxedLine) -> bool
 impl<'a> Relayout<'a> {
     /// The value of the expression of the line at a place after the edit, where it is known: it is
     /// constant, or the line was accepted before and its names keep their values.
+    #[inline(never)]
     fn known_value(&self, names: &Table, place: usize) -> Option<i32>
         requires relayout { IsRelayout names.now.keys self.now }
         requires place { place < count_then self.now }
@@ -122,7 +129,8 @@ impl<'a> Relayout<'a> {
         let info = kept.info();
         let Some(size) = info.bare_size() else {
             let known = self.known_value(&pass.names, place);
-            return pass.step(place + 1, known, kept.line(), info.defines);
+            let placement = pass.step(place + 1, known, kept.line(), info.defines)?;
+            return Ok(placement);
         };
         match info.defines {
             Some(id) => pass.step_labelled(place + 1, size, id),
@@ -131,6 +139,7 @@ impl<'a> Relayout<'a> {
     }
 
     /// What is found of the lines from a place on, behind what was found of those before it.
+    #[inline(never)]
     fn walk(
         &self,
         placements: &mut Vec<Placement>,
@@ -158,15 +167,16 @@ impl<'a> Relayout<'a> {
         requires relayout { IsRelayout pass.old.names.keys self.now }
         requires before { pass.old.names.before ≡ names_of_lines (lines_before self.now) }
         requires follows { Follows pass.old (placed (take self.now.first (lines_then self.now))) }
+        requires spare { BeginsAsOld spare self.now }
         ensures layout { IfOk result (λ layout. IsLayoutOf layout (lines_then self.now)) }
         ensures names { OnOk result (pass.new.names.symbols
             ≡ names_of_lines (lines_then self.now)) }
         ensures keeps { KeepsBefore pass.old.names pass.new.names }
     {
         let Layout { mut placements, .. } = spare;
-        placements.clear();
-        placements.reserve(count_after(self.lines.len(), self.edit))?;
-        placements.extend_from_slice(&self.old.placements[..self.first])?;
+        placements.truncate(self.settled);
+        placements.reserve(count_after(self.lines.len(), self.edit) - self.settled)?;
+        placements.extend_from_slice(&self.old.placements[self.settled..self.first])?;
         self.walk(&mut placements, pass, self.first)?;
         mark_unclosed(&mut placements, pass.ended, &pass.blocks);
         Ok(Layout {
@@ -185,6 +195,7 @@ impl<'a> Relayout<'a> {
     ) -> Result<Layout, AllocError>
         requires relayout { IsRelayout names.old.keys self.now }
         requires names { names.old.symbols ≡ names_of_lines (lines_before self.now) }
+        requires spare { BeginsAsOld spare self.now }
         ensures layout { IfOk result (λ layout. IsLayoutOf layout (lines_then self.now)) }
         ensures symbols { OnOk result (names.new.symbols ≡ names_of_lines (lines_then self.now)) }
         ensures before { OnOk result (names.new.before ≡ names.old.symbols) }

@@ -1,10 +1,10 @@
 //! The symbols of a source.
-ghost use Rattle.std.specs.Prelude.{◌≡◌, ◌++◌, [], ◌∷◌, ◌<◌, ℕ, List, OnOk, OnErr, IfOk, None, Some, Option, is_some, length, map};
+ghost use Rattle.std.specs.Prelude.{◌≡◌, ◌++◌, [], ◌∷◌, ◌<◌, ℕ, List, true, OnOk, OnErr, IfOk, None, Some, Option, is_some, length, map};
 ghost use Rattle.std.specs.Str.{bytes_eq};
 ghost use Rattle.chip_lang.specs.Line.{upper};
 ghost use Rattle.chip_lang.specs.Uses.{has_same_value};
 ghost use Rattle.chip_asm.specs.Names.{Name, lookup_name, values_of};
-ghost use Rattle.chip_asm.specs.inner.Tables.{AreOver, AreUpTo, Extends, IsNumber, KeepsBefore, key_at, symbols_at};
+ghost use Rattle.chip_asm.specs.inner.Tables.{AreOver, AreUpTo, Extends, IsNumber, KeepsBefore, key_at, only_symbol, symbols_at, value_among};
 
 use crate::name_hasher::NameHasher;
 use chip_lang::short_bytes::upper;
@@ -218,6 +218,32 @@ impl Table {
         self.past.values[index] == self.current.values[index]
     }
 
+    /// Whether all names have the values, or none, that they had before the edit.
+    pub(crate) fn keeps_all_values(&self) -> bool
+        ensures { result ≡ true → (name : Name)
+            → has_same_value (values_of self.now.before) (values_of self.now.symbols) name ≡ true }
+    {
+        for index in 0..self.current.values.len() {
+            if self.past.values[index] != self.current.values[index] {
+                return false;
+            }
+        }
+        true
+    }
+
+    /// The name of a number, with its value.
+    pub(crate) fn only(&self, id: NameId) -> NamedValue<'_>
+        requires { id.number < length self.now.keys }
+        ensures name { result.name.now ≡ key_at self.now.keys id.number }
+        ensures value { result.value
+            ≡ value_among self.now.symbols (key_at self.now.keys id.number) }
+    {
+        NamedValue {
+            name: self.name(id),
+            value: self.current.values[id.number as usize],
+        }
+    }
+
     /// The value and the line of a name in either case.
     pub(crate) fn symbol_in_any_case(&self, name: &[u8]) -> Option<Symbol>
         ensures { result ≡ lookup_name self.now.symbols (map upper name.now) }
@@ -302,6 +328,21 @@ fn is_spelled(text: &[u8], name: &[u8]) -> bool
         return false;
     };
     upper(*byte) == *letter && is_spelled(text, name)
+}
+
+/// A name alone, with its value, if it has one.
+#[derive(Clone, Copy)]
+pub(crate) struct NamedValue<'a> {
+    pub(crate) name: &'a [u8],
+    pub(crate) value: Option<i32>,
+}
+
+impl<'a> Names for NamedValue<'a> {
+    ghost symbols = { λ s. values_of (only_symbol s.name.now s.value) };
+
+    fn value(&self, name: &[u8]) -> Option<i32> {
+        if name == self.name { self.value } else { None }
+    }
 }
 
 /// A table at a time.

@@ -5,6 +5,8 @@ use Rattle.chip_asm.specs.declared.limits.TheConstants.{MOST_LINES}
 use Rattle.chip_asm.specs.declared.recoding.Recoding.{Recoding}
 use Rattle.chip_lang.specs.declared.fault.Fault.{Fault}
 use Rattle.chip_asm.specs.declared.placement.Placement.{Placement}
+use Rattle.chip_lang.specs.Uses.{has_same_value}
+use Rattle.chip_asm.specs.Names.{Name, values_of}
 use Rattle.chip_asm.specs.Layout.{Placed, body_of}
 use Rattle.chip_asm.specs.computed.Walk.{placed}
 use Rattle.chip_asm.specs.Program.{bytes_in_code, code_under, names_of_lines}
@@ -32,6 +34,8 @@ pub record IsRecoding (r : Recoding) : Type 0 where
   pub infos : AreInfos r.names.now.keys (lines_after r.lines.now r.edit.now)
   pub symbols : r.names.now.symbols ≡ names_of_lines (lines_then r)
   pub before : r.names.now.before ≡ names_of_lines (lines_before r)
+  pub same : r.same_names ≡ true → (name : Name)
+      → has_same_value (values_of r.names.now.before) (values_of r.names.now.symbols) name ≡ true
   pub old : IsLayoutOf r.old.now (lines_before r)
   pub new : IsLayoutOf r.new.now (lines_then r)
   pub codes : AreCodesOf r.codes.now (lines_before r)

@@ -4,6 +4,7 @@ use Rattle.chip_lang.specs.Line.{Reading}
 use Rattle.chip_asm.specs.declared.edit.Edit.{Edit}
 use Rattle.chip_asm.specs.declared.edit.Edit.TheVariants.{Insert, Replace, Delete, Open}
 use Rattle.chip_asm.specs.declared.limits.TheConstants.{MOST_LINES}
+use Rattle.chip_asm.specs.declared.layout.Layout.{Layout}
 use Rattle.chip_asm.specs.declared.pass.Pass.{Pass}
 use Rattle.chip_asm.specs.declared.placement.Placement.{Placement}
 use Rattle.chip_asm.specs.declared.relayout.Relayout.{Relayout}
@@ -46,8 +47,14 @@ pub record IsRelayout (keys : List Name) (r : Relayout) : Type 0 where
   pub were_few : length r.lines.now ≤ MOST_LINES
   pub infos : AreInfos keys (lines_after r.lines.now r.edit.now)
   pub laid_out : IsLayoutOf r.old.now (lines_before r)
+  pub settled : r.settled ≤ r.first
   pub stays : r.first ≤ first_changed r.edit.now
   pub steady : AreSteady r.lines.now r.first
+
+-- the other layout begins with what holds of the first lines
+abbrev pub BeginsAsOld : Layout → Relayout → Type 0
+BeginsAsOld spare r =
+    take r.settled spare.placements.items ≡ take r.settled r.old.now.placements.items
 
 -- the pass stands after the first of some lines, with what it found of them
 pub record IsWalked (found : List Placement) (pass : Pass) (lines : List Reading)

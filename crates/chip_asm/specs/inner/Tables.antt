@@ -1,6 +1,6 @@
 -- What contracts see of the table of symbols: the names that lines use or define, each under a
 -- number that stays, and the symbols, as they are and as they were before the edit (own).
-use Rattle.std.specs.Prelude.{◌≡◌, ℕ, ◌<◌, ◌≤◌, ℤ, List, [], All, length, map, Option, None, option_map, slice_index_or, take}
+use Rattle.std.specs.Prelude.{◌≡◌, ℕ, ◌<◌, ◌≤◌, ℤ, List, [], ◌∷◌, All, length, map, Option, None, Some, option_map, slice_index_or, take}
 use Rattle.chip_asm.specs.Names.{Name, lookup_name}
 use Rattle.chip_asm.specs.declared.table.Symbol.{Symbol}
 use Rattle.chip_asm.specs.declared.table.NameId.{NameId}
@@ -35,6 +35,11 @@ symbols_in keys entries = map (λ e. (key_at keys e.id.number, e.symbol)) entrie
 -- the value of a name among symbols
 abbrev pub value_among : List (Name × Symbol) → Name → Option ℤ
 value_among symbols name = option_map (λ s. s.value) (lookup_name symbols name)
+
+-- a name alone, if it has a value
+abbrev pub only_symbol : Name → Option ℤ → List (Name × Symbol)
+only_symbol name None = []
+only_symbol name (Some value) = (name, record { value = value; line = 0 }) ∷ []
 
 -- no name has two numbers
 pub record AreApart (keys : List Name) : Type 0 where

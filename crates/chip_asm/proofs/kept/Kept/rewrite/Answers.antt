@@ -1,4 +1,5 @@
 use Rattle.std.proofs.Common.{◌≡◌, ◌∙◌, ◌+◌, ◌≤◌, ap, arith, get_or, None, set, subst, sym, true, vec_len}
+use Rattle.std.proofs.Math.Nat.{min-le_left, min-le_right}
 use Rattle.std.proofs.lemmas.List.{length-map}
 use Rattle.chip_lang.specs.declared.meter.Meter.{Meter}
 use Rattle.chip_asm.specs.Edits.{before_replace}
@@ -76,23 +77,24 @@ returns-clause-kept c =
           (subst (λ (k : Kept). IsWritten c.index.result.now (coded_bytes w.in_ok-code.code) c.args.self.now.codes.image.items k.codes.image.items) (sym w.self-is) w.put.ensures.written)
           (ap (λ (k : Kept). vec_len k.codes.image) w.self-is ∙ w.put.ensures.long) (ap (λ (k : Kept). k.codes.faults.items) w.self-is ∙ w.put.ensures.faults)
           (ap (λ (k : Kept). k.codes.count + count_of (get_or c.args.self.now.codes.faults.items c.args.at None)) w.self-is ∙ w.put.ensures.count)
-          (ap (λ (k : Kept). k.lines.items) w.self-is) (ap (λ (k : Kept). k.layout) w.self-is) (ap (λ (k : Kept). k.names) w.self-is)
+          (ap (λ (k : Kept). k.lines.items) w.self-is) (ap (λ (k : Kept). k.layout) w.self-is) (ap (λ (k : Kept). k.spare_layout) w.self-is) (ap (λ (k : Kept). k.settled) w.self-is) (ap (λ (k : Kept). k.names) w.self-is)
       | then-is_accepted+in_ok-code+in-Bytes+in-Inline-1 w ↦
           rewrote-put c.args.self.now c.if-is_accepted.self c.args.at c.args.added c.index.result.now w.in_ok-code.code c.requires.kept e (sym c.is_accepted.ensures ∙ w.if-is_accepted.true) w.in_ok-code.ensures.code
           (subst (λ (k : Kept). IsWritten c.index.result.now (coded_bytes w.in_ok-code.code) c.args.self.now.codes.image.items k.codes.image.items) (sym w.self-is) w.put.ensures.written)
           (ap (λ (k : Kept). vec_len k.codes.image) w.self-is ∙ w.put.ensures.long) (ap (λ (k : Kept). k.codes.faults.items) w.self-is ∙ w.put.ensures.faults)
           (ap (λ (k : Kept). k.codes.count + count_of (get_or c.args.self.now.codes.faults.items c.args.at None)) w.self-is ∙ w.put.ensures.count)
-          (ap (λ (k : Kept). k.lines.items) w.self-is) (ap (λ (k : Kept). k.layout) w.self-is) (ap (λ (k : Kept). k.names) w.self-is)
+          (ap (λ (k : Kept). k.lines.items) w.self-is) (ap (λ (k : Kept). k.layout) w.self-is) (ap (λ (k : Kept). k.spare_layout) w.self-is) (ap (λ (k : Kept). k.settled) w.self-is) (ap (λ (k : Kept). k.names) w.self-is)
       | then-is_accepted+in_ok-code+in-Faulty-1 w ↦
           rewrote-put c.args.self.now c.if-is_accepted.self c.args.at c.args.added c.index.result.now w.in_ok-code.code c.requires.kept e (sym c.is_accepted.ensures ∙ w.if-is_accepted.true) w.in_ok-code.ensures.code
           (subst (λ (k : Kept). IsWritten c.index.result.now (coded_bytes w.in_ok-code.code) c.args.self.now.codes.image.items k.codes.image.items) (sym w.self-is) w.put.ensures.written)
           (ap (λ (k : Kept). vec_len k.codes.image) w.self-is ∙ w.put.ensures.long) (ap (λ (k : Kept). k.codes.faults.items) w.self-is ∙ w.put.ensures.faults)
           (ap (λ (k : Kept). k.codes.count + count_of (get_or c.args.self.now.codes.faults.items c.args.at None)) w.self-is ∙ w.put.ensures.count)
-          (ap (λ (k : Kept). k.lines.items) w.self-is) (ap (λ (k : Kept). k.layout) w.self-is) (ap (λ (k : Kept). k.names) w.self-is)
+          (ap (λ (k : Kept). k.lines.items) w.self-is) (ap (λ (k : Kept). k.layout) w.self-is) (ap (λ (k : Kept). k.spare_layout) w.self-is) (ap (λ (k : Kept). k.settled) w.self-is) (ap (λ (k : Kept). k.names) w.self-is)
       | else-is_accepted w ↦
           rewrote-none c.args.self.now c.if-is_accepted.self c.args.at c.args.added c.index.result.now c.requires.kept e (sym c.is_accepted.ensures ∙ w.if-is_accepted.false) w.self-is
     ] in
-    kept-swapped c.args.self.now _ c.args.at c.args.added c.index.result.now c.requires.kept (c.replace_line.ensures ∙ ap (λ ls. set ls c.args.at c.args.added) r.lines) r.layout r.names c.requires.is_read c.requires.info e r.codes
+    kept-swapped c.args.self.now _ c.args.at c.args.added c.index.result.now c.requires.kept (c.replace_line.ensures ∙ ap (λ ls. set ls c.args.at c.args.added) r.lines) r.layout r.spare
+    (omega (arith, r.settled, c.min-self.ensures, min-le_left c.if-is_accepted.self.settled c.args.at)) (omega (arith, c.min-self.ensures, min-le_right c.if-is_accepted.self.settled c.args.at)) r.names c.requires.is_read c.requires.info e r.codes
 
 pub returns-clause-encoded : goal.returns-clause-encoded
 returns-clause-encoded c =

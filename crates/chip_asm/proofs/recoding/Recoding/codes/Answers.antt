@@ -1,4 +1,4 @@
-use Rattle.std.proofs.Common.{◌≡◌, ◌∙◌, ◌+◌, ◌-◌, ◌<◌, ◌≤◌, ◌++◌, ◌∷◌, [], List, Option, None, ap, sym, subst, refl, arith, get_or, length, length-set, set, take}
+use Rattle.std.proofs.Common.{true, ◌≡◌, ◌∙◌, ◌+◌, ◌-◌, ◌<◌, ◌≤◌, ◌++◌, ◌∷◌, [], List, Option, None, ap, sym, subst, refl, arith, get_or, length, length-set, set, take}
 use Rattle.std.specs.List.{enumerate_from}
 use Rattle.std.proofs.lemmas.List.{get_or-set_other, get_or-set_same, get_or-take, get_or_past, length-map, length-take, length-take-le, take_all}
 use Rattle.chip_lang.specs.declared.fault.Fault.{Fault}
@@ -12,11 +12,12 @@ use Rattle.chip_asm.specs.inner.Recoding.{count_then, lines_before, lines_then}
 use Rattle.chip_asm.specs.inner.Records.{lines_after, place_before, reading_in}
 use Rattle.chip_asm.proofs.Bounds.{end-low}
 use Rattle.chip_asm.proofs.CodeSteps.{IsByte, byte-done, count_by-take, count_faults, fault-at, faults-counted, faults-more, length-faults, refilled}
-use Rattle.chip_asm.proofs.FrontSteps.{AreFrontFaults, FoundThen, IsFrontByte, Stays, begun-recoding, faults-begin, faults-done, faults-next, found-then, front-after, front-begins, front-bytes, front-done, front-more, front-zero, stays}
+use Rattle.chip_asm.proofs.FrontSteps.{AreFrontFaults, FoundThen, IsFrontByte, Stays, begun-recoding, bytes-stay, faults-begin, faults-done, faults-next, faults-stay, found-then, front-after, front-begins, front-bytes, front-done, front-more, front-zero, stays}
 use Rattle.chip_asm.proofs.LinesAfter.{length-readings_after, read-at}
 use Rattle.chip_asm.proofs.RecodingSteps.{LineThen, bytes-more, counted, kept-info, line-then, long-then}
 use Rattle.chip_asm.proofs.RelayoutSteps.{Begun}
 use Rattle.chip_asm.proofs.recoding.Recoding.codes.Goals as goal
+use Rattle.chip_asm.proofs.recoding.Recoding.codes.Goals.{then-self, else-self}
 
 pub overflow_sub-bytes : goal.overflow_sub-bytes
 overflow_sub-bytes c =
@@ -41,22 +42,30 @@ slice_bounds-copy_first-end-2 c =
 pub loop-place-init : goal.loop-place-init
 loop-place-init c =
     let r = c.args.self.now in
-    let bytes = c.address_at-bytes.result - IMAGE_START in
+    let law = c.same_code.ensures.code in
     let b : Begun r.lines.now r.edit.now r.first = begun-recoding r c.requires in
     let here = c.address_at-bytes.ensures (lines_before r) c.requires.old (omega (arith, b.long, length-map r.lines.now reading_in)) in
-    let copied = c.in_ok-copy_first.ensures in (
+    let copied = c.in_ok-copy_first.ensures in
+    let start : (c.if-self.changed ≤ r.first) × (0 < c.if-self.changed → r.same_names ≡ true) = elim c.if-self.branch [
+      | then-self w ↦
+          (omega (arith, w.changed-is), λ some. w.if-self.true)
+      | else-self w ↦
+          (omega (arith, w.changed-is), λ some. absurd (omega (arith, some, w.changed-is)))
+    ] in (
       omega (arith, copied.image, c.copy_first.new.self.image.ok.0),
-      (λ k h. front-begins r c.requires (c.address_at-bytes.result - IMAGE_START) (omega (arith, here, end-low (take r.first (lines_before r)))) k (get_or c.copy_first.new.self.image.items k 0) h
+      (λ k h. bytes-stay law r c.requires c.if-self.changed start.1 start.0 k (get_or c.copy_first.new.self.image.items k 0)
+          (front-begins r c.requires (c.address_at-bytes.result - IMAGE_START) (omega (arith, here, end-low (take r.first (lines_before r)))) k (get_or c.copy_first.new.self.image.items k 0) h
           (λ less. copied.bytes k ∙ get_or-take (c.address_at-bytes.result - IMAGE_START) c.deref.result.now k 0 less ∙ ap (λ image. get_or image k 0) c.deref.ensures.value)
-          (λ more. copied.bytes k ∙ get_or_past (take (c.address_at-bytes.result - IMAGE_START) c.deref.result.now) k 0 (omega (arith, more, length-take (c.address_at-bytes.result - IMAGE_START) c.deref.result.now)))),
-      faults-begin r c.requires c.copy_first.new.self.faults.items (copied.faults ∙ ap (take r.first) c.deref-2.ensures.value),
+          (λ more. copied.bytes k ∙ get_or_past (take (c.address_at-bytes.result - IMAGE_START) c.deref.result.now) k 0 (omega (arith, more, length-take (c.address_at-bytes.result - IMAGE_START) c.deref.result.now))))),
+      faults-stay law r c.requires c.if-self.changed start.1 start.0 c.copy_first.new.self.faults.items
+          (faults-begin r c.requires c.copy_first.new.self.faults.items (copied.faults ∙ ap (take r.first) c.deref-2.ensures.value)),
       omega arith,
       omega arith,
       refl,
     )
 
-pub keeps_values-requires : goal.keeps_values-requires
-keeps_values-requires c =
+pub keeps_values-requires-clause-info : goal.keeps_values-requires-clause-info
+keeps_values-requires-clause-info c =
     let r = c.args.self.now in
     kept-info r c.requires c.loop-place.place (get_or r.lines.now c.loop-place.place c.index-self-place.result) (front-after r c.requires c.loop-place.place c.index-self-place.result c.loop-place-test.true)
 

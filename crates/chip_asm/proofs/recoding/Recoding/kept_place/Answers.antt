@@ -17,8 +17,8 @@ index-requires c =
     let inside = before-at r k c.args.place c.in_ok-before.before c.requires.place (sym c.in_ok-before.ensures) in
     omega (arith, long-before r k, r.old.now.placements.ok.0)
 
-pub keeps_values-requires : goal.keeps_values-requires
-keeps_values-requires c = kept-info c.args.self.now c.requires.recoding c.args.place c.args.kept.now c.requires.line
+pub keeps_values-requires-clause-info : goal.keeps_values-requires-clause-info
+keeps_values-requires-clause-info c = kept-info c.args.self.now c.requires.recoding c.args.place c.args.kept.now c.requires.line
 
 pub returns-then-keeps_values-clause-kept : goal.returns-then-keeps_values-clause-kept
 returns-then-keeps_values-clause-kept c = λ line at.

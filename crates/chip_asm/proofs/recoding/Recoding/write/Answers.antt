@@ -9,32 +9,45 @@ use Rattle.chip_asm.specs.Program.{fault_in_code, fault_of}
 use Rattle.chip_asm.specs.computed.Walk.{placed}
 use Rattle.chip_asm.specs.inner.Codes.{IsWritten}
 use Rattle.chip_asm.specs.inner.Placements.{is_placed}
+use Rattle.chip_asm.specs.declared.placement.Placement.{Placement}
 use Rattle.chip_asm.specs.inner.Recode.{has_code}
 use Rattle.chip_asm.specs.inner.Recoding.{code_bytes, code_then, is_again, is_kept, lines_then}
-use Rattle.chip_asm.proofs.LinesByPlace.{AtPlace, accepted-fault, refused-zero, refused-fault, uncoded-byte, uncoded-fault}
+use Rattle.chip_asm.proofs.LinesByPlace.{AtPlace, accepted-fault, covered-parts, refused-zero, refused-fault, small-fault, uncoded-byte, uncoded-fault}
 use Rattle.chip_asm.proofs.RecodingSteps.{again-is, coded-is, long-then, now-at, placed-then, same-placed, written-other, written-right}
 use Rattle.chip_asm.proofs.recoding.Recoding.write.Goals as goal
+use Rattle.chip_asm.proofs.recoding.Recoding.write.Goals.{then-placement-eq0-via-then-placement-eq0, then-placement-eq0-via-else-placement-eq0+then-not-is_accepted}
 
 pub index-placement-requires : goal.index-placement-requires
 index-placement-requires c = omega (arith, c.requires.place, long-then c.args.self.now c.requires.recoding, c.args.self.now.new.now.placements.ok.0)
 
-pub returns-then-not-is_accepted-clause-right : goal.returns-then-not-is_accepted-clause-right
-returns-then-not-is_accepted-clause-right c = λ q k there small covered zero_now.
+pub returns-then-placement-eq0-clause-right : goal.returns-then-placement-eq0-clause-right
+returns-then-placement-eq0-clause-right c = λ q k there small covered zero_now.
     let r = c.args.self.now in
     let p = c.index-placement.result.now in
     let p_at : slice_get r.new.now.placements.items c.args.place ≡ Some p = now-at r c.requires.recoding c.args.place p c.requires.place c.index-placement.ensures in
     let same : q ≡ p = same_Some q p (sym there ∙ p_at) in
     let a : AtPlace (lines_then r) c.args.place q = placed-then r c.requires.recoding c.args.place q there in
-    refused-zero (lines_then r) c.args.place q a (IMAGE_START + k) (get_or c.args.image.now k 0) covered (ap is_placed same ∙ sym c.is_accepted.ensures ∙ c.if-not-is_accepted.true)
-    (λ none. zero_now (λ line at. ap (λ (l : Reading). has_code (body_of l)) (same_Some line a.x.line (sym at ∙ a.line)) ∙ none))
+    elim c.then-placement-eq0.branch [
+      | then-placement-eq0-via-then-placement-eq0 w ↦
+          absurd (omega (arith, w.if-placement-eq0.true, ap (λ (o : Placement). o.size) same, covered-parts q (IMAGE_START + k) covered))
+      | then-placement-eq0-via-else-placement-eq0+then-not-is_accepted w ↦
+          refused-zero (lines_then r) c.args.place q a (IMAGE_START + k) (get_or c.args.image.now k 0) covered (ap is_placed same ∙ sym w.is_accepted.ensures ∙ w.if-not-is_accepted.true)
+          (λ none. zero_now (λ line at. ap (λ (l : Reading). has_code (body_of l)) (same_Some line a.x.line (sym at ∙ a.line)) ∙ none))
+    ]
 
-pub returns-then-not-is_accepted-clause-fault : goal.returns-then-not-is_accepted-clause-fault
-returns-then-not-is_accepted-clause-fault c = λ x at.
+pub returns-then-placement-eq0-clause-fault : goal.returns-then-placement-eq0-clause-fault
+returns-then-placement-eq0-clause-fault c = λ x at.
     let r = c.args.self.now in
     let p = c.index-placement.result.now in
     let p_at : slice_get r.new.now.placements.items c.args.place ≡ Some p = now-at r c.requires.recoding c.args.place p c.requires.place c.index-placement.ensures in
     let a : AtPlace (lines_then r) c.args.place p = placed-then r c.requires.recoding c.args.place p p_at in
-    refused-fault (lines_then r) c.args.place p a (sym c.is_accepted.ensures ∙ c.if-not-is_accepted.true) ∙ ap (fault_of (placed (lines_then r))) (same-placed (lines_then r) c.args.place p a x at)
+    let is : p.fault ≡ fault_of (placed (lines_then r)) a.x = elim c.then-placement-eq0.branch [
+      | then-placement-eq0-via-then-placement-eq0 w ↦
+          small-fault (lines_then r) c.args.place p a w.if-placement-eq0.true
+      | then-placement-eq0-via-else-placement-eq0+then-not-is_accepted w ↦
+          refused-fault (lines_then r) c.args.place p a (sym w.is_accepted.ensures ∙ w.if-not-is_accepted.true)
+    ] in
+    is ∙ ap (fault_of (placed (lines_then r))) (same-placed (lines_then r) c.args.place p a x at)
 
 pub returns-then-not-info-clause-right : goal.returns-then-not-info-clause-right
 returns-then-not-info-clause-right c = λ q k there small covered zero_now.

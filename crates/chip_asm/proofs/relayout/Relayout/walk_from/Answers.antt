@@ -1,9 +1,9 @@
-use Rattle.std.proofs.Common.{◌∙◌, ◌++◌, ap, arith, length, sym, take}
-use Rattle.std.proofs.lemmas.List.{length-map, length-take-le, with_items_is}
+use Rattle.std.proofs.Common.{◌∙◌, ◌++◌, ap, arith, length, slice_range, take}
+use Rattle.std.proofs.lemmas.List.{length-map, with_items_is}
 use Rattle.chip_asm.specs.inner.Records.{reading_in}
 use Rattle.chip_asm.specs.inner.Resume.{lines_before, lines_then}
 use Rattle.chip_asm.proofs.MarkSteps.{marked-placements, numbered-placements, all-among, length-first-placements}
-use Rattle.chip_asm.proofs.RelayoutSteps.{Begun, Walked, begun-placements, begun-relayout, walked}
+use Rattle.chip_asm.proofs.RelayoutSteps.{Begun, Walked, begun-placements, begun-relayout, spare-more, walked}
 use Rattle.chip_asm.proofs.Resumed.{length-laid}
 use Rattle.chip_asm.proofs.relayout.Relayout.walk_from.Goals as goal
 
@@ -11,7 +11,7 @@ pub slice_bounds-extend_from_slice-end : goal.slice_bounds-extend_from_slice-end
 slice_bounds-extend_from_slice-end c =
     let e = c.args.self.now in
     let b : Begun e.lines.now e.edit.now e.first = begun-relayout c.args.pass.now.names.keys e c.requires.relayout in
-    sym (length-take-le e.first c.deref.result.now (omega (arith, b.long, ap length c.deref.ensures.value, length-laid e.old.now (lines_before e) c.requires.relayout.laid_out, length-map e.lines.now reading_in)))
+    omega (arith, b.long, ap length c.deref.ensures.value, length-laid e.old.now (lines_before e) c.requires.relayout.laid_out, length-map e.lines.now reading_in)
 
 pub walk-requires-clause-walked : goal.walk-requires-clause-walked
 walk-requires-clause-walked c =
@@ -19,8 +19,9 @@ walk-requires-clause-walked c =
     let keys = c.args.pass.now.names.keys in
     record {
       placements = c.in_ok-extend_from_slice.ensures.items
-          ∙ ap (λ l. l ++ take e.first c.deref.result.now) (c.in_ok-reserve.ensures.items ∙ c.clear.ensures.items)
-          ∙ ap (take e.first) c.deref.ensures.value
+          ∙ ap (λ l. l ++ slice_range c.deref.result.now e.settled e.first) (c.in_ok-reserve.ensures.items ∙ c.truncate.ensures.items)
+          ∙ ap (λ l. take e.settled c.args.spare.placements.items ++ slice_range l e.settled e.first) c.deref.ensures.value
+          ∙ spare-more e c.args.spare c.requires.relayout.settled c.requires.spare
           ∙ begun-placements keys e c.requires.relayout;
       follows = c.requires.follows;
     }

@@ -13,7 +13,7 @@ edit-requires c =
     let within : c.args.number - 1 ≤ vec_len c.self.inside.kept.lines = search rules in
     let room : c.len.result < MOST_LINES = has-room c.len.result c.args.number c.args.text.now (sym c.insert_refusal.ensures ∙ c.in_default.is) in
     let kept : IsKept (record c.self.inside.kept { names = c.read_kept.new.table })
-    = kept-same c.self.inside.kept (record c.self.inside.kept { names = c.read_kept.new.table }) c.self.invariant refl refl refl c.read_kept.ensures.keys c.read_kept.ensures.symbols in
+    = kept-same c.self.inside.kept (record c.self.inside.kept { names = c.read_kept.new.table }) c.self.invariant refl refl refl refl refl c.read_kept.ensures.keys c.read_kept.ensures.symbols in
     may-insert (record c.self.inside.kept { names = c.read_kept.new.table }) (c.args.number - 1) c.in_ok-added.added kept within (omega (arith, room, c.len.ensures))
     (c.in_ok-added.ensures.reading ∙ ap reading_of (sym c.in_ok-added.ensures.text)) c.in_ok-added.ensures.info
 
