@@ -1,0 +1,181 @@
+//! The search.
+
+ghost use Rattle.std.specs.Prelude.{◌≡◌, ◌<◌, ◌≤◌, ◌+◌, ◌-◌, ◌^◌, ℕ, length, slice_index, OnOk, true};
+ghost use Rattle.chip_machine.specs.Step.{is_down, step_of};
+ghost use Rattle.chip_explore.specs.inner.Cover.{tick_at, view_of, Holds, Goes, IsFine, Joins, Safe};
+
+use crate::finder::{Finder, Origin, Turn};
+use crate::leg::{End, Runner};
+use crate::members::Members;
+use crate::setting::Setting;
+use crate::sum::sum_of;
+use std::alloc::AllocError;
+
+/// A search under way.
+#[derive(Drop)]
+pub(crate) struct Search {
+    pub(crate) members: Members,
+    pub(crate) runner: Runner,
+    pub(crate) finder: Finder,
+}
+
+impl Search {
+    /// Keeps the state that the runner has at a step, unless one like it is kept.
+    fn join(&mut self, setting: &Setting, step: u64, origin: Origin) -> Result<(), AllocError>
+        requires rate { 0 < setting.now.rate }
+        requires holds { Holds setting.now self.old.members }
+        ensures goes { OnOk result (Goes setting.now self.old.members self.new.members) }
+        ensures joins { OnOk result (Joins setting.now (view_of self.new.members)
+            self.old.runner.machine step) }
+    {
+        let sum = sum_of(&self.runner.machine, setting.phase(step));
+        if let Some(place) = self.finder.place(sum)
+            && self.members.is_at(setting, place, &self.runner.machine, step)
+        {
+            if step < self.members.steps[place] {
+                self.members.lower(setting, place, step);
+                self.finder.note_earlier(Turn { step, place }, origin)?;
+            }
+            return Ok(());
+        }
+        let place = self.members.steps.len();
+        self.members.add(setting, &self.runner.machine, step)?;
+        self.finder.note(sum, Turn { step, place }, origin)
+    }
+
+    /// Lets the runner make steps from a step on, and keeps the state in which they end.
+    pub(crate) fn run_on(
+        &mut self,
+        setting: &Setting,
+        from: u64,
+        origin: Origin,
+    ) -> Result<(), AllocError>
+        requires rate { 0 < setting.now.rate }
+        requires holds { Holds setting.now self.old.members }
+        ensures goes { OnOk result (Goes setting.now self.old.members self.new.members) }
+        ensures safe { OnOk result (Safe setting.now (view_of self.new.members)
+            self.old.runner.machine from) }
+    {
+        let leg = self.runner.run(setting, self.members.limit, from);
+        match leg.end {
+            End::Past => {}
+            End::Wanted => {
+                self.members.lower_limit(setting, leg.step);
+                self.finder.hit = Some(origin);
+            }
+            End::TimerSet => {
+                self.members.lower_limit(setting, leg.step);
+                self.finder.is_timer_set = true;
+            }
+            End::Halted => {}
+            End::Joined => self.join(setting, leg.step, origin)?,
+        }
+        Ok(())
+    }
+
+    /// Makes the step of a state with these keys down, and goes on from there.
+    fn follow(
+        &mut self,
+        setting: &Setting,
+        place: usize,
+        step: u64,
+        keys: u16,
+    ) -> Result<(), AllocError>
+        requires rate { 0 < setting.now.rate }
+        requires holds { Holds setting.now self.old.members }
+        requires kept { place < length self.old.members.steps.items }
+        requires in_range { step < 2 ^ 64 - 1 }
+        ensures goes { OnOk result (Goes setting.now self.old.members self.new.members) }
+        ensures safe { OnOk result (Safe setting.now (view_of self.new.members)
+            (step_of ((view_of self.old.members).member place) keys (tick_at setting.now step))
+            (step + 1)) }
+    {
+        let runner = &mut self.runner;
+        runner.machine.copy_from(&self.members.states[place])?;
+        runner.machine.step(keys, setting.tick_at(step), &mut runner.touch);
+        let parent = Some(place);
+        self.run_on(setting, step + 1, Origin { parent, keys })
+    }
+
+    /// Makes the step of a state with each of these keys down alone, and goes on from there.
+    fn follow_each(
+        &mut self,
+        setting: &Setting,
+        place: usize,
+        step: u64,
+        choices: u16,
+    ) -> Result<(), AllocError>
+        requires rate { 0 < setting.now.rate }
+        requires holds { Holds setting.now self.old.members }
+        requires kept { place < length self.old.members.steps.items }
+        requires in_range { step < 2 ^ 64 - 1 }
+        ensures goes { OnOk result (Goes setting.now self.old.members self.new.members) }
+        ensures safe { OnOk result ((key : ℕ) → key < 16 → is_down choices key ≡ true
+            → Safe setting.now (view_of self.new.members)
+            (step_of ((view_of self.old.members).member place) (2 ^ key)
+            (tick_at setting.now step)) (step + 1)) }
+    {
+        for key in 0..16u32 {
+            if choices >> key & 1 == 1 {
+                self.follow(setting, place, step, 1 << key)?;
+            }
+        }
+        Ok(())
+    }
+
+    /// Makes the next step of a state with each choice of keys.
+    pub(crate) fn take_up(&mut self, setting: &Setting, place: usize) -> Result<(), AllocError>
+        requires rate { 0 < setting.now.rate }
+        requires holds { Holds setting.now self.old.members }
+        requires kept { place < length self.old.members.steps.items }
+        requires below { slice_index self.old.members.steps.items place < self.old.members.limit }
+        ensures { OnOk result (Goes setting.now self.old.members self.new.members) }
+    {
+        let step = self.members.steps[place];
+        self.runner.machine.copy_from(&self.members.states[place])?;
+        if self.runner.machine.draws() == u64::MAX {
+            self.members.lower_limit(setting, step);
+            return Ok(());
+        }
+        let choices = self.runner.machine.key_choices(setting.allowed);
+        self.follow(setting, place, step, 0)?;
+        self.follow_each(setting, place, step, choices)?;
+        if self.members.steps[place] == step {
+            self.members.close(setting, place);
+        }
+        Ok(())
+    }
+
+    /// Takes up states, by the least step, until none is left, or the limits are met.
+    pub(crate) fn run(
+        &mut self,
+        setting: &Setting,
+        most_steps: u64,
+        most_states: usize,
+    ) -> Result<(), AllocError>
+        requires rate { 0 < setting.now.rate }
+        requires holds { Holds setting.now self.old.members }
+        ensures { OnOk result (Goes setting.now self.old.members self.new.members) }
+    {
+        for _turn in 0..u64::MAX {
+            let Some(turn) = self.finder.next() else {
+                return Ok(());
+            };
+            let place = turn.place;
+            if self.finder.is_timer_set || self.members.states.len() > most_states {
+                return Ok(());
+            }
+            if place < self.members.steps.len()
+                && place < self.members.closed.len()
+                && self.members.steps[place] == turn.step
+                && !self.members.closed[place]
+            {
+                if turn.step >= self.members.limit || turn.step >= most_steps {
+                    return Ok(());
+                }
+                self.take_up(setting, place)?;
+            }
+        }
+        Ok(())
+    }
+}
