@@ -4,12 +4,16 @@ use Rattle.std.proofs.Common.{◌≢◌, get_or, set, [], ◌∷◌, ◌++◌}
 use Rattle.std.proofs.lemmas.Bool.{cases_eq, cases_lt}
 use Rattle.std.proofs.lemmas.List.{get_or_past, get_or-set_same, get_or-set_other, get_or_append_left, length-append}
 use Rattle.std.proofs.Math.Seq.{get_or-append_seam}
+use Rattle.std.specs.Int.{bit_at}
+use Rattle.std.proofs.Common.{◌==◌}
+use Rattle.std.proofs.lemmas.Nat.Bits.{bit_at_above}
+use Rattle.chip_machine.specs.Choices.{IsChoice}
 use Rattle.chip_machine.specs.Relevant.{relevant}
 use Rattle.chip_machine.specs.State.{State}
-use Rattle.chip_machine.specs.Step.{step_of}
+use Rattle.chip_machine.specs.Step.{is_down, step_of}
 use Rattle.chip_explore.specs.declared.members.Members.{Members}
 use Rattle.chip_explore.specs.declared.setting.Setting.{Setting}
-use Rattle.chip_explore.specs.inner.Cover.{phase, tick_at, View, IsFine, Moves, Joins, Ends, SafeFor, Safe, IsTaken, Extends, Holds, Goes, view_of}
+use Rattle.chip_explore.specs.inner.Cover.{phase, tick_at, View, IsFine, Moves, Joins, Ends, SafeFor, Safe, IsTaken, Extends, GoesOn, HasChoices, Holds, Goes, view_of}
 
 module _ (p : Setting) (v w : View) (more : Extends p v w) where
   still_joins : (s : State) (t : ℕ) → Joins p v s t → Joins p w s t
@@ -161,3 +165,40 @@ same_member p m n more place kept = more.extends.member place kept
 
 pub safe_after : (p : Setting) (m n : Members) → Goes p m n → (s : State) (t : ℕ) → Safe p (view_of m) s t → Safe p (view_of n) s t
 safe_after p m n more s t safe = still_safe p (view_of m) (view_of n) more.extends s t safe
+
+-- a state is taken once each choice was followed
+module _ (p : Setting) (l m n : Members) (one : Goes p l m) (two : Goes p m n) (place step choices : ℕ) (kept : place < length l.steps.items)
+    (has : HasChoices p ((view_of l).member place) choices)
+    (none : Safe p (view_of m) (step_of ((view_of l).member place) 0 (tick_at p step)) (step + 1))
+    (each : (key : ℕ) → key < 16 → is_down choices key ≡ true → Safe p (view_of n) (step_of ((view_of m).member place) (2 ^ key) (tick_at p step)) (step + 1)) where
+  abbrev after : ℕ → State
+  after keys = step_of ((view_of l).member place) keys (tick_at p step)
+
+  by_choice : (keys : ℕ) → IsChoice choices keys → Safe p (view_of n) (after keys) (step + 1)
+  by_choice keys choice =
+      ⊎_elim
+      (λ (up : keys ≡ 0). subst (λ (k : ℕ). Safe p (view_of n) (after k) (step + 1)) (sym up) (safe_after p m n two _ _ none))
+      (λ (down : (k : ℕ) × (is_down choices k ≡ true) × (keys ≡ 2 ^ k)).
+      let there : is_down choices down.0 ≡ true = down.1 in
+      let below : down.0 < 16 =
+      ⊎_elim (λ (inside : down.0 < 16). inside)
+      (λ (past : 16 ≤ down.0). let dark : is_down choices down.0 ≡ false = ap (λ b. b == 1) (bit_at_above choices 16 down.0 has.few past) in absurd (cc))
+      (cases_lt down.0 16) in
+      subst (λ (k : ℕ). Safe p (view_of n) (after k) (step + 1)) (sym down.2)
+      (subst (λ (s : State). Safe p (view_of n) (step_of s (2 ^ down.0) (tick_at p step)) (step + 1)) (same_member p l m one place kept) (each down.0 below there)))
+      choice
+
+  on_and_on : GoesOn p (view_of n) ((view_of l).member place) step
+  on_and_on keys within =
+      let r = has.all keys within in
+      subst (λ (s : State). Safe p (view_of n) s (step + 1)) (sym (r.2 (tick_at p step))) (by_choice r.0 r.1)
+
+  pub all_taken : slice_index n.steps.items place ≡ step → IsTaken p (view_of n) place
+  all_taken same =
+      let member : (view_of n).member place ≡ (view_of l).member place = same_member p l n (goes_more p l m n one two) place kept in
+      record {
+        drawn = subst (λ (s : State). s.core.draws < 2 ^ 64 - 1) (sym member) has.drawn;
+        goes_on =
+        subst (λ (s : State). GoesOn p (view_of n) s (slice_index n.steps.items place)) (sym member)
+        (subst (λ (t : ℕ). GoesOn p (view_of n) ((view_of l).member place) t) (sym same) on_and_on);
+      }

@@ -38,6 +38,24 @@ impl Members {
         })
     }
 
+    /// The least step at which the state of a place was reached.
+    pub(crate) fn step(&self, place: usize) -> u64
+        requires { place < length self.now.steps.items }
+        ensures { result ≡ slice_index self.now.steps.items place }
+    {
+        self.steps[place]
+    }
+
+    /// Whether a place holds a state that was reached at a step and is to be taken up.
+    pub(crate) fn is_open(&self, place: usize, step: u64) -> bool
+        ensures { IsTrue result → place < length self.now.steps.items }
+    {
+        place < self.steps.len()
+            && place < self.closed.len()
+            && self.steps[place] == step
+            && !self.closed[place]
+    }
+
     /// Whether a place holds a state like this one, with the ticks as at a step: true only where it
     /// does.
     pub(crate) fn is_at(&self, setting: &Setting, place: usize, machine: &Machine, step: u64) -> bool
@@ -106,6 +124,7 @@ impl Members {
     pub(crate) fn covered(&self) -> u64
         requires { 0 < self.now.limit }
         ensures below { result < self.now.limit }
+        ensures end { result < 2 ^ 64 - 1 }
         ensures closed { (j : ℕ) → j < length self.now.steps.items
             → slice_index self.now.steps.items j < result
             → slice_index_or self.now.closed.items j false ≡ true }

@@ -4,6 +4,7 @@ ghost use Rattle.std.specs.Prelude.{◌≡◌, ◌<◌, false, IfOk, IsTrue};
 ghost use Rattle.chip_explore.specs.Answers.{Answers};
 ghost use Rattle.chip_explore.specs.Causes.{stops_so};
 ghost use Rattle.chip_explore.specs.inner.Cover.{view_of, Confirms, Holds, Safe};
+ghost use Rattle.chip_explore.specs.Scripts.{Avoids};
 ghost use Rattle.chip_explore.specs.Scripts as spec;
 
 use crate::causes::Causes;
@@ -15,6 +16,7 @@ use crate::members::Members;
 use crate::script::{KeyEvent, script_to};
 use crate::search::Search;
 use crate::setting::Setting;
+use chip_machine::laws::relevant_steps;
 use chip_machine::{Machine, Touch};
 use chip_replay::{KeyFault, LAST_STEP};
 use std::alloc::{AllocError, Global};
@@ -154,6 +156,20 @@ fn search_once(
     })
 }
 
+/// A step up to which no key script makes the machine stop for a wanted cause.
+fn covered_by(setting: &Setting, members: &Members) -> u64
+    requires positive { 0 < members.now.limit }
+    requires fresh { members.now.start.core.draws ≡ 0 }
+    requires holds { Holds setting.now members.now }
+    requires begun { Safe setting.now (view_of members.now) members.now.start 0 }
+    ensures below { result < members.now.limit }
+    ensures avoids { Avoids setting.now.rate setting.now.allowed setting.now.causes
+        members.now.start result }
+{
+    relevant_steps();
+    members.covered()
+}
+
 /// What the states that were kept say.
 fn outcome_of(
     alloc: Global,
@@ -172,7 +188,7 @@ fn outcome_of(
     if members.limit == 0 {
         return Ok(Outcome::Within(0));
     }
-    let covered = members.covered();
+    let covered = covered_by(setting, members);
     if covered + 1 == END {
         return Ok(Outcome::Never);
     }

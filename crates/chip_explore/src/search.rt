@@ -1,10 +1,12 @@
 //! The search.
 
-ghost use Rattle.std.specs.Prelude.{◌≡◌, ◌<◌, ◌≤◌, ◌+◌, ◌-◌, ◌^◌, ℕ, length, slice_index, OnOk, true};
-ghost use Rattle.chip_machine.specs.Step.{is_down, step_of};
-ghost use Rattle.chip_explore.specs.inner.Cover.{tick_at, view_of, Holds, Goes, IsFine, Joins, Safe};
+ghost use Rattle.std.specs.Prelude.{◌≡◌, ◌<◌, ◌≤◌, ◌+◌, ◌-◌, ◌^◌, ℕ, length, IfOk, IfSome, OnOk, true};
+ghost use Rattle.chip_machine.specs.Step.{step_of};
+ghost use Rattle.chip_machine.specs.Step as spec;
+ghost use Rattle.chip_explore.specs.inner.Cover.{tick_at, view_of, Holds, HasChoices, Goes, Joins, Safe};
 
 use crate::finder::{Finder, Origin, Turn};
+use crate::keys::{alone, is_down};
 use crate::leg::{End, Runner};
 use crate::members::Members;
 use crate::setting::Setting;
@@ -110,37 +112,54 @@ impl Search {
         requires kept { place < length self.old.members.steps.items }
         requires in_range { step < 2 ^ 64 - 1 }
         ensures goes { OnOk result (Goes setting.now self.old.members self.new.members) }
-        ensures safe { OnOk result ((key : ℕ) → key < 16 → is_down choices key ≡ true
+        ensures safe { OnOk result ((key : ℕ) → key < 16 → spec.is_down choices key ≡ true
             → Safe setting.now (view_of self.new.members)
             (step_of ((view_of self.old.members).member place) (2 ^ key)
             (tick_at setting.now step)) (step + 1)) }
     {
         for key in 0..16u32 {
-            if choices >> key & 1 == 1 {
-                self.follow(setting, place, step, 1 << key)?;
+            if is_down(choices, key) {
+                self.follow(setting, place, step, alone(key))?;
             }
         }
         Ok(())
     }
 
-    /// Makes the next step of a state with each choice of keys.
+    /// Which keys the next step of a state can tell apart, unless it has drawn as many random bytes
+    /// as are counted.
+    fn choices(&mut self, setting: &Setting, place: usize) -> Result<Option<u16>, AllocError>
+        requires holds { Holds setting.now self.old.members }
+        requires kept { place < length self.old.members.steps.items }
+        ensures same { self.new.members ≡ self.old.members }
+        ensures choices { IfOk result (λ answer. IfSome answer
+            (λ choices. HasChoices setting.now ((view_of self.old.members).member place)
+            choices)) }
+    {
+        self.runner.machine.copy_from(&self.members.states[place])?;
+        if self.runner.machine.draws() == u64::MAX {
+            return Ok(None);
+        }
+        Ok(Some(self.runner.machine.key_choices(setting.allowed)))
+    }
+
+    /// Makes the next step of a state with each choice of keys, unless the limit is met.
     pub(crate) fn take_up(&mut self, setting: &Setting, place: usize) -> Result<(), AllocError>
         requires rate { 0 < setting.now.rate }
         requires holds { Holds setting.now self.old.members }
         requires kept { place < length self.old.members.steps.items }
-        requires below { slice_index self.old.members.steps.items place < self.old.members.limit }
         ensures { OnOk result (Goes setting.now self.old.members self.new.members) }
     {
-        let step = self.members.steps[place];
-        self.runner.machine.copy_from(&self.members.states[place])?;
-        if self.runner.machine.draws() == u64::MAX {
-            self.members.lower_limit(setting, step);
+        let step = self.members.step(place);
+        if step >= self.members.limit {
             return Ok(());
         }
-        let choices = self.runner.machine.key_choices(setting.allowed);
+        let Some(choices) = self.choices(setting, place)? else {
+            self.members.lower_limit(setting, step);
+            return Ok(());
+        };
         self.follow(setting, place, step, 0)?;
         self.follow_each(setting, place, step, choices)?;
-        if self.members.steps[place] == step {
+        if self.members.step(place) == step {
             self.members.close(setting, place);
         }
         Ok(())
@@ -165,14 +184,10 @@ impl Search {
             if self.finder.is_timer_set || self.members.states.len() > most_states {
                 return Ok(());
             }
-            if place < self.members.steps.len()
-                && place < self.members.closed.len()
-                && self.members.steps[place] == turn.step
-                && !self.members.closed[place]
-            {
-                if turn.step >= self.members.limit || turn.step >= most_steps {
-                    return Ok(());
-                }
+            if turn.step >= self.members.limit || turn.step >= most_steps {
+                return Ok(());
+            }
+            if self.members.is_open(place, turn.step) {
                 self.take_up(setting, place)?;
             }
         }

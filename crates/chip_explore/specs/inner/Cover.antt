@@ -102,6 +102,12 @@ pub record Goes (p : Setting) (m n : Members) : Type 0 where
   pub start : n.start ≡ m.start
   pub extends : Extends p (view_of m) (view_of n)
 
+-- with each of the allowed keys down the next step of a state acts as with one of some choices
+pub record HasChoices (p : Setting) (s : State) (choices : ℕ) : Type 0 where
+  pub drawn : s.core.draws < 2 ^ 64 - 1
+  pub few : choices < 2 ^ 16
+  pub all : Represents p.allowed choices s
+
 -- the place holds a state like this one, with the ticks as at this step
 pub record IsAt (p : Setting) (m : Members) (place : ℕ) (s : State) (t : ℕ) : Type 0 where
   pub kept : place < length m.steps.items
