@@ -11,6 +11,7 @@
 --   Keyless   which steps depend on the keys, and the law of those that don't
 --   Choices   which keys the next step can tell apart
 --   Relevant  what of a state later steps depend on
+--   Restored  a machine that is put back from its parts
 --   Block     some steps, one after another
 --   Frame     the frame law
 --   ImageLaw  what the image is in the memory at the start
@@ -29,6 +30,7 @@ pub mod Numbers
 pub mod Points
 pub mod Profile
 pub mod Relevant
+pub mod Restored
 pub mod Scroll
 pub mod Sprite
 pub mod Start

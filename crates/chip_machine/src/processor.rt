@@ -9,9 +9,12 @@ ghost use Rattle.chip_machine.specs.Sprite.{sprite_bytes};
 ghost use Rattle.chip_machine.specs.Scroll.{scrolled_down, scrolled_right, scrolled_left};
 ghost use Rattle.std.specs.FinSet as set;
 ghost use Rattle.chip_machine.specs.Relevant.{relevant_core};
+ghost use Rattle.chip_machine.specs.Restored.{core_with_parts};
+ghost use Rattle.chip_machine.specs.inner.Stored.{in_rows};
 ghost use Rattle.chip_machine.specs.Start.{IsTape, start_core};
 
-use crate::limits::{FLAGS, FRAMES, IMAGE_START, LAST_WORD};
+use crate::limits::{FLAGS, FRAMES, IMAGE_START, LAST_WORD, TAPE_BYTES};
+use crate::parts::Parts;
 use crate::profile::Profile;
 use crate::screen::Screen;
 use crate::stop::Stop;
@@ -147,6 +150,41 @@ impl Processor {
         self.stopped = other.stopped;
         self.profile = other.profile;
         Ok(())
+    }
+
+    /// Where the next random byte stands on the tape.
+    pub(crate) fn place(&self) -> usize
+        ensures place { result ≡ self.now.draws % length self.now.tape }
+        ensures in_range { result < TAPE_BYTES }
+    {
+        self.place
+    }
+
+    /// Takes these parts, with a silent sound timer and no stop cause.
+    pub(crate) fn restore(&mut self, parts: &Parts)
+        requires { parts.now.depth ≤ FRAMES }
+        ensures { self.new ≡ core_with_parts parts.now self.old }
+    {
+        self.registers = parts.registers;
+        self.index = parts.index;
+        self.pc = parts.pc;
+        self.frames = parts.frames;
+        self.depth = parts.depth as usize;
+        self.delay = parts.delay;
+        self.sound = 0;
+        self.flags = parts.flags;
+        self.draws = u64::from(parts.draws);
+        self.place = parts.draws as usize % self.tape.len();
+        self.high = parts.high;
+        self.stopped = None;
+    }
+
+    /// Has these rows of points on the screen.
+    pub(crate) fn set_rows(&mut self, rows: &[u128])
+        requires { length rows.now ≡ 64 }
+        ensures { self.new ≡ with_lit (in_rows rows.now) self.old }
+    {
+        self.screen.set_rows(rows);
     }
 
     /// Whether another agrees in what is relevant: true only where it does.
