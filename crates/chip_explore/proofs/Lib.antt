@@ -1,2 +1,3 @@
 pub mod Covered
-pub mod Kept
+pub mod Growth
+pub mod Places

@@ -1,2 +1,3 @@
--- What a search keeps and why it says what no key script reaches (Cover).
+-- A state as what it has beside a base (Kept), what a search keeps, and what is known of it (Cover).
 pub mod Cover
+pub mod Kept

@@ -1,11 +1,12 @@
 //! Some steps in a row that don't tell keys apart.
 
-ghost use Rattle.std.specs.Prelude.{◌≡◌, ◌<◌, ◌≤◌, ◌-◌, ◌^◌, IfSome, IsNone};
+ghost use Rattle.std.specs.Prelude.{◌≡◌, ◌<◌, ◌≤◌, ◌-◌, ◌^◌, IfOk, IfSome, IsNone};
 ghost use Rattle.chip_explore.specs.inner.Cover.{IsEnd, Moves, Safe, View};
 
 use crate::limits::MOST_QUIET_STEPS;
 use crate::setting::Setting;
 use chip_machine::{Machine, Touch};
+use std::alloc::{AllocError, Global};
 
 /// Why some steps in a row ended.
 #[derive(Clone, Copy)]
@@ -34,9 +35,23 @@ pub(crate) struct Leg {
 pub(crate) struct Runner {
     pub(crate) machine: Machine,
     pub(crate) touch: Touch,
+    /// Room for the rows of a screen.
+    pub(crate) rows: Vec<u128>,
 }
 
 impl Runner {
+    /// A machine in the state of another.
+    pub(crate) fn new(alloc: Global, machine: &Machine) -> Result<Runner, AllocError>
+        ensures { IfOk result (λ runner. runner.machine ≡ machine.now) }
+    {
+        let machine = machine.copy_of()?;
+        Ok(Runner {
+            machine,
+            touch: Touch::new(),
+            rows: Vec::new(alloc),
+        })
+    }
+
     /// Makes steps from a step on up to the limit, to a stop, or to a state whose next step can
     /// tell keys apart.
     pub(crate) fn run(&mut self, setting: &Setting, limit: u64, from: u64) -> Leg

@@ -5,6 +5,7 @@
 mod causes;
 mod confirm;
 mod finder;
+mod kept;
 mod keys;
 mod leg;
 mod limits;

@@ -1,8 +1,10 @@
 //! The states that a search keeps.
 
 ghost use Rattle.std.specs.Prelude.{◌≡◌, ◌<◌, ◌≤◌, ◌+◌, ◌-◌, ◌^◌, [], ℕ, length, slice_index, slice_index_or, OnOk, IfOk, IsTrue, true, false, is_some};
+ghost use Rattle.chip_explore.specs.inner.Kept.{state_at};
 ghost use Rattle.chip_explore.specs.inner.Cover.{phase, view_of, Holds, Goes, IsAt, IsTaken, Joins};
 
+use crate::kept::{Base, Kept};
 use crate::setting::Setting;
 use chip_machine::Machine;
 use std::alloc::{AllocError, Global};
@@ -12,7 +14,9 @@ use std::alloc::{AllocError, Global};
 #[derive(Drop)]
 pub(crate) struct Members {
     pub(crate) start: Machine,
-    pub(crate) states: Vec<Machine>,
+    /// What the states are kept against.
+    pub(crate) base: Base,
+    pub(crate) states: Vec<Kept>,
     pub(crate) steps: Vec<u64>,
     pub(crate) closed: Vec<bool>,
     /// The step below which the search speaks of.
@@ -21,7 +25,7 @@ pub(crate) struct Members {
 
 impl Members {
     /// No state is kept yet.
-    pub(crate) fn new(alloc: Global, start: &Machine) -> Result<Members, AllocError>
+    pub(crate) fn new(alloc: Global, start: &Machine, base: Base) -> Result<Members, AllocError>
         ensures start { IfOk result (λ members. members.start ≡ start.now) }
         ensures limit { IfOk result (λ members. members.limit ≡ 2 ^ 64 - 1) }
         ensures empty { IfOk result (λ members. members.steps.items ≡ []) }
@@ -31,11 +35,27 @@ impl Members {
         let start = start.copy_of()?;
         Ok(Members {
             start,
+            base,
             states: Vec::new(alloc),
             steps: Vec::new(alloc),
             closed: Vec::new(alloc),
             limit: u64::MAX,
         })
+    }
+
+    /// Gives a machine the state of a place: the answer is whether that was possible. The rows are
+    /// room for those of the screen.
+    pub(crate) fn load(
+        &self,
+        place: usize,
+        machine: &mut Machine,
+        rows: &mut Vec<u128>,
+    ) -> Result<bool, AllocError>
+        requires { place < length self.now.states.items }
+        ensures { IfOk result (λ answer. IsTrue answer
+            → machine.new ≡ state_at self.now.base self.now.states.items place) }
+    {
+        self.states[place].load(&self.base, machine, rows)
     }
 
     /// The least step at which the state of a place was reached.
@@ -57,33 +77,55 @@ impl Members {
     }
 
     /// Whether a place holds a state like this one, with the ticks as at a step: true only where it
-    /// does.
-    pub(crate) fn is_at(&self, setting: &Setting, place: usize, machine: &Machine, step: u64) -> bool
-        requires { 0 < setting.now.rate }
-        ensures { IsTrue result → IsAt setting.now self.now place machine.now step }
+    /// does. The probe is room for the state.
+    pub(crate) fn is_at(
+        &self,
+        setting: &Setting,
+        place: usize,
+        machine: &Machine,
+        step: u64,
+        probe: &mut Base,
+    ) -> Result<bool, AllocError>
+        requires rate { 0 < setting.now.rate }
+        requires holds { Holds setting.now self.now }
+        ensures { IfOk result (λ answer. IsTrue answer
+            → IsAt setting.now self.now place machine.now step) }
     {
-        place < self.steps.len()
-            && place < self.states.len()
-            && setting.phase(self.steps[place]) == setting.phase(step)
-            && self.states[place].is_alike(machine)
+        if place >= self.steps.len()
+            || setting.phase(self.steps[place]) != setting.phase(step)
+        {
+            return Ok(false);
+        }
+        if !self.load(place, &mut probe.machine, &mut probe.rows)? {
+            return Ok(false);
+        }
+        Ok(probe.machine.is_alike(machine))
     }
 
-    /// Keeps a state, which was reached at a step.
+    /// Keeps a state, which was reached at a step: the answer is whether that was possible. The
+    /// probe is room for the state.
     pub(crate) fn add(
         &mut self,
+        alloc: Global,
         setting: &Setting,
         machine: &Machine,
         step: u64,
-    ) -> Result<(), AllocError>
+        probe: &mut Base,
+    ) -> Result<bool, AllocError>
         requires { Holds setting.now self.old }
         ensures goes { OnOk result (Goes setting.now self.old self.new) }
-        ensures joins { OnOk result (Joins setting.now (view_of self.new) machine.now step) }
+        ensures joins { IfOk result (λ answer. IsTrue answer
+            → Joins setting.now (view_of self.new) machine.now step) }
     {
-        let state = machine.copy_of()?;
-        self.states.push(state)?;
+        let kept = Kept::of(alloc, &self.base, machine)?;
+        let is_same = kept.is_of(&self.base, machine, probe)?;
+        if !is_same {
+            return Ok(false);
+        }
+        self.states.push(kept)?;
         self.closed.push(false)?;
         self.steps.push(step)?;
-        Ok(())
+        Ok(true)
     }
 
     /// Notes that a state was reached at an earlier step, so that it is to be taken up again.
@@ -113,11 +155,11 @@ impl Members {
     /// Speaks of the steps below a limit alone.
     pub(crate) fn lower_limit(&mut self, setting: &Setting, limit: u64)
         requires holds { Holds setting.now self.old }
-        requires lower { limit ≤ self.old.limit }
         ensures goes { Goes setting.now self.old self.new }
-        ensures limit { self.new.limit ≡ limit }
+        ensures limit { self.new.limit ≤ limit }
     {
-        self.limit = limit;
+        let least = self.limit.min(limit);
+        self.limit = least;
     }
 
     /// The last step up to which all states were taken up.

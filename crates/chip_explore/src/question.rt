@@ -9,6 +9,7 @@ ghost use Rattle.chip_explore.specs.Scripts as spec;
 
 use crate::causes::Causes;
 use crate::confirm::{confirms, keys_of};
+use crate::kept::Base;
 use crate::finder::{Finder, Origin};
 use crate::leg::Runner;
 use crate::limits::END;
@@ -17,7 +18,7 @@ use crate::script::{KeyEvent, script_to};
 use crate::search::Search;
 use crate::setting::Setting;
 use chip_machine::laws::relevant_steps;
-use chip_machine::{Machine, Touch};
+use chip_machine::Machine;
 use chip_replay::{KeyFault, LAST_STEP};
 use std::alloc::{AllocError, Global};
 
@@ -124,6 +125,15 @@ struct Attempt {
     is_timer_set: bool,
 }
 
+/// The first state whose next step can tell keys apart, from which others differ in little.
+fn base_for(alloc: Global, start: &Machine, setting: &Setting) -> Result<Base, AllocError>
+    requires { 0 < setting.now.rate }
+{
+    let mut runner = Runner::new(alloc, start)?;
+    let _leg = runner.run(setting, u64::MAX, 0);
+    Base::of(alloc, &runner.machine)
+}
+
 /// One search.
 fn search_once(
     alloc: Global,
@@ -137,12 +147,12 @@ fn search_once(
     ensures { IfOk result (λ attempt. Answers setting.now.rate setting.now.allowed
         setting.now.causes start.now attempt.explored.outcome) }
 {
-    let machine = start.copy_of()?;
-    let touch = Touch::new();
     let mut search = Search {
-        members: Members::new(alloc, start)?,
-        runner: Runner { machine, touch },
+        alloc,
+        members: Members::new(alloc, start, base_for(alloc, start, setting)?)?,
+        runner: Runner::new(alloc, start)?,
         finder: Finder::new(alloc),
+        probe: Base::of(alloc, start)?,
     };
     search.run_on(setting, 0, Origin::START)?;
     search.run(setting, bounds.steps, bounds.states)?;

@@ -3,22 +3,26 @@
 ghost use Rattle.std.specs.Prelude.{◌≡◌, ◌<◌, ◌≤◌, ◌+◌, ◌-◌, ◌^◌, ℕ, length, IfOk, IfSome, OnOk, true};
 ghost use Rattle.chip_machine.specs.Step.{step_of};
 ghost use Rattle.chip_machine.specs.Step as spec;
-ghost use Rattle.chip_explore.specs.inner.Cover.{tick_at, view_of, Holds, HasChoices, Goes, Joins, Safe};
+ghost use Rattle.chip_explore.specs.inner.Cover.{tick_at, view_of, Holds, HasChoices, Goes, IsFine, Safe};
 
 use crate::finder::{Finder, Origin, Turn};
+use crate::kept::Base;
 use crate::keys::{alone, is_down};
 use crate::leg::{End, Runner};
 use crate::members::Members;
 use crate::setting::Setting;
 use crate::sum::sum_of;
-use std::alloc::AllocError;
+use std::alloc::{AllocError, Global};
 
 /// A search under way.
 #[derive(Drop)]
 pub(crate) struct Search {
+    pub(crate) alloc: Global,
     pub(crate) members: Members,
     pub(crate) runner: Runner,
     pub(crate) finder: Finder,
+    /// Room for a state.
+    pub(crate) probe: Base,
 }
 
 impl Search {
@@ -26,22 +30,27 @@ impl Search {
     fn join(&mut self, setting: &Setting, step: u64, origin: Origin) -> Result<(), AllocError>
         requires rate { 0 < setting.now.rate }
         requires holds { Holds setting.now self.old.members }
+        requires fine { IsFine setting.now self.old.runner.machine }
         ensures goes { OnOk result (Goes setting.now self.old.members self.new.members) }
-        ensures joins { OnOk result (Joins setting.now (view_of self.new.members)
+        ensures safe { OnOk result (Safe setting.now (view_of self.new.members)
             self.old.runner.machine step) }
     {
-        let sum = sum_of(&self.runner.machine, setting.phase(step));
+        let machine = &self.runner.machine;
+        let sum = sum_of(machine, setting.phase(step));
         if let Some(place) = self.finder.place(sum)
-            && self.members.is_at(setting, place, &self.runner.machine, step)
+            && self.members.is_at(setting, place, machine, step, &mut self.probe)?
         {
-            if step < self.members.steps[place] {
+            if step < self.members.step(place) {
                 self.members.lower(setting, place, step);
                 self.finder.note_earlier(Turn { step, place }, origin)?;
             }
             return Ok(());
         }
         let place = self.members.steps.len();
-        self.members.add(setting, &self.runner.machine, step)?;
+        if !self.members.add(self.alloc, setting, machine, step, &mut self.probe)? {
+            self.members.lower_limit(setting, step);
+            return Ok(());
+        }
         self.finder.note(sum, Turn { step, place }, origin)
     }
 
@@ -93,7 +102,10 @@ impl Search {
             (step + 1)) }
     {
         let runner = &mut self.runner;
-        runner.machine.copy_from(&self.members.states[place])?;
+        if !self.members.load(place, &mut runner.machine, &mut runner.rows)? {
+            self.members.lower_limit(setting, step);
+            return Ok(());
+        }
         runner.machine.step(keys, setting.tick_at(step), &mut runner.touch);
         let parent = Some(place);
         self.run_on(setting, step + 1, Origin { parent, keys })
@@ -125,8 +137,8 @@ impl Search {
         Ok(())
     }
 
-    /// Which keys the next step of a state can tell apart, unless it has drawn as many random bytes
-    /// as are counted.
+    /// Which keys the next step of a state can tell apart, unless it is not loaded, or has drawn as
+    /// many random bytes as are counted.
     fn choices(&mut self, setting: &Setting, place: usize) -> Result<Option<u16>, AllocError>
         requires holds { Holds setting.now self.old.members }
         requires kept { place < length self.old.members.steps.items }
@@ -135,11 +147,13 @@ impl Search {
             (λ choices. HasChoices setting.now ((view_of self.old.members).member place)
             choices)) }
     {
-        self.runner.machine.copy_from(&self.members.states[place])?;
-        if self.runner.machine.draws() == u64::MAX {
+        let runner = &mut self.runner;
+        if !self.members.load(place, &mut runner.machine, &mut runner.rows)?
+            || runner.machine.draws() == u64::MAX
+        {
             return Ok(None);
         }
-        Ok(Some(self.runner.machine.key_choices(setting.allowed)))
+        Ok(Some(runner.machine.key_choices(setting.allowed)))
     }
 
     /// Makes the next step of a state with each choice of keys, unless the limit is met.

@@ -23,6 +23,7 @@ use Rattle.chip_replay.specs.Run.{run}
 use Rattle.chip_explore.specs.Causes.{stops_so}
 use Rattle.chip_explore.specs.declared.leg.End.{End}
 use Rattle.chip_explore.specs.declared.leg.End.TheVariants.{Past, Wanted, TimerSet, Halted, Joined}
+use Rattle.chip_explore.specs.inner.Kept.{state_at}
 use Rattle.chip_explore.specs.declared.members.Members.{Members}
 use Rattle.chip_explore.specs.declared.setting.Setting.{Setting}
 
@@ -86,7 +87,7 @@ pub record Extends (p : Setting) (v w : View) : Type 0 where
 abbrev pub view_of : Members → View
 view_of m =
     record {
-      member = λ j. slice_index_or m.states.items j m.start;
+      member = state_at m.base m.states.items;
       steps = m.steps.items;
       limit = m.limit;
     }
@@ -117,8 +118,8 @@ pub record IsAt (p : Setting) (m : Members) (place : ℕ) (s : State) (t : ℕ) 
 -- why some steps in a row ended at a state
 abbrev pub IsEnd : Setting → ℕ → State → ℕ → End → Type 0
 IsEnd p limit s t Past = limit ≤ t
-IsEnd p limit s t Wanted = t < limit
-IsEnd p limit s t TimerSet = t < limit
+IsEnd p limit s t Wanted = Unit {0}
+IsEnd p limit s t TimerSet = Unit {0}
 IsEnd p limit s t Halted = IsFine p s × (is_some s.core.stopped ≡ true)
 IsEnd p limit s t Joined = IsFine p s
 

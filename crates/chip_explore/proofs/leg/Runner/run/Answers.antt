@@ -2,7 +2,7 @@ use Rattle.std.proofs.Common.{◌+◌, refl, ap, sym, subst, ◌∙◌, Bool}
 use Rattle.chip_machine.specs.State.{State}
 use Rattle.chip_machine.specs.Step.{step_of}
 use Rattle.chip_explore.specs.inner.Cover.{Safe}
-use Rattle.chip_explore.proofs.Kept.{one_move}
+use Rattle.chip_explore.proofs.Growth.{one_move}
 use Rattle.chip_explore.proofs.leg.Runner.run.Goals as goal
 
 pub loop-end-preserved : goal.loop-end-preserved

@@ -1,10 +1,12 @@
-use Rattle.std.proofs.Common.{◌≡◌, ◌<◌, ◌≤◌, ◌+◌, ℕ, List, Bool, [], ◌∷◌, ◌++◌, false, true, refl, sym, ap, subst, inr, arith, ◌∙◌, length, get_or}
+use Rattle.std.proofs.Common.{rules, ◌≡◌, ◌<◌, ◌≤◌, ◌+◌, ℕ, List, Bool, [], ◌∷◌, ◌++◌, false, true, refl, sym, ap, subst, inr, arith, ◌∙◌, length, get_or}
 use Rattle.std.proofs.lemmas.List.{get_or_append_left, length-append}
 use Rattle.std.proofs.Math.Seq.{get_or-append_seam}
 use Rattle.chip_machine.specs.Relevant.{relevant}
-use Rattle.chip_machine.specs.State.{State}
+use Rattle.chip_explore.specs.declared.kept.Kept.{Kept}
+use Rattle.chip_explore.specs.inner.Kept.{state_at}
 use Rattle.chip_explore.specs.inner.Cover.{phase}
-use Rattle.chip_explore.proofs.Kept.{closed_inside, closed_pushed, goes}
+use Rattle.chip_explore.proofs.Places.{state_before, state_last}
+use Rattle.chip_explore.proofs.Growth.{closed_inside, closed_pushed, goes}
 use Rattle.chip_explore.proofs.members.Members.add.Goals as goal
 
 inside : (closed : List Bool) (j : ℕ) → get_or closed j false ≡ true → {n : ℕ} → length closed ≡ n → j < n
@@ -15,9 +17,10 @@ returns-clause-goes c =
     let m = c.args.self.now in
     let p = c.args.setting.now in
     let states = c.in_ok-push.ensures.items in
+    let kept = c.in_ok-kept.kept in
     let closed = c.in_ok-push-2.ensures.items in
     let steps = c.in_ok-push-3.ensures.items in
-    let more_states = ap (length {A = State}) states ∙ length-append m.states.items (c.in_ok-state.state ∷ []) in
+    let more_states = ap (length {A = Kept}) states ∙ length-append m.states.items (kept ∷ []) in
     let more_closed = ap (length {A = Bool}) closed ∙ length-append m.closed.items (false ∷ []) in
     let more_steps = ap (length {A = ℕ}) steps ∙ length-append m.steps.items (c.args.step ∷ []) in
     let count = c.requires.states in
@@ -28,7 +31,7 @@ returns-clause-goes c =
     (record {
       limit = omega arith;
       count = omega arith;
-      member = λ j l. ap (λ (xs : List State). get_or xs j m.start) states ∙ get_or_append_left m.states.items (c.in_ok-state.state ∷ []) m.start j (omega arith);
+      member = λ j l. ap (λ (xs : List Kept). state_at m.base xs j) states ∙ state_before m.base m.states.items (kept ∷ []) j (omega arith);
       early = λ j l. let is = same j l in omega arith;
       phased = λ j l. ap (phase p) (same j l);
     })
@@ -43,11 +46,13 @@ returns-clause-joins c =
     let m = c.args.self.now in
     let p = c.args.setting.now in
     let states = c.in_ok-push.ensures.items in
+    let kept = c.in_ok-kept.kept in
     let steps = c.in_ok-push-3.ensures.items in
     let count = c.requires.states in
     let more_steps = ap (length {A = ℕ}) steps ∙ length-append m.steps.items (c.args.step ∷ []) in
     let last : get_or c.push-3.new.self.items (length m.steps.items) 0 ≡ c.args.step =
     ap (λ (xs : List ℕ). get_or xs (length m.steps.items) 0) steps ∙ get_or-append_seam m.steps.items c.args.step [] 0 in
+    λ _.
     record {
       place = length m.steps.items;
       kept = omega arith;
@@ -55,8 +60,8 @@ returns-clause-joins c =
       phased = ap (phase p) last;
       alike =
       ap relevant
-      (ap (λ (xs : List State). get_or xs (length m.steps.items) m.start) states
-      ∙ ap (λ (i : ℕ). get_or (m.states.items ++ c.in_ok-state.state ∷ []) i m.start) (sym count)
-      ∙ get_or-append_seam m.states.items c.in_ok-state.state [] m.start
-      ∙ c.in_ok-state.ensures.same);
+      (ap (λ (xs : List Kept). state_at m.base xs (length m.steps.items)) states
+      ∙ ap (λ (i : ℕ). state_at m.base (m.states.items ++ kept ∷ []) i) (sym count)
+      ∙ state_last m.base m.states.items kept)
+      ∙ c.in_ok-is_same.ensures (search rules);
     }

@@ -5,7 +5,7 @@ use Rattle.chip_explore.specs.declared.members.Members.{Members}
 use Rattle.chip_explore.specs.declared.search.Search.{Search}
 use Rattle.chip_explore.specs.declared.setting.Setting.{Setting}
 use Rattle.chip_explore.specs.inner.Cover.{Goes, Safe, tick_at, view_of}
-use Rattle.chip_explore.proofs.Kept.{goes_more, safe_after, same_member}
+use Rattle.chip_explore.proofs.Growth.{goes_more, safe_after, same_member}
 use Rattle.chip_explore.proofs.search.Search.follow_each.Goals as goal
 use Rattle.chip_explore.proofs.search.Search.follow_each.Goals.{then-is_down+in_ok-follow, else-is_down}
 

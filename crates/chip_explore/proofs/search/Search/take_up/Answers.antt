@@ -1,7 +1,7 @@
 use Rattle.std.proofs.Common.{◌≡◌, ◌+◌, ◌<◌, ℕ, Option, IfSome, ap, sym, subst, ◌∙◌, length}
 use Rattle.chip_explore.specs.declared.members.Members.{Members}
 use Rattle.chip_explore.specs.inner.Cover.{Goes, HasChoices, view_of}
-use Rattle.chip_explore.proofs.Kept.{all_taken, goes_more}
+use Rattle.chip_explore.proofs.Growth.{all_taken, goes_more}
 use Rattle.chip_explore.proofs.search.Search.take_up.Goals as goal
 
 pub close-requires-clause-taken : goal.close-requires-clause-taken
