@@ -1,11 +1,13 @@
 pub mod BitLemmas
 pub mod Blocks
+pub mod Choices
 pub mod Examples
 pub mod KeptParts
 pub mod Keyless
 pub mod NextStep
 pub mod Notes
 pub mod PointLemmas
+pub mod Relevant
 pub mod RowLemmas
 pub mod ScreenExamples
 pub mod Spans

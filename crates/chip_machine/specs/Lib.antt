@@ -9,6 +9,9 @@
 --   Step      the table of the instructions, one step, and the addresses that it touches
 --   Touched   whether a step touches an address
 --   Keyless   which steps depend on the keys, and the law of those that don't
+--   Choices   which keys the next step can tell apart
+--   Relevant  what of a state later steps depend on
+--   Restored  a machine that is put back from its parts
 --   Block     some steps, one after another
 --   Frame     the frame law
 --   ImageLaw  what the image is in the memory at the start
@@ -17,6 +20,7 @@
 --   inner     how a state is stored, and proofs that a trait above asks for as its laws; a reader
 --             may skip it
 pub mod Block
+pub mod Choices
 pub mod Digits
 pub mod Frame
 pub mod ImageLaw
@@ -25,6 +29,8 @@ pub mod Limits
 pub mod Numbers
 pub mod Points
 pub mod Profile
+pub mod Relevant
+pub mod Restored
 pub mod Scroll
 pub mod Sprite
 pub mod Start

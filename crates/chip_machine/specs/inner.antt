@@ -4,6 +4,7 @@
 pub mod Codes
 pub mod Exchanged
 pub mod FrameTheorem
+pub mod KeyRows
 pub mod Overwritten
 pub mod SpriteBytes
 pub mod Stored

@@ -3,6 +3,7 @@
 ghost use Rattle.chip_machine.specs.Frame.{FrameLaw, StepKeepsProfile, StepKeepsProper};
 ghost use Rattle.chip_machine.specs.ImageLaw.{ImageAndZeros, SameBelowTheImage};
 ghost use Rattle.chip_machine.specs.Keyless.{KeylessStep};
+ghost use Rattle.chip_machine.specs.Relevant.{AlikeSteps, DrawsGrow, QuietTick};
 
 /// A step neither depends on the bytes that it doesn't touch nor changes them.
 pub fn frame_law()
@@ -22,6 +23,14 @@ pub fn step_keeps_profile()
 /// A step that doesn't read the keys is the same whatever keys are down.
 pub fn keyless_step()
     ensures { KeylessStep }
+{}
+
+/// What later steps depend on: neither the sound timer nor how often the tape was gone through, and
+/// of the ticks nothing while the delay timer stays at 0.
+pub fn relevant_steps()
+    ensures alike { AlikeSteps }
+    ensures draws { DrawsGrow }
+    ensures quiet { QuietTick }
 {}
 
 /// What the image is in the memory at the start: it stands from its place on, with zeros after it,

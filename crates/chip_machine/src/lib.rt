@@ -11,6 +11,7 @@ pub mod laws;
 pub mod limits;
 pub mod machine;
 mod memory;
+pub mod parts;
 mod processor;
 pub mod profile;
 mod rows;
@@ -21,6 +22,7 @@ pub mod touch;
 
 pub use keys::{HeldKeys, SameKeys};
 pub use machine::{Machine, StartError};
+pub use parts::Parts;
 pub use profile::Profile;
 pub use stop::Stop;
 pub use touch::Touch;

@@ -1,18 +1,24 @@
 //! All of the machine but its memory.
 
-ghost use Rattle.std.specs.Prelude.{◌≡◌, ◌+◌, ◌*◌, ◌/◌, ◌-◌, ◌<◌, ◌≤◌, ◌^◌, ◌%◌, length, slice_index, OnOk, OnErr, IfOk, IfErr, IsOk, ◌↔◌, ◌==◌, false, ℕ};
+ghost use Rattle.std.specs.Prelude.{◌≡◌, ◌+◌, ◌*◌, ◌/◌, ◌-◌, ◌<◌, ◌≤◌, ◌^◌, ◌%◌, length, slice_index, OnOk, OnErr, IfOk, IfErr, IsOk, ◌↔◌, ◌==◌, false, IsTrue, ℕ};
 ghost use Rattle.chip_machine.specs.Step.{reg, with_reg, with_flag, go_to, skip_if, next, call, return, with_index, random_byte, drawn, store_flags, load_flags, load_registers, past_registers, ticked, with_size, with_lit, with_sprite, Effect, Stops, schip_only};
 ghost use Rattle.chip_machine.specs.Profile.{by_profile};
+ghost use Rattle.chip_machine.specs.inner.KeyRows.{choices_of};
 ghost use Rattle.chip_machine.specs.Points.{is_lit, IsOnScreen, lights};
 ghost use Rattle.chip_machine.specs.Sprite.{sprite_bytes};
 ghost use Rattle.chip_machine.specs.Scroll.{scrolled_down, scrolled_right, scrolled_left};
 ghost use Rattle.std.specs.FinSet as set;
+ghost use Rattle.chip_machine.specs.Relevant.{relevant_core};
+ghost use Rattle.chip_machine.specs.Restored.{core_with_parts};
+ghost use Rattle.chip_machine.specs.inner.Stored.{in_rows};
 ghost use Rattle.chip_machine.specs.Start.{IsTape, start_core};
 
-use crate::limits::{FLAGS, FRAMES, IMAGE_START, LAST_WORD};
+use crate::limits::{FLAGS, FRAMES, IMAGE_START, LAST_WORD, TAPE_BYTES};
+use crate::parts::Parts;
 use crate::profile::Profile;
 use crate::screen::Screen;
 use crate::stop::Stop;
+use chip_lang::instr::Instr;
 use chip_lang::number::{Addr, Nibble, Reg};
 use std::alloc::{AllocError, Global};
 use std::marker::Model;
@@ -146,6 +152,59 @@ impl Processor {
         Ok(())
     }
 
+    /// Where the next random byte stands on the tape.
+    pub(crate) fn place(&self) -> usize
+        ensures place { result ≡ self.now.draws % length self.now.tape }
+        ensures in_range { result < TAPE_BYTES }
+    {
+        self.place
+    }
+
+    /// Takes these parts, with a silent sound timer and no stop cause.
+    pub(crate) fn restore(&mut self, parts: &Parts)
+        requires { parts.now.depth ≤ FRAMES }
+        ensures { self.new ≡ core_with_parts parts.now self.old }
+    {
+        self.registers = parts.registers;
+        self.index = parts.index;
+        self.pc = parts.pc;
+        self.frames = parts.frames;
+        self.depth = parts.depth as usize;
+        self.delay = parts.delay;
+        self.sound = 0;
+        self.flags = parts.flags;
+        self.draws = u64::from(parts.draws);
+        self.place = parts.draws as usize % self.tape.len();
+        self.high = parts.high;
+        self.stopped = None;
+    }
+
+    /// Has these rows of points on the screen.
+    pub(crate) fn set_rows(&mut self, rows: &[u128])
+        requires { length rows.now ≡ 64 }
+        ensures { self.new ≡ with_lit (in_rows rows.now) self.old }
+    {
+        self.screen.set_rows(rows);
+    }
+
+    /// Whether another agrees in what is relevant: true only where it does.
+    pub(crate) fn is_alike(&self, other: &Processor) -> bool
+        ensures { IsTrue result → relevant_core self.now ≡ relevant_core other.now }
+    {
+        self.registers == other.registers
+            && self.index == other.index
+            && self.pc == other.pc
+            && self.frames() == other.frames()
+            && self.delay == other.delay
+            && self.flags == other.flags
+            && self.tape == other.tape
+            && self.place == other.place
+            && self.high == other.high
+            && self.stopped == other.stopped
+            && self.profile == other.profile
+            && self.screen.is_same(&other.screen)
+    }
+
     /// The value of a register.
     pub(crate) fn reg(&self, x: Reg) -> u8
         ensures { result ≡ reg self.now x }
@@ -232,6 +291,27 @@ impl Processor {
             Profile::Schip => false,
             Profile::Vip => n.number() == 0,
         }
+    }
+
+    /// Which of the allowed keys an instruction can tell apart.
+    #[inline(always)]
+    pub(crate) fn choices(&self, allowed: u16, instr: Instr) -> u16
+        ensures { result ≡ choices_of allowed instr self.now }
+    {
+        match instr {
+            Instr::SkipIfKey(x) => allowed & self.key_of(x),
+            Instr::SkipUnlessKey(x) => allowed & self.key_of(x),
+            Instr::WaitKey(_x) => allowed,
+            _ => 0,
+        }
+    }
+
+    /// The key that a register names, alone.
+    #[inline(always)]
+    fn key_of(&self, x: Reg) -> u16
+        ensures { result ≡ 2 ^ (reg self.now x % 16) }
+    {
+        1 << (self.reg(x) % 16)
     }
 
     /// Goes to an address.

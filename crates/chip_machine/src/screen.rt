@@ -103,6 +103,21 @@ impl Screen {
         self.rows.copy_from_slice(&other.rows);
     }
 
+    /// Has these rows of points, the leftmost point the highest bit.
+    pub(crate) fn set_rows(&mut self, rows: &[u128])
+        requires { length rows.now ≡ 64 }
+        ensures { self.new ≡ in_rows rows.now }
+    {
+        self.rows.copy_from_slice(rows);
+    }
+
+    /// Whether another screen has the same points: true only where it has.
+    pub(crate) fn is_same(&self, other: &Screen) -> bool
+        ensures { IsTrue result → self.now ≡ other.now }
+    {
+        self.rows == other.rows
+    }
+
     /// Draws a sprite, and answers whether it covers a point that was lit.
     pub(crate) fn draw(&mut self, high: bool, x: u8, y: u8, sprite: &[u8]) -> bool
         ensures lit { self.new

@@ -1,0 +1,157 @@
+-- What is safe from the start on, and from each state that was taken up, no key script passes a
+-- wanted cause in.
+use Rattle.std.proofs.Common.{◌≡◌, ℕ, zero, suc, ◌+◌, ◌-◌, ◌*◌, ◌/◌, ◌%◌, ◌^◌, ◌<◌, ◌≤◌, ◌==◌, ◌⊎◌, Bool, true, false, List, length, slice_index, is_some, refl, sym, ap, subst, ◌∙◌, inl, inr, ⊎_elim, if◌then◌else◌, arith, add-one}
+use Rattle.std.proofs.Math.Nat.{mod-add-div', add-mul-mod_self_right}
+use Rattle.std.proofs.lemmas.Nat.Bits.{bit_at-zero}
+use Rattle.chip_machine.specs.Block.{ticks}
+use Rattle.chip_machine.specs.Choices.{IsChoice, IsWithin, Represents}
+use Rattle.chip_machine.specs.Relevant.{relevant, AlikeSteps, DrawsGrow, QuietTick}
+use Rattle.chip_machine.specs.State.{State}
+use Rattle.chip_machine.specs.Step.{effect_at, is_down, perform, settle, step_of}
+use Rattle.chip_replay.specs.Run.{run}
+use Rattle.chip_explore.specs.Causes.{is_wanted_stop, stops_so}
+use Rattle.chip_explore.specs.Scripts.{Avoids, IsScript}
+use Rattle.chip_explore.specs.declared.setting.Setting.{Setting}
+use Rattle.chip_explore.specs.inner.Cover.{phase, tick_at, View, IsFine, Moves, Joins, Ends, SafeFor, Safe, IsTaken}
+
+-- no choice of no keys has a key
+no_choice : (one : ℕ) → IsChoice 0 one → one ≡ 0
+no_choice one choice =
+    ⊎_elim (λ (none : one ≡ 0). none)
+    (λ (some : (k : ℕ) × (is_down 0 k ≡ true) × (one ≡ 2 ^ k)).
+    let up : is_down 0 some.0 ≡ false = ap (λ b. b == 1) (bit_at-zero some.0) in
+    let down : is_down 0 some.0 ≡ true = some.1 in
+    absurd (cc))
+    choice
+
+pub same_as_none : (allowed : ℕ) (s : State) → Represents allowed 0 s → (keys : ℕ) → IsWithin allowed keys → (tick : Bool) → step_of s keys tick ≡ step_of s 0 tick
+same_as_none allowed s acts keys within tick =
+    let r = acts keys within in
+    r.2 tick ∙ ap (λ (k : ℕ). step_of s k tick) (no_choice r.0 r.1)
+
+stays_by : (stopped : Bool) (s : State) (keys : ℕ) (tick : Bool) → stopped ≡ true → (if stopped then s else settle tick s (perform keys s (effect_at s))) ≡ s
+stays_by true s keys tick h = refl
+stays_by false s keys tick h = absurd (cc)
+
+stays : (s : State) (keys : ℕ) (tick : Bool) → is_some s.core.stopped ≡ true → step_of s keys tick ≡ s
+unfolding step_of
+stays s keys tick h = stays_by (is_some s.core.stopped) s keys tick h
+
+-- ticks by the part of the step's number that counts
+one_more : (n r : ℕ) → (n + 1) % r ≡ (n % r + 1) % r
+one_more n r =
+    let whole : n + 1 ≡ (n % r + 1) + n / r * r = omega (arith, mod-add-div' n r) in
+    ap (λ m. m % r) whole ∙ add-mul-mod_self_right (n % r + 1) (n / r) r
+
+rest_more : (rate u t : ℕ) → u % rate ≡ t % rate → (u + 1) % rate ≡ (t + 1) % rate
+rest_more rate u t h = one_more u rate ∙ ap (λ m. (m + 1) % rate) h ∙ sym (one_more t rate)
+
+phase_by : (free : Bool) (rate u t : ℕ) → (if free then 0 else u % rate) ≡ (if free then 0 else t % rate) → (if free then 0 else (u + 1) % rate) ≡ (if free then 0 else (t + 1) % rate)
+phase_by true rate u t h = refl
+phase_by false rate u t h = rest_more rate u t h
+
+module _ (alike : AlikeSteps) (grow : DrawsGrow) (quiet : QuietTick) where
+  quieted : (tick : Bool) (a : State) (keys : ℕ) → (step_of a keys false).core.delay ≡ 0 → relevant (step_of a keys tick) ≡ relevant (step_of a keys false)
+  quieted true a keys calm = quiet a keys calm
+  quieted false a keys calm = refl
+
+  -- the same step of two states, with the ticks as the search takes them in the second
+  meets : (free : Bool) (rate : ℕ) (s a : State) (t u keys : ℕ) → relevant s ≡ relevant a → s.core.draws < 2 ^ 64 - 1 → a.core.draws < 2 ^ 64 - 1
+      → (if free then 0 else u % rate) ≡ (if free then 0 else t % rate)
+      → (free ≡ true → (step_of a keys (if free then false else ticks rate u)).core.delay ≡ 0)
+      → relevant (step_of s keys (ticks rate t)) ≡ relevant (step_of a keys (if free then false else ticks rate u))
+  meets true rate s a t u keys h low_s low_a phased calm =
+      alike s a keys (ticks rate t) h low_s low_a ∙ quieted (ticks rate t) a keys (calm refl)
+  meets false rate s a t u keys h low_s low_a phased calm =
+      alike s a keys (ticks rate t) h low_s low_a
+      ∙ ap (λ (rest : ℕ). relevant (step_of a keys (rest == 0))) (sym (rest_more rate u t phased))
+
+  module _ (p : Setting) (v : View) where
+    fine_of : (moves : ℕ) (a : State) (u : ℕ) → SafeFor p v moves a u → u < v.limit → IsFine p a
+    fine_of zero a u safe below =
+        ⊎_elim (λ (past : v.limit ≤ u). absurd (omega arith)) (λ (kept : IsFine p a × ((is_some a.core.stopped ≡ true) ⊎ Joins p v a u)). kept.0) safe
+    fine_of (suc k) a u safe below = safe.0.fine
+
+    -- a state of a run is like one from which all is safe
+    record Near (s : State) (t : ℕ) : Type 0 where
+      state : State
+      at : ℕ
+      moves : ℕ
+      early : at ≤ t
+      phased : phase p at ≡ phase p t
+      same : relevant s ≡ relevant state
+      safe : SafeFor p v moves state at
+
+    module _ (n : ℕ) (within_limit : n < v.limit) (taken : (j : ℕ) → j < length v.steps → slice_index v.steps j < n → IsTaken p v j) where
+      module _ (s : State) (t keys : ℕ) (before : t < n) (within : IsWithin p.allowed keys) (low : s.core.draws < 2 ^ 64 - 1) where
+        -- after a step of a state that is like this one
+        after : (a : State) (u : ℕ) → u ≤ t → phase p u ≡ phase p t → relevant s ≡ relevant a → a.core.draws < 2 ^ 64 - 1
+            → Safe p v (step_of a keys (tick_at p u)) (u + 1) → Near (step_of s keys (ticks p.rate t)) (t + 1)
+        after a u early phased same drawn goes_on =
+            record {
+              state = step_of a keys (tick_at p u);
+              at = u + 1;
+              moves = goes_on.moves;
+              early = omega arith;
+              phased = phase_by p.free p.rate u t phased;
+              same = meets p.free p.rate s a t u keys same low drawn phased (fine_of goes_on.moves _ (u + 1) goes_on.path (omega arith)).calm;
+              safe = goes_on.path;
+            }
+
+        next_by : (moves : ℕ) (a : State) (u : ℕ) → u ≤ t → phase p u ≡ phase p t → relevant s ≡ relevant a → SafeFor p v moves a u → Near (step_of s keys (ticks p.rate t)) (t + 1)
+        next_by zero a u early phased same safe =
+            ⊎_elim
+            (λ (past : v.limit ≤ u). absurd (omega arith))
+            (λ (kept : IsFine p a × ((is_some a.core.stopped ≡ true) ⊎ Joins p v a u)).
+            ⊎_elim
+            (λ (halted : is_some a.core.stopped ≡ true).
+            let stopped = ap (λ (r : State). is_some r.core.stopped) same ∙ halted in
+            record {
+              state = a;
+              at = t + 1;
+              moves = 0;
+              early = omega arith;
+              phased = refl;
+              same = ap relevant (stays s keys (ticks p.rate t) stopped) ∙ same;
+              safe = inr (kept.0, inl halted);
+            })
+            (λ (joins : Joins p v a u).
+            let early_place = joins.early in
+            let member = taken joins.place joins.kept (omega arith) in
+            after (v.member joins.place) (slice_index v.steps joins.place) (omega arith) (joins.phased ∙ phased) (same ∙ sym joins.alike) member.drawn (member.goes_on keys within))
+            kept.1)
+            safe
+        next_by (suc k) a u early phased same safe =
+            let is = same_as_none p.allowed a safe.0.same keys within (tick_at p u) in
+            after a u early phased same safe.0.drawn
+            (subst (λ (b : State). Safe p v b (u + 1)) (sym is) (record { moves = k; path = safe.1 }))
+
+        next : Near s t → Near (step_of s keys (ticks p.rate t)) (t + 1)
+        next near = next_by near.moves near.state near.at near.early near.phased near.same near.safe
+
+      module _ (start : State) (fresh : start.core.draws ≡ 0) (begun : Safe p v start 0) (below_end : n < 2 ^ 64 - 1) (held : ℕ → ℕ) (script : IsScript p.allowed held) where
+        drawn : (t : ℕ) → (run step_of p.rate held start t).core.draws ≤ t
+        drawn zero = omega arith
+        drawn (suc t) =
+            let more = grow (run step_of p.rate held start t) (held t) (ticks p.rate t) in
+            let few = drawn t in
+            let count = add-one t in
+            omega arith
+
+        near_run : (t : ℕ) → t ≤ n → Near (run step_of p.rate held start t) t
+        near_run zero within_n = record { state = start; at = 0; moves = begun.moves; early = omega arith; phased = refl; same = refl; safe = begun.path }
+        near_run (suc t) within_n =
+            let count = add-one t in
+            let few = drawn t in
+            subst (λ (m : ℕ). Near (run step_of p.rate held start (suc t)) m) (add-one t)
+            (next (run step_of p.rate held start t) t (held t) (omega arith) (script t) (omega arith) (near_run t (omega arith)))
+
+        avoided : (t : ℕ) → t ≤ n → stops_so p.causes (run step_of p.rate held start t) ≡ false
+        avoided t within_n =
+            let near = near_run t within_n in
+            let early = near.early in
+            ap (λ (r : State). is_wanted_stop p.causes r.core.stopped) near.same
+            ∙ (fine_of near.moves near.state near.at near.safe (omega arith)).avoided
+
+      pub covered : (start : State) → start.core.draws ≡ 0 → Safe p v start 0 → n < 2 ^ 64 - 1 → Avoids p.rate p.allowed p.causes start n
+      covered start fresh begun below_end held script t within_n = avoided start fresh begun below_end held script t within_n

@@ -1,0 +1,204 @@
+-- What the changes of the kept states keep.
+use Rattle.std.proofs.Common.{◌≡◌, ℕ, zero, suc, ◌+◌, ◌-◌, ◌^◌, ◌<◌, ◌≤◌, ◌⊎◌, Bool, true, false, List, length, slice_index, is_some, refl, sym, ap, subst, ◌∙◌, inl, inr, ⊎_elim, if◌then◌else◌, arith}
+use Rattle.std.proofs.Common.{◌≢◌, get_or, set, [], ◌∷◌, ◌++◌}
+use Rattle.std.proofs.lemmas.Bool.{cases_eq, cases_lt}
+use Rattle.std.proofs.lemmas.List.{get_or_past, get_or-set_same, get_or-set_other, get_or_append_left, length-append}
+use Rattle.std.proofs.Math.Seq.{get_or-append_seam}
+use Rattle.std.specs.Int.{bit_at}
+use Rattle.std.proofs.Common.{◌==◌}
+use Rattle.std.proofs.lemmas.Nat.Bits.{bit_at_above}
+use Rattle.chip_machine.specs.Choices.{IsChoice}
+use Rattle.chip_machine.specs.Relevant.{relevant}
+use Rattle.chip_machine.specs.State.{State}
+use Rattle.chip_machine.specs.Step.{is_down, step_of}
+use Rattle.chip_explore.specs.declared.members.Members.{Members}
+use Rattle.chip_explore.specs.declared.setting.Setting.{Setting}
+use Rattle.chip_explore.specs.inner.Cover.{phase, tick_at, View, IsFine, Moves, Joins, Ends, SafeFor, Safe, IsTaken, Extends, GoesOn, HasChoices, Holds, Goes, view_of}
+
+module _ (p : Setting) (v w : View) (more : Extends p v w) where
+  still_joins : (s : State) (t : ℕ) → Joins p v s t → Joins p w s t
+  still_joins s t j =
+      let kept = j.kept in
+      let count = more.count in
+      let early = j.early in
+      let earlier = more.early j.place j.kept in
+      record {
+        place = j.place;
+        kept = omega arith;
+        early = omega arith;
+        phased = more.phased j.place j.kept ∙ j.phased;
+        alike = ap relevant (more.member j.place j.kept) ∙ j.alike;
+      }
+
+  still_safe_for : (moves : ℕ) (s : State) (t : ℕ) → SafeFor p v moves s t → SafeFor p w moves s t
+  still_safe_for zero s t safe =
+      let lower = more.limit in
+      ⊎_elim
+      (λ (past : v.limit ≤ t). inl (omega arith))
+      (λ (kept : IsFine p s × ((is_some s.core.stopped ≡ true) ⊎ Joins p v s t)).
+      inr (kept.0, ⊎_elim (λ (halted : is_some s.core.stopped ≡ true). inl halted) (λ (joins : Joins p v s t). inr (still_joins s t joins)) kept.1))
+      safe
+  still_safe_for (suc k) s t safe = (safe.0, still_safe_for k (step_of s 0 (tick_at p t)) (t + 1) safe.1)
+
+  pub still_safe : (s : State) (t : ℕ) → Safe p v s t → Safe p w s t
+  still_safe s t safe = record { moves = safe.moves; path = still_safe_for safe.moves s t safe.path }
+
+pub one_move : (p : Setting) (v : View) (s : State) (t : ℕ) → Moves p s → Safe p v (step_of s 0 (tick_at p t)) (t + 1) → Safe p v s t
+one_move p v s t move safe = record { moves = suc safe.moves; path = (move, safe.path) }
+
+pub extends_same : (p : Setting) (v : View) → Extends p v v
+extends_same p v = record { limit = omega arith; count = omega arith; member = λ j l. refl; early = λ j l. omega arith; phased = λ j l. refl }
+
+pub extends_more : (p : Setting) (u v w : View) → Extends p u v → Extends p v w → Extends p u w
+extends_more p u v w a b = 
+    let first = a.limit in
+    let second = b.limit in
+    let count = a.count in
+    let counts = b.count in
+    record {
+      limit = omega arith;
+      count = omega arith;
+      member = λ j l. b.member j (omega arith) ∙ a.member j l;
+      early = λ j l. let one = a.early j l in let two = b.early j (omega arith) in omega arith;
+      phased = λ j l. b.phased j (omega arith) ∙ a.phased j l;
+    }
+
+-- a place that was closed stays so where its step stays
+pub still_taken : (p : Setting) (v w : View) → Extends p v w → (j : ℕ) → j < length v.steps → slice_index w.steps j ≡ slice_index v.steps j → IsTaken p v j → IsTaken p w j
+still_taken p v w more j kept same taken =
+    let member = more.member j kept in
+    record {
+      drawn = subst (λ (s : State). s.core.draws < 2 ^ 64 - 1) (sym member) taken.drawn;
+      goes_on = λ keys within.
+      subst (λ (s : State). Safe p w (step_of s keys (tick_at p (slice_index w.steps j))) (slice_index w.steps j + 1)) (sym member)
+      (subst (λ (t : ℕ). Safe p w (step_of (v.member j) keys (tick_at p t)) (t + 1)) (sym same)
+      (still_safe p v w more _ _ (taken.goes_on keys within)));
+    }
+
+-- flags and steps by their places
+pub closed_inside : (closed : List Bool) (j : ℕ) → get_or closed j false ≡ true → j < length closed
+closed_inside closed j h =
+    ⊎_elim (λ (inside : j < length closed). inside)
+    (λ (past : length closed ≤ j). let up : get_or closed j false ≡ false = get_or_past closed j false past in absurd (cc))
+    (cases_lt j (length closed))
+
+pub closed_set : (closed : List Bool) (place j : ℕ) (flag : Bool) → place < length closed → get_or (set closed place flag) j false ≡ true
+    → ((j ≡ place) × (flag ≡ true)) ⊎ ((j ≢ place) × (get_or closed j false ≡ true))
+closed_set closed place j flag kept h =
+    ⊎_elim
+    (λ (here : j ≡ place). inl (here, sym (get_or-set_same closed place flag false kept) ∙ ap (λ (i : ℕ). get_or (set closed place flag) i false) (sym here) ∙ h))
+    (λ (other : j ≢ place). inr (other, sym (get_or-set_other closed place j flag false other) ∙ h))
+    (cases_eq j place)
+
+last_up : (closed : List Bool) (j : ℕ) → get_or (closed ++ false ∷ []) j false ≡ get_or closed j false
+last_up closed j =
+    ⊎_elim
+    (λ (inside : j < length closed). get_or_append_left closed (false ∷ []) false j inside)
+    (λ (past : length closed ≤ j).
+    ⊎_elim
+    (λ (here : j ≡ length closed).
+    ap (λ (i : ℕ). get_or (closed ++ false ∷ []) i false) here ∙ get_or-append_seam closed false [] false ∙ sym (get_or_past closed j false past))
+    (λ (other : j ≢ length closed).
+    let longer : length (closed ++ false ∷ []) ≡ length closed + 1 = length-append closed (false ∷ []) in
+    get_or_past (closed ++ false ∷ []) j false (omega arith) ∙ sym (get_or_past closed j false past))
+    (cases_eq j (length closed)))
+    (cases_lt j (length closed))
+
+pub closed_pushed : (closed : List Bool) (j : ℕ) → get_or (closed ++ false ∷ []) j false ≡ true → get_or closed j false ≡ true
+closed_pushed closed j h = sym (last_up closed j) ∙ h
+
+pub set_early : (steps : List ℕ) (place step j : ℕ) → place < length steps → step ≤ get_or steps place 0 → get_or (set steps place step) j 0 ≤ get_or steps j 0
+set_early steps place step j kept early =
+    ⊎_elim
+    (λ (here : j ≡ place).
+    let now : get_or (set steps place step) j 0 ≡ step = ap (λ (i : ℕ). get_or (set steps place step) i 0) here ∙ get_or-set_same steps place step 0 kept in
+    let was : get_or steps j 0 ≡ get_or steps place 0 = ap (λ (i : ℕ). get_or steps i 0) here in
+    omega arith)
+    (λ (other : j ≢ place).
+    let now : get_or (set steps place step) j 0 ≡ get_or steps j 0 = get_or-set_other steps place j step 0 other in
+    omega arith)
+    (cases_eq j place)
+
+pub set_phased : (p : Setting) (steps : List ℕ) (place step j : ℕ) → place < length steps → phase p (get_or steps place 0) ≡ phase p step → phase p (get_or (set steps place step) j 0) ≡ phase p (get_or steps j 0)
+set_phased p steps place step j kept phased =
+    ⊎_elim
+    (λ (here : j ≡ place).
+    ap (λ (i : ℕ). phase p (get_or (set steps place step) i 0)) here
+    ∙ ap (phase p) (get_or-set_same steps place step 0 kept)
+    ∙ sym phased
+    ∙ ap (λ (i : ℕ). phase p (get_or steps i 0)) (sym here))
+    (λ (other : j ≢ place). ap (phase p) (get_or-set_other steps place j step 0 other))
+    (cases_eq j place)
+
+-- a call keeps what holds, where each place that is closed after it was so before with the same
+-- step, or is taken
+pub goes : (p : Setting) (m n : Members) → Holds p m → n.start ≡ m.start → Extends p (view_of m) (view_of n)
+    → length n.states.items ≡ length n.steps.items → length n.closed.items ≡ length n.steps.items
+    → ((j : ℕ) → get_or n.closed.items j false ≡ true → IsTaken p (view_of n) j ⊎ ((get_or m.closed.items j false ≡ true) × (slice_index n.steps.items j ≡ slice_index m.steps.items j)))
+    → Goes p m n
+goes p m n holds start more states closed same =
+    record {
+      start = start;
+      extends = more;
+      holds = record {
+        states = states;
+        closed = closed;
+        taken = λ j h.
+        ⊎_elim (λ (taken : IsTaken p (view_of n) j). taken)
+        (λ (was : (get_or m.closed.items j false ≡ true) × (slice_index n.steps.items j ≡ slice_index m.steps.items j)).
+        let inside : j < length m.closed.items = closed_inside m.closed.items j was.0 in
+        let count = holds.closed in
+        still_taken p (view_of m) (view_of n) more j (omega arith) was.1 (holds.taken j was.0))
+        (same j h);
+      };
+    }
+
+pub goes_same : (p : Setting) (m : Members) → Holds p m → Goes p m m
+goes_same p m holds = record { start = refl; extends = extends_same p (view_of m); holds = holds }
+
+pub goes_more : (p : Setting) (l m n : Members) → Goes p l m → Goes p m n → Goes p l n
+goes_more p l m n one two = record { start = two.start ∙ one.start; extends = extends_more p (view_of l) (view_of m) (view_of n) one.extends two.extends; holds = two.holds }
+
+-- a kept state stays in its place
+pub same_member : (p : Setting) (m n : Members) → Goes p m n → (place : ℕ) → place < length m.steps.items → (view_of n).member place ≡ (view_of m).member place
+same_member p m n more place kept = more.extends.member place kept
+
+pub safe_after : (p : Setting) (m n : Members) → Goes p m n → (s : State) (t : ℕ) → Safe p (view_of m) s t → Safe p (view_of n) s t
+safe_after p m n more s t safe = still_safe p (view_of m) (view_of n) more.extends s t safe
+
+-- a state is taken once each choice was followed
+module _ (p : Setting) (l m n : Members) (one : Goes p l m) (two : Goes p m n) (place step choices : ℕ) (kept : place < length l.steps.items)
+    (has : HasChoices p ((view_of l).member place) choices)
+    (none : Safe p (view_of m) (step_of ((view_of l).member place) 0 (tick_at p step)) (step + 1))
+    (each : (key : ℕ) → key < 16 → is_down choices key ≡ true → Safe p (view_of n) (step_of ((view_of m).member place) (2 ^ key) (tick_at p step)) (step + 1)) where
+  abbrev after : ℕ → State
+  after keys = step_of ((view_of l).member place) keys (tick_at p step)
+
+  by_choice : (keys : ℕ) → IsChoice choices keys → Safe p (view_of n) (after keys) (step + 1)
+  by_choice keys choice =
+      ⊎_elim
+      (λ (up : keys ≡ 0). subst (λ (k : ℕ). Safe p (view_of n) (after k) (step + 1)) (sym up) (safe_after p m n two _ _ none))
+      (λ (down : (k : ℕ) × (is_down choices k ≡ true) × (keys ≡ 2 ^ k)).
+      let there : is_down choices down.0 ≡ true = down.1 in
+      let below : down.0 < 16 =
+      ⊎_elim (λ (inside : down.0 < 16). inside)
+      (λ (past : 16 ≤ down.0). let dark : is_down choices down.0 ≡ false = ap (λ b. b == 1) (bit_at_above choices 16 down.0 has.few past) in absurd (cc))
+      (cases_lt down.0 16) in
+      subst (λ (k : ℕ). Safe p (view_of n) (after k) (step + 1)) (sym down.2)
+      (subst (λ (s : State). Safe p (view_of n) (step_of s (2 ^ down.0) (tick_at p step)) (step + 1)) (same_member p l m one place kept) (each down.0 below there)))
+      choice
+
+  on_and_on : GoesOn p (view_of n) ((view_of l).member place) step
+  on_and_on keys within =
+      let r = has.all keys within in
+      subst (λ (s : State). Safe p (view_of n) s (step + 1)) (sym (r.2 (tick_at p step))) (by_choice r.0 r.1)
+
+  pub all_taken : slice_index n.steps.items place ≡ step → IsTaken p (view_of n) place
+  all_taken same =
+      let member : (view_of n).member place ≡ (view_of l).member place = same_member p l n (goes_more p l m n one two) place kept in
+      record {
+        drawn = subst (λ (s : State). s.core.draws < 2 ^ 64 - 1) (sym member) has.drawn;
+        goes_on =
+        subst (λ (s : State). GoesOn p (view_of n) s (slice_index n.steps.items place)) (sym member)
+        (subst (λ (t : ℕ). GoesOn p (view_of n) ((view_of l).member place) t) (sym same) on_and_on);
+      }

@@ -1,0 +1,3 @@
+pub mod Covered
+pub mod Growth
+pub mod Places

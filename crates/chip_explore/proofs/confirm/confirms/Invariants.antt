@@ -1,0 +1,13 @@
+use Rattle.std.proofs.Common.{◌≡◌, ◌<◌, ℕ}
+use Rattle.chip_machine.specs.Choices.{IsWithin}
+use Rattle.chip_machine.specs.Step.{step_of}
+use Rattle.chip_replay.specs.Keys.{held}
+use Rattle.chip_replay.specs.Run.{run}
+use Rattle.chip_explore.proofs.confirm.confirms.Given as goal
+
+abbrev pub invariant-loop-made : goal.invariant-loop-made
+invariant-loop-made l =
+    record {
+      reached : l.machine ≡ run step_of l.setting.rate (held l.keys) l.start l.made;
+      allowed_only : (t : ℕ) → t < l.made → IsWithin l.setting.allowed (held l.keys t);
+    }

@@ -1,0 +1,10 @@
+use Rattle.std.proofs.Common.{ℕ}
+use Rattle.chip_explore.specs.inner.Cover.{Safe, View}
+use Rattle.chip_explore.proofs.leg.Runner.run.Given as goal
+
+abbrev pub invariant-loop-end : goal.invariant-loop-end
+invariant-loop-end l =
+    (v : View) → Safe l.setting v l.self.machine l.step → Safe l.setting v l.fn.self.machine l.from
+
+abbrev pub decreases-loop-end : goal.decreases-loop-end
+decreases-loop-end l = l.left

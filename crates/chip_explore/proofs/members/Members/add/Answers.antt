@@ -1,0 +1,67 @@
+use Rattle.std.proofs.Common.{rules, ◌≡◌, ◌<◌, ◌≤◌, ◌+◌, ℕ, List, Bool, [], ◌∷◌, ◌++◌, false, true, refl, sym, ap, subst, inr, arith, ◌∙◌, length, get_or}
+use Rattle.std.proofs.lemmas.List.{get_or_append_left, length-append}
+use Rattle.std.proofs.Math.Seq.{get_or-append_seam}
+use Rattle.chip_machine.specs.Relevant.{relevant}
+use Rattle.chip_explore.specs.declared.kept.Kept.{Kept}
+use Rattle.chip_explore.specs.inner.Kept.{state_at}
+use Rattle.chip_explore.specs.inner.Cover.{phase}
+use Rattle.chip_explore.proofs.Places.{state_before, state_last}
+use Rattle.chip_explore.proofs.Growth.{closed_inside, closed_pushed, goes}
+use Rattle.chip_explore.proofs.members.Members.add.Goals as goal
+
+inside : (closed : List Bool) (j : ℕ) → get_or closed j false ≡ true → {n : ℕ} → length closed ≡ n → j < n
+inside closed j up e = let within = closed_inside closed j up in omega arith
+
+pub returns-clause-goes : goal.returns-clause-goes
+returns-clause-goes c =
+    let m = c.args.self.now in
+    let p = c.args.setting.now in
+    let states = c.in_ok-push.ensures.items in
+    let kept = c.in_ok-kept.kept in
+    let closed = c.in_ok-push-2.ensures.items in
+    let steps = c.in_ok-push-3.ensures.items in
+    let more_states = ap (length {A = Kept}) states ∙ length-append m.states.items (kept ∷ []) in
+    let more_closed = ap (length {A = Bool}) closed ∙ length-append m.closed.items (false ∷ []) in
+    let more_steps = ap (length {A = ℕ}) steps ∙ length-append m.steps.items (c.args.step ∷ []) in
+    let count = c.requires.states in
+    let counted = c.requires.closed in
+    let same : (j : ℕ) → j < length m.steps.items → get_or c.push-3.new.self.items j 0 ≡ get_or m.steps.items j 0 =
+    λ j l. ap (λ (xs : List ℕ). get_or xs j 0) steps ∙ get_or_append_left m.steps.items (c.args.step ∷ []) 0 j l in
+    goes p m _ c.requires refl
+    (record {
+      limit = omega arith;
+      count = omega arith;
+      member = λ j l. ap (λ (xs : List Kept). state_at m.base xs j) states ∙ state_before m.base m.states.items (kept ∷ []) j (omega arith);
+      early = λ j l. let is = same j l in omega arith;
+      phased = λ j l. ap (phase p) (same j l);
+    })
+    (omega arith)
+    (omega arith)
+    (λ j h.
+    let was : get_or m.closed.items j false ≡ true = closed_pushed m.closed.items j (ap (λ (xs : List Bool). get_or xs j false) (sym closed) ∙ h) in
+    inr (was, same j (inside m.closed.items j was counted)))
+
+pub returns-clause-joins : goal.returns-clause-joins
+returns-clause-joins c =
+    let m = c.args.self.now in
+    let p = c.args.setting.now in
+    let states = c.in_ok-push.ensures.items in
+    let kept = c.in_ok-kept.kept in
+    let steps = c.in_ok-push-3.ensures.items in
+    let count = c.requires.states in
+    let more_steps = ap (length {A = ℕ}) steps ∙ length-append m.steps.items (c.args.step ∷ []) in
+    let last : get_or c.push-3.new.self.items (length m.steps.items) 0 ≡ c.args.step =
+    ap (λ (xs : List ℕ). get_or xs (length m.steps.items) 0) steps ∙ get_or-append_seam m.steps.items c.args.step [] 0 in
+    λ _.
+    record {
+      place = length m.steps.items;
+      kept = omega arith;
+      early = omega arith;
+      phased = ap (phase p) last;
+      alike =
+      ap relevant
+      (ap (λ (xs : List Kept). state_at m.base xs (length m.steps.items)) states
+      ∙ ap (λ (i : ℕ). state_at m.base (m.states.items ++ kept ∷ []) i) (sym count)
+      ∙ state_last m.base m.states.items kept)
+      ∙ c.in_ok-is_same.ensures (search rules);
+    }

@@ -1,0 +1,35 @@
+use Rattle.std.proofs.Common.{◌≡◌, ◌+◌, ◌<◌, ℕ, Option, IfSome, ap, sym, subst, ◌∙◌, length}
+use Rattle.chip_explore.specs.declared.members.Members.{Members}
+use Rattle.chip_explore.specs.inner.Cover.{Goes, HasChoices, view_of}
+use Rattle.chip_explore.proofs.Growth.{all_taken, goes_more}
+use Rattle.chip_explore.proofs.search.Search.take_up.Goals as goal
+
+pub close-requires-clause-taken : goal.close-requires-clause-taken
+close-requires-clause-taken c =
+    let p = c.args.setting.now in
+    let same = c.choices.ensures.same in
+    let l = c.choices.new.self.members in
+    let has = subst (λ (answer : Option ℕ). IfSome answer (λ choices. HasChoices p ((view_of c.args.self.now.members).member c.args.place) choices)) c.in-Some.is c.in_ok-choices.ensures.choices in
+    all_taken p l c.follow.new.self.members c.follow_each.new.self.members c.in_ok-follow.ensures.goes c.in_ok-follow_each.ensures.goes c.args.place c.step-step.result c.in-Some.choices
+    (subst (λ (m : Members). c.args.place < length m.steps.items) (sym same) c.requires.kept)
+    (subst (λ (m : Members). HasChoices p ((view_of m).member c.args.place) c.in-Some.choices) (sym same) has)
+    c.in_ok-follow.ensures.safe c.in_ok-follow_each.ensures.safe
+    (sym c.step.ensures ∙ c.if-step.true)
+
+pub returns-then-step : goal.returns-then-step
+returns-then-step c =
+    let p = c.args.setting.now in
+    let l = c.choices.new.self.members in
+    let n = c.follow_each.new.self.members in
+    goes_more p c.args.self.now.members n c.close.new.self
+    (subst (λ (m : Members). Goes p m n) c.choices.ensures.same
+    (goes_more p l c.follow.new.self.members n c.in_ok-follow.ensures.goes c.in_ok-follow_each.ensures.goes))
+    c.close.ensures
+
+pub returns-else-step : goal.returns-else-step
+returns-else-step c =
+    let p = c.args.setting.now in
+    let l = c.choices.new.self.members in
+    let n = c.follow_each.new.self.members in
+    subst (λ (m : Members). Goes p m n) c.choices.ensures.same
+    (goes_more p l c.follow.new.self.members n c.in_ok-follow.ensures.goes c.in_ok-follow_each.ensures.goes)

@@ -1,0 +1,129 @@
+-- What a search keeps, and what is known of it.
+-- Source: own.
+--     phase           the part of a step's number on which the ticks depend
+--     tick_at         whether the timers tick in a step of the search: where the timers are free,
+--                     as the delay timer stays at 0, they never do
+--     View            the states that are kept, each with the least step at which it was reached,
+--                     and the step below which the search speaks of
+--     IsFine          a state that has not stopped for a wanted cause
+--     Safe            from a state at a step on, steps that don't tell keys apart lead to the
+--                     limit, to a stop, or to a state that is kept, and past no wanted cause
+--     IsTaken         so does each step from a state that is kept
+--     Extends         a view knows more than another
+--     Holds           all is safe from each state that is closed on
+--     Goes            a call keeps that, and its view extends the one before
+use Rattle.std.specs.Prelude.{◌≡◌, ℕ, zero, suc, ◌+◌, ◌-◌, ◌%◌, ◌^◌, ◌<◌, ◌≤◌, ◌⊎◌, Bool, true, false, List, length, is_some, slice_index, slice_index_or, if◌then◌else◌}
+use Rattle.chip_machine.specs.Block.{ticks}
+use Rattle.chip_machine.specs.Choices.{IsWithin, Represents}
+use Rattle.chip_machine.specs.Relevant.{relevant}
+use Rattle.chip_machine.specs.State.{State}
+use Rattle.chip_machine.specs.Step.{step_of}
+use Rattle.chip_replay.specs.Keys.{Events, held}
+use Rattle.chip_replay.specs.Run.{run}
+use Rattle.chip_explore.specs.Causes.{stops_so}
+use Rattle.chip_explore.specs.declared.leg.End.{End}
+use Rattle.chip_explore.specs.declared.leg.End.TheVariants.{Past, Wanted, TimerSet, Halted, Joined}
+use Rattle.chip_explore.specs.inner.Kept.{state_at}
+use Rattle.chip_explore.specs.declared.members.Members.{Members}
+use Rattle.chip_explore.specs.declared.setting.Setting.{Setting}
+
+abbrev pub phase : Setting → ℕ → ℕ
+phase p t = if p.free then 0 else t % p.rate
+
+abbrev pub tick_at : Setting → ℕ → Bool
+tick_at p t = if p.free then false else ticks p.rate t
+
+pub record View : Type 0 where
+  pub member : ℕ → State
+  pub steps : List ℕ
+  pub limit : ℕ
+
+pub record IsFine (p : Setting) (s : State) : Type 0 where
+  pub avoided : stops_so p.causes s ≡ false
+  pub calm : p.free ≡ true → s.core.delay ≡ 0
+
+-- the next step is the same whatever allowed keys are down
+pub record Moves (p : Setting) (s : State) : Type 0 where
+  pub fine : IsFine p s
+  pub same : Represents p.allowed 0 s
+  pub drawn : s.core.draws < 2 ^ 64 - 1
+
+pub record Joins (p : Setting) (v : View) (s : State) (t : ℕ) : Type 0 where
+  pub place : ℕ
+  pub kept : place < length v.steps
+  pub early : slice_index v.steps place ≤ t
+  pub phased : phase p (slice_index v.steps place) ≡ phase p t
+  pub alike : relevant (v.member place) ≡ relevant s
+
+abbrev pub Ends : Setting → View → State → ℕ → Type 0
+Ends p v s t = (v.limit ≤ t) ⊎ (IsFine p s × ((is_some s.core.stopped ≡ true) ⊎ Joins p v s t))
+
+abbrev pub SafeFor : Setting → View → ℕ → State → ℕ → Type 0
+SafeFor p v zero s t = Ends p v s t
+SafeFor p v (suc k) s t = Moves p s × SafeFor p v k (step_of s 0 (tick_at p t)) (t + 1)
+
+pub record Safe (p : Setting) (v : View) (s : State) (t : ℕ) : Type 0 where
+  pub moves : ℕ
+  pub path : SafeFor p v moves s t
+
+-- likewise the next step with each allowed key script
+abbrev pub GoesOn : Setting → View → State → ℕ → Type 0
+GoesOn p v s t =
+    (keys : ℕ) → IsWithin p.allowed keys → Safe p v (step_of s keys (tick_at p t)) (t + 1)
+
+pub record IsTaken (p : Setting) (v : View) (place : ℕ) : Type 0 where
+  pub drawn : (v.member place).core.draws < 2 ^ 64 - 1
+  pub goes_on : GoesOn p v (v.member place) (slice_index v.steps place)
+
+pub record Extends (p : Setting) (v w : View) : Type 0 where
+  pub limit : w.limit ≤ v.limit
+  pub count : length v.steps ≤ length w.steps
+  pub member : (j : ℕ) → j < length v.steps → w.member j ≡ v.member j
+  pub early : (j : ℕ) → j < length v.steps → slice_index w.steps j ≤ slice_index v.steps j
+  pub phased : (j : ℕ) → j < length v.steps
+      → phase p (slice_index w.steps j) ≡ phase p (slice_index v.steps j)
+
+-- what the code keeps
+abbrev pub view_of : Members → View
+view_of m =
+    record {
+      member = state_at m.base m.states.items;
+      steps = m.steps.items;
+      limit = m.limit;
+    }
+
+pub record Holds (p : Setting) (m : Members) : Type 0 where
+  pub states : length m.states.items ≡ length m.steps.items
+  pub closed : length m.closed.items ≡ length m.steps.items
+  pub taken : (j : ℕ) → slice_index_or m.closed.items j false ≡ true → IsTaken p (view_of m) j
+
+-- what a call keeps, and adds to
+pub record Goes (p : Setting) (m n : Members) : Type 0 where
+  pub holds : Holds p n
+  pub start : n.start ≡ m.start
+  pub extends : Extends p (view_of m) (view_of n)
+
+-- with each of the allowed keys down the next step of a state acts as with one of some choices
+pub record HasChoices (p : Setting) (s : State) (choices : ℕ) : Type 0 where
+  pub drawn : s.core.draws < 2 ^ 64 - 1
+  pub few : choices < 2 ^ 16
+  pub all : Represents p.allowed choices s
+
+-- the place holds a state like this one, with the ticks as at this step
+pub record IsAt (p : Setting) (m : Members) (place : ℕ) (s : State) (t : ℕ) : Type 0 where
+  pub kept : place < length m.steps.items
+  pub phased : phase p (slice_index m.steps.items place) ≡ phase p t
+  pub alike : relevant ((view_of m).member place) ≡ relevant s
+
+-- why some steps in a row ended at a state
+abbrev pub IsEnd : Setting → ℕ → State → ℕ → End → Type 0
+IsEnd p limit s t Past = limit ≤ t
+IsEnd p limit s t Wanted = Unit {0}
+IsEnd p limit s t TimerSet = Unit {0}
+IsEnd p limit s t Halted = IsFine p s × (is_some s.core.stopped ≡ true)
+IsEnd p limit s t Joined = IsFine p s
+
+-- what a run under some events shows
+pub record Confirms (p : Setting) (start : State) (keys : Events) (step : ℕ) : Type 0 where
+  pub stops : stops_so p.causes (run step_of p.rate (held keys) start step) ≡ true
+  pub allowed_only : (t : ℕ) → t < step → IsWithin p.allowed (held keys t)

@@ -1,0 +1,43 @@
+-- A state as what it has beside a base.
+-- Source: own.
+--     with_byte       a state with a byte in its memory
+--     with_row        rows of points with one in the place of another
+--     state_of        the state that a base has with the parts, the bytes and the rows of one that
+--                     is kept
+--     nth             the item at a place, if there is one
+--     state_at        the state that is kept at a place, or that of the base where there is none
+use Rattle.std.specs.Prelude.{ℕ, zero, suc, ◌+◌, ◌*◌, ◌^◌, nat_lt, List, [], ◌∷◌, Option, Some, None, fold, length, slice_set, if◌then◌else◌}
+use Rattle.chip_machine.specs.Limits.{MEMORY_BYTES}
+use Rattle.chip_machine.specs.Restored.{with_parts, with_screen}
+use Rattle.chip_machine.specs.State.{State, with_memory}
+use Rattle.chip_explore.specs.declared.kept.Base.{Base}
+use Rattle.chip_explore.specs.declared.kept.BytePatch.{BytePatch}
+use Rattle.chip_explore.specs.declared.kept.Kept.{Kept}
+use Rattle.chip_explore.specs.declared.kept.RowPatch.{RowPatch}
+
+abbrev pub with_byte : State → BytePatch → State
+with_byte s patch =
+    if nat_lt patch.at MEMORY_BYTES then with_memory s (slice_set s.memory patch.at patch.byte)
+    else s
+
+abbrev pub with_row : List ℕ → RowPatch → List ℕ
+with_row rows patch =
+    if nat_lt patch.row (length rows) then slice_set rows patch.row (patch.left * 2 ^ 64 + patch.right)
+    else rows
+
+abbrev pub state_of : Base → Kept → State
+state_of base kept =
+    with_screen (fold with_row base.rows.items kept.rows.items)
+    (fold with_byte (with_parts kept.parts base.machine) kept.bytes.items)
+
+abbrev pub nth : List Kept → ℕ → Option Kept
+nth [] j = None
+nth (kept ∷ rest) zero = Some kept
+nth (kept ∷ rest) (suc j) = nth rest j
+
+abbrev pub state_by : Base → Option Kept → State
+state_by base None = base.machine
+state_by base (Some kept) = state_of base kept
+
+abbrev pub state_at : Base → List Kept → ℕ → State
+state_at base states j = state_by base (nth states j)

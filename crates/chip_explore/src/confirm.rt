@@ -1,0 +1,47 @@
+//! A key script that a search found, run again.
+
+ghost use Rattle.std.specs.Prelude.{◌≡◌, ◌<◌, IfOk, IsTrue};
+ghost use Rattle.chip_explore.specs.Scripts.{keys_of};
+ghost use Rattle.chip_explore.specs.inner.Cover.{Confirms};
+
+use crate::script::KeyEvent;
+use crate::setting::Setting;
+use chip_machine::{Machine, Touch};
+use chip_replay::{KeyFault, Keys};
+use std::alloc::{AllocError, Global};
+
+/// The events as those of a replay.
+pub(crate) fn keys_of(alloc: Global, events: &[KeyEvent]) -> Result<Keys, KeyFault>
+    ensures { IfOk result (λ keys. keys ≡ keys_of events.now) }
+{
+    let mut keys = Keys::new(alloc);
+    for event in events {
+        keys.insert(event.step, event.key, event.down)?;
+    }
+    Ok(keys)
+}
+
+/// Whether under some events the machine has stopped for a wanted cause at a step, with none but
+/// allowed keys down before it.
+pub(crate) fn confirms(
+    start: &Machine,
+    setting: &Setting,
+    keys: &Keys,
+    step: u32,
+) -> Result<bool, AllocError>
+    requires { 0 < setting.now.rate }
+    ensures { IfOk result (λ answer. IsTrue answer
+        → Confirms setting.now start.now keys.now step) }
+{
+    let mut machine = start.copy_of()?;
+    let mut touch = Touch::new();
+    for made in 0..step {
+        let down = keys.held(made);
+        if down & setting.allowed != down {
+            return Ok(false);
+        }
+        let number = u64::from(made) + 1;
+        machine.step(down, number % u64::from(setting.rate) == 0, &mut touch);
+    }
+    Ok(setting.causes.stops(&machine))
+}

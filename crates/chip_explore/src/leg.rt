@@ -1,0 +1,106 @@
+//! Some steps in a row that don't tell keys apart.
+
+ghost use Rattle.std.specs.Prelude.{◌≡◌, ◌<◌, ◌≤◌, ◌-◌, ◌^◌, IfOk, IfSome, IsNone};
+ghost use Rattle.chip_explore.specs.inner.Cover.{IsEnd, Moves, Safe, View};
+
+use crate::limits::MOST_QUIET_STEPS;
+use crate::setting::Setting;
+use chip_machine::{Machine, Touch};
+use std::alloc::{AllocError, Global};
+
+/// Why some steps in a row ended.
+#[derive(Clone, Copy)]
+pub(crate) enum End {
+    /// The limit is met.
+    Past,
+    /// The machine has stopped for a wanted cause.
+    Wanted,
+    /// The delay timer is above 0, where the timers are free.
+    TimerSet,
+    /// The machine has stopped for another cause.
+    Halted,
+    /// The next step can tell keys apart, or the steps are many.
+    Joined,
+}
+
+/// Where some steps in a row ended, and why.
+#[derive(Clone, Copy)]
+pub(crate) struct Leg {
+    pub(crate) step: u64,
+    pub(crate) end: End,
+}
+
+/// A machine that runs.
+#[derive(Drop)]
+pub(crate) struct Runner {
+    pub(crate) machine: Machine,
+    pub(crate) touch: Touch,
+    /// Room for the rows of a screen.
+    pub(crate) rows: Vec<u128>,
+}
+
+impl Runner {
+    /// A machine in the state of another.
+    pub(crate) fn new(alloc: Global, machine: &Machine) -> Result<Runner, AllocError>
+        ensures { IfOk result (λ runner. runner.machine ≡ machine.now) }
+    {
+        let machine = machine.copy_of()?;
+        Ok(Runner {
+            machine,
+            touch: Touch::new(),
+            rows: Vec::new(alloc),
+        })
+    }
+
+    /// Makes steps from a step on up to the limit, to a stop, or to a state whose next step can
+    /// tell keys apart.
+    pub(crate) fn run(&mut self, setting: &Setting, limit: u64, from: u64) -> Leg
+        requires rate { 0 < setting.now.rate }
+        ensures path { (v : View) → Safe setting.now v self.new.machine result.step
+            → Safe setting.now v self.old.machine from }
+        ensures end { IsEnd setting.now limit self.new.machine result.step result.end }
+    {
+        let mut step = from;
+        let mut left = MOST_QUIET_STEPS;
+        loop {
+            match self.end(setting, limit, step, left) {
+                Some(end) => return Leg { step, end },
+                None => {
+                    self.machine.step(0, setting.tick_at(step), &mut self.touch);
+                    step += 1;
+                    left -= 1;
+                }
+            }
+        }
+    }
+
+    /// Why the steps in a row end at a step, if they do.
+    fn end(&mut self, setting: &Setting, limit: u64, step: u64, left: u32) -> Option<End>
+        ensures same { self.new.machine ≡ self.old.machine }
+        ensures some { IfSome result (λ end. IsEnd setting.now limit self.old.machine step end) }
+        ensures moves { IsNone result → Moves setting.now self.old.machine }
+        ensures below { IsNone result → step < limit }
+        ensures left { IsNone result → 0 < left }
+    {
+        if step >= limit {
+            return Some(End::Past);
+        }
+        if setting.causes.stops(&self.machine) {
+            return Some(End::Wanted);
+        }
+        if setting.free && self.machine.delay() != 0 {
+            return Some(End::TimerSet);
+        }
+        if self.machine.stopped().is_some() {
+            return Some(End::Halted);
+        }
+        if left == 0 || self.machine.draws() == u64::MAX {
+            return Some(End::Joined);
+        }
+        if self.machine.key_choices(setting.allowed) == 0 {
+            None
+        } else {
+            Some(End::Joined)
+        }
+    }
+}

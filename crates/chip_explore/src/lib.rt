@@ -1,0 +1,25 @@
+//! A search over all key scripts: events of the keys under which a machine stops for a wanted cause,
+//! or that none do.
+#![tactic(auto)]
+
+mod causes;
+mod confirm;
+mod finder;
+mod kept;
+mod keys;
+mod leg;
+mod limits;
+mod members;
+mod question;
+mod script;
+mod search;
+mod setting;
+mod sum;
+#[cfg(test)]
+mod tests;
+
+
+pub use causes::Causes;
+pub use question::{Bounds, Explored, Outcome, Question, explore};
+pub use limits::END;
+pub use script::KeyEvent;

@@ -1,0 +1,7 @@
+//! The limits of a search, each with its one name.
+
+/// The step below which a search speaks of: the count of the draws is exact up to it.
+pub const END: u64 = u64::MAX;
+
+/// How many steps that don't tell keys apart are made in a row before their state is kept.
+pub(crate) const MOST_QUIET_STEPS: u32 = 1_000;

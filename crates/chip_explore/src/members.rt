@@ -1,0 +1,183 @@
+//! The states that a search keeps.
+
+ghost use Rattle.std.specs.Prelude.{◌≡◌, ◌<◌, ◌≤◌, ◌+◌, ◌-◌, ◌^◌, [], ℕ, length, slice_index, slice_index_or, OnOk, IfOk, IsTrue, true, false, is_some};
+ghost use Rattle.chip_explore.specs.inner.Kept.{state_at};
+ghost use Rattle.chip_explore.specs.inner.Cover.{phase, view_of, Holds, Goes, IsAt, IsTaken, Joins};
+
+use crate::kept::{Base, Kept};
+use crate::setting::Setting;
+use chip_machine::Machine;
+use std::alloc::{AllocError, Global};
+
+/// The states that are kept, each with the least step at which it was reached, and which of them
+/// were taken up.
+#[derive(Drop)]
+pub(crate) struct Members {
+    pub(crate) start: Machine,
+    /// What the states are kept against.
+    pub(crate) base: Base,
+    pub(crate) states: Vec<Kept>,
+    pub(crate) steps: Vec<u64>,
+    pub(crate) closed: Vec<bool>,
+    /// The step below which the search speaks of.
+    pub(crate) limit: u64,
+}
+
+impl Members {
+    /// No state is kept yet.
+    pub(crate) fn new(alloc: Global, start: &Machine, base: Base) -> Result<Members, AllocError>
+        ensures start { IfOk result (λ members. members.start ≡ start.now) }
+        ensures limit { IfOk result (λ members. members.limit ≡ 2 ^ 64 - 1) }
+        ensures empty { IfOk result (λ members. members.steps.items ≡ []) }
+        ensures none_closed { IfOk result (λ members. members.closed.items ≡ []) }
+        ensures no_states { IfOk result (λ members. members.states.items ≡ []) }
+    {
+        let start = start.copy_of()?;
+        Ok(Members {
+            start,
+            base,
+            states: Vec::new(alloc),
+            steps: Vec::new(alloc),
+            closed: Vec::new(alloc),
+            limit: u64::MAX,
+        })
+    }
+
+    /// Gives a machine the state of a place: the answer is whether that was possible. The rows are
+    /// room for those of the screen.
+    pub(crate) fn load(
+        &self,
+        place: usize,
+        machine: &mut Machine,
+        rows: &mut Vec<u128>,
+    ) -> Result<bool, AllocError>
+        requires { place < length self.now.states.items }
+        ensures { IfOk result (λ answer. IsTrue answer
+            → machine.new ≡ state_at self.now.base self.now.states.items place) }
+    {
+        self.states[place].load(&self.base, machine, rows)
+    }
+
+    /// The least step at which the state of a place was reached.
+    pub(crate) fn step(&self, place: usize) -> u64
+        requires { place < length self.now.steps.items }
+        ensures { result ≡ slice_index self.now.steps.items place }
+    {
+        self.steps[place]
+    }
+
+    /// Whether a place holds a state that was reached at a step and is to be taken up.
+    pub(crate) fn is_open(&self, place: usize, step: u64) -> bool
+        ensures { IsTrue result → place < length self.now.steps.items }
+    {
+        place < self.steps.len()
+            && place < self.closed.len()
+            && self.steps[place] == step
+            && !self.closed[place]
+    }
+
+    /// Whether a place holds a state like this one, with the ticks as at a step: true only where it
+    /// does. The probe is room for the state.
+    pub(crate) fn is_at(
+        &self,
+        setting: &Setting,
+        place: usize,
+        machine: &Machine,
+        step: u64,
+        probe: &mut Base,
+    ) -> Result<bool, AllocError>
+        requires rate { 0 < setting.now.rate }
+        requires holds { Holds setting.now self.now }
+        ensures { IfOk result (λ answer. IsTrue answer
+            → IsAt setting.now self.now place machine.now step) }
+    {
+        if place >= self.steps.len()
+            || setting.phase(self.steps[place]) != setting.phase(step)
+        {
+            return Ok(false);
+        }
+        if !self.load(place, &mut probe.machine, &mut probe.rows)? {
+            return Ok(false);
+        }
+        Ok(probe.machine.is_alike(machine))
+    }
+
+    /// Keeps a state, which was reached at a step: the answer is whether that was possible. The
+    /// probe is room for the state.
+    pub(crate) fn add(
+        &mut self,
+        alloc: Global,
+        setting: &Setting,
+        machine: &Machine,
+        step: u64,
+        probe: &mut Base,
+    ) -> Result<bool, AllocError>
+        requires { Holds setting.now self.old }
+        ensures goes { OnOk result (Goes setting.now self.old self.new) }
+        ensures joins { IfOk result (λ answer. IsTrue answer
+            → Joins setting.now (view_of self.new) machine.now step) }
+    {
+        let kept = Kept::of(alloc, &self.base, machine)?;
+        let is_same = kept.is_of(&self.base, machine, probe)?;
+        if !is_same {
+            return Ok(false);
+        }
+        self.states.push(kept)?;
+        self.closed.push(false)?;
+        self.steps.push(step)?;
+        Ok(true)
+    }
+
+    /// Notes that a state was reached at an earlier step, so that it is to be taken up again.
+    pub(crate) fn lower(&mut self, setting: &Setting, place: usize, step: u64)
+        requires holds { Holds setting.now self.old }
+        requires kept { place < length self.old.steps.items }
+        requires early { step ≤ slice_index self.old.steps.items place }
+        requires phased { phase setting.now (slice_index self.old.steps.items place)
+            ≡ phase setting.now step }
+        ensures goes { Goes setting.now self.old self.new }
+        ensures step { slice_index self.new.steps.items place ≡ step }
+    {
+        self.closed[place] = false;
+        self.steps[place] = step;
+    }
+
+    /// Notes that a state was taken up.
+    pub(crate) fn close(&mut self, setting: &Setting, place: usize)
+        requires holds { Holds setting.now self.old }
+        requires kept { place < length self.old.steps.items }
+        requires taken { IsTaken setting.now (view_of self.old) place }
+        ensures { Goes setting.now self.old self.new }
+    {
+        self.closed[place] = true;
+    }
+
+    /// Speaks of the steps below a limit alone.
+    pub(crate) fn lower_limit(&mut self, setting: &Setting, limit: u64)
+        requires holds { Holds setting.now self.old }
+        ensures goes { Goes setting.now self.old self.new }
+        ensures limit { self.new.limit ≤ limit }
+    {
+        let least = self.limit.min(limit);
+        self.limit = least;
+    }
+
+    /// The last step up to which all states were taken up.
+    pub(crate) fn covered(&self) -> u64
+        requires { 0 < self.now.limit }
+        ensures below { result < self.now.limit }
+        ensures end { result < 2 ^ 64 - 1 }
+        ensures closed { (j : ℕ) → j < length self.now.steps.items
+            → slice_index self.now.steps.items j < result
+            → slice_index_or self.now.closed.items j false ≡ true }
+    {
+        let mut covered = self.limit - 1;
+        for place in 0..self.steps.len() {
+            let is_closed = place < self.closed.len() && self.closed[place];
+            if !is_closed && self.steps[place] < covered {
+                covered = self.steps[place];
+            }
+        }
+        covered
+    }
+}

@@ -1,0 +1,235 @@
+//! A question about all key scripts, and its answer.
+
+ghost use Rattle.std.specs.Prelude.{◌≡◌, ◌<◌, false, IfOk, IsTrue};
+ghost use Rattle.chip_explore.specs.Answers.{Answers};
+ghost use Rattle.chip_explore.specs.Causes.{stops_so};
+ghost use Rattle.chip_explore.specs.inner.Cover.{view_of, Confirms, Holds, Safe};
+ghost use Rattle.chip_explore.specs.Scripts.{Avoids};
+ghost use Rattle.chip_explore.specs.Scripts as spec;
+
+use crate::causes::Causes;
+use crate::confirm::{confirms, keys_of};
+use crate::kept::Base;
+use crate::finder::{Finder, Origin};
+use crate::leg::Runner;
+use crate::limits::END;
+use crate::members::Members;
+use crate::script::{KeyEvent, script_to};
+use crate::search::Search;
+use crate::setting::Setting;
+use chip_machine::laws::relevant_steps;
+use chip_machine::Machine;
+use chip_replay::{KeyFault, LAST_STEP};
+use std::alloc::{AllocError, Global};
+
+/// Whether any player can make a machine stop for a wanted cause.
+#[derive(Clone, Copy)]
+pub struct Question {
+    /// The timers tick at each step whose number plus 1 is a multiple of it: 1 at least.
+    pub rate: u32,
+    /// The keys that may be down, key k at bit k.
+    pub allowed: u16,
+    /// The causes that are wanted.
+    pub causes: Causes,
+}
+
+/// How far a search goes.
+#[derive(Clone, Copy)]
+pub struct Bounds {
+    /// No state is taken up at this step or a later one.
+    pub steps: u64,
+    /// None is taken up once more than so many are kept.
+    pub states: usize,
+}
+
+/// What a search found.
+#[derive(Drop)]
+pub enum Outcome {
+    /// With these events of the keys, in the order of their steps, the machine has stopped for a
+    /// wanted cause at the step, and with no key script at an earlier one.
+    Found { events: Vec<KeyEvent>, step: u32 },
+    /// With no key script has it at a step up to this one.
+    Within(u64),
+    /// With no key script has it at any step below `END`.
+    Never,
+    /// Memory ran out, and nothing is said.
+    OutOfMemory,
+}
+
+/// What a search found, and how many states it kept.
+#[derive(Drop)]
+pub struct Explored {
+    pub outcome: Outcome,
+    pub states: usize,
+}
+
+/// Whether under some key script, of the allowed keys alone, a machine that has drawn no random
+/// byte yet stops for a wanted cause.
+pub fn explore(
+    alloc: Global,
+    start: &Machine,
+    question: &Question,
+    bounds: &Bounds,
+) -> Explored
+    requires rate { 0 < question.now.rate }
+    requires fresh { start.now.core.draws ≡ 0 }
+    ensures { Answers question.now.rate question.now.allowed question.now.causes start.now
+        result.outcome }
+{
+    match explore_both(alloc, start, question, bounds) {
+        Ok(explored) => explored,
+        Err(_) => Explored {
+            outcome: Outcome::OutOfMemory,
+            states: 0,
+        },
+    }
+}
+
+/// With the timers free first, and anew where a step set the delay timer.
+fn explore_both(
+    alloc: Global,
+    start: &Machine,
+    question: &Question,
+    bounds: &Bounds,
+) -> Result<Explored, AllocError>
+    requires rate { 0 < question.now.rate }
+    requires fresh { start.now.core.draws ≡ 0 }
+    ensures { IfOk result (λ explored. Answers question.now.rate question.now.allowed
+        question.now.causes start.now explored.outcome) }
+{
+    if question.causes.stops(start) {
+        let events = Vec::new(alloc);
+        let outcome = Outcome::Found { events, step: 0 };
+        return Ok(Explored { outcome, states: 0 });
+    }
+    let mut setting = Setting {
+        rate: question.rate,
+        allowed: question.allowed,
+        causes: question.causes,
+        free: true,
+    };
+    let first = search_once(alloc, start, &setting, bounds)?;
+    if !first.is_timer_set {
+        return Ok(first.explored);
+    }
+    setting.free = false;
+    let second = search_once(alloc, start, &setting, bounds)?;
+    Ok(second.explored)
+}
+
+/// What one search found.
+#[derive(Drop)]
+struct Attempt {
+    explored: Explored,
+    /// A step set the delay timer where the timers were free, so another may find more.
+    is_timer_set: bool,
+}
+
+/// The first state whose next step can tell keys apart, from which others differ in little.
+fn base_for(alloc: Global, start: &Machine, setting: &Setting) -> Result<Base, AllocError>
+    requires { 0 < setting.now.rate }
+{
+    let mut runner = Runner::new(alloc, start)?;
+    let _leg = runner.run(setting, u64::MAX, 0);
+    Base::of(alloc, &runner.machine)
+}
+
+/// One search.
+fn search_once(
+    alloc: Global,
+    start: &Machine,
+    setting: &Setting,
+    bounds: &Bounds,
+) -> Result<Attempt, AllocError>
+    requires rate { 0 < setting.now.rate }
+    requires fresh { start.now.core.draws ≡ 0 }
+    requires going { stops_so setting.now.causes start.now ≡ false }
+    ensures { IfOk result (λ attempt. Answers setting.now.rate setting.now.allowed
+        setting.now.causes start.now attempt.explored.outcome) }
+{
+    let mut search = Search {
+        alloc,
+        members: Members::new(alloc, start, base_for(alloc, start, setting)?)?,
+        runner: Runner::new(alloc, start)?,
+        finder: Finder::new(alloc),
+        probe: Base::of(alloc, start)?,
+    };
+    search.run_on(setting, 0, Origin::START)?;
+    search.run(setting, bounds.steps, bounds.states)?;
+    let explored = Explored {
+        outcome: outcome_of(alloc, setting, &search.members, &search.finder)?,
+        states: search.members.steps.len(),
+    };
+    Ok(Attempt {
+        explored,
+        is_timer_set: search.finder.is_timer_set,
+    })
+}
+
+/// A step up to which no key script makes the machine stop for a wanted cause.
+fn covered_by(setting: &Setting, members: &Members) -> u64
+    requires positive { 0 < members.now.limit }
+    requires fresh { members.now.start.core.draws ≡ 0 }
+    requires holds { Holds setting.now members.now }
+    requires begun { Safe setting.now (view_of members.now) members.now.start 0 }
+    ensures below { result < members.now.limit }
+    ensures avoids { Avoids setting.now.rate setting.now.allowed setting.now.causes
+        members.now.start result }
+{
+    relevant_steps();
+    members.covered()
+}
+
+/// What the states that were kept say.
+fn outcome_of(
+    alloc: Global,
+    setting: &Setting,
+    members: &Members,
+    finder: &Finder,
+) -> Result<Outcome, AllocError>
+    requires rate { 0 < setting.now.rate }
+    requires fresh { members.now.start.core.draws ≡ 0 }
+    requires going { stops_so setting.now.causes members.now.start ≡ false }
+    requires holds { Holds setting.now members.now }
+    requires begun { Safe setting.now (view_of members.now) members.now.start 0 }
+    ensures { IfOk result (λ outcome. Answers setting.now.rate setting.now.allowed
+        setting.now.causes members.now.start outcome) }
+{
+    if members.limit == 0 {
+        return Ok(Outcome::Within(0));
+    }
+    let covered = covered_by(setting, members);
+    if covered + 1 == END {
+        return Ok(Outcome::Never);
+    }
+    if let Some(origin) = finder.hit
+        && covered + 1 == members.limit
+        && members.limit <= u64::from(LAST_STEP)
+    {
+        let step = members.limit as u32;
+        let events = script_to(alloc, members, finder, origin)?;
+        if is_script(alloc, setting, members, &events, step)? {
+            return Ok(Outcome::Found { events, step });
+        }
+    }
+    Ok(Outcome::Within(covered))
+}
+
+/// Whether the machine has stopped for a wanted cause at a step, with these events.
+fn is_script(
+    alloc: Global,
+    setting: &Setting,
+    members: &Members,
+    events: &[KeyEvent],
+    step: u32,
+) -> Result<bool, AllocError>
+    requires { 0 < setting.now.rate }
+    ensures { IfOk result (λ answer. IsTrue answer → Confirms setting.now members.now.start
+        (spec.keys_of events.now) step) }
+{
+    match keys_of(alloc, events) {
+        Ok(keys) => confirms(&members.start, setting, &keys, step),
+        Err(KeyFault::OutOfMemory) => Err(AllocError),
+        Err(_) => Ok(false),
+    }
+}

@@ -1,0 +1,93 @@
+//! A key script as events.
+
+use crate::finder::{Finder, Origin};
+use crate::members::Members;
+use chip_replay::KEYS;
+use std::alloc::{AllocError, Global};
+
+/// A key goes down, or up, at a step.
+#[derive(Clone, Copy)]
+pub struct KeyEvent {
+    pub step: u32,
+    /// 0 to 15.
+    pub key: u32,
+    pub down: bool,
+}
+
+/// A step with some keys down.
+#[derive(Clone, Copy)]
+struct Press {
+    step: u64,
+    keys: u16,
+}
+
+/// The steps with some keys down on the way to a state that was reached so, the last first.
+fn presses(
+    alloc: Global,
+    members: &Members,
+    finder: &Finder,
+    last: Origin,
+) -> Result<Vec<Press>, AllocError> {
+    let mut presses = Vec::new(alloc);
+    let mut origin = last;
+    for _state in 0..=members.steps.len() {
+        let Some(parent) = origin.parent else {
+            return Ok(presses);
+        };
+        if parent >= members.steps.len() || parent >= finder.origins.len() {
+            return Ok(presses);
+        }
+        if origin.keys != 0 {
+            presses.push(Press {
+                step: members.steps[parent],
+                keys: origin.keys,
+            })?;
+        }
+        origin = finder.origins[parent];
+    }
+    Ok(presses)
+}
+
+/// Adds the events of a press: its keys go down, and up one step later, but a key that goes up at
+/// this very step stays down in place of that.
+fn push_press(events: &mut Vec<KeyEvent>, press: Press) -> Result<(), AllocError> {
+    let step = (press.step % (1 << 32)) as u32;
+    for key in 0..KEYS {
+        if press.keys >> key & 1 == 1 {
+            let holds_on = match events.last() {
+                Some(event) => event.step == step && event.key == key,
+                None => false,
+            };
+            if holds_on {
+                let _up = events.pop();
+            } else {
+                events.push(KeyEvent {
+                    step,
+                    key,
+                    down: true,
+                })?;
+            }
+            events.push(KeyEvent {
+                step: step.wrapping_add(1),
+                key,
+                down: false,
+            })?;
+        }
+    }
+    Ok(())
+}
+
+/// The events of the keys on the way to a state that was reached so.
+pub(crate) fn script_to(
+    alloc: Global,
+    members: &Members,
+    finder: &Finder,
+    last: Origin,
+) -> Result<Vec<KeyEvent>, AllocError> {
+    let presses = presses(alloc, members, finder, last)?;
+    let mut events = Vec::new(alloc);
+    for press in presses.iter().rev() {
+        push_press(&mut events, *press)?;
+    }
+    Ok(events)
+}

@@ -1,0 +1,210 @@
+//! The search.
+
+ghost use Rattle.std.specs.Prelude.{◌≡◌, ◌<◌, ◌≤◌, ◌+◌, ◌-◌, ◌^◌, ℕ, length, IfOk, IfSome, OnOk, true};
+ghost use Rattle.chip_machine.specs.Step.{step_of};
+ghost use Rattle.chip_machine.specs.Step as spec;
+ghost use Rattle.chip_explore.specs.inner.Cover.{tick_at, view_of, Holds, HasChoices, Goes, IsFine, Safe};
+
+use crate::finder::{Finder, Origin, Turn};
+use crate::kept::Base;
+use crate::keys::{alone, is_down};
+use crate::leg::{End, Runner};
+use crate::members::Members;
+use crate::setting::Setting;
+use crate::sum::sum_of;
+use std::alloc::{AllocError, Global};
+
+/// A search under way.
+#[derive(Drop)]
+pub(crate) struct Search {
+    pub(crate) alloc: Global,
+    pub(crate) members: Members,
+    pub(crate) runner: Runner,
+    pub(crate) finder: Finder,
+    /// Room for a state.
+    pub(crate) probe: Base,
+}
+
+impl Search {
+    /// Keeps the state that the runner has at a step, unless one like it is kept.
+    fn join(&mut self, setting: &Setting, step: u64, origin: Origin) -> Result<(), AllocError>
+        requires rate { 0 < setting.now.rate }
+        requires holds { Holds setting.now self.old.members }
+        requires fine { IsFine setting.now self.old.runner.machine }
+        ensures goes { OnOk result (Goes setting.now self.old.members self.new.members) }
+        ensures safe { OnOk result (Safe setting.now (view_of self.new.members)
+            self.old.runner.machine step) }
+    {
+        let machine = &self.runner.machine;
+        let sum = sum_of(machine, setting.phase(step));
+        if let Some(place) = self.finder.place(sum)
+            && self.members.is_at(setting, place, machine, step, &mut self.probe)?
+        {
+            if step < self.members.step(place) {
+                self.members.lower(setting, place, step);
+                self.finder.note_earlier(Turn { step, place }, origin)?;
+            }
+            return Ok(());
+        }
+        let place = self.members.steps.len();
+        if !self.members.add(self.alloc, setting, machine, step, &mut self.probe)? {
+            self.members.lower_limit(setting, step);
+            return Ok(());
+        }
+        self.finder.note(sum, Turn { step, place }, origin)
+    }
+
+    /// Lets the runner make steps from a step on, and keeps the state in which they end.
+    pub(crate) fn run_on(
+        &mut self,
+        setting: &Setting,
+        from: u64,
+        origin: Origin,
+    ) -> Result<(), AllocError>
+        requires rate { 0 < setting.now.rate }
+        requires holds { Holds setting.now self.old.members }
+        ensures goes { OnOk result (Goes setting.now self.old.members self.new.members) }
+        ensures safe { OnOk result (Safe setting.now (view_of self.new.members)
+            self.old.runner.machine from) }
+    {
+        let leg = self.runner.run(setting, self.members.limit, from);
+        match leg.end {
+            End::Past => {}
+            End::Wanted => {
+                self.members.lower_limit(setting, leg.step);
+                self.finder.hit = Some(origin);
+            }
+            End::TimerSet => {
+                self.members.lower_limit(setting, leg.step);
+                self.finder.is_timer_set = true;
+            }
+            End::Halted => {}
+            End::Joined => self.join(setting, leg.step, origin)?,
+        }
+        Ok(())
+    }
+
+    /// Makes the step of a state with these keys down, and goes on from there.
+    fn follow(
+        &mut self,
+        setting: &Setting,
+        place: usize,
+        step: u64,
+        keys: u16,
+    ) -> Result<(), AllocError>
+        requires rate { 0 < setting.now.rate }
+        requires holds { Holds setting.now self.old.members }
+        requires kept { place < length self.old.members.steps.items }
+        requires in_range { step < 2 ^ 64 - 1 }
+        ensures goes { OnOk result (Goes setting.now self.old.members self.new.members) }
+        ensures safe { OnOk result (Safe setting.now (view_of self.new.members)
+            (step_of ((view_of self.old.members).member place) keys (tick_at setting.now step))
+            (step + 1)) }
+    {
+        let runner = &mut self.runner;
+        if !self.members.load(place, &mut runner.machine, &mut runner.rows)? {
+            self.members.lower_limit(setting, step);
+            return Ok(());
+        }
+        runner.machine.step(keys, setting.tick_at(step), &mut runner.touch);
+        let parent = Some(place);
+        self.run_on(setting, step + 1, Origin { parent, keys })
+    }
+
+    /// Makes the step of a state with each of these keys down alone, and goes on from there.
+    fn follow_each(
+        &mut self,
+        setting: &Setting,
+        place: usize,
+        step: u64,
+        choices: u16,
+    ) -> Result<(), AllocError>
+        requires rate { 0 < setting.now.rate }
+        requires holds { Holds setting.now self.old.members }
+        requires kept { place < length self.old.members.steps.items }
+        requires in_range { step < 2 ^ 64 - 1 }
+        ensures goes { OnOk result (Goes setting.now self.old.members self.new.members) }
+        ensures safe { OnOk result ((key : ℕ) → key < 16 → spec.is_down choices key ≡ true
+            → Safe setting.now (view_of self.new.members)
+            (step_of ((view_of self.old.members).member place) (2 ^ key)
+            (tick_at setting.now step)) (step + 1)) }
+    {
+        for key in 0..16u32 {
+            if is_down(choices, key) {
+                self.follow(setting, place, step, alone(key))?;
+            }
+        }
+        Ok(())
+    }
+
+    /// Which keys the next step of a state can tell apart, unless it is not loaded, or has drawn as
+    /// many random bytes as are counted.
+    fn choices(&mut self, setting: &Setting, place: usize) -> Result<Option<u16>, AllocError>
+        requires holds { Holds setting.now self.old.members }
+        requires kept { place < length self.old.members.steps.items }
+        ensures same { self.new.members ≡ self.old.members }
+        ensures choices { IfOk result (λ answer. IfSome answer
+            (λ choices. HasChoices setting.now ((view_of self.old.members).member place)
+            choices)) }
+    {
+        let runner = &mut self.runner;
+        if !self.members.load(place, &mut runner.machine, &mut runner.rows)?
+            || runner.machine.draws() == u64::MAX
+        {
+            return Ok(None);
+        }
+        Ok(Some(runner.machine.key_choices(setting.allowed)))
+    }
+
+    /// Makes the next step of a state with each choice of keys, unless the limit is met.
+    pub(crate) fn take_up(&mut self, setting: &Setting, place: usize) -> Result<(), AllocError>
+        requires rate { 0 < setting.now.rate }
+        requires holds { Holds setting.now self.old.members }
+        requires kept { place < length self.old.members.steps.items }
+        ensures { OnOk result (Goes setting.now self.old.members self.new.members) }
+    {
+        let step = self.members.step(place);
+        if step >= self.members.limit {
+            return Ok(());
+        }
+        let Some(choices) = self.choices(setting, place)? else {
+            self.members.lower_limit(setting, step);
+            return Ok(());
+        };
+        self.follow(setting, place, step, 0)?;
+        self.follow_each(setting, place, step, choices)?;
+        if self.members.step(place) == step {
+            self.members.close(setting, place);
+        }
+        Ok(())
+    }
+
+    /// Takes up states, by the least step, until none is left, or the limits are met.
+    pub(crate) fn run(
+        &mut self,
+        setting: &Setting,
+        most_steps: u64,
+        most_states: usize,
+    ) -> Result<(), AllocError>
+        requires rate { 0 < setting.now.rate }
+        requires holds { Holds setting.now self.old.members }
+        ensures { OnOk result (Goes setting.now self.old.members self.new.members) }
+    {
+        for _turn in 0..u64::MAX {
+            let Some(turn) = self.finder.next() else {
+                return Ok(());
+            };
+            let place = turn.place;
+            if self.finder.is_timer_set || self.members.states.len() > most_states {
+                return Ok(());
+            }
+            if turn.step >= self.members.limit || turn.step >= most_steps {
+                return Ok(());
+            }
+            if self.members.is_open(place, turn.step) {
+                self.take_up(setting, place)?;
+            }
+        }
+        Ok(())
+    }
+}

@@ -1,0 +1,20 @@
+-- Which keys the next step can tell apart.
+-- Source: own.
+--     IsWithin         a mask has no key but the allowed ones
+--     IsChoice         a mask with no key, or with one of some keys alone
+--     Represents       each mask within the allowed keys acts in the next step as a choice of some
+--                      keys does
+use Rattle.std.specs.Prelude.{◌≡◌, ℕ, ◌^◌, ◌⊎◌, Bool, true, bit_and}
+use Rattle.chip_machine.specs.State.{State}
+use Rattle.chip_machine.specs.Step.{is_down, step_of}
+
+abbrev pub IsWithin : ℕ → ℕ → Type 0
+IsWithin allowed keys = bit_and keys allowed ≡ keys
+
+abbrev pub IsChoice : ℕ → ℕ → Type 0
+IsChoice some keys = (keys ≡ 0) ⊎ ((k : ℕ) × (is_down some k ≡ true) × (keys ≡ 2 ^ k))
+
+abbrev pub Represents : ℕ → ℕ → State → Type 0
+Represents allowed some s =
+    (keys : ℕ) → IsWithin allowed keys →
+    (one : ℕ) × IsChoice some one × ((tick : Bool) → step_of s keys tick ≡ step_of s one tick)

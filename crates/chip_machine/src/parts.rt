@@ -1,0 +1,20 @@
+//! What a machine has beside its memory, its screen, its tape and its profile.
+
+use crate::limits::{FLAGS, FRAMES};
+
+/// The registers, the frames, the delay timer and the place on the tape of a machine that has not
+/// stopped, as data.
+#[derive(Clone, Copy)]
+pub struct Parts {
+    pub registers: [u8; 16],
+    pub index: u16,
+    pub pc: u16,
+    /// The first `depth` of them are open.
+    pub frames: [u16; FRAMES],
+    pub depth: u8,
+    pub delay: u8,
+    pub flags: [u8; FLAGS],
+    /// How many random bytes were drawn.
+    pub draws: u16,
+    pub high: bool,
+}
