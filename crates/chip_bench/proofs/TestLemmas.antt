@@ -1,5 +1,5 @@
 -- The cases of files: the answers of a case, and whether all pass.
-use Rattle.std.proofs.Common.{◌≡◌, ◌≢◌, ◌⊎◌, inl, inr, ℕ, suc, ◌+◌, ◌<◌, ◌≤◌, ◌==◌, ◌&&◌, Bool, true, false, List, [], ◌∷◌, drop, length, map, get_or, Option, Some, None, refl, sym, ap, ◌∙◌, subst, arith, add-one, drop-cons, eqb-true}
+use Rattle.std.proofs.Common.{◌≡◌, ◌≢◌, ◌⊎◌, inl, inr, ℕ, zero, suc, ◌+◌, ◌<◌, ◌≤◌, ◌==◌, ◌&&◌, Bool, true, false, List, [], ◌∷◌, drop, length, map, get_or, Option, Some, None, Result, Ok, Err, IfOk, refl, sym, ap, ◌∙◌, subst, arith, add-one, drop-cons, eqb-true}
 use Rattle.std.specs.Prelude.{◌↔◌, IsTrue}
 use Rattle.std.proofs.lemmas.List.{drop_all, get_or-map, length-map}
 use Rattle.chip_asm.specs.Lines.{open_fault}
@@ -12,13 +12,11 @@ use Rattle.chip_cases.specs.declared.update.Given.{Given}
 use Rattle.chip_bench.specs.KeyFile.{IsKeyFault, key_fault, session_under}
 use Rattle.chip_bench.specs.Session.{Session, session_of}
 use Rattle.chip_bench.specs.Settings.{SessionSettings}
-use Rattle.chip_bench.specs.Testing.{CasePasses, JudgesAll, Passes, PassesUnder}
+use Rattle.chip_bench.specs.Testing.{CasePasses, JudgesAll, Passes, PassesUnder, has_passed}
 use Rattle.chip_bench.specs.Transcript.{after, reply}
+use Rattle.chip_bench.specs.declared.case_run.Verdict.{Verdict}
 
 module _ (start : Session) (steps : List Step) where
-  all : List Expectation
-  all = map expectation_of steps
-
   -- the answers so far are as expected just where all are that are left
   pub record PassesSoFar (session : Session) (place : ℕ) (others : List Given) : Type 0 where
     pub same : Passes start (map expectation_of steps) ↔ ((others ≡ []) × Passes session (drop place (map expectation_of steps)))
@@ -85,11 +83,24 @@ passes_case settings source keys steps session passes opens is same =
     (λ e. record { opens = opens; passes = subst (λ s. PassesUnder s keys steps) is (same.0 e) },
     λ p. same.1 (subst (λ s. PassesUnder s keys steps) (sym is) p.passes))
 
-pub passes_not_case : (settings : SessionSettings) (source keys : List ℕ) (steps : List Expectation) (fault : OpenError) → fault ≢ unopened.OutOfMemory
+pub passes_case_if_ok : {E : Type 0} (settings : SessionSettings) (source keys : List ℕ) (steps : List Expectation) (session : Session) (result : Result Verdict E)
+    → open_fault source ≡ None → session ≡ session_of settings source → IfOk result (λ verdict. IsTrue (has_passed verdict) ↔ PassesUnder session keys steps)
+    → IfOk result (λ verdict. IsTrue (has_passed verdict) ↔ CasePasses settings source keys steps)
+passes_case_if_ok settings source keys steps session (Ok verdict) opens is same = passes_case settings source keys steps session (has_passed verdict) opens is same
+passes_case_if_ok settings source keys steps session (Err e) opens is same = tt
+
+not_case : (settings : SessionSettings) (source keys : List ℕ) (steps : List Expectation) (fault : OpenError) → fault ≢ unopened.OutOfMemory
     → (fault ≡ unopened.OutOfMemory) ⊎ (open_fault source ≡ Some fault) → (false ≡ true) ↔ CasePasses settings source keys steps
-passes_not_case settings source keys steps fault other (inl memory) = absurd (other memory)
-passes_not_case settings source keys steps fault other (inr is) =
+not_case settings source keys steps fault other (inl memory) = absurd (other memory)
+not_case settings source keys steps fault other (inr is) =
     (λ no. absurd (let n : false ≡ true = no in cc), λ p. absurd (let n : Some fault ≡ None = sym is ∙ p.opens in cc))
+
+pub passes_not_case : {E : Type 0} (settings : SessionSettings) (source keys : List ℕ) (steps : List Expectation) (fault : OpenError) (result : Result Verdict E)
+    → IfOk result (λ verdict. (has_passed verdict ≡ false) × (fault ≢ unopened.OutOfMemory)) → (fault ≡ unopened.OutOfMemory) ⊎ (open_fault source ≡ Some fault)
+    → IfOk result (λ verdict. IsTrue (has_passed verdict) ↔ CasePasses settings source keys steps)
+passes_not_case settings source keys steps fault (Ok verdict) given opens =
+    subst (λ b. (b ≡ true) ↔ CasePasses settings source keys steps) (sym given.0) (not_case settings source keys steps fault given.1 opens)
+passes_not_case settings source keys steps fault (Err e) given opens = tt
 
 module _ {A : Type 0} (Judges : A → Bool → Type 0) (xs : List A) where
   -- whether all of them pass, by whether those do that are left
@@ -118,3 +129,16 @@ module _ {A : Type 0} (Judges : A → Bool → Type 0) (xs : List A) where
       and_true : (b : Bool) → (b && true) ≡ b
       and_true true = refl
       and_true false = refl
+
+  left_over : (ys : List A) (place : ℕ) → place < length ys → (y : A) × (drop place ys ≡ y ∷ drop (suc place) ys)
+  left_over [] place h = absurd (omega arith)
+  left_over (y ∷ ys) zero h = (y, refl)
+  left_over (y ∷ ys) (suc place) h = left_over ys place (omega arith)
+
+  -- the same, where what is said of one does not depend on which it is
+  pub judges_any : (place : ℕ) (passes one : Bool) → place < length xs → ((x : A) → Judges x one) → JudgesSoFar place passes → JudgesSoFar (place + 1) (passes && one)
+  judges_any place passes one within judged so_far others left =
+      let first = left_over xs place within in
+      let here : drop place xs ≡ first.0 ∷ drop (place + 1) xs = first.1 ∙ ap (λ n. first.0 ∷ drop n xs) (sym (add-one place)) in
+      subst (JudgesAll Judges xs) (associates passes one others)
+      (so_far (one && others) (subst (λ l. JudgesAll Judges l (one && others)) (sym here) (one, (others, judged first.0, left, refl))))

@@ -152,12 +152,7 @@ fn answer_at(others: &[Given], line: usize) -> Option<&Given> {
 }
 
 // Adds the place of a failure: the file, the line and the case.
-fn push_place(
-    text: &mut Vec<u8>,
-    file: &str,
-    line: usize,
-    name: &[u8],
-) -> Result<(), AllocError> {
+fn push_place(text: &mut Vec<u8>, file: &str, line: usize, name: &[u8]) -> Result<(), AllocError> {
     text.extend_from_slice(file.as_bytes())?;
     text.push(b':')?;
     push_number(text, line as u64)?;

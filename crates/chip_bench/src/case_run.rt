@@ -1,5 +1,5 @@
 //! A case that is carried out: the answers of its session, beside those that are expected.
-ghost use Rattle.std.specs.Prelude.{◌≡◌, ◌↔◌, [], IsTrue, IfOk, OnOk, map};
+ghost use Rattle.std.specs.Prelude.{◌≡◌, ◌≢◌, ◌↔◌, false, [], IsTrue, IfOk, OnOk, map};
 ghost use Rattle.chip_cases.specs.Steps.{expectation_of};
 ghost use Rattle.chip_bench.specs.Testing.{CasePasses, Passes, PassesUnder, has_passed};
 
@@ -52,8 +52,18 @@ pub(crate) fn run_case(
 {
     match Bench::open(alloc, source, settings) {
         Ok(mut bench) => run_under(alloc, &mut bench, keys, steps),
-        Err(OpenError::OutOfMemory) => Err(AllocError),
-        Err(error) => Ok(Verdict::Unopened(error)),
+        Err(error) => unopened(error),
+    }
+}
+
+// Why a source doesn't open, if that isn't for want of memory.
+fn unopened(error: OpenError) -> Result<Verdict, AllocError>
+    ensures { IfOk result (λ verdict. (has_passed verdict ≡ false)
+        × (error ≢ OpenError.OutOfMemory)) }
+{
+    match error {
+        OpenError::OutOfMemory => Err(AllocError),
+        _ => Ok(Verdict::Unopened(error)),
     }
 }
 

@@ -202,7 +202,10 @@ fn show_help<'a, O: Write>(
 }
 
 // The settings that the words ask for.
-pub(crate) fn settings_of<'a>(alloc: Global, words: &SettingWords<'_>) -> Result<Settings, Failure<'a>>
+pub(crate) fn settings_of<'a>(
+    alloc: Global,
+    words: &SettingWords<'_>,
+) -> Result<Settings, Failure<'a>>
     ensures ok { IfOk result (λ settings. settings_asked words.now ≡ Some settings) }
     ensures err { IfErr result (λ failure. (failure ≡ Failure.OutOfMemory)
         ⊎ ((failure ≡ Failure.BadTape) × (settings_asked words.now ≡ None))) }

@@ -23,5 +23,8 @@ pub some_cases : (text : List ℕ) (commands : List (List ℕ)) (steps : List St
     → AreCases text cases
 some_cases text commands steps cases same are none of =
     subst (λ behind. AreCasesBehind behind cases) same
-    (inr (sym are ∙ ap (map expectation_of) none, subst (λ lines. AreCasesOf (behind_steps lines) cases) (sym same)
-    (subst (AreCasesOf (behind_steps (behind_setup false (lines text)))) (append-nil cases) of)))
+    (inr (
+      sym are ∙ ap (map expectation_of) none,
+      subst (λ lines. AreCasesOf (behind_steps lines) cases) (sym same)
+          (subst (AreCasesOf (behind_steps (behind_setup false (lines text)))) (append-nil cases) of),
+    ))

@@ -25,13 +25,21 @@ pub fn difference_text(
     let (expected_rest, answered_rest) = (&expected[front..], &answered[front..]);
     let back = common_back(expected_rest, answered_rest);
     let mut text = Vec::new(alloc);
-    push_marked(&mut text, b' ', &expected[front.saturating_sub(LINES_AROUND)..front])?;
+    push_marked(
+        &mut text,
+        b' ',
+        &expected[front.saturating_sub(LINES_AROUND)..front],
+    )?;
     let expected_end = expected_rest.len() - back;
     push_marked(&mut text, b'-', &expected_rest[..expected_end])?;
     let answered_end = answered_rest.len() - back;
     push_marked(&mut text, b'+', &answered_rest[..answered_end])?;
     let shown = back.min(LINES_AROUND);
-    push_marked(&mut text, b' ', &expected_rest[expected_end..expected_end + shown])?;
+    push_marked(
+        &mut text,
+        b' ',
+        &expected_rest[expected_end..expected_end + shown],
+    )?;
     Ok(text)
 }
 

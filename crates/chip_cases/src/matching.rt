@@ -17,11 +17,7 @@ const ANY_LINES: &[u8] = b"...";
 /// # Errors
 ///
 /// Out of memory.
-pub fn is_answered(
-    alloc: Global,
-    expected: &[&[u8]],
-    answer: &[u8],
-) -> Result<bool, AllocError>
+pub fn is_answered(alloc: Global, expected: &[&[u8]], answer: &[u8]) -> Result<bool, AllocError>
     ensures { IfOk result (λ is_answered.
         IsTrue is_answered ↔ IsAnswered (texts expected.now) answer.now) }
 {
@@ -56,11 +52,7 @@ pub(crate) fn lines_that_count<'a>(
 
 // Whether lines are as expected. The row says of each end of the answered lines, by how many lines it
 // has, whether it is as the expected lines from one on say; it begins behind the last of these.
-fn is_match(
-    alloc: Global,
-    expected: &[&[u8]],
-    answered: &[&[u8]],
-) -> Result<bool, AllocError>
+fn is_match(alloc: Global, expected: &[&[u8]], answered: &[&[u8]]) -> Result<bool, AllocError>
     ensures { IfOk result (λ is_match.
         IsTrue is_match ↔ Matches (texts expected.now) (texts answered.now)) }
 {
@@ -121,13 +113,7 @@ fn is_nothing_expected(line: &[u8], is_behind: bool) -> bool
 // Whether an end of the answered lines that begins with `first` is as expected from `line` on:
 // `is_later` says it of the end without `first`; `is_behind` and `is_next` say of both ends whether
 // they are as expected from the line after `line` on.
-fn stands_for(
-    line: &[u8],
-    first: &[u8],
-    is_later: bool,
-    is_behind: bool,
-    is_next: bool,
-) -> bool
+fn stands_for(line: &[u8], first: &[u8], is_later: bool, is_behind: bool, is_next: bool) -> bool
     ensures { result ≡ stands_for line.now first.now is_later is_behind is_next }
 {
     if line == ANY_LINES {

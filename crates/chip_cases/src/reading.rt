@@ -89,10 +89,7 @@ pub fn misplaced_refusal(cases: &[Case<'_>]) -> Option<(usize, CaseFault)> {
 
 // The source, key events and settings that the next lines give, where `common` stands for what they
 // don't; and the place before the first command or case.
-fn read_setup<'a>(
-    begun: Place<'a>,
-    common: Setup<'a>,
-) -> Result<(Setup<'a>, Place<'a>), FileFault>
+fn read_setup<'a>(begun: Place<'a>, common: Setup<'a>) -> Result<(Setup<'a>, Place<'a>), FileFault>
     ensures behind { IfOk result (λ read. lines read.1.rest.now
         ≡ behind_setup false (lines begun.entry.rest.now)) }
     ensures shorter { IfOk result (λ read.
@@ -139,11 +136,7 @@ fn read_source<'a>(begun: Place<'a>) -> Result<(&'a [u8], Place<'a>), FileFault>
 }
 
 // The setup with a line that gives a setting, or a file.
-fn with_line<'a>(
-    setup: Setup<'a>,
-    text: &'a [u8],
-    line: usize,
-) -> Result<Setup<'a>, FileFault> {
+fn with_line<'a>(setup: Setup<'a>, text: &'a [u8], line: usize) -> Result<Setup<'a>, FileFault> {
     let (word, value) = split_word(text);
     let given = Some(Placed { line, text: value });
     if value.is_empty() {
@@ -171,10 +164,7 @@ fn with_line<'a>(
 }
 
 // The commands up to the next case, each with what is expected below it; and the place behind them.
-fn read_steps<'a>(
-    alloc: Global,
-    begun: Place<'a>,
-) -> Result<(Vec<Step<'a>>, Place<'a>), AllocError>
+fn read_steps<'a>(alloc: Global, begun: Place<'a>) -> Result<(Vec<Step<'a>>, Place<'a>), AllocError>
     ensures steps { IfOk result (λ read.
         map expectation_of read.0.items ≡ steps_below (lines begun.entry.rest.now)) }
     ensures behind { IfOk result (λ read. lines read.1.rest.now

@@ -1,0 +1,16 @@
+use Rattle.chip_bench.proofs.testing.test_case.Goals as goal
+
+pub returns-clause-ok : goal.returns-clause-ok
+returns-clause-ok g c =
+    let asked = c.in_ok-settings.ensures.ok in
+    record {
+      words = asked.0;
+      settings = c.in_ok-settings.settings;
+      source = c.in_ok-source.source.items;
+      keys = c.in_ok-keys.keys.items;
+      set_by = asked.1;
+      settings_are = asked.2;
+      source_is = c.in_ok-source.ensures.ok;
+      keys_are = c.in_ok-keys.ensures.ok;
+      judged = rw (c.deref.ensures.value, c.deref-2.ensures.value, c.deref-3.ensures.value) at c.in_ok-run_case.ensures;
+    }
