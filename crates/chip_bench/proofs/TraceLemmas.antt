@@ -1,5 +1,5 @@
 -- What a command prints part by part, and what `trace` prints.
-use Rattle.std.proofs.Common.{◌≡◌, ◌⊎◌, inl, inr, ℕ, ◌+◌, ◌<◌, ◌≤◌, Bool, true, false, List, [], ◌∷◌, ◌++◌, append_assoc, append-nil, Option, Some, None, Result, Ok, Err, refl, sym, ◌∙◌, ap, subst, take, drop, length, arith}
+use Rattle.std.proofs.Common.{◌≡◌, ◌⊎◌, inl, inr, ℕ, ◌<◌, Bool, true, false, List, [], ◌∷◌, ◌++◌, append_assoc, append-nil, Option, Some, None, Result, Ok, Err, refl, sym, ◌∙◌, ap, subst, take, drop, length, arith}
 use Rattle.chip_asm.specs.Lines.{open_fault}
 use Rattle.chip_asm.specs.Program.{image_of}
 use Rattle.chip_asm.specs.declared.refusal.OpenError.{OpenError}
@@ -8,8 +8,7 @@ use Rattle.std.specs.Borrow.{Bor}
 use Rattle.chip_bench.specs.KeyFile.{IsKeyFault, key_fault, session_under}
 use Rattle.chip_bench.specs.declared.key_file.KeyFileError.{KeyFileError}
 use Rattle.chip_bench.specs.declared.key_file.KeyFileError.TheVariants.{Line, OutOfMemory}
-use Rattle.chip_bench.specs.Printing.{Breaks, IsPrintedOf, Printed, Prints, PrintsSuch, PrintsSuchUnder, PrintsSuchUnless, Refuses, Streams, StreamsUnder, StreamsUnless, Writes, WritesFront, fault_under, keys_failure, printed, printed_faults, printed_of, unanswered, unopened_text}
-use Rattle.chip_bench.specs.Serving.{BeginsWith}
+use Rattle.chip_bench.specs.Printing.{Breaks, IsPrintedOf, Printed, Prints, PrintsSuch, PrintsSuchUnder, PrintsSuchUnless, Refuses, Streams, StreamsUnder, StreamsUnless, Writes, WritesFront, keys_failure, printed, unopened_text}
 use Rattle.chip_bench.specs.Session.{Session, session_of}
 use Rattle.chip_bench.specs.Settings.{SessionSettings}
 use Rattle.chip_bench.specs.Tally.{Tally}

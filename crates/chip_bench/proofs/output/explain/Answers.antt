@@ -1,4 +1,4 @@
-use Rattle.std.proofs.Common.{ℕ, List, Option, Some, None, option_map, refl, subst}
+use Rattle.std.proofs.Common.{ℕ, List, Option, Some, option_map, subst}
 use Rattle.std.specs.Global.{Vec}
 use Rattle.chip_bench.specs.Printing.{Prints, printed}
 use Rattle.chip_bench.specs.declared.ending.Ending.TheVariants.{Done}
