@@ -253,5 +253,6 @@ test('hints', function()
   same(count(), 0)
 end)
 
-io.stdout:write(passed .. ' passed, ' .. failed .. ' failed\n')
+-- Neovim itself may have left a line without its end
+io.stdout:write('\n' .. passed .. ' passed, ' .. failed .. ' failed\n')
 vim.cmd(failed == 0 and 'qall!' or 'cquit!')
