@@ -1,6 +1,6 @@
 -- What is safe from the start on, and from each state that was taken up, no key script passes a
 -- wanted cause in.
-use Rattle.std.proofs.Common.{◌≡◌, ℕ, zero, suc, ◌+◌, ◌-◌, ◌*◌, ◌/◌, ◌%◌, ◌^◌, ◌<◌, ◌≤◌, ◌==◌, ◌⊎◌, Bool, true, false, List, length, slice_index, is_some, refl, sym, ap, subst, ◌∙◌, inl, inr, ⊎_elim, if◌then◌else◌, arith, add-one}
+use Rattle.std.proofs.Common.{◌≡◌, ℕ, zero, suc, ◌+◌, ◌-◌, ◌*◌, ◌/◌, ◌%◌, ◌^◌, ◌<◌, ◌≤◌, ◌==◌, ◌⊎◌, Bool, true, false, length, slice_index, is_some, refl, sym, ap, subst, ◌∙◌, inl, inr, ⊎_elim, if◌then◌else◌, arith, add-one}
 use Rattle.std.proofs.Math.Nat.{mod-add-div', add-mul-mod_self_right}
 use Rattle.std.proofs.lemmas.Nat.Bits.{bit_at-zero}
 use Rattle.chip_machine.specs.Block.{ticks}
@@ -12,7 +12,7 @@ use Rattle.chip_replay.specs.Run.{run}
 use Rattle.chip_explore.specs.Causes.{is_wanted_stop, stops_so}
 use Rattle.chip_explore.specs.Scripts.{Avoids, IsScript}
 use Rattle.chip_explore.specs.declared.setting.Setting.{Setting}
-use Rattle.chip_explore.specs.inner.Cover.{phase, tick_at, View, IsFine, Moves, Joins, Ends, SafeFor, Safe, IsTaken}
+use Rattle.chip_explore.specs.inner.Cover.{phase, tick_at, View, IsFine, Joins, SafeFor, Safe, IsTaken}
 
 -- no choice of no keys has a key
 no_choice : (one : ℕ) → IsChoice 0 one → one ≡ 0

@@ -1,10 +1,9 @@
 -- What the changes of the kept states keep.
-use Rattle.std.proofs.Common.{◌≡◌, ℕ, zero, suc, ◌+◌, ◌-◌, ◌^◌, ◌<◌, ◌≤◌, ◌⊎◌, Bool, true, false, List, length, slice_index, is_some, refl, sym, ap, subst, ◌∙◌, inl, inr, ⊎_elim, if◌then◌else◌, arith}
+use Rattle.std.proofs.Common.{◌≡◌, ℕ, zero, suc, ◌+◌, ◌-◌, ◌^◌, ◌<◌, ◌≤◌, ◌⊎◌, Bool, true, false, List, length, slice_index, is_some, refl, sym, ap, subst, ◌∙◌, inl, inr, ⊎_elim, arith}
 use Rattle.std.proofs.Common.{◌≢◌, get_or, set, [], ◌∷◌, ◌++◌}
 use Rattle.std.proofs.lemmas.Bool.{cases_eq, cases_lt}
 use Rattle.std.proofs.lemmas.List.{get_or_past, get_or-set_same, get_or-set_other, get_or_append_left, length-append}
 use Rattle.std.proofs.Math.Seq.{get_or-append_seam}
-use Rattle.std.specs.Int.{bit_at}
 use Rattle.std.proofs.Common.{◌==◌}
 use Rattle.std.proofs.lemmas.Nat.Bits.{bit_at_above}
 use Rattle.chip_machine.specs.Choices.{IsChoice}
@@ -13,7 +12,7 @@ use Rattle.chip_machine.specs.State.{State}
 use Rattle.chip_machine.specs.Step.{is_down, step_of}
 use Rattle.chip_explore.specs.declared.members.Members.{Members}
 use Rattle.chip_explore.specs.declared.setting.Setting.{Setting}
-use Rattle.chip_explore.specs.inner.Cover.{phase, tick_at, View, IsFine, Moves, Joins, Ends, SafeFor, Safe, IsTaken, Extends, GoesOn, HasChoices, Holds, Goes, view_of}
+use Rattle.chip_explore.specs.inner.Cover.{phase, tick_at, View, IsFine, Moves, Joins, SafeFor, Safe, IsTaken, Extends, GoesOn, HasChoices, Holds, Goes, view_of}
 
 module _ (p : Setting) (v w : View) (more : Extends p v w) where
   still_joins : (s : State) (t : ℕ) → Joins p v s t → Joins p w s t
@@ -50,7 +49,7 @@ pub extends_same : (p : Setting) (v : View) → Extends p v v
 extends_same p v = record { limit = omega arith; count = omega arith; member = λ j l. refl; early = λ j l. omega arith; phased = λ j l. refl }
 
 pub extends_more : (p : Setting) (u v w : View) → Extends p u v → Extends p v w → Extends p u w
-extends_more p u v w a b = 
+extends_more p u v w a b =
     let first = a.limit in
     let second = b.limit in
     let count = a.count in
@@ -70,9 +69,9 @@ still_taken p v w more j kept same taken =
     record {
       drawn = subst (λ (s : State). s.core.draws < 2 ^ 64 - 1) (sym member) taken.drawn;
       goes_on = λ keys within.
-      subst (λ (s : State). Safe p w (step_of s keys (tick_at p (slice_index w.steps j))) (slice_index w.steps j + 1)) (sym member)
-      (subst (λ (t : ℕ). Safe p w (step_of (v.member j) keys (tick_at p t)) (t + 1)) (sym same)
-      (still_safe p v w more _ _ (taken.goes_on keys within)));
+          subst (λ (s : State). Safe p w (step_of s keys (tick_at p (slice_index w.steps j))) (slice_index w.steps j + 1)) (sym member)
+          (subst (λ (t : ℕ). Safe p w (step_of (v.member j) keys (tick_at p t)) (t + 1)) (sym same)
+          (still_safe p v w more _ _ (taken.goes_on keys within)));
     }
 
 -- flags and steps by their places
@@ -144,12 +143,12 @@ goes p m n holds start more states closed same =
         states = states;
         closed = closed;
         taken = λ j h.
-        ⊎_elim (λ (taken : IsTaken p (view_of n) j). taken)
-        (λ (was : (get_or m.closed.items j false ≡ true) × (slice_index n.steps.items j ≡ slice_index m.steps.items j)).
-        let inside : j < length m.closed.items = closed_inside m.closed.items j was.0 in
-        let count = holds.closed in
-        still_taken p (view_of m) (view_of n) more j (omega arith) was.1 (holds.taken j was.0))
-        (same j h);
+            ⊎_elim (λ (taken : IsTaken p (view_of n) j). taken)
+            (λ (was : (get_or m.closed.items j false ≡ true) × (slice_index n.steps.items j ≡ slice_index m.steps.items j)).
+            let inside : j < length m.closed.items = closed_inside m.closed.items j was.0 in
+            let count = holds.closed in
+            still_taken p (view_of m) (view_of n) more j (omega arith) was.1 (holds.taken j was.0))
+            (same j h);
       };
     }
 
@@ -199,6 +198,6 @@ module _ (p : Setting) (l m n : Members) (one : Goes p l m) (two : Goes p m n) (
       record {
         drawn = subst (λ (s : State). s.core.draws < 2 ^ 64 - 1) (sym member) has.drawn;
         goes_on =
-        subst (λ (s : State). GoesOn p (view_of n) s (slice_index n.steps.items place)) (sym member)
-        (subst (λ (t : ℕ). GoesOn p (view_of n) ((view_of l).member place) t) (sym same) on_and_on);
+            subst (λ (s : State). GoesOn p (view_of n) s (slice_index n.steps.items place)) (sym member)
+            (subst (λ (t : ℕ). GoesOn p (view_of n) ((view_of l).member place) t) (sym same) on_and_on);
       }

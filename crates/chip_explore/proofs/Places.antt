@@ -1,6 +1,5 @@
 -- The items of a list by their places.
-use Rattle.std.proofs.Common.{◌≡◌, ℕ, zero, suc, ◌+◌, ◌<◌, List, [], ◌∷◌, ◌++◌, length, get_or, Option, Some, refl, ap, sym, arith}
-use Rattle.chip_machine.specs.State.{State}
+use Rattle.std.proofs.Common.{◌≡◌, ℕ, zero, suc, ◌<◌, List, [], ◌∷◌, ◌++◌, length, get_or, Some, refl, ap, sym, arith}
 use Rattle.chip_explore.specs.declared.kept.Base.{Base}
 use Rattle.chip_explore.specs.declared.kept.Kept.{Kept}
 use Rattle.chip_explore.specs.inner.Kept.{nth, state_at, state_by, state_of}

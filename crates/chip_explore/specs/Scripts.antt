@@ -5,7 +5,7 @@
 --     Avoids          under no key script has the machine stopped for a wanted cause at a step up
 --                     to n
 --     keys_of         the events of the keys, one after another
-use Rattle.std.specs.Prelude.{◌≡◌, ℕ, ◌≤◌, Bool, false, List, fold}
+use Rattle.std.specs.Prelude.{◌≡◌, ℕ, ◌≤◌, false, List, fold}
 use Rattle.std.specs.FinMap as map
 use Rattle.chip_machine.specs.Choices.{IsWithin}
 use Rattle.chip_machine.specs.State.{State}

@@ -15,11 +15,8 @@ mod script;
 mod search;
 mod setting;
 mod sum;
-#[cfg(test)]
-mod tests;
-
 
 pub use causes::Causes;
-pub use question::{Bounds, Explored, Outcome, Question, explore};
 pub use limits::END;
+pub use question::{Bounds, Explored, Outcome, Question, explore};
 pub use script::KeyEvent;

@@ -91,9 +91,7 @@ impl Members {
         ensures { IfOk result (λ answer. IsTrue answer
             → IsAt setting.now self.now place machine.now step) }
     {
-        if place >= self.steps.len()
-            || setting.phase(self.steps[place]) != setting.phase(step)
-        {
+        if place >= self.steps.len() || setting.phase(self.steps[place]) != setting.phase(step) {
             return Ok(false);
         }
         if !self.load(place, &mut probe.machine, &mut probe.rows)? {

@@ -9,16 +9,16 @@ ghost use Rattle.chip_explore.specs.Scripts as spec;
 
 use crate::causes::Causes;
 use crate::confirm::{confirms, keys_of};
-use crate::kept::Base;
 use crate::finder::{Finder, Origin};
+use crate::kept::Base;
 use crate::leg::Runner;
 use crate::limits::END;
 use crate::members::Members;
 use crate::script::{KeyEvent, script_to};
 use crate::search::Search;
 use crate::setting::Setting;
-use chip_machine::laws::relevant_steps;
 use chip_machine::Machine;
+use chip_machine::laws::relevant_steps;
 use chip_replay::{KeyFault, LAST_STEP};
 use std::alloc::{AllocError, Global};
 
@@ -65,12 +65,7 @@ pub struct Explored {
 
 /// Whether under some key script, of the allowed keys alone, a machine that has drawn no random
 /// byte yet stops for a wanted cause.
-pub fn explore(
-    alloc: Global,
-    start: &Machine,
-    question: &Question,
-    bounds: &Bounds,
-) -> Explored
+pub fn explore(alloc: Global, start: &Machine, question: &Question, bounds: &Bounds) -> Explored
     requires rate { 0 < question.now.rate }
     requires fresh { start.now.core.draws ≡ 0 }
     ensures { Answers question.now.rate question.now.allowed question.now.causes start.now

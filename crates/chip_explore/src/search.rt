@@ -38,7 +38,9 @@ impl Search {
         let machine = &self.runner.machine;
         let sum = sum_of(machine, setting.phase(step));
         if let Some(place) = self.finder.place(sum)
-            && self.members.is_at(setting, place, machine, step, &mut self.probe)?
+            && self
+                .members
+                .is_at(setting, place, machine, step, &mut self.probe)?
         {
             if step < self.members.step(place) {
                 self.members.lower(setting, place, step);
@@ -47,7 +49,10 @@ impl Search {
             return Ok(());
         }
         let place = self.members.steps.len();
-        if !self.members.add(self.alloc, setting, machine, step, &mut self.probe)? {
+        if !self
+            .members
+            .add(self.alloc, setting, machine, step, &mut self.probe)?
+        {
             self.members.lower_limit(setting, step);
             return Ok(());
         }
@@ -102,11 +107,16 @@ impl Search {
             (step + 1)) }
     {
         let runner = &mut self.runner;
-        if !self.members.load(place, &mut runner.machine, &mut runner.rows)? {
+        if !self
+            .members
+            .load(place, &mut runner.machine, &mut runner.rows)?
+        {
             self.members.lower_limit(setting, step);
             return Ok(());
         }
-        runner.machine.step(keys, setting.tick_at(step), &mut runner.touch);
+        runner
+            .machine
+            .step(keys, setting.tick_at(step), &mut runner.touch);
         let parent = Some(place);
         self.run_on(setting, step + 1, Origin { parent, keys })
     }
@@ -148,7 +158,9 @@ impl Search {
             choices)) }
     {
         let runner = &mut self.runner;
-        if !self.members.load(place, &mut runner.machine, &mut runner.rows)?
+        if !self
+            .members
+            .load(place, &mut runner.machine, &mut runner.rows)?
             || runner.machine.draws() == u64::MAX
         {
             return Ok(None);

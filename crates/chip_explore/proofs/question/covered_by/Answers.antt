@@ -1,4 +1,3 @@
-use Rattle.std.proofs.Common.{ℕ}
 use Rattle.chip_explore.specs.inner.Cover.{view_of}
 use Rattle.chip_explore.proofs.Covered.{covered}
 use Rattle.chip_explore.proofs.question.covered_by.Goals as goal

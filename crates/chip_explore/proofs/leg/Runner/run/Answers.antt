@@ -1,4 +1,4 @@
-use Rattle.std.proofs.Common.{◌+◌, refl, ap, sym, subst, ◌∙◌, Bool}
+use Rattle.std.proofs.Common.{◌+◌, refl, ap, subst, ◌∙◌, Bool}
 use Rattle.chip_machine.specs.State.{State}
 use Rattle.chip_machine.specs.Step.{step_of}
 use Rattle.chip_explore.specs.inner.Cover.{Safe}

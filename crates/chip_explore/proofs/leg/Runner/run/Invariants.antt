@@ -1,4 +1,3 @@
-use Rattle.std.proofs.Common.{ℕ}
 use Rattle.chip_explore.specs.inner.Cover.{Safe, View}
 use Rattle.chip_explore.proofs.leg.Runner.run.Given as goal
 

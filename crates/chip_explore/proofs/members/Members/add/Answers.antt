@@ -1,4 +1,4 @@
-use Rattle.std.proofs.Common.{rules, ◌≡◌, ◌<◌, ◌≤◌, ◌+◌, ℕ, List, Bool, [], ◌∷◌, ◌++◌, false, true, refl, sym, ap, subst, inr, arith, ◌∙◌, length, get_or}
+use Rattle.std.proofs.Common.{rules, ◌≡◌, ◌<◌, ℕ, List, Bool, [], ◌∷◌, ◌++◌, false, true, refl, sym, ap, inr, arith, ◌∙◌, length, get_or}
 use Rattle.std.proofs.lemmas.List.{get_or_append_left, length-append}
 use Rattle.std.proofs.Math.Seq.{get_or-append_seam}
 use Rattle.chip_machine.specs.Relevant.{relevant}
@@ -59,9 +59,9 @@ returns-clause-joins c =
       early = omega arith;
       phased = ap (phase p) last;
       alike =
-      ap relevant
-      (ap (λ (xs : List Kept). state_at m.base xs (length m.steps.items)) states
-      ∙ ap (λ (i : ℕ). state_at m.base (m.states.items ++ kept ∷ []) i) (sym count)
-      ∙ state_last m.base m.states.items kept)
-      ∙ c.in_ok-is_same.ensures (search rules);
+          ap relevant
+          (ap (λ (xs : List Kept). state_at m.base xs (length m.steps.items)) states
+          ∙ ap (λ (i : ℕ). state_at m.base (m.states.items ++ kept ∷ []) i) (sym count)
+          ∙ state_last m.base m.states.items kept)
+          ∙ c.in_ok-is_same.ensures (search rules);
     }

@@ -1,4 +1,4 @@
-use Rattle.std.proofs.Common.{◌≡◌, ◌≢◌, ◌⊎◌, ◌<◌, ℕ, false, true, refl, sym, subst, inl, inr, ⊎_elim, arith, ◌∙◌, length, get_or}
+use Rattle.std.proofs.Common.{◌≡◌, ◌≢◌, ◌<◌, ℕ, false, true, refl, sym, subst, inl, inr, ⊎_elim, arith, ◌∙◌, length, get_or}
 use Rattle.std.proofs.lemmas.List.{length-set}
 use Rattle.chip_explore.specs.inner.Cover.{IsTaken, view_of}
 use Rattle.chip_explore.proofs.Growth.{closed_set, extends_same, goes}

@@ -1,4 +1,4 @@
-use Rattle.std.proofs.Common.{◌≡◌, ◌-◌, ◌^◌, ◌<◌, ◌≤◌, ℕ, false, true, length, slice_index, slice_index_or}
+use Rattle.std.proofs.Common.{◌≡◌, ◌-◌, ◌^◌, ◌<◌, ℕ, false, true, slice_index, slice_index_or}
 use Rattle.chip_explore.proofs.members.Members.covered.Given as goal
 
 abbrev pub invariant-loop-place : goal.invariant-loop-place

@@ -1,4 +1,4 @@
-use Rattle.std.proofs.Common.{◌≡◌, ◌≢◌, ◌⊎◌, ◌<◌, false, true, refl, inl, inr, ⊎_elim, arith, ◌∙◌, length, get_or}
+use Rattle.std.proofs.Common.{◌≡◌, ◌≢◌, ◌<◌, false, true, refl, inr, ⊎_elim, arith, ◌∙◌, length, get_or}
 use Rattle.std.proofs.lemmas.List.{length-set, get_or-set_other}
 use Rattle.chip_explore.proofs.Growth.{closed_set, goes, set_early, set_phased}
 use Rattle.chip_explore.proofs.members.Members.lower.Goals as goal

@@ -1,4 +1,4 @@
-use Rattle.std.proofs.Common.{◌≡◌, ◌+◌, ◌<◌, ◌^◌, ℕ, true, false, ap, sym, subst, ◌∙◌, arith, below_more}
+use Rattle.std.proofs.Common.{◌≡◌, ◌+◌, ◌<◌, ◌^◌, ℕ, true, false, ap, sym, subst, ◌∙◌, below_more}
 use Rattle.chip_machine.specs.State.{State}
 use Rattle.chip_machine.specs.Step.{is_down, step_of}
 use Rattle.chip_explore.specs.declared.members.Members.{Members}

@@ -1,4 +1,4 @@
-use Rattle.std.proofs.Common.{◌≡◌, ◌+◌, ◌<◌, ℕ, Option, IfSome, ap, sym, subst, ◌∙◌, length}
+use Rattle.std.proofs.Common.{◌<◌, ℕ, Option, IfSome, sym, subst, ◌∙◌, length}
 use Rattle.chip_explore.specs.declared.members.Members.{Members}
 use Rattle.chip_explore.specs.inner.Cover.{Goes, HasChoices, view_of}
 use Rattle.chip_explore.proofs.Growth.{all_taken, goes_more}
