@@ -47,7 +47,6 @@ pub(crate) struct Recoding<'a> {
 }
 
 /// The code of a line, which is encoded where it has bytes of its own.
-#[inline(always)]
 pub(crate) fn code_of(
     alloc: Global,
     meter: &mut Meter,
