@@ -1,6 +1,7 @@
 """The packages in a clean Debian: its root is made by debootstrap, and entered by chroot."""
 import os
 import pathlib
+import re
 import shutil
 import sys
 import tempfile
@@ -18,6 +19,11 @@ PACKAGES = "root-packages"
 # Where dpkg, apt and the manual's index keep what they know. All else has to be as it was before.
 KEPT_BY_SYSTEM = ("var/lib/dpkg", "var/lib/apt", "var/log", "var/cache")
 LONG = 1800
+COMPLETIONS = (
+    "/usr/share/bash-completion/completions/chipbench",
+    "/usr/share/zsh/vendor-completions/_chipbench",
+    "/usr/share/fish/vendor_completions.d/chipbench.fish",
+)
 MODULE_TRIAL = 'import chipbench; print(chipbench.Bench("CLS").image.hex())'
 
 _folder = None
@@ -174,23 +180,38 @@ class TestRootWithPython(unittest.TestCase):
             for document in documents:
                 self.root.run("test", "-s", document)
 
+    def test_each_command_is_told(self):
+        """Each command of the program stands in its manual page, in the completions and in the document on its words."""
+        commands = re.findall(r"(?m)^  ([a-z]+)  ", self.root.shell("chipbench --help").split("Commands:")[1])
+        self.assertIn("trace", commands)
+        manual = self.root.shell("zcat /usr/share/man/man1/chipbench.1.gz")
+        formats = self.root.shell(f"cat /usr/{DOCUMENTS}/docs/FORMATS.md")
+        completions = [self.root.shell(f"cat {place}") for place in COMPLETIONS]
+        for command in set(commands) - {"help"}:
+            self.assertIn(f".B {command}\n", manual)
+            self.assertIn(f"`{command}", formats)
+            for completion in completions:
+                self.assertRegex(completion, rf"\b{command}\b")
+
     def test_named_documents_of_the_help_are_there(self):
         for document in named_documents(self.root.shell("chipbench debug --help")):
             self.root.run("test", "-s", f"/usr/{DOCUMENTS}/docs/{pathlib.Path(document).name}")
 
     def test_completion_of_bash(self):
         load = "{ _comp_load chipbench || _completion_loader chipbench; } 2>/dev/null"
-        ask = 'COMP_WORDS=(chipbench as) COMP_CWORD=1; _chipbench; echo "${COMPREPLY[@]}"'
-        shown = self.root.shell(f". /usr/share/bash-completion/bash_completion; {load}; {ask}")
-        self.assertEqual(shown.split(), ["asm"])
+        for words, wanted in (("as", "asm"), ("tr", "trace"), ("trace --ag", "--against")):
+            ask = f'COMP_WORDS=(chipbench {words}) COMP_CWORD={len(words.split())}; _chipbench; echo "${{COMPREPLY[@]}}"'
+            shown = self.root.shell(f". /usr/share/bash-completion/bash_completion; {load}; {ask}")
+            self.assertEqual(shown.split(), [wanted])
 
     def test_completion_of_zsh(self):
         ask = "autoload -U compinit; compinit -u -D; print $_comps[chipbench]; autoload +X _chipbench && print loaded"
         self.assertEqual(self.root.shell(f"zsh -fc '{ask}'").split(), ["_chipbench", "loaded"])
 
     def test_completion_of_fish(self):
-        shown = self.root.shell("fish -c 'complete -C \"chipbench as\"'")
-        self.assertEqual([line.split("\t")[0] for line in shown.splitlines()], ["asm"])
+        for words, wanted in (("as", "asm"), ("tr", "trace"), ("trace --ag", "--against")):
+            shown = self.root.shell(f"fish -c 'complete -C \"chipbench {words}\"'")
+            self.assertEqual([line.split("\t")[0] for line in shown.splitlines()], [wanted])
 
     def test_python_module(self):
         self.assertEqual(self.root.shell(f"python3 -c '{MODULE_TRIAL}'").strip(), "00e0")

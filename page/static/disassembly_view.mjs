@@ -39,6 +39,8 @@ export class DisassemblyView {
     const text = element('span');
     const row = { element: element('tr', {}, ...cells), cells, number, text, line: null };
     number.addEventListener('click', () => this.#goToLine(row.line));
+    // it is seen where pc is: to take it in and out would lay the table out anew
+    cells[0].append('▸');
     cells[4].append(number, ' ', text);
     this.#rows.push(row);
     this.#body.append(row.element);
@@ -49,10 +51,12 @@ export class DisassemblyView {
     const here = address === pc;
     const target = TO_ADDRESS.exec(text);
     const name = target === null ? null : names.at(parseInt(target[1], 16));
-    const texts = [here ? '▸' : '', hex(address, 4), word, name === null ? text : `${text} ${name}`];
-    texts.forEach((shown, place) => setText(row.cells[place], shown));
+    const shown = name === null ? text : `${text} ${name}`;
+    setText(row.cells[1], hex(address, 4));
+    setText(row.cells[2], word);
+    setText(row.cells[3], shown);
     setTitle(row.cells[1], names.at(address) ?? '');
-    setTitle(row.cells[3], texts[3]);
+    setTitle(row.cells[3], shown);
     row.element.classList.toggle('here', here);
     if (here !== (row.element.ariaCurrent === 'true')) row.element.ariaCurrent = here ? 'true' : null;
     row.cells[2].classList.toggle('changed', assembled !== word);
