@@ -2,7 +2,7 @@
 
 use crate::case_run::Verdict;
 use chip_cases::{Case, Given, Step, difference_text};
-use chip_pages::all_pages;
+use chip_pages::page_on;
 use itoa::Buffer;
 use std::alloc::{AllocError, Global};
 use std::fmt::Write;
@@ -186,13 +186,12 @@ fn push_other_answer(
 
 // Adds what a code means, where it is known.
 fn push_title(text: &mut Vec<u8>, code: &[u8]) -> Result<(), AllocError> {
-    for group in &all_pages() {
-        for page in *group {
-            if page.code.as_bytes() == code {
-                text.extend_from_slice(b": refused, ")?;
-                text.extend_from_slice(page.title.as_bytes())?;
-            }
-        }
+    let Ok(code) = str::from_utf8(code) else {
+        return Ok(());
+    };
+    if let Some(page) = page_on(code) {
+        text.extend_from_slice(b": refused, ")?;
+        text.extend_from_slice(page.title.as_bytes())?;
     }
     Ok(())
 }

@@ -15,8 +15,8 @@ pub fn page_text(alloc: Global, code: &str) -> Result<Option<Vec<u8>>, AllocErro
     }
 }
 
-// The page on a code, in either case.
-fn page_on(code: &str) -> Option<&'static Page>
+/// The page on a code, in either case; nothing where there is no such code.
+pub fn page_on(code: &str) -> Option<&'static Page>
     ensures { IsPageOn code.now (option_copied result) }
 {
     page_among(fault_pages(), code)

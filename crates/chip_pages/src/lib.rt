@@ -4,5 +4,5 @@
 mod explain;
 mod pages;
 
-pub use explain::{contents, page_text};
+pub use explain::{contents, page_on, page_text};
 pub use pages::{Example, Page};
