@@ -1,20 +1,19 @@
 -- Which keys the next step can tell apart, by the rows of the table.
-use Rattle.std.proofs.Common.{◌≡◌, ◌≢◌, ℕ, ◌==◌, ◌%◌, ◌^◌, ◌<◌, ◌⊎◌, Bool, true, false, not, bit_and, List, [], ◌∷◌, length, min, Option, Some, None, Result, Ok, Err, refl, sym, nat_le, find, is_some, ap, subst, if◌then◌else◌, take, drop, nat_lt, ◌∙◌, inl, inr, ⊎_elim, arith, eq-eqb}
+use Rattle.std.proofs.Common.{◌≡◌, ◌≢◌, ℕ, ◌==◌, ◌%◌, ◌^◌, Bool, true, false, not, bit_and, List, [], ◌∷◌, length, min, Option, Some, None, Ok, refl, sym, nat_le, find, is_some, ap, subst, if◌then◌else◌, ◌∙◌, inl, inr, ⊎_elim, arith, eq-eqb}
 use Rattle.std.specs.Int.{bit_at}
 use Rattle.std.specs.List.{range_with_len}
 use Rattle.std.proofs.lemmas.Bool.{cases_eq, eqb-true}
 use Rattle.std.proofs.lemmas.Nat.Bits.{bit_at-zero, bit_at_and, bit_at-pow_same, bit_at-pow_other, bit_at-lt}
-use Rattle.chip_lang.specs.Decoding.{decode_of}
 use Rattle.chip_lang.specs.declared.instr.Instr.{Instr}
 use Rattle.chip_lang.specs.declared.instr.Instr.TheVariants as row
-use Rattle.chip_machine.specs.declared.limits.TheConstants.{FLAGS, FRAMES, LAST_WORD}
+use Rattle.chip_machine.specs.declared.limits.TheConstants.{FLAGS, FRAMES}
 use Rattle.chip_machine.specs.declared.profile.Profile.{Profile}
 use Rattle.chip_machine.specs.declared.profile.Profile.TheVariants as profile
 use Rattle.chip_machine.specs.declared.stop.Stop.{Stop}
 use Rattle.chip_machine.specs.declared.stop.Stop.TheVariants as cause
 use Rattle.chip_machine.specs.Profile.{by_profile}
 use Rattle.chip_machine.specs.State.{Core, State}
-use Rattle.chip_machine.specs.Step.{Effect, Stops, Changes, Keyed, Loads, Stores, effect, effect_at, effect_of_word, is_down, perform, reg, settle, skip_if, step_of, take_key, word_at}
+use Rattle.chip_machine.specs.Step.{Effect, Stops, Changes, Keyed, Loads, Stores, effect, effect_at, effect_of_word, is_down, perform, reg, settle, skip_if, step_of, take_key}
 use Rattle.chip_machine.specs.Choices.{IsWithin, IsChoice, Represents}
 use Rattle.chip_machine.specs.inner.KeyRows.{choices_of}
 

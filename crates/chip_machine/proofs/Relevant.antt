@@ -15,9 +15,8 @@ use Rattle.chip_machine.specs.declared.stop.Stop.TheVariants as cause
 use Rattle.chip_machine.specs.Profile.{by_profile}
 use Rattle.chip_machine.specs.Relevant.{relevant, relevant_core, AlikeSteps, DrawsGrow, QuietTick}
 use Rattle.chip_machine.specs.Scroll.{scrolled_down, scrolled_right, scrolled_left}
-use Rattle.chip_machine.specs.Sprite.{sprite_bytes}
 use Rattle.chip_machine.specs.State.{Core, State, overwrite}
-use Rattle.chip_machine.specs.Step.{Effect, Stops, Changes, Keyed, Loads, Stores, bit_of, call, drawn, effect, effect_at, effect_of_word, go_to, is_down, is_past, load_flags, load_registers, next, past_registers, perform, random_byte, reg, return, settle, skip_if, step_of, store_flags, take_key, ticked, with_flag, with_index, with_lit, with_reg, with_size, with_sprite, word_at}
+use Rattle.chip_machine.specs.Step.{Effect, Stops, Changes, Keyed, Loads, Stores, bit_of, call, drawn, effect, effect_at, effect_of_word, go_to, is_down, is_past, load_flags, load_registers, next, past_registers, perform, random_byte, reg, return, settle, skip_if, step_of, store_flags, take_key, with_flag, with_index, with_lit, with_reg, with_size, with_sprite, word_at}
 
 -- two cores agree in what is relevant, and the first has drawn so many bytes at most
 abbrev Near : ℕ → Core → Core → Type 0
@@ -68,9 +67,11 @@ module _ (c : Core) (z e : ℕ) (same : c.draws % length c.tape ≡ e % length c
 
   random : (x byte : ℕ) → Near (c.draws + 1) (next (with_reg x (bit_and (random_byte c) byte) (drawn c))) (next (with_reg x (bit_and (random_byte other) byte) (drawn other)))
   random x byte =
-      let made : ℕ → ℕ → Core = λ place left. record c { registers = slice_set c.registers x (bit_and (slice_index c.tape place) byte); pc = c.pc + 2; sound = 0; draws = left } in
-      (ap (λ (place : ℕ). made place (min (c.draws + 1) top % length c.tape)) same
-      ∙ ap (made (e % length c.tape)) more, omega arith)
+      let made : ℕ → ℕ → Core = λ place left. record c { registers = slice_set c.registers x (bit_and (slice_index c.tape place) byte); pc = c.pc + 2; sound = 0; draws = left } in (
+        ap (λ (place : ℕ). made place (min (c.draws + 1) top % length c.tape)) same
+            ∙ ap (made (e % length c.tape)) more,
+        omega arith,
+      )
 
   row_like : (i : Instr) → Like (c.draws + 1) (effect i c) (effect i other)
   unfolding effect
@@ -155,9 +156,11 @@ module _ (s : State) (z e : ℕ) where
       → (relevant (settle tick s one) ≡ relevant (settle tick twin two)) × ((settle tick s one).core.draws ≤ most)
   outcome_like most true (Ok a) (Ok b) few same h = (ap (λ (r : State). record r { core = record r.core { delay = r.core.delay - 1 } }) h.0, h.1)
   outcome_like most false (Ok a) (Ok b) few same h = h
-  outcome_like most tick (Err a) (Err b) few same h =
-      (ap (λ (r : State). record r { core = record r.core { stopped = Some a } }) same
-      ∙ ap (λ (why : Stop). relevant (record twin { core = record twin.core { stopped = Some why } })) h, few)
+  outcome_like most tick (Err a) (Err b) few same h = (
+    ap (λ (r : State). record r { core = record r.core { stopped = Some a } }) same
+        ∙ ap (λ (why : Stop). relevant (record twin { core = record twin.core { stopped = Some why } })) h,
+    few,
+  )
   outcome_like most tick _ _ few same h = absurd h
 
   step_like : (stopped : Bool) (keys : ℕ) (tick : Bool) → relevant s ≡ relevant twin → Like (s.core.draws + 1) (effect_at s) (effect_at twin)
