@@ -15,6 +15,8 @@ mod script;
 mod search;
 mod setting;
 mod sum;
+#[cfg(test)]
+mod tests;
 
 pub use causes::Causes;
 pub use limits::END;
