@@ -67,9 +67,10 @@ nothing_there (given ∷ others) e = absurd (let n : length (given ∷ others) �
 -- under the key events of a file
 pub passes_under : (session under : Session) (file : List ℕ) (steps : List Expectation) (others : List Given) → key_fault session file ≡ None
     → under ≡ session_under session file → (others ≡ []) ↔ Passes under steps → ((length others == 0) ≡ true) ↔ PassesUnder session file steps
-passes_under session under file steps others none is same =
-    (λ e. record { keys = none; answers = subst (λ s. Passes s steps) is (same.0 (nothing_there others e)) },
-    λ p. ap (λ l. length l == 0) (same.1 (subst (λ s. Passes s steps) (sym is) p.answers)))
+passes_under session under file steps others none is same = (
+  λ e. record { keys = none; answers = subst (λ s. Passes s steps) is (same.0 (nothing_there others e)) },
+  λ p. ap (λ l. length l == 0) (same.1 (subst (λ s. Passes s steps) (sym is) p.answers)),
+)
 
 pub passes_not_under : (session : Session) (file : List ℕ) (steps : List Expectation) (line : ℕ × List ℕ) → key_fault session file ≡ Some line
     → (false ≡ true) ↔ PassesUnder session file steps
@@ -79,9 +80,10 @@ passes_not_under session file steps line fault =
 -- on a source
 pub passes_case : (settings : SessionSettings) (source keys : List ℕ) (steps : List Expectation) (session : Session) (passes : Bool) → open_fault source ≡ None
     → session ≡ session_of settings source → IsTrue passes ↔ PassesUnder session keys steps → IsTrue passes ↔ CasePasses settings source keys steps
-passes_case settings source keys steps session passes opens is same =
-    (λ e. record { opens = opens; passes = subst (λ s. PassesUnder s keys steps) is (same.0 e) },
-    λ p. same.1 (subst (λ s. PassesUnder s keys steps) (sym is) p.passes))
+passes_case settings source keys steps session passes opens is same = (
+  λ e. record { opens = opens; passes = subst (λ s. PassesUnder s keys steps) is (same.0 e) },
+  λ p. same.1 (subst (λ s. PassesUnder s keys steps) (sym is) p.passes),
+)
 
 pub passes_case_if_ok : {E : Type 0} (settings : SessionSettings) (source keys : List ℕ) (steps : List Expectation) (session : Session) (result : Result Verdict E)
     → open_fault source ≡ None → session ≡ session_of settings source → IfOk result (λ verdict. IsTrue (has_passed verdict) ↔ PassesUnder session keys steps)

@@ -210,8 +210,7 @@ module _ {W : Type 0} (contents : W → Option (List ℕ)) (out_old out_new : Ta
   PicturesBy settings source keys words (Some bitmap) (Some png) ended =
       (WritesPicture settings source keys words.run.steps form.Bitmap bitmap ended
       × (ended ≢ Ok Done))
-      ⊎ (WritesPicture settings source keys words.run.steps form.Bitmap bitmap (Ok Done)
-      × WritesPicture settings source keys words.run.steps form.Png png ended)
+      ⊎ WritesPicture settings source keys words.run.steps form.Png png ended
 
   -- `trace` without another trace: the lines of the run
   abbrev pub TracesAlone : TraceWords → SessionSettings → (keys source : List ℕ) → Outcome → Type 0
