@@ -56,7 +56,7 @@ pub(crate) fn run_case(
     }
 }
 
-// Why a source doesn't open, if that isn't for want of memory.
+// Why a source doesn't open, unless memory ran out.
 fn unopened(error: OpenError) -> Result<Verdict, AllocError>
     ensures { IfOk result (λ verdict. (has_passed verdict ≡ false)
         × (error ≢ OpenError.OutOfMemory)) }

@@ -9,7 +9,7 @@ use thiserror::Error;
 /// Why a line of a file of cases can't be read.
 #[derive(Clone, Copy, Debug, PartialEq, Eq, Error)]
 pub enum CaseFault {
-    /// Before the first command of a case a line says nothing that is known.
+    /// A line before a case's first command is neither a setting nor anything else known.
     #[error("neither a setting nor a command")]
     UnknownLine,
     /// The lines of a source end with the file.

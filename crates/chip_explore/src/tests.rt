@@ -5,7 +5,7 @@ use chip_machine::{Machine, Profile, Stop};
 use std::alloc::Global;
 use std::test::Fail;
 
-/// `LD V0, K`, `SE V0, 5`, `JP #200`, and behind them a word that is no instruction.
+/// `LD V0, K`, `SE V0, 5`, `JP #200`, and then a word that no instruction has.
 const IMAGE: [u8; 8] = [0xf0, 0x0a, 0x30, 0x05, 0x12, 0x00, 0x00, 0x00];
 
 /// What a search for that word finds, where these keys are allowed.
