@@ -11,11 +11,11 @@ use Rattle.chip_bench.specs.inner.Reads.{IsAsked, IsImageHindered, IsImageOrFaul
 use Rattle.chip_pages.specs.Pages.{IsExplained}
 use Rattle.chip_bench.specs.Printing.{IsPrintedCheck, IsPrintedOf, Prints, PrintsSuch, PrintsUnder, printed_listing, printed_picture, printed, printed_of, printed_run}
 use Rattle.chip_arguments.specs.declared.command_line.PictureWords.{PictureWords}
-use Rattle.chip_bench.specs.declared.question.PictureForm.{PictureForm}
+use Rattle.chip_session.specs.declared.question.PictureForm.{PictureForm}
 use Rattle.chip_bench.specs.Running.{AnswersScript, IsUnread}
-use Rattle.chip_bench.specs.Settings.{SessionSettings}
+use Rattle.chip_session.specs.Settings.{SessionSettings}
 use Rattle.chip_bench.specs.SettingWords.{settings_asked}
-use Rattle.chip_bench.specs.Tally.{Tally}
+use Rattle.chip_session.specs.Tally.{Tally}
 use Rattle.chip_arguments.specs.declared.command_line.CommandLine.{CommandLine}
 use Rattle.chip_arguments.specs.declared.command_line.RunWords.{RunWords}
 use Rattle.chip_arguments.specs.declared.command_line.SettingWords.{SettingWords}

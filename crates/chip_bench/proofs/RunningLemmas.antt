@@ -5,17 +5,16 @@ use Rattle.std.specs.Io.KnownBytes.{Keeps}
 use Rattle.chip_asm.specs.Lines.{open_fault}
 use Rattle.chip_asm.specs.declared.refusal.OpenError.{OpenError}
 use Rattle.chip_asm.specs.declared.refusal.OpenError.TheVariants as unopened
-use Rattle.chip_bench.specs.Settings.{SessionSettings, default_settings}
-use Rattle.chip_bench.specs.Serving.{Exchanges}
+use Rattle.chip_session.specs.Settings.{SessionSettings, default_settings}
+use Rattle.chip_session.specs.Serving.{Exchanges}
 use Rattle.chip_bench.specs.Printing.{Refuses}
 use Rattle.chip_bench.specs.Running.{AnswersAs, AnswersIfAsked, AnswersScript, Converses, Declines, RunsSession, status_after, status_of}
-use Rattle.chip_bench.specs.Tally.{Tally, failures_after_flush}
+use Rattle.chip_session.specs.Tally.{Tally, failures_after_flush}
 use Rattle.chip_bench.specs.declared.ending.Ending.{Ending}
 use Rattle.chip_bench.specs.declared.ending.Failure.{Failure}
 use Rattle.chip_bench.specs.declared.ending.Failure.TheVariants as failure
-use Rattle.chip_bench.specs.declared.server.ServeError.{ServeError}
-use Rattle.chip_bench.specs.declared.server.ServeError.TheVariants as fault
-use Rattle.chip_bench.proofs.WriteLemmas.{keeps_known}
+use Rattle.chip_session.specs.declared.server.ServeError.{ServeError}
+use Rattle.chip_session.specs.declared.server.ServeError.TheVariants as fault
 
 -- nothing was read or written
 pub exchanges_none : (had held : Option (List ℕ)) (P : List ℕ → List ℕ → List ℕ → Type 0) → ((all : List ℕ) → P [] all []) → Exchanges had had held held P
@@ -23,6 +22,12 @@ exchanges_none None held P f = tt
 exchanges_none (Some all) None P f = tt
 exchanges_none (Some all) (Some before) P f =
     record { given = []; rest = all; written = []; read = refl; left_is = refl; wrote = ap Some (sym (append-nil before)); outcome = f all }
+
+-- known bytes stay known
+keeps_known : (a b : Option (List ℕ)) (before : List ℕ) → a ≡ Some before → Keeps a b → b ≡ Some before
+keeps_known None b before e p = cc
+keeps_known (Some xs) None before e p = absurd p
+keeps_known (Some xs) (Some ys) before e p = ap Some p ∙ e
 
 -- the writer keeps its bytes afterwards
 pub exchanges_kept : (had left held holds now : Option (List ℕ)) (P : List ℕ → List ℕ → List ℕ → Type 0) → Keeps holds now → Exchanges had left held holds P → Exchanges had left held now P

@@ -9,11 +9,11 @@ use Rattle.chip_cases.specs.Matching.{IsAnswered}
 use Rattle.chip_cases.specs.Steps.{Expectation, expectation_of}
 use Rattle.chip_cases.specs.declared.case.Step.{Step}
 use Rattle.chip_cases.specs.declared.update.Given.{Given}
-use Rattle.chip_bench.specs.KeyFile.{IsKeyFault, key_fault, session_under}
-use Rattle.chip_bench.specs.Session.{Session, session_of}
-use Rattle.chip_bench.specs.Settings.{SessionSettings}
+use Rattle.chip_session.specs.KeyFile.{IsKeyFault, key_fault, session_under}
+use Rattle.chip_session.specs.Session.{Session, session_of}
+use Rattle.chip_session.specs.Settings.{SessionSettings}
 use Rattle.chip_bench.specs.Testing.{CasePasses, JudgesAll, Passes, PassesUnder, has_passed}
-use Rattle.chip_bench.specs.Transcript.{after, reply}
+use Rattle.chip_session.specs.Transcript.{after, reply}
 use Rattle.chip_bench.specs.declared.case_run.Verdict.{Verdict}
 
 module _ (start : Session) (steps : List Step) where

@@ -5,19 +5,20 @@ use Rattle.chip_asm.specs.Program.{image_of}
 use Rattle.chip_asm.specs.declared.refusal.OpenError.{OpenError}
 use Rattle.chip_asm.specs.declared.refusal.OpenError.TheVariants as unopened
 use Rattle.std.specs.Borrow.{Bor}
-use Rattle.chip_bench.specs.KeyFile.{IsKeyFault, key_fault, session_under}
-use Rattle.chip_bench.specs.declared.key_file.KeyFileError.{KeyFileError}
-use Rattle.chip_bench.specs.declared.key_file.KeyFileError.TheVariants.{Line, OutOfMemory}
-use Rattle.chip_bench.specs.Printing.{Breaks, IsPrintedOf, Printed, Prints, PrintsSuch, PrintsSuchUnder, PrintsSuchUnless, Refuses, Streams, StreamsUnder, StreamsUnless, Writes, WritesFront, keys_failure, printed, unopened_text}
-use Rattle.chip_bench.specs.Session.{Session, session_of}
-use Rattle.chip_bench.specs.Settings.{SessionSettings}
-use Rattle.chip_bench.specs.Tally.{Tally}
+use Rattle.chip_session.specs.KeyFile.{IsKeyFault, key_fault, session_under}
+use Rattle.chip_session.specs.declared.key_file.KeyFileError.{KeyFileError}
+use Rattle.chip_session.specs.declared.key_file.KeyFileError.TheVariants.{Line, OutOfMemory}
+use Rattle.chip_bench.specs.Printing.{IsPrintedOf, Printed, Prints, PrintsSuch, PrintsSuchUnder, PrintsSuchUnless, Refuses, Streams, StreamsUnder, StreamsUnless, WritesFront, keys_failure, printed, unopened_text}
+use Rattle.chip_session.specs.Session.{Session, session_of}
+use Rattle.chip_session.specs.Settings.{SessionSettings}
+use Rattle.chip_session.specs.Tally.{Tally}
+use Rattle.chip_session.specs.Writing.{Breaks, Writes}
 use Rattle.chip_bench.specs.Tracing.{trace_refusal}
 use Rattle.chip_bench.specs.declared.ending.Ending.{Ending}
 use Rattle.chip_bench.specs.declared.ending.Ending.TheVariants.{Done, Faulty}
 use Rattle.chip_bench.specs.declared.ending.Failure.{Failure}
 use Rattle.chip_bench.specs.declared.ending.Failure.TheVariants as failure
-use Rattle.chip_bench.specs.declared.refusal.Refusal.TheVariants.{NoImage}
+use Rattle.chip_session.specs.declared.refusal.Refusal.TheVariants.{NoImage}
 use Rattle.chip_bench.specs.declared.tracing.Shown.{Shown}
 use Rattle.chip_lang.specs.Meter.{one_more}
 use Rattle.chip_trace.specs.Lines.{newline_ended}
@@ -26,11 +27,11 @@ use Rattle.std.specs.Prelude.{IsTrue, ◌↔◌, is_none}
 use Rattle.std.proofs.lemmas.Bool.{cases_lt}
 use Rattle.std.proofs.lemmas.Grind.{flat_map-append}
 use Rattle.std.proofs.lemmas.List.{drop_all, length-drop, take-append-drop}
-use Rattle.chip_bench.proofs.WriteLemmas.{appends_more, appends_none}
+use Rattle.std.proofs.KnownBytes.{Appends-nil, Appends-trans}
 
 module _ {W : Type 0} (contents : W → Option (List ℕ)) (old new : Tally W) where
   nothing_written : (text : List ℕ) → new ≡ old → WritesFront contents old new text
-  nothing_written text same = rw same (record { front = []; begins = (text, refl); appended = appends_none (contents old.inner); no_failure = refl })
+  nothing_written text same = rw same (record { front = []; begins = (text, refl); appended = Appends-nil (contents old.inner); no_failure = refl })
 
   -- what is printed at once
   pub streams_prints : (wanted : Printed) (result : Result Ending Failure) → Prints contents old new wanted result → Streams contents old new wanted result
@@ -153,7 +154,7 @@ module _ {W : Type 0} (contents : W → Option (List ℕ)) (old now : Tally W) (
 
 module _ {W : Type 0} (contents : W → Option (List ℕ)) where
   pub stream_starts : (old : Tally W) (header : List ℕ) (rest : List (List ℕ)) → Streamed contents old old (newline_ended (header ∷ rest)) (header ++ 10 ∷ []) rest
-  stream_starts old header rest = record { written = []; appended = appends_none (contents old.inner); failures = refl; whole_is = refl }
+  stream_starts old header rest = record { written = []; appended = Appends-nil (contents old.inner); failures = refl; whole_is = refl }
 
   -- some lines were added to the text
   pub stream_adds : (old now : Tally W) (whole text text_after : List ℕ) (rest after : List (List ℕ)) (most : ℕ) → Streamed contents old now whole text rest
@@ -175,7 +176,7 @@ module _ {W : Type 0} (contents : W → Option (List ℕ)) where
       → Writes contents now next text → Streamed contents old next whole [] rest
   stream_writes old now next whole text rest s w = record {
     written = s.written ++ text;
-    appended = appends_more (contents old.inner) (contents now.inner) (contents next.inner) s.written text s.appended w.appended;
+    appended = Appends-trans (contents old.inner) (contents now.inner) (contents next.inner) s.written text s.appended w.appended;
     failures = w.no_failure ∙ s.failures;
     whole_is = s.whole_is ∙ sym (append_assoc s.written text (newline_ended rest));
   }
@@ -201,7 +202,7 @@ module _ {W : Type 0} (contents : W → Option (List ℕ)) where
           ∙ ap (λ l. s.written ++ l) (append_assoc b.front b.begins.0 (newline_ended rest))
           ∙ sym (append_assoc s.written b.front (b.begins.0 ++ newline_ended rest)),
     );
-    appended = appends_more (contents old.inner) (contents now.inner) (contents next.inner) s.written b.front s.appended b.appended;
+    appended = Appends-trans (contents old.inner) (contents now.inner) (contents next.inner) s.written b.front s.appended b.appended;
     counted = b.counted ∙ ap one_more s.failures;
   }
 

@@ -23,8 +23,8 @@ use Rattle.chip_views.specs.Dis.{source_of_image}
 use Rattle.chip_views.specs.declared.picture.Letters.{Letters}
 use Rattle.chip_views.specs.declared.picture.Letters.TheVariants.{Blocks, Plain}
 use Rattle.chip_arguments.specs.CommandWords.{AsksFor}
-use Rattle.chip_bench.specs.KeyFile.{key_fault, session_under}
-use Rattle.chip_bench.specs.Session.{session_of}
+use Rattle.chip_session.specs.KeyFile.{key_fault, session_under}
+use Rattle.chip_session.specs.Session.{session_of}
 use Rattle.std.specs.Str.{str_to_ascii_lowercase}
 use Rattle.std.specs.Str.Lines.{lines}
 use Rattle.chip_trace.specs.Columns.{header_line, usual_columns}
@@ -38,8 +38,8 @@ use Rattle.chip_arguments.specs.Version.{version_text}
 use Rattle.chip_bench.specs.Printing.{IsPrintedCheck, IsPrintedOf, Printed, PrintsSuch, PrintsSuchUnder, PrintsUnder, Prints, RefusesKeys, StreamsUnder, fault_under, printed_faults, printed_listing, printed_picture, printed, printed_of, printed_run}
 use Rattle.chip_bench.specs.Running.{AnswersIfAsked, AnswersScript, IsUnread, source_bytes_read, status_of}
 use Rattle.chip_bench.specs.SettingWords.{settings_asked}
-use Rattle.chip_bench.specs.Settings.{SessionSettings}
-use Rattle.chip_bench.specs.Tally.{Tally, failures_after_flush}
+use Rattle.chip_session.specs.Settings.{SessionSettings}
+use Rattle.chip_session.specs.Tally.{Tally, failures_after_flush}
 use Rattle.chip_bench.specs.Testing.{Tests}
 use Rattle.chip_arguments.specs.declared.command_line.CommandLine.{CommandLine}
 use Rattle.chip_arguments.specs.declared.command_line.CommandLine.TheVariants as line
@@ -51,8 +51,8 @@ use Rattle.chip_bench.specs.declared.ending.Ending.{Ending}
 use Rattle.chip_bench.specs.declared.ending.Ending.TheVariants.{Done, Faulty}
 use Rattle.chip_bench.specs.declared.ending.Failure.{Failure}
 use Rattle.chip_bench.specs.declared.ending.Failure.TheVariants as failure
-use Rattle.chip_bench.specs.declared.question.PictureForm.{PictureForm}
-use Rattle.chip_bench.specs.declared.question.PictureForm.TheVariants as form
+use Rattle.chip_session.specs.declared.question.PictureForm.{PictureForm}
+use Rattle.chip_session.specs.declared.question.PictureForm.TheVariants as form
 
 abbrev pub Outcome : Type 0
 Outcome = Result Ending Failure

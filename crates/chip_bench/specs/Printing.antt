@@ -7,26 +7,26 @@ use Rattle.chip_asm.specs.Listing.{listing_of}
 use Rattle.chip_asm.specs.declared.refusal.OpenError.{OpenError}
 use Rattle.chip_asm.specs.declared.refusal.OpenError.TheVariants as unopened
 use Rattle.chip_check.specs.Check.{IsCheck}
-use Rattle.chip_bench.specs.Answers.{answer_to, faults_text, listing_text}
+use Rattle.chip_session.specs.Answers.{answer_to, faults_text, listing_text}
 use Rattle.std.specs.Borrow.{Bor}
-use Rattle.chip_bench.specs.KeyFile.{key_fault, session_under}
-use Rattle.chip_bench.specs.Refusals.{refusal_code}
-use Rattle.chip_bench.specs.Serving.{BeginsWith}
-use Rattle.chip_bench.specs.Session.{Session, session_of}
-use Rattle.chip_bench.specs.Settings.{SessionSettings}
-use Rattle.chip_bench.specs.Tally.{Tally}
-use Rattle.chip_bench.specs.Transcript.{refused}
+use Rattle.chip_session.specs.KeyFile.{key_fault, session_under}
+use Rattle.chip_session.specs.Refusals.{refusal_code}
+use Rattle.chip_session.specs.Serving.{BeginsWith}
+use Rattle.chip_session.specs.Session.{Session, session_of}
+use Rattle.chip_session.specs.Settings.{SessionSettings}
+use Rattle.chip_session.specs.Tally.{Tally}
+use Rattle.chip_session.specs.Transcript.{refused}
+use Rattle.chip_session.specs.Writing.{Breaks, Writes}
 use Rattle.chip_bench.specs.declared.ending.Ending.{Ending}
 use Rattle.chip_bench.specs.declared.ending.Ending.TheVariants.{Done, Faulty}
 use Rattle.chip_bench.specs.declared.ending.Failure.{Failure}
 use Rattle.chip_bench.specs.declared.ending.Failure.TheVariants as failure
-use Rattle.chip_bench.specs.declared.key_file.KeyFileError.{KeyFileError}
-use Rattle.chip_bench.specs.declared.key_file.KeyFileError.TheVariants.{Line, OutOfMemory}
-use Rattle.chip_bench.specs.declared.question.PictureForm.{PictureForm}
-use Rattle.chip_bench.specs.declared.question.Question.TheVariants.{Registers, Screen, Picture}
-use Rattle.chip_bench.specs.declared.refusal.Refusal.{Refusal}
-use Rattle.chip_bench.specs.declared.refusal.Refusal.TheVariants.{NoImage}
-use Rattle.chip_lang.specs.Meter.{one_more}
+use Rattle.chip_session.specs.declared.key_file.KeyFileError.{KeyFileError}
+use Rattle.chip_session.specs.declared.key_file.KeyFileError.TheVariants.{Line, OutOfMemory}
+use Rattle.chip_session.specs.declared.question.PictureForm.{PictureForm}
+use Rattle.chip_session.specs.declared.question.Question.TheVariants.{Registers, Screen, Picture}
+use Rattle.chip_session.specs.declared.refusal.Refusal.{Refusal}
+use Rattle.chip_session.specs.declared.refusal.Refusal.TheVariants.{NoImage}
 
 -- what a command prints on standard output, and how it ends then
 pub record Printed : Type 0 where
@@ -106,23 +106,11 @@ keys_failure name (Line number code) = failure.BadKeys name number (record { 0 =
 keys_failure name OutOfMemory = failure.OutOfMemory
 
 module _ {W : Type 0} (contents : W → Option (List ℕ)) (old new : Tally W) where
-  -- this text was printed, and nothing else, and no write failed
-  pub record Writes (text : List ℕ) : Type 0 where
-    pub appended : Appends (contents old.inner) (contents new.inner) text
-    pub no_failure : new.failures ≡ old.failures
-
-  -- a write failed, after some front of this text
-  pub record Breaks (text : List ℕ) : Type 0 where
-    pub front : List ℕ
-    pub begins : BeginsWith text front
-    pub appended : Appends (contents old.inner) (contents new.inner) front
-    pub counted : new.failures ≡ one_more old.failures
-
   -- What a command that prints this did: all of it, or a front where a write failed, or nothing for
   -- that memory ran out.
   abbrev pub Prints : Printed → Result Ending Failure → Type 0
-  Prints wanted (Ok ending) = (ending ≡ wanted.ending) × Writes wanted.text
-  Prints wanted (Err failure.Output) = Breaks wanted.text
+  Prints wanted (Ok ending) = (ending ≡ wanted.ending) × Writes contents old new wanted.text
+  Prints wanted (Err failure.Output) = Breaks contents old new wanted.text
   Prints wanted (Err failure.OutOfMemory) = new ≡ old
   Prints wanted (Err _) = ⊥
 
@@ -136,8 +124,8 @@ module _ {W : Type 0} (contents : W → Option (List ℕ)) (old new : Tally W) w
   -- What a command that prints this part by part did: all of it, or a front where a write failed or
   -- memory ran out.
   abbrev pub Streams : Printed → Result Ending Failure → Type 0
-  Streams wanted (Ok ending) = (ending ≡ wanted.ending) × Writes wanted.text
-  Streams wanted (Err failure.Output) = Breaks wanted.text
+  Streams wanted (Ok ending) = (ending ≡ wanted.ending) × Writes contents old new wanted.text
+  Streams wanted (Err failure.Output) = Breaks contents old new wanted.text
   Streams wanted (Err failure.OutOfMemory) = WritesFront wanted.text
   Streams wanted (Err _) = ⊥
 

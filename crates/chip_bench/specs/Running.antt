@@ -12,19 +12,19 @@ use Rattle.std.specs.Borrow.{Bor}
 use Rattle.std.specs.declared.io.Error.{Error as IoError}
 use Rattle.std.specs.declared.io.ErrorKind.{ErrorKind as IoErrorKind}
 use Rattle.std.specs.declared.io.ErrorKind.TheVariants as io_kind
-use Rattle.chip_bench.specs.Settings.{SessionSettings, default_settings}
-use Rattle.chip_bench.specs.Session.{session_of}
-use Rattle.chip_bench.specs.Serving.{Served, Exchanges, Opens, reader_failures, writer_failures}
+use Rattle.chip_session.specs.Settings.{SessionSettings, default_settings}
+use Rattle.chip_session.specs.Session.{session_of}
+use Rattle.chip_session.specs.Serving.{Served, Exchanges, Opens, reader_failures, writer_failures}
 use Rattle.chip_bench.specs.Printing.{Refuses}
-use Rattle.chip_bench.specs.Tally.{Tally, failures_after_flush}
+use Rattle.chip_session.specs.Tally.{Tally, failures_after_flush}
 use Rattle.chip_bench.specs.declared.ending.Ending.{Ending}
 use Rattle.chip_bench.specs.declared.ending.Ending.TheVariants.{Done, Faulty}
 use Rattle.chip_bench.specs.declared.ending.Failure.{Failure}
 use Rattle.chip_bench.specs.declared.ending.Failure.TheVariants as failure
-use Rattle.chip_bench.specs.declared.server.ServeError.{ServeError}
-use Rattle.chip_bench.specs.declared.server.ServeError.TheVariants as fault
-use Rattle.chip_bench.specs.declared.settings.SetError.{SetError}
-use Rattle.chip_bench.specs.declared.settings.SetError.TheVariants as set
+use Rattle.chip_session.specs.declared.server.ServeError.{ServeError}
+use Rattle.chip_session.specs.declared.server.ServeError.TheVariants as fault
+use Rattle.chip_session.specs.declared.settings.SetError.{SetError}
+use Rattle.chip_session.specs.declared.settings.SetError.TheVariants as set
 
 -- the status of the program after a way to end a session on a source that opens, and a flush that
 -- went well or didn't

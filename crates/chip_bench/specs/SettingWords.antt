@@ -2,10 +2,10 @@
 use Rattle.std.specs.Prelude.{ℕ, List, [], ◌∷◌, Option, Some, None, Result, Ok, Err, option_and_then}
 use Rattle.std.specs.Borrow.{Bor}
 use Rattle.hex.specs.Hex.{decode_of}
-use Rattle.chip_bench.specs.Settings.{SessionSettings, settings_fault, spacing_fault}
-use Rattle.chip_bench.specs.Tape.{tape_of}
+use Rattle.chip_session.specs.Settings.{SessionSettings, settings_fault, spacing_fault}
+use Rattle.chip_session.specs.Tape.{tape_of}
 use Rattle.chip_arguments.specs.declared.command_line.SettingWords.{SettingWords}
-use Rattle.chip_bench.specs.declared.settings.SetError.{SetError}
+use Rattle.chip_session.specs.declared.settings.SetError.{SetError}
 
 abbrev pub if_ok : {T E : Type 0} → Result T E → Option T
 if_ok (Ok value) = Some value

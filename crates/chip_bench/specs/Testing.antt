@@ -18,12 +18,12 @@ use Rattle.chip_cases.specs.declared.case.Setup.{Setup}
 use Rattle.chip_cases.specs.declared.case.SourceWords.{SourceWords}
 use Rattle.chip_cases.specs.declared.case.SourceWords.TheVariants as words
 use Rattle.chip_replay.specs.declared.limits.TheConstants.{LEAST_SPACING}
-use Rattle.chip_bench.specs.KeyFile.{key_fault, session_under}
+use Rattle.chip_session.specs.KeyFile.{key_fault, session_under}
 use Rattle.chip_bench.specs.Running.{failure_status}
-use Rattle.chip_bench.specs.Session.{Session, session_of}
+use Rattle.chip_session.specs.Session.{Session, session_of}
 use Rattle.chip_bench.specs.SettingWords.{settings_asked}
-use Rattle.chip_bench.specs.Settings.{SessionSettings}
-use Rattle.chip_bench.specs.Transcript.{after, reply}
+use Rattle.chip_session.specs.Settings.{SessionSettings}
+use Rattle.chip_session.specs.Transcript.{after, reply}
 use Rattle.chip_bench.specs.declared.case_run.Verdict.{Verdict}
 use Rattle.chip_bench.specs.declared.case_run.Verdict.TheVariants as verdict
 use Rattle.chip_bench.specs.declared.ending.Ending.{Ending}

@@ -1,22 +1,17 @@
 -- What `trace` prints of a session's run, by itself or beside the lines of another trace (own).
-use Rattle.std.specs.Prelude.{◌≡◌, ℕ, ◌||◌, Bool, List, [], ◌∷◌, is_none, nat_lt, unwrap_or, Option, Some, None, if◌then◌else◌}
+use Rattle.std.specs.Prelude.{◌≡◌, ℕ, ◌||◌, Bool, List, [], ◌∷◌, is_none, nat_lt, Option, Some, None, if◌then◌else◌}
 use Rattle.chip_asm.specs.Program.{image_of}
-use Rattle.chip_machine.specs.State.{State}
 use Rattle.chip_replay.specs.Limits.{last_step}
 use Rattle.chip_trace.specs.Difference.{IsComparison, IsDifferenceText}
 use Rattle.chip_trace.specs.Lines.{trace_lines, trace_text}
 use Rattle.chip_trace.specs.declared.difference.Difference.{Difference}
-use Rattle.chip_bench.specs.Answers.{machine_at}
+use Rattle.chip_session.specs.Answers.{machine_of}
 use Rattle.chip_bench.specs.Printing.{Printed, printed, printed_faults, unanswered}
-use Rattle.chip_bench.specs.Session.{Session}
+use Rattle.chip_session.specs.Session.{Session}
 use Rattle.chip_bench.specs.declared.ending.Ending.TheVariants.{Done, Faulty}
-use Rattle.chip_bench.specs.declared.refusal.Refusal.{Refusal}
-use Rattle.chip_bench.specs.declared.refusal.Refusal.TheVariants.{NoImage, StepPastLast}
+use Rattle.chip_session.specs.declared.refusal.Refusal.{Refusal}
+use Rattle.chip_session.specs.declared.refusal.Refusal.TheVariants.{NoImage, StepPastLast}
 use Rattle.chip_bench.specs.declared.tracing.Shown.{Shown}
-
--- the machine with the session's image, if there is one, at each step
-abbrev pub machine_of : Session → ℕ → State
-machine_of session = machine_at session (unwrap_or (image_of session.lines) [])
 
 -- it begins or ends past the last step of a run
 abbrev pub is_past_last : Shown → Bool

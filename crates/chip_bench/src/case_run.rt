@@ -3,13 +3,10 @@ ghost use Rattle.std.specs.Prelude.{◌≡◌, ◌≢◌, ◌↔◌, false, [], 
 ghost use Rattle.chip_cases.specs.Steps.{expectation_of};
 ghost use Rattle.chip_bench.specs.Testing.{CasePasses, Passes, PassesUnder, has_passed};
 
-use crate::bench::Bench;
 use crate::ending::Code;
-use crate::key_file::{KeyFileError, insert_keys};
-use crate::server::respond;
-use crate::settings::Settings;
 use chip_asm::OpenError;
 use chip_cases::{Given, Step, is_answered, is_refusal};
+use chip_session::{Bench, KeyFileError, Settings, insert_keys, respond};
 use std::alloc::{AllocError, Global};
 
 /// How a case ended.

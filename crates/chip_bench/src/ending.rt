@@ -3,8 +3,8 @@ ghost use Rattle.std.specs.Prelude.{◌≡◌};
 ghost use Rattle.clap.specs.Words.{kind_of};
 ghost use Rattle.chip_bench.specs.Running.{ending_status, failure_status, no_memory, settings_failure, words_failure};
 
-use crate::settings::SetError;
 use chip_cases::CaseFault;
+use chip_session::SetError;
 use chip_trace::HeaderError;
 use clap::error::ErrorKind;
 use std::alloc::AllocError;

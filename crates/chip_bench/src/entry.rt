@@ -5,7 +5,7 @@ ghost use Rattle.hex.specs.Hex.{decode_of};
 ghost use Rattle.clap.specs.Words.{kind_of};
 ghost use Rattle.chip_arguments.specs.Version.{version_text};
 ghost use Rattle.chip_bench.specs.Printing.{Prints, printed};
-ghost use Rattle.chip_bench.specs.Settings.{default_settings};
+ghost use Rattle.chip_session.specs.Settings.{default_settings};
 ghost use Rattle.chip_bench.specs.SettingWords.{settings_asked, tape_asked};
 ghost use Rattle.chip_bench.specs.Running.{AnswersScript, RunsSession, status_of, failure_status, AreFaulty, IsWithoutWords, IsUnread, source_bytes_read};
 ghost use Rattle.chip_bench.specs.inner.Reads.{IsAsked, IsKeysUnread, IsUnasked, IsUsage};
@@ -14,16 +14,12 @@ ghost use Rattle.chip_arguments.specs.CommandWords.{word_faults};
 ghost use Rattle.std.specs.Io.KnownBytes.{Keeps};
 ghost use Rattle.std.specs.IoError.{error_kind};
 
-use crate::counted::Counted;
 use crate::ending::{Ending, Failure};
 use crate::limits::{KEY_FILE_BYTES, TRACE_FILE_BYTES};
 use crate::output::{
     KeyFile, answer_script, check_source, explain, image_or_faults, list_source, picture_source,
     print, print_source, print_version, run_source,
 };
-use crate::question::PictureForm;
-use crate::settings::Settings;
-use crate::tape::tape_of;
 use crate::testing::test_files;
 use crate::tracing::{Shown, compare_source, trace_source};
 use chip_arguments::{
@@ -32,6 +28,7 @@ use chip_arguments::{
 use chip_asm::limits::SOURCE_BYTES;
 use chip_files::{first_line, read_most, write_file};
 use chip_machine::limits::IMAGE_BYTES;
+use chip_session::{Counted, PictureForm, Settings, tape_of};
 use chip_trace::{Columns, HeaderError};
 use chip_views::Letters;
 use clap::error::ErrorKind;

@@ -6,7 +6,8 @@ ghost use Rattle.chip_asm.specs.declared.limits.TheConstants.{LINE_BYTES, MOST_L
 ghost use Rattle.chip_machine.specs.declared.limits.TheConstants.{FLAGS, FRAMES, TAPE_BYTES};
 ghost use Rattle.chip_replay.specs.declared.limits.TheConstants.{LAST_STEP, LEAST_SPACING, MOST_EVENTS, MOST_SPACING};
 ghost use Rattle.chip_arguments.specs.declared.limits.TheConstants.{MOST_RATE};
-ghost use Rattle.chip_bench.specs.declared.limits.TheConstants.{COMMAND_BYTES, KEY_FILE_BYTES, SCRIPT_BYTES, SCRIPT_LINES, TEST_FILE_BYTES, TRACE_FILE_BYTES};
+ghost use Rattle.chip_session.specs.declared.limits.TheConstants.{COMMAND_BYTES, SCRIPT_BYTES, SCRIPT_LINES};
+ghost use Rattle.chip_bench.specs.declared.limits.TheConstants.{KEY_FILE_BYTES, TEST_FILE_BYTES, TRACE_FILE_BYTES};
 
 /// The numbers behind the names of limits that the definitions use.
 pub fn limits()

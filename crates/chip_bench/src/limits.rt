@@ -1,13 +1,6 @@
-//! The limits of a script, each under one name. Those of settings stand beside them.
+//! The limits of a script and of the files that the program reads, each under one name.
 
-/// How many bytes a line of a script has at most.
-pub const COMMAND_BYTES: usize = 400;
-
-/// How many bytes a script has at most.
-pub const SCRIPT_BYTES: u32 = 50_000_000;
-
-/// How many lines a script has at most.
-pub const SCRIPT_LINES: u32 = 100_000;
+pub use chip_session::limits::{COMMAND_BYTES, SCRIPT_BYTES, SCRIPT_LINES};
 
 /// How many bytes a file of key events has at most.
 pub const KEY_FILE_BYTES: u32 = 10_000_000;

@@ -3,28 +3,21 @@ ghost use Rattle.std.specs.Prelude.{◌≡◌, ◌≤◌, Ok, Err, Some, None, l
 ghost use Rattle.chip_asm.specs.Lines.{lines_of, open_fault};
 ghost use Rattle.chip_asm.specs.Program.{image_of};
 ghost use Rattle.chip_views.specs.Dis.{source_of_image};
-ghost use Rattle.chip_bench.specs.Transcript.{refused};
+ghost use Rattle.chip_session.specs.Transcript.{refused};
 ghost use Rattle.chip_bench.specs.Printing.{IsPrintedCheck, IsPrintedOf, Prints, PrintsSuch, Refuses, printed, printed_of, printed_faults, printed_listing, printed_run, printed_picture, unanswered, keys_failure, PrintsUnder, PrintsUnless};
-ghost use Rattle.chip_bench.specs.KeyFile.{key_fault, session_under};
+ghost use Rattle.chip_session.specs.KeyFile.{key_fault, session_under};
 ghost use Rattle.chip_bench.specs.Running.{AnswersScript};
 ghost use Rattle.chip_bench.specs.Doing.{Explains};
 ghost use Rattle.chip_bench.specs.inner.Reads.{IsImageHindered, IsImageOrFaults};
 ghost use Rattle.chip_arguments.specs.Version.{version_text};
 
-use crate::answer::{faults_answer, listing_answer};
-use crate::bench::Bench;
-use crate::counted::Counted;
 use crate::ending::{Code, Ending, Failure};
-use crate::key_file::{KeyFileError, insert_keys};
-use crate::question::{PictureForm, Question};
-use crate::refusal::Refusal;
-use crate::server::{ServeError, refuse, serve, write_whole};
-use crate::settings::Settings;
 use chip_arguments::VERSION;
 use chip_asm::{OpenError, Source};
 use chip_check::check_text;
 use chip_machine::limits::IMAGE_BYTES;
 use chip_pages::{contents, page_text};
+use chip_session::{Bench, Counted, KeyFileError, PictureForm, Question, Refusal, ServeError, Settings, faults_answer, insert_keys, listing_answer, refuse, serve, write_all};
 use chip_views::source_of_image;
 use std::alloc::Global;
 use std::io::{Read, Write};
@@ -390,7 +383,7 @@ pub(crate) fn print<'a, O: Write>(
 ) -> Result<Ending, Failure<'a>>
     ensures { Prints O.contents output.old output.new (printed bytes.now ending) result }
 {
-    match write_whole(output, bytes) {
+    match write_all(output, bytes) {
         Ok(()) => Ok(ending),
         Err(_) => Err(Failure::Output),
     }

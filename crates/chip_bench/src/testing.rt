@@ -5,13 +5,13 @@ ghost use Rattle.chip_bench.specs.Testing.{IsHindrance, JudgesAll, JudgesCase, J
 use crate::case_report::Report;
 use crate::case_run::{Verdict, run_case};
 use crate::case_setup::{case_keys, case_settings, case_source};
-use crate::counted::Counted;
 use crate::ending::{Ending, Failure, TestFault};
 use crate::entry::{read_bounded, write_image};
 use crate::limits::TEST_FILE_BYTES;
 use crate::output::print;
 use chip_arguments::TestWords;
 use chip_cases::{Case, FileFault, Given, misplaced_refusal, read_cases, updated_text};
+use chip_session::Counted;
 use std::alloc::{AllocError, Global};
 use std::io::Write;
 use std::rt::Files;

@@ -1,19 +1,15 @@
 //! `trace`: the lines of a run, by themselves or beside those of another trace.
 ghost use Rattle.std.specs.Prelude.{◌≡◌, None};
 ghost use Rattle.std.specs.Str.Lines.{lines};
-ghost use Rattle.chip_bench.specs.KeyFile.{key_fault, session_under};
+ghost use Rattle.chip_session.specs.KeyFile.{key_fault, session_under};
 ghost use Rattle.chip_bench.specs.Printing.{PrintsSuch, PrintsSuchUnder, PrintsSuchUnless, Streams, StreamsUnder, StreamsUnless, printed};
 ghost use Rattle.chip_bench.specs.Tracing.{IsCompared, is_past_last, printed_trace, trace_of, trace_refusal};
 ghost use Rattle.chip_bench.specs.declared.ending.Ending.TheVariants.{Done};
 
-use crate::bench::Bench;
-use crate::counted::Counted;
 use crate::ending::{Ending, Failure};
-use crate::key_file::insert_keys;
 use crate::output::{KeyFile, print, print_why, refuse_source};
-use crate::refusal::Refusal;
-use crate::settings::Settings;
 use chip_replay::LAST_STEP;
+use chip_session::{Bench, Counted, Refusal, Settings, insert_keys};
 use chip_trace::{Columns, Trace, difference_text};
 use std::alloc::Global;
 use std::io::Write;

@@ -7,7 +7,7 @@ use Rattle.chip_bench.specs.Doing.{IsShort, Outcome, WithAsked, image_in}
 use Rattle.chip_bench.specs.Printing.{Prints, printed_faults, printed_of}
 use Rattle.chip_bench.specs.Running.{IsUnread, failure_status}
 use Rattle.chip_bench.specs.SettingWords.{settings_asked}
-use Rattle.chip_bench.specs.Tally.{Tally}
+use Rattle.chip_session.specs.Tally.{Tally}
 use Rattle.chip_arguments.specs.declared.command_line.RunWords.{RunWords}
 use Rattle.chip_bench.specs.declared.ending.Ending.TheVariants.{Done, Faulty}
 use Rattle.chip_bench.specs.declared.ending.Failure.{Failure}

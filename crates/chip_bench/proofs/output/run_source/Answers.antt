@@ -1,5 +1,5 @@
 use Rattle.chip_bench.specs.Printing.{printed_run}
-use Rattle.chip_bench.proofs.KeyLemmas.{prints_under}
+use Rattle.chip_bench.proofs.OpenedLemmas.{prints_under}
 use Rattle.chip_bench.proofs.output.run_source.Goals as goal
 
 pub returns-in-Ok : goal.returns-in-Ok

@@ -1,6 +1,6 @@
 use Rattle.std.proofs.Common.{refl}
 use Rattle.std.specs.Str.Lines.{lines}
-use Rattle.chip_bench.specs.KeyFile.{key_fault, session_under}
+use Rattle.chip_session.specs.KeyFile.{key_fault, session_under}
 use Rattle.chip_bench.specs.Tracing.{IsCompared}
 use Rattle.chip_bench.proofs.TraceLemmas.{such_key_fault}
 use Rattle.chip_bench.proofs.tracing.compare_under.Goals as goal

@@ -3,7 +3,7 @@ use Rattle.chip_trace.specs.Difference.{IsDifferenceText}
 use Rattle.chip_bench.specs.Printing.{printed}
 use Rattle.chip_bench.specs.Tracing.{machine_of}
 use Rattle.chip_bench.specs.declared.ending.Ending.TheVariants.{Done, Faulty}
-use Rattle.chip_bench.proofs.WriteLemmas.{appends_none}
+use Rattle.std.proofs.KnownBytes.{Appends-nil}
 use Rattle.chip_bench.proofs.tracing.print_difference.Goals as goal
 
 pub returns-in-Some : goal.returns-in-Some
@@ -14,7 +14,7 @@ pub returns-in-Ok-None : goal.returns-in-Ok-None
 returns-in-Ok-None g c =
     let found = rw (c.new-trace.ensures.lines (machine_of c.args.bench.now.session), c.in-Ok-None.field-0-is) at c.in-Ok-None.ensures.found in
     rw (sym c.refusal_of.ensures ∙ c.in_default.is)
-    (inl (printed [] Done, (None, found, refl), (refl, record { appended = appends_none (g.O.Write.contents c.args.output.now.inner); no_failure = refl })))
+    (inl (printed [] Done, (None, found, refl), (refl, record { appended = Appends-nil (g.O.Write.contents c.args.output.now.inner); no_failure = refl })))
 
 pub returns-in-Ok-Some : goal.returns-in-Ok-Some
 returns-in-Ok-Some g c =

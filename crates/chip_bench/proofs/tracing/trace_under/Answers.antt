@@ -1,4 +1,4 @@
-use Rattle.chip_bench.specs.KeyFile.{key_fault, session_under}
+use Rattle.chip_session.specs.KeyFile.{key_fault, session_under}
 use Rattle.chip_bench.specs.Tracing.{printed_trace}
 use Rattle.chip_bench.proofs.TraceLemmas.{streams_key_fault}
 use Rattle.chip_bench.proofs.tracing.trace_under.Goals as goal

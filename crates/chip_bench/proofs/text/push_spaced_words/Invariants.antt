@@ -1,6 +1,0 @@
-use Rattle.std.proofs.Common.{◌≡◌, ◌++◌, take}
-use Rattle.chip_bench.specs.Text.{spaced, hex_word}
-use Rattle.chip_bench.proofs.text.push_spaced_words.Given as goal
-
-abbrev pub invariant-loop-word : goal.invariant-loop-word
-invariant-loop-word l = l.out.items ≡ l.initial.out.items ++ spaced hex_word (take l.word-index l.words)

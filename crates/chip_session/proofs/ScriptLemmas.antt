@@ -1,0 +1,103 @@
+-- The transcript of a script in two parts, and of a line that is cut off where it is too long.
+use Rattle.std.proofs.Common.{◌≡◌, ◌⊎◌, ℕ, ◌+◌, ◌-◌, ◌<◌, ◌≤◌, Bool, true, false, cond, List, [], ◌∷◌, ◌++◌, length, take, refl, sym, ◌∙◌, ap, append_assoc, arith, Ok, Err, Result, IsOkAnd, OnOk, is_ok, inl, inr, ⊎_elim}
+use Rattle.std.specs.Str.Lines.{strip_carriage_return}
+use Rattle.std.proofs.lemmas.List.{append-nil, take_all, length-take}
+use Rattle.std.proofs.lemmas.Bool.{cases_lt, cond_below, cond_above}
+use Rattle.chip_session.specs.Session.{Session}
+use Rattle.chip_session.specs.declared.command.CommandFault.{CommandFault}
+use Rattle.chip_session.specs.declared.refusal.Refusal.{Refusal}
+use Rattle.std.specs.List.{list_all, before_first, after_first}
+use Rattle.chip_session.specs.declared.limits.TheConstants.{COMMAND_BYTES}
+use Rattle.chip_session.specs.declared.server.TheConstants.{KEPT_LEN}
+use Rattle.chip_session.specs.Commands.{blank, is_space, skip_spaces, worded, Command, command_of}
+use Rattle.chip_session.specs.Transcript.{ask_reply, reply, after, transcript_of, session_after, command_reply, command_after}
+use Rattle.chip_session.specs.declared.command.CommandFault.TheVariants.{TooLong}
+
+pub transcript-append : (s : Session) (xs ys : List (List ℕ)) → transcript_of s (xs ++ ys) ≡ transcript_of s xs ++ transcript_of (session_after s xs) ys
+transcript-append s [] ys = refl
+transcript-append s (x ∷ xs) ys = ap (λ t. reply s x ++ t) (transcript-append (after s x) xs ys) ∙ sym (append_assoc (reply s x) (transcript_of (after s x) xs) (transcript_of (session_after (after s x) xs) ys))
+
+pub session_after-append : (s : Session) (xs ys : List (List ℕ)) → session_after s (xs ++ ys) ≡ session_after (session_after s xs) ys
+session_after-append s [] ys = refl
+session_after-append s (x ∷ xs) ys = session_after-append (after s x) xs ys
+
+pub too_long : (line : List ℕ) → COMMAND_BYTES < length line → command_of line ≡ Err TooLong
+unfolding command_of
+too_long line h = sym (cond_below COMMAND_BYTES (length line) (Err TooLong) _ h)
+
+reply_long : (s : Session) (a b : List ℕ) → COMMAND_BYTES < length a → COMMAND_BYTES < length b → reply s a ≡ reply s b
+unfolding reply
+reply_long s a b h k = ap (command_reply s) (too_long a h ∙ sym (too_long b k))
+
+after_long : (s : Session) (a b : List ℕ) → COMMAND_BYTES < length a → COMMAND_BYTES < length b → after s a ≡ after s b
+unfolding after
+after_long s a b h k = ap (command_after s) (too_long a h ∙ sym (too_long b k))
+
+strip_length_by : (t : Bool) (l : List ℕ) → length l ≤ length (cond t (take (length l - 1) l) l) + 1
+strip_length_by true l = simp length-take (omega arith)
+strip_length_by false l = omega arith
+
+strip_length : (l : List ℕ) → length l ≤ length (strip_carriage_return l) + 1
+strip_length l = strip_length_by _ l
+
+-- what is kept of a line answers for the line
+pub reply_kept : (s : Session) (line : List ℕ) → reply s (take KEPT_LEN line) ≡ reply s line
+reply_kept s line = ⊎_elim (λ (long : KEPT_LEN < length line). reply_long s _ _ (rw length-take (omega arith)) (omega arith)) (λ (short : length line ≤ KEPT_LEN). ap (reply s) (take_all KEPT_LEN line short)) (cases_lt KEPT_LEN (length line))
+
+pub after_kept : (s : Session) (line : List ℕ) → after s (take KEPT_LEN line) ≡ after s line
+after_kept s line = ⊎_elim (λ (long : KEPT_LEN < length line). after_long s _ _ (rw length-take (omega arith)) (omega arith)) (λ (short : length line ≤ KEPT_LEN). ap (after s) (take_all KEPT_LEN line short)) (cases_lt KEPT_LEN (length line))
+
+long_kept : (line : List ℕ) → KEPT_LEN < length line → COMMAND_BYTES < length (strip_carriage_return (take KEPT_LEN line))
+long_kept line long = omega (arith, strip_length (take KEPT_LEN line), length-take KEPT_LEN line)
+
+pub reply_stripped : (s : Session) (line : List ℕ) → reply s (strip_carriage_return (take KEPT_LEN line)) ≡ reply s (strip_carriage_return line)
+reply_stripped s line = ⊎_elim
+    (λ (long : KEPT_LEN < length line). reply_long s _ _ (long_kept line long) (omega (arith, strip_length line)))
+    (λ (short : length line ≤ KEPT_LEN). ap (λ l. reply s (strip_carriage_return l)) (take_all KEPT_LEN line short)) (cases_lt KEPT_LEN (length line))
+
+pub after_stripped : (s : Session) (line : List ℕ) → after s (strip_carriage_return (take KEPT_LEN line)) ≡ after s (strip_carriage_return line)
+after_stripped s line = ⊎_elim
+    (λ (long : KEPT_LEN < length line). after_long s _ _ (long_kept line long) (omega (arith, strip_length line)))
+    (λ (short : length line ≤ KEPT_LEN). ap (λ l. after s (strip_carriage_return l)) (take_all KEPT_LEN line short)) (cases_lt KEPT_LEN (length line))
+
+pub transcript_push : (s : Session) (xs : List (List ℕ)) (x : List ℕ) → transcript_of s (xs ++ x ∷ []) ≡ transcript_of s xs ++ reply (session_after s xs) x
+transcript_push s xs x = transcript-append s xs (x ∷ []) ∙ ap (λ t. transcript_of s xs ++ t) (append-nil (reply (session_after s xs) x))
+
+pub session_after_push : (s : Session) (xs : List (List ℕ)) (x : List ℕ) → session_after s (xs ++ x ∷ []) ≡ after (session_after s xs) x
+session_after_push s xs x = session_after-append s xs (x ∷ [])
+
+pub reply_is : (s : Session) (line : List ℕ) (read : Result Command CommandFault) → command_of line ≡ read → reply s line ≡ command_reply s read
+unfolding reply
+reply_is s line read h = ap (command_reply s) h
+
+pub after_is : (s : Session) (line : List ℕ) (read : Result Command CommandFault) → command_of line ≡ read → after s line ≡ command_after s read
+unfolding after
+after_is s line read h = ap (command_after s) h
+
+-- the one clause of an append, where it succeeds
+pub taken_where_ok : {T E X : Type 0} (r : Result T E) (x a b : X) → x ≡ cond (is_ok r) a b → OnOk r (x ≡ a)
+taken_where_ok (Ok t) x a b h = h
+taken_where_ok (Err e) x a b h = tt
+
+-- a refusal other than that memory ran out is the definition's
+pub no_memory : {P Q X : Type 0} {e m : X} → P ⊎ ((e ≡ m) × Q) → (e ≡ m → ⊥) → P
+no_memory (inl p) h = p
+no_memory (inr q) h = absurd (h q.0)
+
+-- the same of an edit, which says besides whether it may want memory
+pub not_for_memory : {P Q R X : Type 0} {e m : X} → P ⊎ ((e ≡ m) × Q × R) → (e ≡ m → ⊥) → P
+not_for_memory (inl p) h = p
+not_for_memory (inr q) h = absurd (h q.0)
+
+-- a question that was answered
+pub ask_told : (r : Result (List ℕ) Refusal) (old new : List ℕ) → old ≡ [] → IsOkAnd r (λ bytes. new ≡ old ++ bytes) → new ≡ ask_reply r
+ask_told (Ok bytes) old new e h = h ∙ ap (λ l. l ++ bytes) e
+ask_told (Err why) old new e h = absurd h
+
+pub read_blank : (line : List ℕ) → length line ≤ COMMAND_BYTES → list_all is_space line ≡ true → command_of line ≡ Ok blank
+unfolding command_of
+read_blank line short e = sym (cond_above COMMAND_BYTES (length line) (Err TooLong) _ (Ok blank) short (sym (ap (λ t. cond t (Ok blank) (worded (before_first is_space line) (skip_spaces (after_first is_space line)))) e)))
+
+pub read_named : (line : List ℕ) → length line ≤ COMMAND_BYTES → list_all is_space line ≡ false → command_of line ≡ worded (before_first is_space line) (skip_spaces (after_first is_space line))
+unfolding command_of
+read_named line short e = sym (cond_above COMMAND_BYTES (length line) (Err TooLong) _ _ short (sym (ap (λ t. cond t (Ok blank) (worded (before_first is_space line) (skip_spaces (after_first is_space line)))) e)))

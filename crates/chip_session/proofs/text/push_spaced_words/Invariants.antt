@@ -1,0 +1,6 @@
+use Rattle.std.proofs.Common.{◌≡◌, ◌++◌, take}
+use Rattle.chip_session.specs.Text.{spaced, hex_word}
+use Rattle.chip_session.proofs.text.push_spaced_words.Given as goal
+
+abbrev pub invariant-loop-word : goal.invariant-loop-word
+invariant-loop-word l = l.out.items ≡ l.initial.out.items ++ spaced hex_word (take l.word-index l.words)

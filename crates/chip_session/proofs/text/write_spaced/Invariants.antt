@@ -1,0 +1,6 @@
+use Rattle.std.proofs.Common.{◌≡◌, ◌*◌, ◌++◌, take, drop}
+use Rattle.chip_session.specs.Text.{hex_byte, spaced}
+use Rattle.chip_session.proofs.text.write_spaced.Given as goal
+
+abbrev pub invariant-bytes : goal.invariant-bytes
+invariant-bytes l = take (3 * l.i) l.text ++ spaced hex_byte (drop l.i l.bytes) ≡ spaced hex_byte l.bytes

@@ -1,0 +1,17 @@
+-- The commands of the code, seen by the bytes that they hold (own).
+use Rattle.std.specs.Prelude.{◌≡◌, Result, Ok, Err}
+use Rattle.chip_session.specs.Changes.{change_of}
+use Rattle.chip_session.specs.Commands.{Command, blank, change, ask}
+use Rattle.chip_session.specs.declared.command.CommandFault.{CommandFault}
+use Rattle.chip_session.specs.declared.command.Command.{Command as Parsed}
+use Rattle.chip_session.specs.declared.command.Command.TheVariants as parsed
+
+abbrev pub command_view : Parsed → Command
+command_view parsed.Blank = blank
+command_view (parsed.Change c) = change (change_of c)
+command_view (parsed.Ask question) = ask question
+
+-- a reading of the code's is this one
+abbrev pub Reads : Result Parsed CommandFault → Result Command CommandFault → Type 0
+Reads (Ok command) reading = reading ≡ Ok (command_view command)
+Reads (Err fault) reading = reading ≡ Err fault

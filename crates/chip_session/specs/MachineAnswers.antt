@@ -1,0 +1,105 @@
+-- The answers to questions about the machine's state (own; the state is that of the COSMAC VIP
+-- manual and the SUPER-CHIP 1.1 documentation).
+use Rattle.std.specs.Prelude.{ℕ, ◌+◌, ◌*◌, Bool, List, [], ◌∷◌, ◌++◌, map, Option, Some, None, if◌then◌else◌, slice_range, codes, nat_lt}
+use Rattle.std.specs.List.{flat_map, list_any, range_with_len}
+use Rattle.std.specs.Fmt.{decimal}
+use Rattle.chip_lang.specs.Show.{show_of}
+use Rattle.chip_machine.specs.declared.stop.Stop.{Stop}
+use Rattle.chip_machine.specs.Numbers.{stop_number}
+use Rattle.chip_machine.specs.Points.{Points, is_lit}
+use Rattle.chip_machine.specs.State.{Core, State}
+use Rattle.chip_machine.specs.Step.{word_at}
+use Rattle.chip_views.specs.Bitmap.{eight_bits}
+use Rattle.chip_session.specs.Text.{full_stop, hex_byte, hex_line, hex_word, spaced}
+
+-- ---- regs
+
+abbrev pub size_name : Bool → List ℕ
+size_name high = if high then codes "high" else codes "low"
+
+abbrev pub state_name : Option Stop → List ℕ
+state_name None = codes "run"
+state_name (Some stop) = 83 ∷ decimal (stop_number stop)
+
+-- `v` and V0 to VF
+abbrev pub register_line : Core → List ℕ
+register_line c = codes "v" ++ spaced hex_byte c.registers ++ 10 ∷ []
+
+-- where the machine stands
+abbrev pub place_part : Core → List ℕ
+place_part c = codes "pc " ++ hex_word c.pc ++ codes " i " ++ hex_word c.index
+
+abbrev pub timer_part : Core → List ℕ
+timer_part c = codes " dt " ++ hex_byte c.delay ++ codes " st " ++ hex_byte c.sound
+
+-- the draws, the size of the screen, and why the machine stopped
+abbrev pub condition_part : Core → List ℕ
+condition_part c =
+    codes " draws " ++ decimal c.draws ++ codes " " ++ size_name c.high ++ codes " "
+    ++ state_name c.stopped ++ 10 ∷ []
+
+-- pc, I, the timers, the draws, the size of the screen, and why the machine stopped
+abbrev pub state_line : Core → List ℕ
+state_line c = place_part c ++ timer_part c ++ condition_part c
+
+-- the eight flag registers, and the frames, the oldest first
+abbrev pub flag_line : Core → List ℕ
+flag_line c =
+    codes "flags" ++ spaced hex_byte c.flags ++ codes " stack" ++ spaced hex_word c.frames
+    ++ 10 ∷ []
+
+unfoldable pub registers_of : State → List ℕ
+registers_of s = register_line s.core ++ state_line s.core ++ flag_line s.core
+
+-- ---- mem
+
+-- so many bytes from an address
+abbrev pub bytes_at : State → ℕ → ℕ → List ℕ
+bytes_at s at count = slice_range s.memory at (at + count)
+
+unfoldable pub memory_line : State → ℕ → ℕ → List ℕ
+memory_line s at count = hex_line (bytes_at s at count)
+
+-- ---- dis
+
+-- an address, the word there, and its text
+abbrev pub word_line : State → ℕ → List ℕ
+word_line s at =
+    hex_word at ++ codes " " ++ hex_word (word_at s.memory at) ++ codes " "
+    ++ show_of (word_at s.memory at) ++ 10 ∷ []
+
+-- so many words from an address
+unfoldable pub disassembly_of : State → ℕ → ℕ → List ℕ
+disassembly_of s at count =
+    flat_map (λ place. word_line s (at + 2 * place)) (range_with_len 0 count) ++ full_stop
+
+-- ---- screen
+
+-- eight points of a row as a byte, the leftmost the highest bit
+unfoldable pub stored_byte : Points → ℕ → ℕ → ℕ
+stored_byte lit row place = eight_bits (λ index. is_lit lit (8 * place + index) row)
+
+-- the 128 points of a row as 16 bytes
+unfoldable pub stored_row : Points → ℕ → List ℕ
+stored_row lit row = map (stored_byte lit row) (range_with_len 0 16)
+
+unfoldable pub has_lit : Points → ℕ → Bool
+has_lit lit row = list_any (λ column. is_lit lit column row) (range_with_len 0 128)
+
+-- a number below 100 in two decimal digits
+abbrev pub two_digits : ℕ → List ℕ
+two_digits n = if nat_lt n 10 then 48 ∷ decimal n else decimal n
+
+-- a stored row with a lit pixel: its number, and its points in hexadecimal
+unfoldable pub row_line : Points → ℕ → List ℕ
+row_line lit row =
+    if has_lit lit row
+    then two_digits row ++ codes " " ++ hex_line (stored_row lit row)
+    else []
+
+-- the rows with a lit pixel, from the top
+unfoldable pub row_lines : Points → List ℕ
+row_lines lit = flat_map (row_line lit) (range_with_len 0 64)
+
+unfoldable pub screen_of : State → List ℕ
+screen_of s = size_name s.core.high ++ 10 ∷ [] ++ row_lines s.core.lit ++ full_stop

@@ -1,0 +1,84 @@
+-- A session: the lines of the source and the key events as edited so far, and the settings (own).
+use Rattle.std.specs.Prelude.{◌≡◌, ◌⊎◌, IsOk, ℕ, ◌-◌, Bool, List, length, insert, remove, slice_set, Option, Some, None, Result, Ok, Err}
+use Rattle.std.specs.FinMap as map
+use Rattle.chip_asm.specs.Edits.{insert_refusal, replace_refusal, delete_refusal}
+use Rattle.chip_asm.specs.Lines.{lines_of}
+use Rattle.chip_asm.specs.declared.refusal.Refusal.{Refusal as SourceRefusal}
+use Rattle.chip_replay.specs.declared.keys.KeyFault.{KeyFault}
+use Rattle.chip_replay.specs.declared.keys.Moment.{Moment}
+use Rattle.chip_replay.specs.Keys.{Events, insert_fault, edit_fault}
+use Rattle.chip_session.specs.Settings.{SessionSettings}
+use Rattle.chip_session.specs.declared.refusal.Refusal.{Refusal}
+use Rattle.chip_session.specs.declared.refusal.Refusal.TheVariants.{EditMemory}
+use Rattle.chip_session.specs.Refusals.{source_refusal, key_refusal}
+
+abbrev pub Text : Type 0
+Text = List ℕ
+
+pub record Session : Type 0 where
+  pub lines : List Text
+  pub keys : Events
+  pub settings : SessionSettings
+
+abbrev pub session_with : List Text → Events → SessionSettings → Session
+session_with lines keys settings = record { lines = lines; keys = keys; settings = settings }
+
+-- the session on a source that opens, without key events
+abbrev pub session_of : SessionSettings → List ℕ → Session
+session_of settings bytes = record { lines = lines_of bytes; keys = map.empty; settings = settings }
+
+-- a change of one line, by the line's number from 1, or of one key event, by its step and key
+pub data Change : Type 0 where
+  insert_line : ℕ → Text → Change
+  replace_line : ℕ → Text → Change
+  delete_line : ℕ → Change
+  insert_event : (step key : ℕ) → Bool → Change
+  replace_event : (step key : ℕ) → Bool → Change
+  delete_event : (step key : ℕ) → Change
+
+-- the session with these lines, where the edit isn't refused
+abbrev pub with_lines : Session → Option SourceRefusal → List Text → Result Session Refusal
+with_lines session None lines = Ok (record session { lines = lines })
+with_lines session (Some why) lines = Err (source_refusal why)
+
+-- the session with these events, where the edit isn't refused
+abbrev pub with_events : Session → Option KeyFault → Events → Result Session Refusal
+with_events session None events = Ok (record session { keys = events })
+with_events session (Some why) events = Err (key_refusal why)
+
+-- the step and the key of an event
+abbrev pub moment : ℕ → ℕ → Moment
+moment step key = record { key = key; step = step }
+
+-- the session after a change, or the first refusal that applies
+abbrev pub edited : Session → Change → Result Session Refusal
+edited session (insert_line number text) =
+    with_lines session (insert_refusal (length session.lines) number text)
+    (insert session.lines (number - 1) text)
+edited session (replace_line number text) =
+    with_lines session (replace_refusal (length session.lines) number text)
+    (slice_set session.lines (number - 1) text)
+edited session (delete_line number) =
+    with_lines session (delete_refusal (length session.lines) number)
+    (remove session.lines (number - 1))
+edited session (insert_event step key down) =
+    with_events session (insert_fault session.keys step key)
+    (map.insert session.keys (moment step key) down)
+edited session (replace_event step key down) =
+    with_events session (edit_fault session.keys step key)
+    (map.insert session.keys (moment step key) down)
+edited session (delete_event step key) =
+    with_events session (edit_fault session.keys step key)
+    (map.remove session.keys (moment step key))
+
+-- an edit that may want memory: all but those that change or take out an event
+abbrev pub TakesMemory : Change → Type 0
+TakesMemory (replace_event step key down) = ⊥
+TakesMemory (delete_event step key) = ⊥
+TakesMemory change = Unit {0}
+
+-- why an edit is refused: the first refusal that applies, or that memory ran out where none does
+abbrev pub IsRefused : Session → Change → Refusal → Type 0
+IsRefused session change e =
+    (edited session change ≡ Err e)
+    ⊎ ((e ≡ EditMemory) × TakesMemory change × IsOk (edited session change))

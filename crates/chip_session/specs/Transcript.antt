@@ -1,0 +1,59 @@
+-- The reply to each line of a script, and the transcript of all (own).
+use Rattle.std.specs.Prelude.{ℕ, List, [], ◌∷◌, ◌++◌, Result, Ok, Err, codes}
+use Rattle.chip_session.specs.Session.{Text, Session, edited}
+use Rattle.chip_session.specs.Answers.{answer_to}
+use Rattle.chip_session.specs.Commands.{Command, blank, change, ask, command_of}
+use Rattle.chip_session.specs.declared.refusal.Refusal.{Refusal}
+use Rattle.chip_session.specs.Refusals.{refusal_code}
+use Rattle.chip_session.specs.declared.command.CommandFault.{CommandFault}
+use Rattle.chip_session.specs.declared.command.CommandFault.TheVariants.{Unknown, TooLong}
+
+abbrev pub fault_code : CommandFault → Text
+fault_code Unknown = codes "C1"
+fault_code TooLong = codes "C2"
+
+abbrev pub refused : Text → List ℕ
+refused code = codes "no " ++ (code ++ 10 ∷ [])
+
+abbrev pub change_reply : Result Session Refusal → List ℕ
+change_reply (Ok next) = codes "ok" ++ 10 ∷ []
+change_reply (Err why) = refused (refusal_code why)
+
+abbrev pub ask_reply : Result (List ℕ) Refusal → List ℕ
+ask_reply (Ok bytes) = bytes
+ask_reply (Err why) = refused (refusal_code why)
+
+-- the answer to a command, or to a line that is none
+abbrev pub command_reply : Session → Result Command CommandFault → List ℕ
+command_reply session (Err fault) = refused (fault_code fault)
+command_reply session (Ok blank) = []
+command_reply session (Ok (change c)) = change_reply (edited session c)
+command_reply session (Ok (ask question)) = ask_reply (answer_to session question)
+
+abbrev pub change_after : Session → Result Session Refusal → Session
+change_after session (Ok next) = next
+change_after session (Err why) = session
+
+-- the session after a command: a refusal leaves it as it was
+abbrev pub command_after : Session → Result Command CommandFault → Session
+command_after session (Err fault) = session
+command_after session (Ok blank) = session
+command_after session (Ok (change c)) = change_after session (edited session c)
+command_after session (Ok (ask question)) = session
+
+unfoldable pub reply : Session → Text → List ℕ
+reply session line = command_reply session (command_of line)
+
+unfoldable pub after : Session → Text → Session
+after session line = command_after session (command_of line)
+
+-- the answers to the lines of a script, in order
+abbrev pub transcript_of : Session → List Text → List ℕ
+transcript_of session [] = []
+transcript_of session (line ∷ script) =
+    reply session line ++ transcript_of (after session line) script
+
+-- the session after them
+abbrev pub session_after : Session → List Text → Session
+session_after session [] = session
+session_after session (line ∷ script) = session_after (after session line) script

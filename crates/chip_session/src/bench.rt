@@ -1,0 +1,213 @@
+//! A session: edits of the source and of the key events, and questions about both.
+ghost use Rattle.std.specs.Prelude.{◌≡◌, ◌≢◌, ◌≤◌, ◌⊎◌, [], false, is_none, None, Some, Ok, OnOk, OnErr, IfOk, IfErr, length, unwrap_or};
+ghost use Rattle.std.specs.Str.Lines.{lines};
+ghost use Rattle.chip_session.specs.Answers.{answer_to, machine_of, step_asked};
+ghost use Rattle.chip_trace.specs.Difference.{IsComparison};
+ghost use Rattle.chip_trace.specs.Lines.{TakesLines, remaining};
+ghost use Rattle.chip_session.specs.IsAnswer.{IsTold};
+ghost use Rattle.chip_asm.specs.Lines.{open_fault};
+ghost use Rattle.chip_asm.specs.Program.{image_of};
+ghost use Rattle.chip_asm.specs.Work.{accepted_of};
+ghost use Rattle.chip_session.specs.Session.{session_of, edited, IsRefused};
+ghost use Rattle.chip_session.specs.Changes.{change_of};
+ghost use Rattle.chip_session.specs.Costs.{Costs};
+ghost use Rattle.chip_session.specs.Workbench.{run_of, Follows};
+ghost use Rattle.chip_session.specs.Kept.{Reuses, StaysIfRefused};
+
+use crate::ask::answer;
+use crate::change::Change;
+use crate::image_run::ImageRun;
+use crate::question::Question;
+use crate::refusal::Refusal;
+use crate::settings::Settings;
+use chip_asm::{OpenError, Source};
+use chip_lang::Meter;
+use chip_replay::AtError;
+use chip_trace::{Difference, Trace};
+use std::alloc::{AllocError, Global};
+use std::marker::Model;
+use std::mem::swap;
+
+/// A bench: a source as edited so far, and the run of the last image that the lines had.
+#[derive(Drop)]
+pub struct Bench {
+    source: Source,
+    run: ImageRun,
+    /// The room of the next answer. What it holds means nothing.
+    room: Vec<u8>,
+}
+
+impl Model for Bench {
+    ghost use Rattle.chip_asm.specs.Program.{image_of};
+    ghost use Rattle.chip_session.specs.Kept.{IsLastImage};
+    ghost use Rattle.chip_session.specs.Workbench.{Workbench, workbench};
+    ghost use Rattle.chip_session.specs.inner.Codes.{workbench_code};
+
+    ghost Value = { Workbench };
+
+    ghost coded = { workbench_code };
+
+    ghost view = { λ b. workbench b.source b.run };
+
+    ghost invariant = { λ b. IsLastImage (image_of b.source.lines) b.run.last_image };
+}
+
+impl Bench {
+    /// A session on a source. It opens unless one of its lines is one too many or too long.
+    ///
+    /// # Errors
+    ///
+    /// The first such line's fault, or that memory ran out.
+    pub fn open(alloc: Global, source: &[u8], settings: Settings) -> Result<Self, OpenError>
+        ensures ok { IfOk result (λ bench. (open_fault source.now ≡ None)
+            × (bench.session ≡ session_of settings source.now)) }
+        ensures parsed { IfOk result (λ bench. bench.work.parsed ≡ length bench.session.lines) }
+        ensures encoded { IfOk result (λ bench.
+            bench.work.encoded ≤ accepted_of bench.session.lines) }
+        ensures last_image { IfOk result (λ bench.
+            bench.last_image ≡ unwrap_or (image_of bench.session.lines) []) }
+        ensures ran { IfOk result (λ bench. bench.ran ≡ 0) }
+        ensures err { IfErr result (λ e. (e ≡ OpenError.OutOfMemory)
+            ⊎ (open_fault source.now ≡ Some e)) }
+    {
+        let bytes = Vec::from_slice(alloc, source)?;
+        let source = Source::open_hashed(alloc, settings.names(), bytes)?;
+        let mut run = ImageRun::new(alloc, settings)?;
+        run.follow(source.image());
+        Ok(Bench {
+            source,
+            run,
+            room: Vec::new(alloc),
+        })
+    }
+
+    /// Makes a change of one line or of one key event.
+    ///
+    /// # Errors
+    ///
+    /// The first refusal that applies, or that memory ran out; the session is then as it was.
+    pub fn apply(&mut self, alloc: Global, change: &Change<'_>) -> Result<(), Refusal>
+        ensures ok { OnOk result (edited self.old.session (change_of change.now)
+            ≡ Ok self.new.session) }
+        ensures err { IfErr result (IsRefused self.old.session (change_of change.now)) }
+        ensures same { OnErr result (self.new.session ≡ self.old.session) }
+        ensures follows { OnOk result (Follows (change_of change.now) self.old self.new) }
+        ensures last_image { OnErr result (self.new.last_image ≡ self.old.last_image) }
+        ensures reach { OnErr result (self.new.reach ≡ self.old.reach) }
+        ensures costs { Costs (change_of change.now) self.old.session.lines
+            self.old.work self.new.work }
+        ensures ran { self.new.ran ≡ self.old.ran }
+    {
+        match *change {
+            Change::Insert { line, text } => self.source.insert(alloc, line as usize, text)?,
+            Change::Replace { line, text } => self.source.replace(alloc, line as usize, text)?,
+            Change::Delete { line } => self.source.delete(alloc, line as usize)?,
+            Change::InsertKey { step, key, down } => {
+                return Ok(self.run.insert_key(step, key, down)?);
+            }
+            Change::ReplaceKey { step, key, down } => {
+                return Ok(self.run.replace_key(step, key, down)?);
+            }
+            Change::DeleteKey { step, key } => return Ok(self.run.delete_key(step, key)?),
+        }
+        self.run.follow(self.source.image());
+        Ok(())
+    }
+
+    /// Appends the answer to a question.
+    ///
+    /// # Errors
+    ///
+    /// The first refusal that applies, or that memory ran out; `out` is then as it was.
+    pub fn ask(
+        &mut self,
+        alloc: Global,
+        question: &Question,
+        out: &mut Vec<u8>,
+    ) -> Result<(), Refusal>
+        ensures answer { IsTold (answer_to self.old.session question.now) result
+            out.old.items out.new.items }
+        ensures session { self.new.session ≡ self.old.session }
+        ensures work { self.new.work ≡ self.old.work }
+        ensures last_image { self.new.last_image ≡ self.old.last_image }
+        ensures reuses { Reuses (step_asked question.now) result (run_of self.old)
+            (run_of self.new) }
+        ensures refused { StaysIfRefused result (run_of self.old) (run_of self.new) }
+    {
+        self.room.clear();
+        answer(alloc, &self.source, &mut self.run, question, &mut self.room)?;
+        if out.is_empty() {
+            swap(out, &mut self.room);
+            return Ok(());
+        }
+        out.extend_from_slice(&self.room)
+            .map_err(|_| Refusal::AnswerMemory)?;
+        Ok(())
+    }
+
+    /// Adds some lines of a trace of the image's run to a text, as `Trace::push_lines`.
+    ///
+    /// # Errors
+    ///
+    /// Out of memory, or a step past the last one.
+    pub fn push_trace(
+        &mut self,
+        trace: &mut Trace<'_>,
+        text: &mut Vec<u8>,
+        most: usize,
+    ) -> Result<bool, AllocError>
+        requires { is_none (image_of self.old.session.lines) ≡ false }
+        ensures lines { IfOk result (TakesLines (machine_of self.old.session) most trace.old
+            trace.new text.old.items text.new.items) }
+        ensures session { self.new.session ≡ self.old.session }
+    {
+        self.run.push_trace(trace, text, most)
+    }
+
+    /// The first difference between the lines of the image's run and those of another trace.
+    ///
+    /// # Errors
+    ///
+    /// Out of memory, or a step past the last one.
+    pub fn first_difference(
+        &mut self,
+        alloc: Global,
+        trace: &mut Trace<'_>,
+        theirs: &[u8],
+    ) -> Result<Option<Difference>, AtError>
+        requires { is_none (image_of self.old.session.lines) ≡ false }
+        ensures found { IfOk result (IsComparison (remaining (machine_of self.old.session)
+            trace.old) (lines theirs.now)) }
+        ensures session { self.new.session ≡ self.old.session }
+    {
+        self.run.first_difference(alloc, trace, theirs)
+    }
+
+    /// The source as edited so far.
+    pub fn source(&self) -> &Source
+        ensures { result.now.lines ≡ self.now.session.lines }
+    {
+        &self.source
+    }
+
+    /// What opening the source and all edits so far read and encoded.
+    pub fn work(&self) -> Meter
+        ensures { result ≡ self.now.work }
+    {
+        self.source.work()
+    }
+
+    /// Up to which step the kept run is sound.
+    pub fn reach(&self) -> u32
+        ensures { result ≡ self.now.reach }
+    {
+        self.run.reach()
+    }
+
+    /// How many steps were made so far. It stays at its greatest value.
+    pub fn ran(&self) -> u64
+        ensures { result ≡ self.now.ran }
+    {
+        self.run.ran()
+    }
+}

@@ -1,0 +1,203 @@
+//! The run of the last image that the lines had: its settings, its replay, and the image.
+ghost use Rattle.std.specs.Prelude.{◌≡◌, ◌≤◌, length, vec_capacity, IfSome, IfOk, OnOk, OnErr, MatchOption, IsOkUnless, Err, Ok, None, [], false};
+ghost use Rattle.std.specs.FinMap as finmap;
+ghost use Rattle.std.specs.Option.{option_copied};
+ghost use Rattle.chip_replay.specs.Image.{AgreeOutside};
+ghost use Rattle.chip_replay.specs.Keys.{insert_fault, edit_fault};
+ghost use Rattle.chip_session.specs.Session.{moment};
+ghost use Rattle.chip_session.specs.Answers.{asks_past_end, state_answer};
+ghost use Rattle.chip_session.specs.Kept.{empty_run, machine_after, FollowsImage, ReachesStep};
+ghost use Rattle.chip_session.specs.inner.InStep.{TakesEvents, RunsOnly};
+ghost use Rattle.chip_trace.specs.Difference.{IsComparison};
+ghost use Rattle.chip_trace.specs.Lines.{TakesLines, remaining};
+ghost use Rattle.std.specs.Str.Lines.{lines};
+
+use crate::machine_answer::push_state;
+use crate::question::StateQuestion;
+use crate::settings::Settings;
+use chip_machine::Machine;
+use chip_machine::laws::image_at_the_start;
+use chip_machine::limits::IMAGE_BYTES;
+use chip_replay::{AtError, KeyFault, LAST_STEP, Replay};
+use chip_trace::{Difference, Trace, first_difference};
+use std::alloc::{AllocError, Global};
+use std::marker::Model;
+
+/// The run of the last image that the lines had, or of the empty one, under the settings of the
+/// session and the key events as edited so far.
+#[derive(Drop)]
+pub(crate) struct ImageRun {
+    settings: Settings,
+    replay: Replay<Machine>,
+    /// It has room for any image.
+    last_image: Vec<u8>,
+}
+
+impl Model for ImageRun {
+    ghost use Rattle.std.specs.Prelude.{vec_capacity};
+    ghost use Rattle.chip_session.specs.Kept.{KeptRun};
+    ghost use Rattle.chip_session.specs.inner.Codes.{kept_run_code};
+    ghost use Rattle.chip_session.specs.inner.InStep.{kept_run, IsInStep};
+
+    ghost Value = { KeptRun };
+
+    ghost coded = { kept_run_code };
+
+    ghost view = { λ r. kept_run r.settings r.replay r.last_image.items };
+
+    ghost invariant = { λ r. IsInStep r.settings r.replay r.last_image.items
+        (vec_capacity r.last_image) };
+}
+
+impl ImageRun {
+    /// The run of the empty image, without key events.
+    pub(crate) fn new(alloc: Global, settings: Settings) -> Result<Self, AllocError>
+        ensures { IfOk result (λ run. run ≡ empty_run settings) }
+    {
+        let last_image = Vec::with_capacity(alloc, IMAGE_BYTES)?;
+        let machine = match Machine::start(
+            alloc,
+            &last_image,
+            settings.tape(),
+            settings.profile(),
+        ) {
+            Ok(machine) => machine,
+            Err(_) => return Err(AllocError),
+        };
+        let replay = Replay::new(alloc, machine, settings.rate(), settings.spacing())?;
+        Ok(ImageRun {
+            settings,
+            replay,
+            last_image,
+        })
+    }
+
+    /// Puts the image of the lines in the place of the last one. Where the lines have none, all
+    /// stays.
+    pub(crate) fn follow(&mut self, image: Option<&[u8]>)
+        requires fits { IfSome image (λ bytes. length bytes.now ≤ IMAGE_BYTES) }
+        ensures follows { FollowsImage (option_copied image.entry) self.old self.new }
+        ensures settings { self.new.settings ≡ self.old.settings }
+        ensures keys { self.new.keys ≡ self.old.keys }
+        ensures ran { self.new.ran ≡ self.old.ran }
+    {
+        if let Some(image) = image {
+            image_at_the_start();
+            self.replay.image_changed(&self.last_image, image);
+            self.last_image.clear();
+            // The room is there since the start.
+            let _ = self.last_image.extend_from_slice(image);
+        }
+    }
+
+    /// Adds a key event, as `Replay::insert_key`.
+    pub(crate) fn insert_key(&mut self, step: u32, key: u32, down: bool) -> Result<(), KeyFault>
+        ensures fault { MatchOption (insert_fault self.old.keys step key)
+            (IsOkUnless result KeyFault.OutOfMemory) (λ fault. result ≡ Err fault) }
+        ensures ok { OnOk result (TakesEvents (finmap.insert self.old.keys (moment step key) down)
+            step self.old self.new) }
+        ensures err { OnErr result (self.new ≡ self.old) }
+    {
+        self.replay.insert_key(step, key, down)
+    }
+
+    /// Changes what a key event says, as `Replay::replace_key`.
+    pub(crate) fn replace_key(&mut self, step: u32, key: u32, down: bool) -> Result<(), KeyFault>
+        ensures fault { MatchOption (edit_fault self.old.keys step key)
+            (result ≡ Ok tt) (λ fault. result ≡ Err fault) }
+        ensures ok { OnOk result (TakesEvents (finmap.insert self.old.keys (moment step key) down)
+            step self.old self.new) }
+        ensures err { OnErr result (self.new ≡ self.old) }
+    {
+        self.replay.replace_key(step, key, down)
+    }
+
+    /// Takes a key event out, as `Replay::delete_key`.
+    pub(crate) fn delete_key(&mut self, step: u32, key: u32) -> Result<(), KeyFault>
+        ensures fault { MatchOption (edit_fault self.old.keys step key)
+            (result ≡ Ok tt) (λ fault. result ≡ Err fault) }
+        ensures ok { OnOk result (TakesEvents (finmap.remove self.old.keys (moment step key))
+            step self.old self.new) }
+        ensures err { OnErr result (self.new ≡ self.old) }
+    {
+        self.replay.delete_key(step, key)
+    }
+
+    /// Adds what is asked of the machine at a step to an answer that is empty.
+    ///
+    /// # Errors
+    ///
+    /// Out of memory.
+    pub(crate) fn answer(
+        &mut self,
+        alloc: Global,
+        asked: StateQuestion,
+        step: u32,
+        out: &mut Vec<u8>,
+    ) -> Result<(), AllocError>
+        requires step { step ≤ LAST_STEP }
+        requires inside { asks_past_end asked ≡ false }
+        requires empty { out.old.items ≡ [] }
+        ensures answer { OnOk result (out.new.items
+            ≡ state_answer asked (machine_after self.old step)) }
+        ensures runs { RunsOnly self.old self.new }
+        ensures reaches { ReachesStep step result self.old self.new }
+    {
+        match self.replay.at(step) {
+            Ok(machine) => push_state(alloc, out, machine, asked),
+            Err(_) => Err(AllocError),
+        }
+    }
+
+    /// Adds some lines of a trace of the run to a text, as `Trace::push_lines`.
+    ///
+    /// # Errors
+    ///
+    /// Out of memory, or a step past the last one.
+    pub(crate) fn push_trace(
+        &mut self,
+        trace: &mut Trace<'_>,
+        text: &mut Vec<u8>,
+        most: usize,
+    ) -> Result<bool, AllocError>
+        ensures lines { IfOk result (TakesLines (machine_after self.old) most trace.old trace.new
+            text.old.items text.new.items) }
+        ensures runs { RunsOnly self.old self.new }
+    {
+        trace
+            .push_lines(&mut self.replay, text, most)
+            .map_err(|_| AllocError)
+    }
+
+    /// The first difference between the lines of the run and those of another trace.
+    ///
+    /// # Errors
+    ///
+    /// Out of memory, or a step past the last one.
+    pub(crate) fn first_difference(
+        &mut self,
+        alloc: Global,
+        trace: &mut Trace<'_>,
+        theirs: &[u8],
+    ) -> Result<Option<Difference>, AtError>
+        ensures found { IfOk result (IsComparison (remaining (machine_after self.old) trace.old)
+            (lines theirs.now)) }
+        ensures runs { RunsOnly self.old self.new }
+    {
+        first_difference(alloc, &mut self.replay, trace, theirs)
+    }
+
+    /// Up to which step the run is sound.
+    pub(crate) fn reach(&self) -> u32
+        ensures { result ≡ self.now.reach }
+    {
+        self.replay.reach()
+    }
+
+    /// How many steps were made so far. It stays at its greatest value.
+    pub(crate) fn ran(&self) -> u64
+        ensures { result ≡ self.now.ran }
+    {
+        self.replay.ran()
+    }
+}

@@ -1,0 +1,93 @@
+//! The key events of a file.
+ghost use Rattle.std.specs.Prelude.{◌≡◌, None, Some, IfOk, IfErr, OnOk};
+ghost use Rattle.std.specs.Option.{option_copied};
+ghost use Rattle.chip_files.specs.KeyLines.{key_command};
+ghost use Rattle.chip_session.specs.KeyFile.{IsKeyFault, refusal_to, key_fault, session_under};
+ghost use Rattle.chip_session.specs.Transcript.{after};
+ghost use Rattle.chip_session.specs.declared.key_file.KeyFileError.TheVariants.{OutOfMemory};
+
+use crate::bench::Bench;
+use crate::command::{Command, read_command};
+use crate::refusal::Refusal;
+use chip_files::{first_line, key_command};
+use std::alloc::{AllocError, Global};
+
+/// Why the key events of a file can't be made.
+#[derive(Clone, Copy)]
+pub enum KeyFileError {
+    /// The line of that number, from 1, is refused with that code.
+    Line(usize, &'static [u8]),
+    OutOfMemory,
+}
+
+impl From<AllocError> for KeyFileError {
+    ghost from_gives = { λ _ e. e ≡ OutOfMemory };
+
+    fn from(_error: AllocError) -> KeyFileError {
+        KeyFileError::OutOfMemory
+    }
+}
+
+/// Makes the key events of a file, one after another: a line `S K down` or `S K up` does what
+/// `kins S K down` or `kins S K up` does in a script. A semicolon begins a comment, and a line may
+/// be blank.
+///
+/// # Errors
+///
+/// The first line that is refused, or that memory ran out; the events of the lines before it are
+/// made.
+pub fn insert_keys(alloc: Global, bench: &mut Bench, file: &[u8]) -> Result<(), KeyFileError>
+    ensures none { OnOk result (key_fault bench.old.session file.now ≡ None) }
+    ensures session { OnOk result (bench.new.session ≡ session_under bench.old.session file.now) }
+    ensures fault { IfErr result (IsKeyFault (key_fault bench.old.session file.now)) }
+{
+    let mut rest = file;
+    let mut number = 0;
+    while !rest.is_empty() {
+        let (line, next) = first_line(rest);
+        number += 1;
+        if let Some(code) = insert_key(alloc, bench, line)? {
+            return Err(KeyFileError::Line(number, code));
+        }
+        rest = next;
+    }
+    Ok(())
+}
+
+// Makes the event of a line, or answers the code of why it is refused.
+fn insert_key(
+    alloc: Global,
+    bench: &mut Bench,
+    line: &[u8],
+) -> Result<Option<&'static [u8]>, AllocError>
+    ensures code { IfOk result (λ code. option_copied code
+        ≡ refusal_to bench.old.session (key_command line.now)) }
+    ensures session { OnOk result (bench.new.session
+        ≡ after bench.old.session (key_command line.now)) }
+{
+    let command = key_command(alloc, line)?;
+    make_change(alloc, bench, &command)
+}
+
+// Carries out a line of a script that asks nothing, or answers the code of why it is refused.
+#[tactic(auto, unfolding(crate::specs::KeyFile::refusal_to, crate::specs::Transcript::after))]
+fn make_change(
+    alloc: Global,
+    bench: &mut Bench,
+    line: &[u8],
+) -> Result<Option<&'static [u8]>, AllocError>
+    ensures code { IfOk result (λ code. option_copied code
+        ≡ refusal_to bench.old.session line.now) }
+    ensures session { OnOk result (bench.new.session ≡ after bench.old.session line.now) }
+{
+    let change = match read_command(line) {
+        Ok(Command::Change(change)) => change,
+        Ok(Command::Blank | Command::Ask(_)) => return Ok(None),
+        Err(fault) => return Ok(Some(fault.code())),
+    };
+    match bench.apply(alloc, &change) {
+        Ok(()) => Ok(None),
+        Err(Refusal::EditMemory) => Err(AllocError),
+        Err(refusal) => Ok(Some(refusal.code())),
+    }
+}

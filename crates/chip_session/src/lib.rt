@@ -1,0 +1,33 @@
+//! A session over a source and its machine: edits, questions, and a script of both.
+#![tactic(auto)]
+
+mod answer;
+mod ask;
+mod bench;
+mod change;
+mod command;
+mod counted;
+mod image_run;
+mod key_file;
+pub mod limits;
+mod machine_answer;
+mod question;
+mod refusal;
+mod server;
+mod settings;
+mod tape;
+mod text;
+
+pub use answer::{faults_answer, listing_answer};
+pub use bench::Bench;
+pub use change::Change;
+pub use chip_asm::OpenError;
+pub use chip_views::Letters;
+pub use command::{Command, CommandFault, read_command};
+pub use counted::Counted;
+pub use key_file::{KeyFileError, insert_keys};
+pub use question::{PictureForm, Question, StateQuestion};
+pub use refusal::Refusal;
+pub use server::{ServeError, WriteFailed, refuse, respond, serve, write_all};
+pub use settings::{SetError, Settings};
+pub use tape::tape_of;

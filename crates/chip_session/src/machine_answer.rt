@@ -1,0 +1,287 @@
+//! Answers about the machine's state.
+
+ghost use Rattle.std.specs.Prelude.{◌≡◌, ◌+◌, ◌*◌, ◌<◌, ◌≤◌, ◌^◌, ◌++◌, ◌∷◌, [], ℕ, List, false, IfOk, OnOk, slice_index};
+ghost use Rattle.chip_machine.specs.Step.{word_at};
+ghost use Rattle.chip_session.specs.Answers.{asks_past_end, picture_by, state_answer};
+ghost use Rattle.chip_session.specs.MachineAnswers.{size_name, state_name, register_line, place_part, timer_part, condition_part, state_line, flag_line, registers_of, bytes_at, memory_line, word_line, disassembly_of, stored_row, has_lit, row_line, row_lines, two_digits, screen_of};
+
+use crate::question::{PictureForm, StateQuestion};
+use crate::text::{
+    byte_digits, push_decimal, push_hex, push_hex_word, push_spaced_bytes, push_spaced_words,
+    word_digits,
+};
+use chip_lang::push_shown;
+use chip_machine::limits::{LAST_WORD, MEMORY_BYTES};
+use chip_machine::{Machine, Stop};
+use chip_views::{screen_pbm, screen_png, screen_text};
+use std::alloc::{AllocError, Global};
+
+// Room for the answer about a machine's registers, where few calls are open.
+const REGISTERS_ROOM: usize = 256;
+
+/// Adds what is asked of a machine's state to an answer that is empty.
+pub(crate) fn push_state(
+    alloc: Global,
+    answer: &mut Vec<u8>,
+    machine: &Machine,
+    asked: StateQuestion,
+) -> Result<(), AllocError>
+    requires inside { asks_past_end asked ≡ false }
+    requires empty { answer.old.items ≡ [] }
+    ensures { OnOk result (answer.new.items ≡ state_answer asked machine.now) }
+{
+    match asked {
+        StateQuestion::Registers => push_registers(answer, machine),
+        StateQuestion::Memory { at, count } => {
+            push_memory(answer, machine, at as u16, count as u16)
+        }
+        StateQuestion::Screen => push_screen(answer, machine),
+        StateQuestion::Disassembly { at, count } => {
+            push_disassembly(alloc, answer, machine, at as u16, count as u16)
+        }
+        StateQuestion::Picture { form } => {
+            *answer = picture(alloc, machine, form)?;
+            Ok(())
+        }
+    }
+}
+
+/// The picture of a machine's screen.
+#[tactic(auto, unfolding(crate::specs::Answers::picture_by))]
+fn picture(alloc: Global, machine: &Machine, form: PictureForm) -> Result<Vec<u8>, AllocError>
+    ensures { IfOk result (λ picture. picture.items ≡ picture_by form machine.now) }
+{
+    match form {
+        PictureForm::Text(letters) => screen_text(alloc, machine, letters),
+        PictureForm::Bitmap => screen_pbm(alloc, machine),
+        PictureForm::Png => screen_png(alloc, machine),
+    }
+}
+
+/// Adds the registers, timers, flags and frames of a machine, in three lines.
+#[tactic(auto, unfolding(crate::specs::MachineAnswers::registers_of))]
+pub(crate) fn push_registers(answer: &mut Vec<u8>, machine: &Machine) -> Result<(), AllocError>
+    ensures { OnOk result (answer.new.items ≡ answer.old.items ++ registers_of machine.now) }
+{
+    answer.reserve(REGISTERS_ROOM)?;
+    push_register_line(answer, machine)?;
+    push_state_line(answer, machine)?;
+    push_flag_line(answer, machine)
+}
+
+fn push_register_line(answer: &mut Vec<u8>, machine: &Machine) -> Result<(), AllocError>
+    ensures { OnOk result (answer.new.items ≡ answer.old.items ++ register_line machine.now.core) }
+{
+    answer.extend_from_slice(b"v")?;
+    push_spaced_bytes(answer, machine.registers())?;
+    answer.push(b'\n')?;
+    Ok(())
+}
+
+fn push_place(answer: &mut Vec<u8>, machine: &Machine) -> Result<(), AllocError>
+    ensures { OnOk result (answer.new.items ≡ answer.old.items ++ place_part machine.now.core) }
+{
+    let [a, b, c, d] = word_digits(machine.pc());
+    let [e, f, g, h] = word_digits(machine.index());
+    answer.extend_from_slice(&[b'p', b'c', b' ', a, b, c, d, b' ', b'i', b' ', e, f, g, h])
+}
+
+fn push_timers(answer: &mut Vec<u8>, machine: &Machine) -> Result<(), AllocError>
+    ensures { OnOk result (answer.new.items ≡ answer.old.items ++ timer_part machine.now.core) }
+{
+    let [a, b] = byte_digits(machine.delay());
+    let [c, d] = byte_digits(machine.sound());
+    answer.extend_from_slice(&[b' ', b'd', b't', b' ', a, b, b' ', b's', b't', b' ', c, d])
+}
+
+fn push_condition(answer: &mut Vec<u8>, machine: &Machine) -> Result<(), AllocError>
+    ensures { OnOk result (answer.new.items
+        ≡ answer.old.items ++ condition_part machine.now.core) }
+{
+    answer.extend_from_slice(b" draws ")?;
+    push_decimal(answer, machine.draws())?;
+    answer.push(b' ')?;
+    answer.extend_from_slice(size_name(machine.high()))?;
+    answer.push(b' ')?;
+    push_state_name(answer, machine.stopped())?;
+    answer.push(b'\n')?;
+    Ok(())
+}
+
+fn push_state_line(answer: &mut Vec<u8>, machine: &Machine) -> Result<(), AllocError>
+    ensures { OnOk result (answer.new.items ≡ answer.old.items ++ state_line machine.now.core) }
+{
+    push_place(answer, machine)?;
+    push_timers(answer, machine)?;
+    push_condition(answer, machine)
+}
+
+fn push_flag_line(answer: &mut Vec<u8>, machine: &Machine) -> Result<(), AllocError>
+    ensures { OnOk result (answer.new.items ≡ answer.old.items ++ flag_line machine.now.core) }
+{
+    answer.extend_from_slice(b"flags")?;
+    push_spaced_bytes(answer, machine.flags())?;
+    answer.extend_from_slice(b" stack")?;
+    push_spaced_words(answer, machine.frames())?;
+    answer.push(b'\n')?;
+    Ok(())
+}
+
+fn size_name(high: bool) -> &'static [u8]
+    ensures { result.now ≡ size_name high }
+{
+    if high { b"high" } else { b"low" }
+}
+
+fn push_state_name(answer: &mut Vec<u8>, stopped: Option<Stop>) -> Result<(), AllocError>
+    ensures { OnOk result (answer.new.items ≡ answer.old.items ++ state_name stopped) }
+{
+    match stopped {
+        None => {
+            answer.extend_from_slice(b"run")?;
+            Ok(())
+        }
+        Some(stop) => {
+            answer.push(b'S')?;
+            push_decimal(answer, u64::from(stop.number()))
+        }
+    }
+}
+
+/// Adds so many bytes from an address, in hexadecimal.
+#[tactic(auto, unfolding(crate::specs::MachineAnswers::memory_line))]
+pub(crate) fn push_memory(
+    answer: &mut Vec<u8>,
+    machine: &Machine,
+    at: u16,
+    count: u16,
+) -> Result<(), AllocError>
+    requires { at + count ≤ MEMORY_BYTES }
+    ensures { OnOk result
+        (answer.new.items ≡ answer.old.items ++ memory_line machine.now at count) }
+{
+    let start = usize::from(at);
+    let end = start + usize::from(count);
+    answer.reserve(2 * usize::from(count) + 1)?;
+    push_hex(answer, &machine.memory()[start..end])?;
+    answer.push(b'\n')?;
+    Ok(())
+}
+
+/// Adds so many words from an address: for each its address, the word, and its source text.
+#[tactic(auto, unfolding(crate::specs::MachineAnswers::disassembly_of))]
+pub(crate) fn push_disassembly(
+    alloc: Global,
+    answer: &mut Vec<u8>,
+    machine: &Machine,
+    at: u16,
+    count: u16,
+) -> Result<(), AllocError>
+    requires { at + 2 * count ≤ MEMORY_BYTES }
+    ensures { OnOk result (answer.new.items
+        ≡ answer.old.items ++ disassembly_of machine.now at count) }
+{
+    let mut text = String::new(alloc);
+    for place in 0..count {
+        push_word_line(answer, &mut text, machine, at + 2 * place)?;
+    }
+    answer.extend_from_slice(b".\n")
+}
+
+/// Adds a line for the word at an address. `text` has the room for its source text; what it holds
+/// means nothing.
+fn push_word_line(
+    answer: &mut Vec<u8>,
+    text: &mut String,
+    machine: &Machine,
+    at: u16,
+) -> Result<(), AllocError>
+    requires { at ≤ LAST_WORD }
+    ensures { OnOk result (answer.new.items ≡ answer.old.items ++ word_line machine.now at) }
+{
+    let word = word_at(machine, at);
+    text.clear();
+    push_shown(text, word)?;
+    push_hex_word(answer, at)?;
+    answer.push(b' ')?;
+    push_hex_word(answer, word)?;
+    answer.push(b' ')?;
+    answer.extend_from_slice(text.as_bytes())?;
+    answer.push(b'\n')?;
+    Ok(())
+}
+
+fn word_at(machine: &Machine, at: u16) -> u16
+    requires { at ≤ LAST_WORD }
+    ensures { result ≡ word_at machine.now.memory at }
+{
+    let memory = machine.memory();
+    let start = usize::from(at);
+    u16::from(memory[start]) * 256 + u16::from(memory[start + 1])
+}
+
+/// Adds the size of the screen, and each row with a lit pixel.
+#[tactic(auto, unfolding(crate::specs::MachineAnswers::screen_of))]
+pub(crate) fn push_screen(answer: &mut Vec<u8>, machine: &Machine) -> Result<(), AllocError>
+    ensures { OnOk result (answer.new.items ≡ answer.old.items ++ screen_of machine.now) }
+{
+    answer.extend_from_slice(size_name(machine.high()))?;
+    answer.push(b'\n')?;
+    push_rows(answer, machine)?;
+    answer.extend_from_slice(b".\n")
+}
+
+#[tactic(auto, unfolding(crate::specs::MachineAnswers::row_lines))]
+fn push_rows(answer: &mut Vec<u8>, machine: &Machine) -> Result<(), AllocError>
+    ensures { OnOk result (answer.new.items ≡ answer.old.items ++ row_lines machine.now.core.lit) }
+{
+    for row in 0..64usize {
+        push_row_line(answer, machine, row)?;
+    }
+    Ok(())
+}
+
+#[tactic(auto, unfolding(crate::specs::MachineAnswers::row_line))]
+fn push_row_line(answer: &mut Vec<u8>, machine: &Machine, row: usize) -> Result<(), AllocError>
+    requires { row < 64 }
+    ensures { OnOk result (answer.new.items
+        ≡ answer.old.items ++ row_line machine.now.core.lit row) }
+{
+    if !has_lit(machine, row) {
+        return Ok(());
+    }
+    push_two_digits(answer, row as u64)?;
+    answer.push(b' ')?;
+    push_hex(answer, &row_bytes(machine, row))?;
+    answer.push(b'\n')?;
+    Ok(())
+}
+
+fn push_two_digits(answer: &mut Vec<u8>, number: u64) -> Result<(), AllocError>
+    ensures { OnOk result (answer.new.items ≡ answer.old.items ++ two_digits number) }
+{
+    if number < 10 {
+        answer.push(b'0')?;
+    }
+    push_decimal(answer, number)
+}
+
+#[tactic(auto, using(crate::proofs::RowLemmas::dark_row))]
+fn has_lit(machine: &Machine, row: usize) -> bool
+    ensures { result ≡ has_lit machine.now.core.lit row }
+{
+    machine.row(row) != 0
+}
+
+/// The points of a row, eight to a byte.
+#[tactic(auto, unfolding(crate::specs::MachineAnswers::stored_row))]
+fn row_bytes(machine: &Machine, row: usize) -> [u8; 16]
+    ensures { result ≡ stored_row machine.now.core.lit row }
+{
+    let points = machine.row(row);
+    let mut bytes = [0; 16];
+    for place in 0..16usize {
+        bytes[place] = ((points >> (120 - 8 * place)) % 256) as u8;
+    }
+    bytes
+}

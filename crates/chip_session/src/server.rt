@@ -1,0 +1,460 @@
+//! A script, carried out as it is read.
+ghost use Rattle.std.specs.Prelude.{◌≡◌, ◌≢◌, ℕ, List, take, ◌+◌, ◌≤◌, ◌<◌, Ok, Err, None, [], ◌∷◌, ◌++◌, length, OnOk, OnErr, IfOk, IfErr};
+ghost use Rattle.std.specs.Str.Lines.{strip_carriage_return};
+ghost use Rattle.chip_asm.specs.Lines.{open_fault};
+ghost use Rattle.chip_session.specs.Session.{Session, session_of};
+ghost use Rattle.chip_session.specs.Transcript.{reply, after, refused};
+ghost use Rattle.chip_session.specs.Writing.{Breaks, Writes};
+ghost use Rattle.chip_session.specs.Serving.{Served, Exchanges, Opens, UnlessOpened, reader_failures, writer_failures};
+ghost use Rattle.chip_session.specs.inner.Progress.{fault_of, failures_after, Says, Reached, Carries, Ended};
+ghost use Rattle.chip_session.specs.declared.server.Stop.TheVariants.{OutOfMemory};
+
+use crate::bench::Bench;
+use crate::command::{Command, read_command};
+use crate::counted::Counted;
+use crate::limits::{COMMAND_BYTES, SCRIPT_BYTES, SCRIPT_LINES};
+use crate::refusal::Refusal;
+use crate::settings::Settings;
+use chip_asm::OpenError;
+use memchr::memchr;
+use std::alloc::{AllocError, Global};
+use std::io::{Read, Write};
+use thiserror::Error;
+
+const PIECE_LEN: usize = 16384;
+
+// A line that is no longer than it may be can have a carriage return after it, and one byte more
+// shows that it is too long.
+const KEPT_LEN: usize = COMMAND_BYTES + 2;
+
+/// Why a script wasn't carried out to its end.
+#[derive(Clone, Copy, Debug, PartialEq, Eq, Error)]
+pub enum ServeError {
+    /// The source doesn't open.
+    #[error("{0}")]
+    Source(OpenError),
+    /// E1: a read failed.
+    #[error("input fault")]
+    ReaderFailed,
+    /// E2: a write failed, or took none of some bytes.
+    #[error("output fault")]
+    WriterFailed,
+    /// E3: there was no memory.
+    #[error("out of memory")]
+    OutOfMemory,
+    /// E4: there is more input than `SCRIPT_BYTES` bytes or `SCRIPT_LINES` lines.
+    #[error("too much input")]
+    TooMuchInput,
+}
+
+/// A write failed, or took none of some bytes.
+#[derive(Clone, Copy)]
+pub struct WriteFailed;
+
+// Why the rest of a script is given up.
+#[derive(Clone, Copy)]
+pub(crate) enum Stop {
+    WriterFailed,
+    OutOfMemory,
+    TooMuchInput,
+}
+
+impl From<AllocError> for Stop {
+    ghost from_gives = { λ _ e. e ≡ OutOfMemory };
+
+    fn from(_e: AllocError) -> Stop {
+        Stop::OutOfMemory
+    }
+}
+
+impl From<Stop> for ServeError {
+    ghost from_gives = { λ stop e. e ≡ fault_of stop };
+
+    fn from(stop: Stop) -> ServeError {
+        match stop {
+            Stop::WriterFailed => ServeError::WriterFailed,
+            Stop::OutOfMemory => ServeError::OutOfMemory,
+            Stop::TooMuchInput => ServeError::TooMuchInput,
+        }
+    }
+}
+
+/// Opens the source, and then carries out the script that the reader gives: the answer to each line
+/// is written before the next line is taken.
+///
+/// # Errors
+///
+/// The source doesn't open, and nothing was read or written; the reader or the writer failed, which
+/// is never tried again; there was no memory; or the script has over `SCRIPT_BYTES` bytes or
+/// `SCRIPT_LINES` lines.
+pub fn serve<R: Read, W: Write>(
+    alloc: Global,
+    source: &[u8],
+    settings: Settings,
+    reader: &mut Counted<R>,
+    writer: &mut Counted<W>,
+) -> Result<(), ServeError>
+    // What was written is the transcript, whole on `Ok`, and else as far as `Served` says.
+    ensures transcript { Exchanges (R.remaining reader.old.inner) (R.remaining reader.new.inner)
+        (W.contents writer.old.inner) (W.contents writer.new.inner)
+        (Served result (session_of settings source.now)) }
+    ensures source { Opens (open_fault source.now) result }
+    // Where the source doesn't open, nothing was touched.
+    ensures untouched { UnlessOpened result ((reader.new ≡ reader.old)
+        × (writer.new ≡ writer.old)) }
+    ensures reader_failed { reader.new.failures ≡ reader_failures result reader.old.failures }
+    ensures writer_failed { writer.new.failures ≡ writer_failures result writer.old.failures }
+{
+    match Bench::open(alloc, source, settings) {
+        Ok(bench) => converse(alloc, &mut Conversation::new(alloc, bench), reader, writer),
+        Err(e) => Err(ServeError::Source(e)),
+    }
+}
+
+// Carries out the script that the reader gives.
+fn converse<R: Read, W: Write>(
+    alloc: Global,
+    conversation: &mut Conversation,
+    reader: &mut Counted<R>,
+    writer: &mut Counted<W>,
+) -> Result<(), ServeError>
+    requires line { conversation.old.line.items ≡ [] }
+    requires complete { conversation.old.complete ≡ 0 }
+    requires taken { conversation.old.taken ≡ 0 }
+    ensures transcript { Exchanges (R.remaining reader.old.inner) (R.remaining reader.new.inner)
+        (W.contents writer.old.inner) (W.contents writer.new.inner)
+        (Served result conversation.old.bench.session) }
+    ensures source { Opens None result }
+    ensures opened { UnlessOpened result ((reader.new ≡ reader.old) × (writer.new ≡ writer.old)) }
+    ensures reader_failed { reader.new.failures ≡ reader_failures result reader.old.failures }
+    ensures writer_failed { writer.new.failures ≡ writer_failures result writer.old.failures }
+{
+    let mut piece = [0; PIECE_LEN];
+    'pieces: loop {
+        match reader.read(&mut piece) {
+            Err(_) => return Err(ServeError::ReaderFailed),
+            Ok(0) => {
+                conversation.end(alloc, writer)?;
+                return Ok(());
+            }
+            Ok(count) => conversation.take_piece(alloc, &piece[..count], writer)?,
+        }
+    }
+}
+
+// A session, and the script's line that isn't complete yet.
+#[derive(Drop)]
+struct Conversation {
+    bench: Bench,
+    // the line's first bytes, as many as tell a line that is too long
+    line: Vec<u8>,
+    answer: Vec<u8>,
+    complete: u32,
+    taken: u32,
+}
+
+impl Conversation {
+    fn new(alloc: Global, bench: Bench) -> Self
+        ensures bench { result.bench ≡ bench }
+        ensures line { result.line.items ≡ [] }
+        ensures complete { result.complete ≡ 0 }
+        ensures taken { result.taken ≡ 0 }
+    {
+        Conversation {
+            bench,
+            line: Vec::new(alloc),
+            answer: Vec::new(alloc),
+            complete: 0,
+            taken: 0,
+        }
+    }
+
+    // Takes the next bytes, as far as the bound on bytes allows.
+    fn take_piece<W: Write>(
+        &mut self,
+        alloc: Global,
+        piece: &[u8],
+        writer: &mut Counted<W>,
+    ) -> Result<(), Stop>
+        requires { self.old.taken ≤ SCRIPT_BYTES }
+        ensures carries { Carries self.old (W.contents writer.old.inner) piece.now result
+            self.new (W.contents writer.new.inner) }
+        ensures bound { OnOk result (self.new.taken ≤ SCRIPT_BYTES) }
+        ensures taken { OnOk result (self.new.taken ≡ self.old.taken + length piece.now) }
+        ensures failures { writer.new.failures ≡ failures_after result writer.old.failures }
+    {
+        let room = (SCRIPT_BYTES - self.taken) as usize;
+        if piece.len() <= room {
+            return self.take_lines(alloc, piece, writer);
+        }
+        self.take_lines(alloc, &piece[..room], writer)?;
+        Err(Stop::TooMuchInput)
+    }
+
+    // Takes bytes that are within the bound on bytes.
+    fn take_lines<W: Write>(
+        &mut self,
+        alloc: Global,
+        piece: &[u8],
+        writer: &mut Counted<W>,
+    ) -> Result<(), Stop>
+        requires { self.old.taken + length piece.now ≤ SCRIPT_BYTES }
+        ensures carries { Carries self.old (W.contents writer.old.inner) piece.now result
+            self.new (W.contents writer.new.inner) }
+        ensures taken { OnOk result (self.new.taken ≡ self.old.taken + length piece.now) }
+        ensures failures { writer.new.failures ≡ failures_after result writer.old.failures }
+    {
+        let mut taken = 0;
+        while taken < piece.len() {
+            taken += self.take_line(alloc, &piece[taken..], writer)?;
+        }
+        Ok(())
+    }
+
+    // Takes the bytes up to the first newline, or all of them, and answers how many these are.
+    fn take_line<W: Write>(
+        &mut self,
+        alloc: Global,
+        bytes: &[u8],
+        writer: &mut Counted<W>,
+    ) -> Result<usize, Stop>
+        requires some { 0 < length bytes.now }
+        requires room { self.old.taken + length bytes.now ≤ SCRIPT_BYTES }
+        ensures ok { IfOk result (λ count. Carries self.old (W.contents writer.old.inner)
+            (take count bytes.now) (Ok tt) self.new (W.contents writer.new.inner)) }
+        ensures count { IfOk result (λ count. (0 < count) × (count ≤ length bytes.now)) }
+        ensures taken { IfOk result (λ count. self.new.taken ≡ self.old.taken + count) }
+        ensures err { IfErr result (λ e. Carries self.old (W.contents writer.old.inner)
+            bytes.now (Err e) self.new (W.contents writer.new.inner)) }
+        ensures sound { OnOk result (writer.new.failures ≡ writer.old.failures) }
+        ensures failed { IfErr result (λ e. writer.new.failures
+            ≡ failures_after (Err e) writer.old.failures) }
+    {
+        if self.complete >= SCRIPT_LINES {
+            return Err(Stop::TooMuchInput);
+        }
+        let Some(len) = memchr(b'\n', bytes) else {
+            self.keep(bytes)?;
+            return Ok(bytes.len());
+        };
+        self.complete_line(alloc, &bytes[..len], writer)?;
+        Ok(len + 1)
+    }
+
+    // Keeps the next bytes of a line, as far as it isn't too long.
+    fn keep(&mut self, part: &[u8]) -> Result<(), AllocError>
+        requires { self.old.taken + length part.now ≤ SCRIPT_BYTES }
+        ensures line { OnOk result (length self.old.line.items ≤ KEPT_LEN
+            → self.new.line.items ≡ take KEPT_LEN (self.old.line.items ++ part.now)) }
+        ensures bench { self.new.bench ≡ self.old.bench }
+        ensures complete { self.new.complete ≡ self.old.complete }
+        ensures taken { OnOk result (self.new.taken ≡ self.old.taken + length part.now) }
+    {
+        let room = KEPT_LEN.saturating_sub(self.line.len());
+        self.line.extend_from_slice(&part[..room.min(part.len())])?;
+        self.taken += part.len() as u32;
+        Ok(())
+    }
+
+    // Answers the line that a newline has just ended, of which these are the last bytes. A line
+    // that stands whole in its piece isn't copied.
+    fn complete_line<W: Write>(
+        &mut self,
+        alloc: Global,
+        part: &[u8],
+        writer: &mut Counted<W>,
+    ) -> Result<(), Stop>
+        requires complete { self.old.complete < SCRIPT_LINES }
+        requires taken { self.old.taken + length part.now < SCRIPT_BYTES }
+        ensures said { length self.old.line.items ≤ KEPT_LEN
+            → Says result (W.contents writer.old.inner) (W.contents writer.new.inner)
+            (reply self.old.bench.session
+            (strip_carriage_return (take KEPT_LEN (self.old.line.items ++ part.now)))) }
+        ensures bench { length self.old.line.items ≤ KEPT_LEN → OnOk result (self.new.bench.session
+            ≡ after self.old.bench.session
+            (strip_carriage_return (take KEPT_LEN (self.old.line.items ++ part.now)))) }
+        ensures line { OnOk result (self.new.line.items ≡ []) }
+        ensures complete { OnOk result (self.new.complete ≡ self.old.complete + 1) }
+        ensures taken { OnOk result (self.new.taken ≡ self.old.taken + length part.now + 1) }
+        ensures failures { writer.new.failures ≡ failures_after result writer.old.failures }
+    {
+        if self.line.is_empty() {
+            return self.answer_whole(alloc, part, writer);
+        }
+        self.keep(part)?;
+        self.answer_kept(alloc, writer)
+    }
+
+    // Answers a line that stands whole in its piece, where no bytes of it are kept.
+    fn answer_whole<W: Write>(
+        &mut self,
+        alloc: Global,
+        whole: &[u8],
+        writer: &mut Counted<W>,
+    ) -> Result<(), Stop>
+        requires complete { self.old.complete < SCRIPT_LINES }
+        requires taken { self.old.taken + length whole.now < SCRIPT_BYTES }
+        requires line { self.old.line.items ≡ [] }
+        ensures said { Says result (W.contents writer.old.inner) (W.contents writer.new.inner)
+            (reply self.old.bench.session (strip_carriage_return (take KEPT_LEN whole.now))) }
+        ensures bench { OnOk result (self.new.bench.session
+            ≡ after self.old.bench.session (strip_carriage_return (take KEPT_LEN whole.now))) }
+        ensures line { self.new.line.items ≡ [] }
+        ensures complete { OnOk result (self.new.complete ≡ self.old.complete + 1) }
+        ensures taken { OnOk result (self.new.taken ≡ self.old.taken + length whole.now + 1) }
+        ensures failures { writer.new.failures ≡ failures_after result writer.old.failures }
+    {
+        let line = without_carriage_return(kept_part(whole));
+        say(alloc, &mut self.bench, line, &mut self.answer, writer)?;
+        self.complete += 1;
+        self.taken += whole.len() as u32 + 1;
+        Ok(())
+    }
+
+    // Answers the line of which all bytes are kept, and keeps none any more.
+    fn answer_kept<W: Write>(&mut self, alloc: Global, writer: &mut Counted<W>) -> Result<(), Stop>
+        requires complete { self.old.complete < SCRIPT_LINES }
+        requires taken { self.old.taken < SCRIPT_BYTES }
+        ensures said { Says result (W.contents writer.old.inner) (W.contents writer.new.inner)
+            (reply self.old.bench.session (strip_carriage_return self.old.line.items)) }
+        ensures bench { OnOk result (self.new.bench.session
+            ≡ after self.old.bench.session (strip_carriage_return self.old.line.items)) }
+        ensures line { OnOk result (self.new.line.items ≡ []) }
+        ensures complete { OnOk result (self.new.complete ≡ self.old.complete + 1) }
+        ensures taken { OnOk result (self.new.taken ≡ self.old.taken + 1) }
+        ensures failures { writer.new.failures ≡ failures_after result writer.old.failures }
+    {
+        let line = without_carriage_return(&self.line);
+        say(alloc, &mut self.bench, line, &mut self.answer, writer)?;
+        self.line.clear();
+        self.complete += 1;
+        self.taken += 1;
+        Ok(())
+    }
+
+    fn end<W: Write>(&mut self, alloc: Global, writer: &mut Counted<W>) -> Result<(), Stop>
+        ensures ended { (start : Session) (before given : List ℕ)
+            → Reached start before given self.old (W.contents writer.old.inner)
+            → Ended result start before given (W.contents writer.new.inner) }
+        ensures failures { writer.new.failures ≡ failures_after result writer.old.failures }
+    {
+        if self.line.is_empty() {
+            return Ok(());
+        }
+        say(alloc, &mut self.bench, &self.line, &mut self.answer, writer)
+    }
+}
+
+// Carries out one line of a script, and writes the answer to it.
+fn say<W: Write>(
+    alloc: Global,
+    bench: &mut Bench,
+    line: &[u8],
+    answer: &mut Vec<u8>,
+    writer: &mut Counted<W>,
+) -> Result<(), Stop>
+    ensures said { Says result (W.contents writer.old.inner) (W.contents writer.new.inner)
+        (reply bench.old.session line.now) }
+    ensures bench { OnOk result (bench.new.session ≡ after bench.old.session line.now) }
+    ensures failures { writer.new.failures ≡ failures_after result writer.old.failures }
+{
+    respond(alloc, bench, line, answer)?;
+    write_whole(writer, answer)
+}
+
+// Writes all the bytes. Any error ends it, and so does a write that takes none.
+fn write_whole<W: Write>(writer: &mut Counted<W>, bytes: &[u8]) -> Result<(), Stop>
+    ensures said { Says result (W.contents writer.old.inner)
+        (W.contents writer.new.inner) bytes.now }
+    ensures memory { result ≢ Err Stop.OutOfMemory }
+    ensures failures { writer.new.failures ≡ failures_after result writer.old.failures }
+{
+    let mut rest = bytes;
+    while !rest.is_empty() {
+        match writer.write(rest) {
+            Ok(0) | Err(_) => return Err(Stop::WriterFailed),
+            Ok(count) => rest = &rest[count..],
+        }
+    }
+    Ok(())
+}
+
+/// Writes all the bytes. Any error ends it, and so does a write that takes none.
+///
+/// # Errors
+///
+/// A write failed, after some front of the bytes.
+pub fn write_all<W: Write>(writer: &mut Counted<W>, bytes: &[u8]) -> Result<(), WriteFailed>
+    ensures ok { OnOk result (Writes W.contents writer.old writer.new bytes.now) }
+    ensures err { OnErr result (Breaks W.contents writer.old writer.new bytes.now) }
+{
+    match write_whole(writer, bytes) {
+        Ok(()) => Ok(()),
+        Err(_) => Err(WriteFailed),
+    }
+}
+
+/// Puts the answer to one line of a script in the place of `answer`.
+///
+/// # Errors
+///
+/// Out of memory; the session is then as after the line, or as before it.
+pub fn respond(
+    alloc: Global,
+    bench: &mut Bench,
+    line: &[u8],
+    answer: &mut Vec<u8>,
+) -> Result<(), AllocError>
+    ensures answer { OnOk result (answer.new.items ≡ reply bench.old.session line.now) }
+    ensures bench { OnOk result (bench.new.session ≡ after bench.old.session line.now) }
+{
+    answer.clear();
+    let command = match read_command(line) {
+        Ok(command) => command,
+        Err(fault) => return refuse(answer, fault.code()),
+    };
+    let refusal = match command {
+        Command::Blank => return Ok(()),
+        Command::Change(change) => match bench.apply(alloc, &change) {
+            Ok(()) => return answer.extend_from_slice(b"ok\n"),
+            Err(refusal) => refusal,
+        },
+        Command::Ask(question) => match bench.ask(alloc, &question, answer) {
+            Ok(()) => return Ok(()),
+            Err(refusal) => refusal,
+        },
+    };
+    match refusal {
+        Refusal::EditMemory | Refusal::AnswerMemory => Err(AllocError),
+        _ => refuse(answer, refusal.code()),
+    }
+}
+
+// The first bytes of a line, as many as tell one that is too long.
+fn kept_part(line: &[u8]) -> &[u8]
+    ensures { result.now ≡ take KEPT_LEN line.now }
+{
+    &line[..line.len().min(KEPT_LEN)]
+}
+
+/// Appends the answer to a line of a script that is refused with this code.
+///
+/// # Errors
+///
+/// Out of memory.
+pub fn refuse(answer: &mut Vec<u8>, code: &[u8]) -> Result<(), AllocError>
+    ensures { OnOk result (answer.new.items ≡ answer.old.items ++ refused code.now) }
+{
+    answer.extend_from_slice(b"no ")?;
+    answer.extend_from_slice(code)?;
+    answer.extend_from_slice(b"\n")
+}
+
+fn without_carriage_return(line: &[u8]) -> &[u8]
+    ensures { result.now ≡ strip_carriage_return line.now }
+{
+    match line {
+        [front @ .., b'\r'] => front,
+        _ => line,
+    }
+}

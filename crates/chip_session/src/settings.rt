@@ -1,0 +1,180 @@
+//! The settings of a session.
+ghost use Rattle.std.specs.Prelude.{◌≡◌, ◌<◌, ◌≤◌, length, ◌⊎◌, None, Some, IfOk, IfErr, MatchOption};
+ghost use Rattle.chip_replay.specs.Limits.{IsSpacing};
+ghost use Rattle.chip_session.specs.Settings.{settings_of, settings_fault, spacing_fault};
+ghost use Rattle.chip_session.specs.declared.settings.SetError.TheVariants.{OutOfMemory};
+
+use chip_arguments::limits::MOST_RATE;
+use chip_asm::NameHasher;
+use chip_machine::Profile;
+use chip_machine::limits::TAPE_BYTES;
+use chip_replay::{LEAST_SPACING, MOST_SPACING};
+use std::alloc::{AllocError, Global};
+use std::marker::Model;
+use thiserror::Error;
+
+/// Why there are no such settings.
+#[derive(Clone, Copy, Debug, PartialEq, Eq, Error)]
+pub enum SetError {
+    /// G1: the rate is not 1 to `MOST_RATE`.
+    #[error("rate not 1 to {most}", most = MOST_RATE)]
+    RateOutOfRange,
+    /// G2: the tape has not 1 to `TAPE_BYTES` bytes.
+    #[error("tape not 1 to {most} bytes", most = TAPE_BYTES)]
+    TapeLength,
+    /// G3: there was no memory for the tape.
+    #[error("out of memory")]
+    OutOfMemory,
+    /// G4: the spacing of the checkpoints is not `LEAST_SPACING` to `MOST_SPACING`.
+    #[error("spacing not {least} to {most}", least = LEAST_SPACING, most = MOST_SPACING)]
+    SpacingOutOfRange,
+}
+
+impl From<AllocError> for SetError {
+    ghost from_gives = { λ _ e. e ≡ OutOfMemory };
+
+    fn from(_e: AllocError) -> SetError {
+        SetError::OutOfMemory
+    }
+}
+
+/// How many steps there are to a tick of the timers, the bytes that stand for random ones, which
+/// machine it is; and, on which no answer depends, how many steps lie between one checkpoint of its
+/// run and the next, and how names are hashed.
+#[derive(Drop)]
+pub struct Settings {
+    rate: u32,
+    tape: Vec<u8>,
+    profile: Profile,
+    spacing: u32,
+    names: NameHasher,
+}
+
+impl Model for Settings {
+    ghost use Rattle.chip_session.specs.Settings.{SessionSettings};
+
+    ghost Value = { SessionSettings };
+
+    ghost view = { λ s.
+        record { rate = s.rate; tape = s.tape.items; profile = s.profile; spacing = s.spacing } };
+
+    ghost use Rattle.std.specs.Prelude.{vec_len};
+    ghost use Rattle.chip_replay.specs.Limits.{IsSpacing};
+    ghost use Rattle.chip_session.specs.Settings.{IsRate, IsTapeLength};
+
+    ghost invariant = { λ s. IsRate s.rate × IsTapeLength (vec_len s.tape) × IsSpacing s.spacing };
+}
+
+impl Settings {
+    /// Settings with `rate` steps to a tick, 1 to `MOST_RATE`, and a tape of 1 to `TAPE_BYTES`
+    /// bytes, for a SUPER-CHIP 1.1 with the least spacing.
+    ///
+    /// # Errors
+    ///
+    /// The first that applies of a rate out of range, a tape that is too short or too long, and
+    /// that memory ran out.
+    pub fn new(alloc: Global, rate: u32, tape: &[u8]) -> Result<Settings, SetError>
+        ensures ok { IfOk result (λ settings. (settings_fault rate tape.now ≡ None)
+            × (settings ≡ settings_of rate tape.now)) }
+        ensures err { IfErr result (λ e. (settings_fault rate tape.now ≡ Some e)
+            ⊎ ((e ≡ SetError.OutOfMemory) × (settings_fault rate tape.now ≡ None))) }
+    {
+        if let Some(fault) = fault_of(rate, tape) {
+            return Err(fault);
+        }
+        let tape = Vec::from_slice(alloc, tape)?;
+        Ok(Settings {
+            rate,
+            tape,
+            profile: Profile::Schip,
+            spacing: LEAST_SPACING,
+            names: NameHasher::new(0),
+        })
+    }
+
+    /// The same for a machine of that profile.
+    pub fn with_profile(self, profile: Profile) -> Settings
+        ensures { result ≡ record self { profile = profile } }
+    {
+        Settings { profile, ..self }
+    }
+
+    /// The same with that many steps between one checkpoint and the next, `LEAST_SPACING` to
+    /// `MOST_SPACING`: fewer make an edit cheaper to follow, more take less memory.
+    ///
+    /// # Errors
+    ///
+    /// A spacing out of range; nothing is handed back then.
+    pub fn with_spacing(self, spacing: u32) -> Result<Settings, SetError>
+        ensures { MatchOption (spacing_fault spacing)
+            (result ≡ Ok (record self { spacing = spacing }))
+            (λ fault. result ≡ Err fault) }
+    {
+        if spacing < LEAST_SPACING || spacing > MOST_SPACING {
+            return Err(SetError::SpacingOutOfRange);
+        }
+        Ok(Settings { spacing, ..self })
+    }
+
+    /// The same with names hashed from a seed on. Where it is drawn at the start of the program,
+    /// no choice of names in a source makes an edit slow.
+    pub fn with_name_seed(self, seed: u64) -> Settings
+        ensures { result ≡ self }
+    {
+        Settings {
+            names: NameHasher::new(seed),
+            ..self
+        }
+    }
+
+    /// How names are hashed.
+    pub(crate) fn names(&self) -> NameHasher {
+        self.names
+    }
+
+    /// How many steps there are to a tick.
+    pub(crate) fn rate(&self) -> u32
+        ensures value { result ≡ self.now.rate }
+        ensures above { 0 < result }
+        ensures most { result ≤ MOST_RATE }
+    {
+        self.rate
+    }
+
+    /// The bytes that stand for random ones.
+    pub(crate) fn tape(&self) -> &[u8]
+        ensures value { result.now ≡ self.now.tape }
+        ensures some { 0 < length result.now }
+        ensures most { length result.now ≤ TAPE_BYTES }
+    {
+        &self.tape
+    }
+
+    /// Which machine it is.
+    pub(crate) fn profile(&self) -> Profile
+        ensures { result ≡ self.now.profile }
+    {
+        self.profile
+    }
+
+    /// How many steps lie between one checkpoint and the next.
+    pub(crate) fn spacing(&self) -> u32
+        ensures value { result ≡ self.now.spacing }
+        ensures in_range { IsSpacing result }
+    {
+        self.spacing
+    }
+}
+
+// Why there are no such settings, memory aside.
+fn fault_of(rate: u32, tape: &[u8]) -> Option<SetError>
+    ensures { result ≡ settings_fault rate tape.now }
+{
+    if rate < 1 || rate > MOST_RATE {
+        return Some(SetError::RateOutOfRange);
+    }
+    if tape.is_empty() || tape.len() > TAPE_BYTES {
+        return Some(SetError::TapeLength);
+    }
+    None
+}
