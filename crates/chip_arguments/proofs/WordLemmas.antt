@@ -101,7 +101,7 @@ asked_by : (words : List (List ℕ)) (command : Option (List ℕ × List Row)) (
 unfolding AsksFor
 asked_by words command line named asks = subst (λ (c : Option (List ℕ × List Row)). AsksBy c line) (sym named) asks
 
-pub asked_none : (words : List (List ℕ)) → subcommand_of chipbench words ≡ None → AsksFor words (line.Debug None default_words)
+pub asked_none : (words : List (List ℕ)) → subcommand_of chipbench words ≡ None → AsksFor words (line.Debug None false default_words)
 asked_none words named = asked_by words None _ named refl
 
 pub asked_for : {E : Type 0} (words : List (List ℕ)) (name : List ℕ) (rows : List Row) (result : Result CommandLine E) →

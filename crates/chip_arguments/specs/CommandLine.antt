@@ -3,7 +3,7 @@
 use Rattle.std.specs.Prelude.{List, [], ◌∷◌, Some, codes, true, pos}
 use Rattle.clap.specs.Words.{App, Rule, new_app, new_rule, with_rule, with_subcommand}
 use Rattle.chip_replay.specs.declared.limits.TheConstants.{LAST_STEP, LEAST_SPACING, MOST_SPACING}
-use Rattle.chip_arguments.specs.declared.limits.TheConstants.{MOST_RATE}
+use Rattle.chip_arguments.specs.declared.limits.TheConstants.{MOST_RATE, MOST_STATES}
 use Rattle.clap.specs.declared.builder.action.ArgAction.TheVariants.{Append, Set, SetTrue}
 use Rattle.clap.specs.declared.builder.value_parser.ValueParser.TheVariants as vp
 
@@ -62,11 +62,15 @@ every = record (new_rule (codes "every")) {
   parser = Some (vp.Signed (pos LEAST_SPACING) (pos MOST_SPACING));
 }
 
+-- SOURCE is an image
+unfoldable pub as_image : Rule
+as_image = record (new_rule (codes "image")) { long = Some (codes "image"); action = Some SetTrue }
+
 unfoldable pub with_settings : App → App
 with_settings app = with_rule (with_rule (with_rule (with_rule app rate) tape) seed) profile
 
 unfoldable pub debug : App
-debug = with_rule (with_settings (with_rule (new_app (codes "debug")) source)) every
+debug = with_rule (with_rule (with_settings (with_rule (new_app (codes "debug")) source)) every) as_image
 
 unfoldable pub asm : App
 asm = with_rule (with_rule (new_app (codes "asm")) needed_source) output
@@ -126,7 +130,7 @@ against = record (new_rule (codes "against")) { long = Some (codes "against"); v
 -- the arguments that say which run it is
 unfoldable pub with_steps : App → App
 with_steps app =
-    with_rule (with_settings (with_rule (with_rule app needed_source) steps)) keys
+    with_rule (with_rule (with_settings (with_rule (with_rule app needed_source) steps)) keys) as_image
 
 unfoldable pub run : App
 run = with_steps (new_app (codes "run"))
@@ -141,6 +145,43 @@ picture =
 
 unfoldable pub test : App
 test = with_rule (with_rule (with_rule (new_app (codes "test")) files) update) tap
+
+-- the step to which a search goes
+unfoldable pub search_steps : Rule
+search_steps = record (new_rule (codes "steps")) {
+  long = Some (codes "steps");
+  value_names = 1;
+  parser = Some (vp.Signed (pos 0) (pos LAST_STEP));
+}
+
+unfoldable pub states : Rule
+states = record (new_rule (codes "states")) {
+  long = Some (codes "states");
+  value_names = 1;
+  parser = Some (vp.Signed (pos 1) (pos MOST_STATES));
+  defaults = codes "1000000" ∷ [];
+}
+
+unfoldable pub want : Rule
+want = record (new_rule (codes "want")) { long = Some (codes "want"); value_names = 1 }
+
+unfoldable pub allowed_keys : Rule
+allowed_keys = record (new_rule (codes "keys-allowed")) {
+  long = Some (codes "keys-allowed");
+  value_names = 1;
+}
+
+unfoldable pub keys_to : Rule
+keys_to = record (new_rule (codes "keys-to")) { long = Some (codes "keys-to"); value_names = 1 }
+
+-- the arguments that say which search it is
+unfoldable pub with_search : App → App
+with_search app =
+    with_rule (with_rule (with_rule (with_rule (with_rule (with_rule app needed_source) search_steps)
+    states) want) allowed_keys) keys_to
+
+unfoldable pub explore : App
+explore = with_rule (with_settings (with_search (new_app (codes "explore")))) as_image
 
 unfoldable pub explain : App
 explain = with_rule (new_app (codes "explain")) code
@@ -160,5 +201,5 @@ with_commands app (command ∷ commands) = with_commands (with_subcommand app co
 unfoldable pub chipbench : App
 chipbench =
     with_commands (without_name (with_version (new_app (codes "chipbench"))))
-    (debug ∷ asm ∷ list ∷ dis ∷ run ∷ trace ∷ picture ∷ check ∷ test ∷ explain
-    ∷ [])
+    (debug ∷ asm ∷ list ∷ dis ∷ run ∷ trace ∷ picture ∷ check ∷ test ∷ explore
+    ∷ explain ∷ [])

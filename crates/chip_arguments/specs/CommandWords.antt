@@ -1,5 +1,5 @@
 -- What the words of the command line ask for, by the values that `clap` finds in them (own).
-use Rattle.std.specs.Prelude.{◌≡◌, ◌≢◌, ℕ, ◌<◌, ◌^◌, Bool, true, false, List, [], ◌∷◌, codes, map, Option, Some, None, option_copied, unwrap_or, if◌then◌else◌}
+use Rattle.std.specs.Prelude.{◌≡◌, ℕ, ◌<◌, ◌^◌, Bool, true, false, List, [], ◌∷◌, codes, map, Option, Some, None, option_copied, unwrap_or, if◌then◌else◌}
 use Rattle.std.specs.Char.{is_ascii_digit}
 use Rattle.std.specs.List.{list_all, list_any}
 use Rattle.std.specs.Str.{bytes_eq}
@@ -13,8 +13,10 @@ use Rattle.chip_machine.specs.declared.profile.Profile.TheVariants.{Schip}
 use Rattle.chip_replay.specs.declared.limits.TheConstants.{LEAST_SPACING}
 use Rattle.chip_arguments.specs.CommandLine.{chipbench}
 use Rattle.chip_arguments.specs.SettingWords.{default_words}
+use Rattle.chip_arguments.specs.declared.limits.TheConstants.{USUAL_STATES}
 use Rattle.chip_arguments.specs.declared.command_line.CommandLine.{CommandLine}
 use Rattle.chip_arguments.specs.declared.command_line.CommandLine.TheVariants as line
+use Rattle.chip_arguments.specs.declared.command_line.ExploreWords.{ExploreWords}
 use Rattle.chip_arguments.specs.declared.command_line.PictureWords.{PictureWords}
 use Rattle.chip_arguments.specs.declared.command_line.RunWords.{RunWords}
 use Rattle.chip_arguments.specs.declared.command_line.SettingWords.{SettingWords}
@@ -24,7 +26,7 @@ use Rattle.chip_arguments.specs.declared.command_line.TraceWords.{TraceWords}
 -- the arguments that are numbers
 abbrev pub numbers : List (List ℕ)
 numbers =
-    codes "steps" ∷ codes "from" ∷ codes "rate" ∷ codes "seed" ∷ codes "every" ∷ []
+    codes "steps" ∷ codes "states" ∷ codes "from" ∷ codes "rate" ∷ codes "seed" ∷ codes "every" ∷ []
 
 -- a number with anything but decimal digits, such as a sign
 abbrev pub number_fault : Option (List ℕ) → Kinds
@@ -34,7 +36,7 @@ number_fault (Some text) =
 
 -- the arguments that name a file to write
 abbrev pub new_files : List (List ℕ)
-new_files = codes "output" ∷ codes "pbm" ∷ codes "png" ∷ []
+new_files = codes "output" ∷ codes "pbm" ∷ codes "png" ∷ codes "keys-to" ∷ []
 
 -- the name that stands for standard output
 abbrev pub new_file_fault : Option (List ℕ) → Kinds
@@ -113,6 +115,7 @@ pub record AsksFlag (value : Option (List ℕ)) (is_set : Bool) : Type 0 where
 -- the run that the values of a command ask for
 pub record AsksRun (rows : List Row) (words : RunWords) : Type 0 where
   pub source : words.source.now ≡ needed (codes "source") rows
+  pub is_image : AsksFlag (one_of (codes "image") rows) words.is_image
   pub steps : ReadsOr 32 (first_of (codes "steps") rows) 0 words.steps
   pub keys : option_copied words.keys ≡ first_of (codes "keys") rows
   pub settings : AsksSettings rows words.settings
@@ -137,6 +140,17 @@ pub record AsksTest (rows : List Row) (words : TestWords) : Type 0 where
   pub is_update : AsksFlag (one_of (codes "update") rows) words.is_update
   pub is_tap : AsksFlag (one_of (codes "tap") rows) words.is_tap
 
+-- the search that they ask for
+pub record AsksExplore (rows : List Row) (words : ExploreWords) : Type 0 where
+  pub source : words.source.now ≡ needed (codes "source") rows
+  pub is_image : AsksFlag (one_of (codes "image") rows) words.is_image
+  pub steps : ReadsNumber 32 (first_of (codes "steps") rows) words.steps
+  pub states : ReadsOr 32 (first_of (codes "states") rows) USUAL_STATES words.states
+  pub causes : option_copied words.causes ≡ first_of (codes "want") rows
+  pub allowed_keys : option_copied words.allowed_keys ≡ first_of (codes "keys-allowed") rows
+  pub keys_to : option_copied words.keys_to ≡ first_of (codes "keys-to") rows
+  pub settings : AsksSettings rows words.settings
+
 -- What the values of a command of that name ask for.
 abbrev pub Asks : List ℕ → List Row → CommandLine → Type 0
 Asks name rows (line.Asm source image) =
@@ -151,15 +165,17 @@ Asks name rows (line.Run words) = (name ≡ codes "run") × AsksRun rows words
 Asks name rows (line.Trace words) = (name ≡ codes "trace") × AsksTrace rows words
 Asks name rows (line.Picture words) = (name ≡ codes "picture") × AsksPicture rows words
 Asks name rows (line.Test words) = (name ≡ codes "test") × AsksTest rows words
+Asks name rows (line.Explore words) = (name ≡ codes "explore") × AsksExplore rows words
 Asks name rows (line.Explain code) =
     (name ≡ codes "explain") × (option_copied code ≡ first_of (codes "code") rows)
-Asks name rows (line.Debug source settings) =
+Asks name rows (line.Debug source is_image settings) =
     (name ≡ codes "debug")
-    × (option_copied source ≡ first_of (codes "source") rows) × AsksSettings rows settings
+    × (option_copied source ≡ first_of (codes "source") rows)
+    × AsksFlag (one_of (codes "image") rows) is_image × AsksSettings rows settings
 
 -- what the words ask for, by the command that they name; without one, a session on the empty source
 abbrev pub AsksBy : Option (List ℕ × List Row) → CommandLine → Type 0
-AsksBy None asked = asked ≡ line.Debug None default_words
+AsksBy None asked = asked ≡ line.Debug None false default_words
 AsksBy (Some command) asked = Asks command.0 command.1 asked
 
 unfoldable pub AsksFor : List (List ℕ) → CommandLine → Type 0

@@ -4,7 +4,7 @@ ghost use Rattle.clap.specs.Words.{new_rule, rule_of};
 ghost use Rattle.chip_arguments.specs.CommandLine as line;
 ghost use Rattle.chip_arguments.specs.inner.Built.{rule_by};
 
-use crate::limits::MOST_RATE;
+use crate::limits::{MOST_RATE, MOST_STATES};
 use chip_replay::{LAST_STEP, LEAST_SPACING, MOST_SPACING};
 use clap::{Arg, ArgAction, value_parser};
 use std::alloc::Global;
@@ -41,6 +41,12 @@ pub(crate) enum Argument {
     Seed,
     Profile,
     Every,
+    AsImage,
+    SearchSteps,
+    States,
+    Want,
+    AllowedKeys,
+    KeysTo,
 }
 
 impl Argument {
@@ -71,6 +77,12 @@ impl Argument {
             Argument::Seed => seed_argument(alloc),
             Argument::Profile => profile_argument(alloc),
             Argument::Every => every_argument(alloc),
+            Argument::AsImage => as_image_argument(alloc),
+            Argument::SearchSteps => search_steps_argument(alloc),
+            Argument::States => states_argument(alloc),
+            Argument::Want => want_argument(alloc),
+            Argument::AllowedKeys => allowed_keys_argument(alloc),
+            Argument::KeysTo => keys_to_argument(alloc),
         }
     }
 }
@@ -315,6 +327,86 @@ fn every_argument<'a>(alloc: Global) -> Arg<'a>
     option(alloc, "every", "P", EVERY_HELP).value_parser(value_parser!(u32).range(
         i64::from(LEAST_SPACING)..=i64::from(MOST_SPACING),
     ))
+}
+
+#[tactic(auto, unfolding(crate::specs::CommandLine::as_image))]
+fn as_image_argument<'a>(alloc: Global) -> Arg<'a>
+    ensures rule { rule_of result ≡ line.as_image }
+    ensures local { result.global ≡ false }
+{
+    flag(
+        alloc,
+        "image",
+        "SOURCE is an image: what `dis` prints of it is the source",
+    )
+}
+
+#[tactic(auto, unfolding(crate::specs::CommandLine::search_steps))]
+fn search_steps_argument<'a>(alloc: Global) -> Arg<'a>
+    ensures rule { rule_of result ≡ line.search_steps }
+    ensures local { result.global ≡ false }
+{
+    option(
+        alloc,
+        "steps",
+        "N",
+        "Search no further than to this step, 0 to 1000000 [default: until no state is new]",
+    )
+    .value_parser(value_parser!(u32).range(0..=i64::from(LAST_STEP)))
+}
+
+#[tactic(auto, unfolding(crate::specs::CommandLine::states))]
+fn states_argument<'a>(alloc: Global) -> Arg<'a>
+    ensures rule { rule_of result ≡ line.states }
+    ensures local { result.global ≡ false }
+{
+    option(
+        alloc,
+        "states",
+        "M",
+        "How many states the search keeps at most, 1 to 100000000",
+    )
+    .value_parser(value_parser!(u32).range(1..=i64::from(MOST_STATES)))
+    .default_value("1000000")
+}
+
+#[tactic(auto, unfolding(crate::specs::CommandLine::want))]
+fn want_argument<'a>(alloc: Global) -> Arg<'a>
+    ensures rule { rule_of result ≡ line.want }
+    ensures local { result.global ≡ false }
+{
+    option(
+        alloc,
+        "want",
+        "CAUSES",
+        "The stop causes that are looked for, S1 to S7 with commas between them [default: S2,S3,S4,S5,S6,S7]",
+    )
+}
+
+#[tactic(auto, unfolding(crate::specs::CommandLine::allowed_keys))]
+fn allowed_keys_argument<'a>(alloc: Global) -> Arg<'a>
+    ensures rule { rule_of result ≡ line.allowed_keys }
+    ensures local { result.global ≡ false }
+{
+    option(
+        alloc,
+        "keys-allowed",
+        "KEYS",
+        "The keys that a player has, 0 to 15 with commas between them [default: all]",
+    )
+}
+
+#[tactic(auto, unfolding(crate::specs::CommandLine::keys_to))]
+fn keys_to_argument<'a>(alloc: Global) -> Arg<'a>
+    ensures rule { rule_of result ≡ line.keys_to }
+    ensures local { result.global ≡ false }
+{
+    option(
+        alloc,
+        "keys-to",
+        "FILE",
+        "Write the key events of the script that was found to a file, as `run --keys` takes them",
+    )
 }
 
 // An argument `--NAME VALUE`.

@@ -1,14 +1,15 @@
 //! What the words of the command line ask for.
-ghost use Rattle.std.specs.Prelude.{◌≡◌, [], Ok, None, IfOk, map, option_copied, codes};
+ghost use Rattle.std.specs.Prelude.{◌≡◌, [], Ok, None, false, IfOk, map, option_copied, codes};
 ghost use Rattle.std.specs.Char.{is_ascii_digit};
 ghost use Rattle.std.specs.List.{list_all};
 ghost use Rattle.clap.specs.Matches.{found_of};
 ghost use Rattle.clap.specs.Words.{FailsBy, first_of, kind_of, one_of, rows_of};
 ghost use Rattle.chip_arguments.specs.SettingWords.{default_words};
-ghost use Rattle.chip_arguments.specs.CommandWords.{Asks, AsksFor, AsksSettings, IsProfile, ReadsNumber, AsksPicture, AsksRun, AsksTest, AsksTrace, first_fault, new_file_fault, new_files, number_fault, numbers, value_faults, word_faults, needed, profile_fault};
+ghost use Rattle.chip_arguments.specs.CommandWords.{Asks, AsksFor, AsksSettings, IsProfile, ReadsNumber, AsksExplore, AsksPicture, AsksRun, AsksTest, AsksTrace, first_fault, new_file_fault, new_files, number_fault, numbers, value_faults, word_faults, needed, profile_fault};
 ghost use Rattle.chip_arguments.specs.inner.Built.{IsOneOf, command_names};
 
 use crate::commands::chipbench;
+use crate::limits::USUAL_STATES;
 use chip_machine::Profile;
 use chip_machine::profile::PROFILES;
 use chip_replay::LEAST_SPACING;
@@ -20,8 +21,9 @@ use std::convert::AsStr;
 const DEFAULT_RATE: u32 = 10;
 
 // The arguments that are numbers, each as `clap` shows it in a fault.
-const NUMBERS: [(&str, &str); 5] = [
+const NUMBERS: [(&str, &str); 6] = [
     ("steps", "--steps <N>"),
+    ("states", "--states <M>"),
     ("from", "--from <M>"),
     ("rate", "--rate <N>"),
     ("seed", "--seed <N>"),
@@ -29,7 +31,12 @@ const NUMBERS: [(&str, &str); 5] = [
 ];
 
 // The arguments that name a file to write, each as a fault shows it.
-const NEW_FILES: [(&str, &str); 3] = [("output", "IMAGE"), ("pbm", "--pbm"), ("png", "--png")];
+const NEW_FILES: [(&str, &str); 4] = [
+    ("output", "IMAGE"),
+    ("pbm", "--pbm"),
+    ("png", "--png"),
+    ("keys-to", "--keys-to"),
+];
 
 /// What the program is asked to do.
 #[derive(Drop)]
@@ -37,6 +44,8 @@ pub enum CommandLine<'a> {
     /// To answer a script.
     Debug {
         source: Option<&'a str>,
+        /// Whether the source is given as an image.
+        is_image: bool,
         settings: SettingWords<'a>,
     },
     /// To write the image of a source to a file.
@@ -64,6 +73,8 @@ pub enum CommandLine<'a> {
     Picture(PictureWords<'a>),
     /// To compare the answers of sessions with those that files expect.
     Test(TestWords<'a>),
+    /// To search all key scripts for one that makes a source's image stop.
+    Explore(ExploreWords<'a>),
     /// To print the page on a code, or the codes.
     Explain {
         code: Option<&'a str>,
@@ -74,6 +85,8 @@ pub enum CommandLine<'a> {
 #[derive(Clone, Copy)]
 pub struct RunWords<'a> {
     pub source: &'a str,
+    /// Whether the source is given as an image.
+    pub is_image: bool,
     pub steps: u32,
     /// The file of key events.
     pub keys: Option<&'a str>,
@@ -117,6 +130,25 @@ pub struct TestWords<'a> {
     pub is_tap: bool,
 }
 
+/// A search, as the words ask for it.
+#[derive(Clone, Copy)]
+pub struct ExploreWords<'a> {
+    pub source: &'a str,
+    /// Whether the source is given as an image.
+    pub is_image: bool,
+    /// The step to which the search goes, 0 to 1000000.
+    pub steps: Option<u32>,
+    /// How many states it keeps at most.
+    pub states: u32,
+    /// The stop causes that are looked for, with commas between them.
+    pub causes: Option<&'a str>,
+    /// The keys that a player has, with commas between them.
+    pub allowed_keys: Option<&'a str>,
+    /// The file for the key events of the script that was found.
+    pub keys_to: Option<&'a str>,
+    pub settings: SettingWords<'a>,
+}
+
 /// The settings, as the words give them.
 #[derive(Clone, Copy)]
 pub struct SettingWords<'a> {
@@ -151,11 +183,12 @@ impl<'a> SettingWords<'a> {
 pub fn parse_words<'a, S: AsStr>(alloc: Global, words: &'a [S]) -> Result<CommandLine<'a>, Error>
     ensures fault { FailsBy (word_faults (map S.text words.entry.now)) result }
     ensures asked { IfOk result (AsksFor (map S.text words.entry.now)) }
-    ensures none { words.entry.now ≡ [] → result ≡ Ok (CommandLine.Debug None default_words) }
+    ensures none { words.entry.now ≡ [] → result ≡ Ok (CommandLine.Debug None false default_words) }
 {
     if words.is_empty() {
         return Ok(CommandLine::Debug {
             source: None,
+            is_image: false,
             settings: SettingWords::DEFAULT,
         });
     }
@@ -164,6 +197,7 @@ pub fn parse_words<'a, S: AsStr>(alloc: Global, words: &'a [S]) -> Result<Comman
         Some((name, found)) => command_asked(alloc, name, found),
         None => Ok(CommandLine::Debug {
             source: None,
+            is_image: false,
             settings: SettingWords::DEFAULT,
         }),
     }
@@ -198,11 +232,13 @@ fn command_asked<'a>(
         "trace" => CommandLine::Trace(trace_words(found, profile)),
         "picture" => CommandLine::Picture(picture_words(found, profile)),
         "test" => CommandLine::Test(test_words(alloc, found)?),
+        "explore" => CommandLine::Explore(explore_words(found, profile)),
         "explain" => CommandLine::Explain {
             code: found.get_str("code"),
         },
         _ => CommandLine::Debug {
             source: found.get_str("source"),
+            is_image: found.get_flag("image"),
             settings: setting_words(found, profile),
         },
     })
@@ -369,6 +405,7 @@ fn run_words<'a>(found: &ArgMatches<'a>, profile: Profile) -> RunWords<'a>
 {
     RunWords {
         source: required_text(found, "source"),
+        is_image: found.get_flag("image"),
         steps: number(found.get_str("steps")).unwrap_or(0),
         keys: found.get_str("keys"),
         settings: setting_words(found, profile),
@@ -407,6 +444,22 @@ fn test_words<'a>(alloc: Global, found: &ArgMatches<'a>) -> Result<TestWords<'a>
         is_update: found.get_flag("update"),
         is_tap: found.get_flag("tap"),
     })
+}
+
+fn explore_words<'a>(found: &ArgMatches<'a>, profile: Profile) -> ExploreWords<'a>
+    ensures { IsProfile (first_of (codes "profile") (rows_of (found_of found.now))) profile
+        → AsksExplore (rows_of (found_of found.now)) result }
+{
+    ExploreWords {
+        source: required_text(found, "source"),
+        is_image: found.get_flag("image"),
+        steps: number(found.get_str("steps")),
+        states: number(found.get_str("states")).unwrap_or(USUAL_STATES),
+        causes: found.get_str("want"),
+        allowed_keys: found.get_str("keys-allowed"),
+        keys_to: found.get_str("keys-to"),
+        settings: setting_words(found, profile),
+    }
 }
 
 fn setting_words<'a>(found: &ArgMatches<'a>, profile: Profile) -> SettingWords<'a>

@@ -53,6 +53,18 @@ Status: 0 where all cases pass, 1 where one fails, 3 for a file that can't be re
 
 Example: chipbench test game.test";
 
+const EXPLORE_NOTES: &str = "\
+Answers `found`, `within` or `never`, each with what it rests on:
+  Sk T                 some key script makes the machine stop for Sk at step T, and none does so earlier;
+                       below it, `keys N`: how many key events that script has
+  within N             no key script makes it stop for a wanted cause at a step up to N
+  never                no key script does at any step below 2^64 - 1
+Then a line `Sj T` for each other cause that was met, with the least step that was, and `states N`.
+A key script is any choice of the allowed keys at each step. Tape, rate and profile are fixed.
+Status: 0 for `within` and `never`, 1 for a script that was found or a source with faults, 4 where memory ran out.
+
+Example: chipbench explore game.asm --keys-to crash.keys";
+
 /// A command of the program.
 pub(crate) struct CommandRow {
     name: &'static str,
@@ -64,7 +76,7 @@ pub(crate) struct CommandRow {
 }
 
 // The commands, in the order of the help.
-const COMMANDS: [CommandRow; 10] = [
+const COMMANDS: [CommandRow; 11] = [
     CommandRow {
         name: "debug",
         about: "Answers the edits and questions on standard input, one a line",
@@ -76,6 +88,7 @@ const COMMANDS: [CommandRow; 10] = [
             Argument::Seed,
             Argument::Profile,
             Argument::Every,
+            Argument::AsImage,
         ],
     },
     CommandRow {
@@ -108,6 +121,7 @@ const COMMANDS: [CommandRow; 10] = [
             Argument::Seed,
             Argument::Profile,
             Argument::Keys,
+            Argument::AsImage,
         ],
     },
     CommandRow {
@@ -122,6 +136,7 @@ const COMMANDS: [CommandRow; 10] = [
             Argument::Seed,
             Argument::Profile,
             Argument::Keys,
+            Argument::AsImage,
             Argument::From,
             Argument::Hash,
             Argument::Against,
@@ -139,6 +154,7 @@ const COMMANDS: [CommandRow; 10] = [
             Argument::Seed,
             Argument::Profile,
             Argument::Keys,
+            Argument::AsImage,
             Argument::Ascii,
             Argument::Pbm,
             Argument::Png,
@@ -155,6 +171,24 @@ const COMMANDS: [CommandRow; 10] = [
         about: "Compares the answers of sessions with those that files expect",
         notes: TEST_NOTES,
         arguments: &[Argument::Files, Argument::Update, Argument::Tap],
+    },
+    CommandRow {
+        name: "explore",
+        about: "Searches all key scripts for one under which the machine stops",
+        notes: EXPLORE_NOTES,
+        arguments: &[
+            Argument::NeededSource,
+            Argument::SearchSteps,
+            Argument::States,
+            Argument::Want,
+            Argument::AllowedKeys,
+            Argument::KeysTo,
+            Argument::Rate,
+            Argument::Tape,
+            Argument::Seed,
+            Argument::Profile,
+            Argument::AsImage,
+        ],
     },
     CommandRow {
         name: "explain",

@@ -2,3 +2,9 @@
 
 /// The most steps that may lie between two ticks of the timers.
 pub const MOST_RATE: u32 = 1000;
+
+/// How many states a search may keep where the words don't say.
+pub const USUAL_STATES: u32 = 1_000_000;
+
+/// The most states that a search may be asked to keep.
+pub const MOST_STATES: u32 = 100_000_000;

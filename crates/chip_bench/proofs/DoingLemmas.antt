@@ -23,7 +23,7 @@ use Rattle.chip_arguments.specs.declared.command_line.TraceWords.{TraceWords}
 use Rattle.chip_bench.specs.declared.ending.Ending.TheVariants.{Done}
 use Rattle.chip_bench.specs.declared.ending.Failure.{Failure}
 use Rattle.chip_bench.specs.declared.ending.Failure.TheVariants as failure
-use Rattle.chip_bench.specs.declared.entry.Asked.{Asked}
+use Rattle.chip_bench.specs.declared.reading.Asked.{Asked}
 use Rattle.chip_bench.proofs.RunningLemmas.{unsettled}
 
 -- settings that there are not, or no memory for them

@@ -2,16 +2,17 @@
 --     IsInputUnread, IsSourceUnread  what hinders reading a source
 --     IsUnwritten, IsFileWritten     what hinders writing a file; that it was written
 --     GivesSource                    the bytes of a source of that name
---     FromSource, FromFile, FromKeys, WithAsked    what a command did with the bytes that it read,
---                                                  or why it read none
---     Debugs, Assembles, Lists, Checks, Disassembles, Runs, Pictures, Explains    what each command
---         did
+--     AsSource                       what a command did with the source that some bytes are
+--     FromSource, FromGiven, FromFile, FromKeys, WithAsked    what a command did with the bytes that
+--                                                  it read, or why it read none
+--     Debugs, Assembles, Lists, Checks, Disassembles, Runs, Traces, Pictures, Explores, Explains
+--                                    what each command did
 --     Does                           the same, by what was asked
 --     Performs, ShowsHelp, ShowsVersion   the same, for the words of the command line
 --     Ends                           how the program ended after that
 -- No contract says what bytes a file gives or takes: of a file's bytes these words say that there
 -- are some.
-use Rattle.std.specs.Prelude.{◌≡◌, ◌≢◌, ◌⊎◌, ℕ, ◌<◌, ◌≤◌, Bool, List, [], codes, length, take, Option, Some, None, IfSome, Result, Ok, IsErrAnd, if◌then◌else◌}
+use Rattle.std.specs.Prelude.{◌≡◌, ◌≢◌, ◌⊎◌, ℕ, ◌<◌, ◌≤◌, Bool, true, false, List, [], codes, length, take, Option, Some, None, option_copied, IfSome, Result, Ok, IsErrAnd, if◌then◌else◌}
 use Rattle.std.specs.Borrow.{Bor}
 use Rattle.std.specs.Io.KnownBytes.{Keeps}
 use Rattle.std.specs.declared.io.Error.{Error as IoError}
@@ -41,8 +42,13 @@ use Rattle.chip_bench.specs.SettingWords.{settings_asked}
 use Rattle.chip_session.specs.Settings.{SessionSettings}
 use Rattle.chip_session.specs.Tally.{Tally, failures_after_flush}
 use Rattle.chip_bench.specs.Testing.{Tests}
+use Rattle.chip_bench.specs.Exploring.{AsksSet, IsSearchPrinted, cause_named, key_named, usual_causes, usual_keys}
+use Rattle.chip_explore.specs.Answers.{Answers}
+use Rattle.chip_explore.specs.declared.question.Outcome.{Outcome as Answer}
+use Rattle.chip_machine.specs.Start.{start_of}
 use Rattle.chip_arguments.specs.declared.command_line.CommandLine.{CommandLine}
 use Rattle.chip_arguments.specs.declared.command_line.CommandLine.TheVariants as line
+use Rattle.chip_arguments.specs.declared.command_line.ExploreWords.{ExploreWords}
 use Rattle.chip_arguments.specs.declared.command_line.PictureWords.{PictureWords}
 use Rattle.chip_arguments.specs.declared.command_line.RunWords.{RunWords}
 use Rattle.chip_arguments.specs.declared.command_line.SettingWords.{SettingWords}
@@ -68,6 +74,12 @@ IsShort why = why ≡ failure.OutOfMemory
 -- settings that there are not, or that memory ran out
 abbrev pub IsUnsettled : Failure → Type 0
 IsUnsettled why = (why ≡ failure.BadTape) ⊎ (why ≡ failure.OutOfMemory)
+
+-- a set of stop causes or of keys that there is not
+abbrev pub IsBadSet : Failure → Type 0
+IsBadSet why =
+    ((text : Bor (List ℕ)) × (why ≡ failure.BadCauses text))
+    ⊎ ((text : Bor (List ℕ)) × (why ≡ failure.BadPlayerKeys text))
 
 -- what hinders writing a file of that name
 abbrev pub IsUnwritten : Bor (List ℕ) → Failure → Type 0
@@ -111,6 +123,23 @@ module _ {R : Type 0} (in_old in_new : Tally R) where
 abbrev pub shown_by : TraceWords → List Column → Shown
 shown_by words columns = record { columns = columns; from = words.from; to = words.run.steps }
 
+-- what hinders taking an image as the source that `dis` prints of it: it is too long, or there was no
+-- memory
+abbrev pub IsImageRefused : Bor (List ℕ) → List ℕ → Failure → Type 0
+IsImageRefused name image why =
+    IsShort why
+    ⊎ ((IMAGE_BYTES < length image)
+    × ((because : IoError) × (why ≡ failure.CannotRead name because)))
+
+-- What a command did with the source that some bytes are: themselves, or of an image what `dis`
+-- prints of it. `Quiet` holds where an image is refused.
+abbrev pub AsSource : Bool → Bor (List ℕ) → (Quiet : Type 0) → (List ℕ → Outcome → Type 0) → List ℕ
+    → Outcome → Type 0
+AsSource false name Quiet Did bytes ended = Did bytes ended
+AsSource true name Quiet Did image ended =
+    ((length image ≤ IMAGE_BYTES) × Did (source_of_image image) ended)
+    ⊎ (IsErrAnd ended (IsImageRefused name image) × Quiet)
+
 -- which characters stand for the points of a picture
 abbrev pub letters_of : Bool → Letters
 letters_of ascii = if ascii then Plain else Blocks
@@ -127,6 +156,10 @@ module _ {R : Type 0} (remaining : R → Option (List ℕ)) (in_old in_new : Tal
   FromSource name Did ended =
       ((bytes : List ℕ) × GivesSource remaining in_old in_new name.now bytes × Did bytes ended)
       ⊎ (IsErrAnd ended (IsSourceUnread in_old in_new name) × Unwritten)
+
+  -- with the source of that name, which is an image where the words say so
+  abbrev pub FromGiven : Bool → Bor (List ℕ) → (List ℕ → Outcome → Type 0) → Outcome → Type 0
+  FromGiven is_image name Did ended = FromSource name (AsSource is_image name Unwritten Did) ended
 
   -- with the bytes of a file
   abbrev pub FromFile : Bor (List ℕ) → (List ℕ → Outcome → Type 0) → Outcome → Type 0
@@ -148,7 +181,20 @@ module _ {R : Type 0} (remaining : R → Option (List ℕ)) (in_old in_new : Tal
       → Type 0
   WithAsked words Did ended =
       IfSettled (settings_asked words.settings)
-      (λ settings. FromKeys words.keys (λ keys. FromSource words.source (Did settings keys))) ended
+      (λ settings. FromKeys words.keys
+      (λ keys. FromGiven words.is_image words.source (Did settings keys))) ended
+
+  -- with the sets that an argument for stop causes and one for keys ask for
+  abbrev pub IfSets : (causes keys : Option ℕ) → (ℕ → ℕ → Outcome → Type 0) → Outcome → Type 0
+  IfSets (Some causes) (Some keys) Did ended = Did causes keys ended
+  IfSets _ _ Did ended = Declined IsBadSet ended
+
+  abbrev pub WithSets : (causes keys : Option (List ℕ)) → (ℕ → ℕ → Outcome → Type 0) → Outcome
+      → Type 0
+  WithSets causes keys Did ended =
+      (causes_asked : Option ℕ) × AsksSet cause_named usual_causes causes causes_asked
+      × (keys_asked : Option ℕ) × AsksSet key_named usual_keys keys keys_asked
+      × IfSets causes_asked keys_asked Did ended
 
 -- What is written.
 module _ {W : Type 0} (contents : W → Option (List ℕ)) (out_old out_new : Tally W) where
@@ -237,6 +283,24 @@ module _ {W : Type 0} (contents : W → Option (List ℕ)) (out_old out_new : Ta
       ((bytes : List ℕ) × TracesBeside words settings keys source name (lines bytes) ended)
       ⊎ Fails (IsUnread name) ended
 
+  -- what hinders telling what a search found: there was no memory, or its file couldn't be written
+  abbrev pub IsSearchHindered : Option (Bor (List ℕ)) → Failure → Type 0
+  IsSearchHindered None why = IsShort why
+  IsSearchHindered (Some name) why = IsUnwritten name why
+
+  -- `explore`: where the source has an image, what a search over all key scripts answers is printed;
+  -- else the faults are
+  abbrev pub Searches : ExploreWords → SessionSettings → (causes keys : ℕ) → Option (List ℕ)
+      → (source : List ℕ) → Outcome → Type 0
+  Searches words settings causes keys (Some image) source ended =
+      ((answer : Answer)
+      × Answers settings.rate keys causes (start_of image settings.tape settings.profile) answer
+      × (wanted : Printed) × IsSearchPrinted answer wanted × Prints contents out_old out_new wanted ended)
+      ⊎ Fails (IsSearchHindered words.keys_to) ended
+  Searches words settings causes keys None source ended =
+      Prints contents out_old out_new
+      (printed_of (open_fault source) (printed_faults (lines_of source))) ended
+
   -- a text, whatever it is, was printed
   abbrev pub PrintsText : Outcome → Type 0
   PrintsText ended = (text : List ℕ) × Prints contents out_old out_new (printed text Done) ended
@@ -263,14 +327,15 @@ module _ {W : Type 0} (contents : W → Option (List ℕ)) (out_old out_new : Ta
 module _ {R W : Type 0} (remaining : R → Option (List ℕ)) (contents : W → Option (List ℕ))
     (in_old in_new : Tally R) (out_old out_new : Tally W) where
   -- `debug`: without a source, a session on the empty one
-  abbrev pub Debugs : Option (Bor (List ℕ)) → SettingWords → Outcome → Type 0
-  Debugs None words ended =
+  abbrev pub Debugs : Option (Bor (List ℕ)) → (is_image : Bool) → SettingWords → Outcome → Type 0
+  Debugs None is_image words ended =
       AnswersIfAsked remaining contents [] in_old in_new out_old out_new
       (settings_asked words) ended
-  Debugs (Some name) words ended =
+  Debugs (Some name) is_image words ended =
       IfSettled remaining in_old in_new (out_new ≡ out_old) (settings_asked words) (λ settings.
-      FromFile remaining in_old in_new (out_new ≡ out_old) name (λ source.
-      AnswersScript remaining contents settings source in_old in_new out_old out_new)) ended
+      FromFile remaining in_old in_new (out_new ≡ out_old) name
+      (AsSource is_image name ((in_new ≡ in_old) × (out_new ≡ out_old)) (λ source.
+      AnswersScript remaining contents settings source in_old in_new out_old out_new))) ended
 
   abbrev pub Assembles : Bor (List ℕ) → Bor (List ℕ) → Outcome → Type 0
   Assembles source name ended =
@@ -316,9 +381,18 @@ module _ {R W : Type 0} (remaining : R → Option (List ℕ)) (contents : W → 
       PicturesBy contents out_old out_new
       (Some settings) source keys words words.bitmap words.png) ended
 
+  -- `explore`
+  abbrev pub Explores : ExploreWords → Outcome → Type 0
+  Explores words ended =
+      IfSettled remaining in_old in_new (out_new ≡ out_old) (settings_asked words.settings)
+      (λ settings. WithSets remaining in_old in_new (out_new ≡ out_old)
+      (option_copied words.causes) (option_copied words.allowed_keys) (λ causes keys.
+      FromGiven remaining in_old in_new (out_new ≡ out_old) words.is_image words.source (λ source.
+      Searches contents out_old out_new words settings causes keys (image_in source) source))) ended
+
   -- what the program did for what it was asked
   abbrev pub Does : CommandLine → Outcome → Type 0
-  Does (line.Debug source words) ended = Debugs source words ended
+  Does (line.Debug source is_image words) ended = Debugs source is_image words ended
   Does (line.Asm source image) ended = Assembles source image ended
   Does (line.List source) ended = Lists source ended
   Does (line.Check source) ended = Checks source ended
@@ -327,6 +401,7 @@ module _ {R W : Type 0} (remaining : R → Option (List ℕ)) (contents : W → 
   Does (line.Trace words) ended = Traces words ended
   Does (line.Picture words) ended = Pictures words ended
   Does (line.Test words) ended = Tests words ended × (in_new ≡ in_old)
+  Does (line.Explore words) ended = Explores words ended
   Does (line.Explain code) ended = Explains contents out_old out_new code ended × (in_new ≡ in_old)
 
   -- what it did for words without a fault: what they ask for, unless there was no memory to read

@@ -4,12 +4,14 @@
 --     SettingWords what the words of the command line say of settings
 --     Tracing      what `trace` prints of a session's run
 --     Testing      what `test` finds of files of cases
+--     Exploring    what `explore` is asked, and what it prints
 --     Doing        what the program does for each thing that its words can ask for
---     inner        for private contracts: what was read
+--     inner        for private contracts: what was read, and what `explore` tells
 pub mod Running
 pub mod SettingWords
 pub mod Printing
 pub mod Tracing
 pub mod Testing
+pub mod Exploring
 pub mod Doing
 pub mod inner

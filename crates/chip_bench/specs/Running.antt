@@ -129,6 +129,8 @@ ending_status Faulty = 1
 abbrev pub failure_status : Failure → ℕ
 failure_status (failure.Usage error) = 2
 failure_status failure.BadTape = 2
+failure_status (failure.BadCauses text) = 2
+failure_status (failure.BadPlayerKeys text) = 2
 failure_status (failure.BadKeys name number code) = 2
 failure_status (failure.BadTrace name fault) = 2
 failure_status (failure.NoPage code) = 2

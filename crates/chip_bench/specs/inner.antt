@@ -1,2 +1,3 @@
--- What private contracts say: what was read for a command.
+-- What private contracts say: what was read for a command, and what `explore` tells.
 pub mod Reads
+pub mod Sets

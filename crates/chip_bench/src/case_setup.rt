@@ -5,8 +5,8 @@ ghost use Rattle.chip_bench.specs.SettingWords.{settings_asked};
 ghost use Rattle.chip_bench.specs.Testing.{IsCaseKeys, IsCaseSource, IsHindrance, SetBy, text_of};
 
 use crate::ending::{Failure, TestFault};
-use crate::entry::{MOST_SOURCE, settings_of};
 use crate::limits::KEY_FILE_BYTES;
+use crate::reading::{MOST_SOURCE, settings_of};
 use chip_arguments::limits::MOST_RATE;
 use chip_arguments::{SettingWords, number, seed};
 use chip_cases::{Placed, Setup, SourceWords};

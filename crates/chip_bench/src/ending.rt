@@ -51,6 +51,12 @@ pub(crate) enum Failure<'a> {
     Usage(clap::Error),
     #[error("chipbench: bad tape\n")]
     BadTape,
+    /// These are no stop causes.
+    #[error("chipbench: --want takes S1 to S7 with commas between them, not {0}\n")]
+    BadCauses(&'a str),
+    /// These are no keys.
+    #[error("chipbench: --keys-allowed takes 0 to 15 with commas between them, not {0}\n")]
+    BadPlayerKeys(&'a str),
     /// The line of that number of a key file is refused.
     #[error("chipbench: keys {0} line {1}: {2}\n")]
     BadKeys(&'a str, usize, Code),
@@ -97,6 +103,8 @@ impl<'a> Failure<'a> {
         match self {
             Failure::Usage(_)
             | Failure::BadTape
+            | Failure::BadCauses(_)
+            | Failure::BadPlayerKeys(_)
             | Failure::BadKeys(_, _, _)
             | Failure::BadTrace(_, _)
             | Failure::NoPage(_) => 2,

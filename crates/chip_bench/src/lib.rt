@@ -6,14 +6,18 @@ mod case_run;
 mod case_setup;
 mod ending;
 mod entry;
+mod exploring;
 pub mod laws;
 pub mod limits;
 mod output;
+mod picturing;
+mod reading;
 mod testing;
 mod tracing;
 
 pub use chip_arguments::{
-    CommandLine, PictureWords, RunWords, SettingWords, TestWords, TraceWords, parse_words,
+    CommandLine, ExploreWords, PictureWords, RunWords, SettingWords, TestWords, TraceWords,
+    parse_words,
 };
 pub use chip_session::{
     Bench, Change, Command, CommandFault, Counted, Letters, OpenError, PictureForm, Question,

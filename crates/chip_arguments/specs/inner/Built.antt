@@ -12,7 +12,7 @@ use Rattle.clap.specs.declared.builder.command.Command.TheViews.{out-Command as 
 abbrev pub command_names : List (List ℕ)
 command_names =
     codes "debug" ∷ codes "asm" ∷ codes "list" ∷ codes "dis" ∷ codes "run" ∷ codes "trace"
-    ∷ codes "picture" ∷ codes "check" ∷ codes "test" ∷ codes "explain" ∷ []
+    ∷ codes "picture" ∷ codes "check" ∷ codes "test" ∷ codes "explore" ∷ codes "explain" ∷ []
 
 -- a name is one of these
 abbrev pub IsOneOf : List ℕ → List (List ℕ) → Type 0
@@ -47,6 +47,12 @@ rule_by argument.Tape = line.tape
 rule_by argument.Seed = line.seed
 rule_by argument.Profile = line.profile
 rule_by argument.Every = line.every
+rule_by argument.AsImage = line.as_image
+rule_by argument.SearchSteps = line.search_steps
+rule_by argument.States = line.states
+rule_by argument.Want = line.want
+rule_by argument.AllowedKeys = line.allowed_keys
+rule_by argument.KeysTo = line.keys_to
 
 -- these arguments, in order
 abbrev pub with_arguments : App → List Argument → App

@@ -1,9 +1,9 @@
 -- What the words of the command line ask for as it was read, and what hindered it, for the private
 -- contracts behind the commands (own).
-use Rattle.std.specs.Prelude.{◌≡◌, ◌⊎◌, ℕ, List, Option, Some, None, Ok, Err}
+use Rattle.std.specs.Prelude.{◌≡◌, ◌⊎◌, ℕ, Bool, List, Option, Some, None, Ok, Err}
 use Rattle.std.specs.Borrow.{Bor}
 use Rattle.chip_asm.specs.Lines.{lines_of, open_fault}
-use Rattle.chip_bench.specs.Doing.{IsShort, Outcome, WithAsked, image_in}
+use Rattle.chip_bench.specs.Doing.{AsSource, FromGiven, IsShort, Outcome, WithAsked, image_in}
 use Rattle.chip_bench.specs.Printing.{Prints, printed_faults, printed_of}
 use Rattle.chip_bench.specs.Running.{IsUnread, failure_status}
 use Rattle.chip_bench.specs.SettingWords.{settings_asked}
@@ -11,7 +11,7 @@ use Rattle.chip_session.specs.Tally.{Tally}
 use Rattle.chip_arguments.specs.declared.command_line.RunWords.{RunWords}
 use Rattle.chip_bench.specs.declared.ending.Ending.TheVariants.{Done, Faulty}
 use Rattle.chip_bench.specs.declared.ending.Failure.{Failure}
-use Rattle.chip_bench.specs.declared.entry.Asked.{Asked}
+use Rattle.chip_bench.specs.declared.reading.Asked.{Asked}
 
 -- words that have a fault, or that memory ran out
 abbrev pub IsUsage : Outcome → Type 0
@@ -23,7 +23,28 @@ abbrev pub IsKeysUnread : Option (Bor (List ℕ)) → Failure → Type 0
 IsKeysUnread None why = ⊥
 IsKeysUnread (Some name) why = IsUnread name why
 
+-- the source that some bytes are
+abbrev pub IsTaken : Bool → Bor (List ℕ) → (bytes source : List ℕ) → Type 0
+IsTaken is_image name bytes source =
+    AsSource is_image name (Unit {0}) (λ taken ended. taken ≡ source) bytes (Ok Done)
+
+-- they are an image that is refused
+abbrev pub IsNotTaken : Bool → Bor (List ℕ) → (bytes : List ℕ) → Failure → Type 0
+IsNotTaken is_image name bytes why =
+    AsSource is_image name (Unit {0}) (λ taken ended. ⊥) bytes (Err why)
+
 module _ {R : Type 0} (remaining : R → Option (List ℕ)) (in_old in_new : Tally R) where
+  -- the source of that name was read
+  abbrev pub IsGiven : Bool → Bor (List ℕ) → List ℕ → Type 0
+  IsGiven is_image name source =
+      FromGiven remaining in_old in_new (Unit {0}) is_image name (λ taken ended. taken ≡ source)
+      (Ok Done)
+
+  -- it couldn't be read
+  abbrev pub IsNotGiven : Bool → Bor (List ℕ) → Failure → Type 0
+  IsNotGiven is_image name why =
+      FromGiven remaining in_old in_new (Unit {0}) is_image name (λ taken ended. ⊥) (Err why)
+
   -- what was read is what the words of a run ask for
   abbrev pub IsAsked : RunWords → Asked → Type 0
   IsAsked words asked =

@@ -1,9 +1,9 @@
 use Rattle.std.proofs.Common.{◌≡◌, ◌≢◌, codes, rules}
 use Rattle.clap.specs.Words.{found_of}
 use Rattle.chip_arguments.proofs.NameLemmas.{debug_is_left}
-use Rattle.chip_arguments.proofs.WordLemmas.{first_is}
+use Rattle.chip_arguments.proofs.WordLemmas.{first_is, flag_is}
 use Rattle.chip_arguments.proofs.command_line.command_asked.Goals as goal
-use Rattle.chip_arguments.proofs.command_line.command_asked.Goals.{in-asm, in-list, in-check, in-dis, in-run, in-trace, in-picture, in-test+in_ok-test_words-in-test, in-explain, in_default}
+use Rattle.chip_arguments.proofs.command_line.command_asked.Goals.{in-asm, in-list, in-check, in-dis, in-run, in-trace, in-picture, in-test+in_ok-test_words-in-test, in-explore, in-explain, in_default}
 
 pub returns-clause-asked : goal.returns-clause-asked
 returns-clause-asked c =
@@ -33,6 +33,9 @@ returns-clause-asked c =
       | in-test+in_ok-test_words-in-test w ↦
           let named : c.args.name.now ≡ codes "test" = search rules in
           rw w.result-is (named, w.in_ok-test_words-in-test.ensures)
+      | in-explore w ↦
+          let named : c.args.name.now ≡ codes "explore" = search rules in
+          rw w.result-is (named, w.explore_words.ensures profile)
       | in-explain w ↦
           let named : c.args.name.now ≡ codes "explain" = search rules in
           let code = first_is (found_of c.args.found.now) (codes "code") _ w.get_str.ensures in
@@ -46,8 +49,10 @@ returns-clause-asked c =
           let not_trace : c.args.name.now ≢ codes "trace" = search rules in
           let not_picture : c.args.name.now ≢ codes "picture" = search rules in
           let not_test : c.args.name.now ≢ codes "test" = search rules in
+          let not_explore : c.args.name.now ≢ codes "explore" = search rules in
           let not_explain : c.args.name.now ≢ codes "explain" = search rules in
-          let debug = debug_is_left c.args.name.now c.requires not_asm not_list not_dis not_run not_trace not_picture not_check not_test not_explain in
+          let debug = debug_is_left c.args.name.now c.requires not_asm not_list not_dis not_run not_trace not_picture not_check not_test not_explore not_explain in
           let source = first_is (found_of c.args.found.now) (codes "source") _ w.get_str-in_default.ensures in
-          rw w.result-is (debug, source, w.setting_words.ensures profile)
+          let image = flag_is (found_of c.args.found.now) (codes "image") w.get_flag.result w.get_flag.ensures.value w.get_flag.ensures.other w.get_flag.ensures.none in
+          rw w.result-is (debug, source, image, w.setting_words.ensures profile)
     ]

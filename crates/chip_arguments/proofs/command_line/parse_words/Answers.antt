@@ -1,4 +1,4 @@
-use Rattle.std.proofs.Common.{◌≡◌, sym, [], List, ℕ, None, ap, ◌∙◌, map, subst, arith}
+use Rattle.std.proofs.Common.{◌≡◌, sym, [], List, ℕ, None, false, ap, ◌∙◌, map, subst, arith}
 use Rattle.std.proofs.lemmas.List.{nil_from_length}
 use Rattle.std.proofs.lemmas.Result.{err_from_is_err_and}
 use Rattle.clap.specs.Words.{App, FailsBy, app_of, fault_of, found_of, is_simple_and_free, rows_of}
@@ -30,7 +30,7 @@ pub returns-then-is_empty-clause-asked : goal.returns-then-is_empty-clause-asked
 returns-then-is_empty-clause-asked g c =
     let none : c.args.words.now ≡ [] = nil_from_length c.args.words.now (grind (arith, c.is_empty.ensures, c.if-is_empty.true)) in
     let words_none : map g.S.AsStr.text c.args.words.now ≡ [] = ap (map g.S.AsStr.text) none in
-    subst (λ (words : List (List ℕ)). AsksFor words (Debug None default_words)) (sym words_none) (asked_none [] no_words_no_command)
+    subst (λ (words : List (List ℕ)). AsksFor words (Debug None false default_words)) (sym words_none) (asked_none [] no_words_no_command)
 
 pub returns-in-Some-clause-fault : goal.returns-in-Some-clause-fault
 returns-in-Some-clause-fault g c =

@@ -2,7 +2,7 @@ use Rattle.std.proofs.lemmas.Result.{err_from_is_err_and}
 use Rattle.std.proofs.Common.{◌∙◌, ap, refl, Err}
 use Rattle.chip_bench.specs.SettingWords.{settings_asked}
 use Rattle.chip_bench.proofs.DoingLemmas.{picture_printed, picture_unsettled}
-use Rattle.chip_bench.proofs.entry.Shot.print.Goals as goal
+use Rattle.chip_bench.proofs.picturing.Shot.print.Goals as goal
 
 pub returns-in_err-settings : goal.returns-in_err-settings
 returns-in_err-settings g c =

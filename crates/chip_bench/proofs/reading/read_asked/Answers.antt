@@ -1,7 +1,7 @@
 use Rattle.std.proofs.lemmas.Result.{err_from_is_err_and}
 use Rattle.std.proofs.Common.{◌∙◌, ap, Err}
 use Rattle.chip_bench.proofs.DoingLemmas.{asked_is, unasked_source}
-use Rattle.chip_bench.proofs.entry.read_asked.Goals as goal
+use Rattle.chip_bench.proofs.reading.read_asked.Goals as goal
 
 pub returns-in_err-source-clause-err : goal.returns-in_err-source-clause-err
 returns-in_err-source-clause-err g c =

@@ -1,7 +1,7 @@
 use Rattle.std.proofs.lemmas.Result.{err_from_is_err_and}
 use Rattle.std.proofs.Common.{◌∙◌, ap, refl, Err, None, Some}
 use Rattle.chip_bench.proofs.DoingLemmas.{pictures, pictures_not}
-use Rattle.chip_bench.proofs.entry.picture.Goals as goal
+use Rattle.chip_bench.proofs.picturing.picture.Goals as goal
 
 pub returns-in_err-asked : goal.returns-in_err-asked
 returns-in_err-asked g c =

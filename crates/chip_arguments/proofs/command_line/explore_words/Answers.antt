@@ -1,0 +1,16 @@
+use Rattle.std.proofs.Common.{codes}
+use Rattle.clap.specs.Words.{found_of}
+use Rattle.chip_arguments.proofs.WordLemmas.{first_is, flag_is, reads_first, reads_or}
+use Rattle.chip_arguments.proofs.command_line.explore_words.Goals as goal
+
+pub returns : goal.returns
+returns c = λ named. record {
+  source = c.required_text.ensures;
+  is_image = flag_is (found_of c.args.found.now) (codes "image") c.get_flag.result c.get_flag.ensures.value c.get_flag.ensures.other c.get_flag.ensures.none;
+  steps = reads_first (found_of c.args.found.now) 32 (codes "steps") _ c.number.result c.get_str.ensures c.number.ensures;
+  states = reads_or (found_of c.args.found.now) (codes "states") _ c.number-2.result _ _ c.get_str-2.ensures c.number-2.ensures c.unwrap_or.ensures;
+  causes = first_is (found_of c.args.found.now) (codes "want") _ c.get_str-3.ensures;
+  allowed_keys = first_is (found_of c.args.found.now) (codes "keys-allowed") _ c.get_str-4.ensures;
+  keys_to = first_is (found_of c.args.found.now) (codes "keys-to") _ c.get_str-5.ensures;
+  settings = c.setting_words.ensures named;
+}

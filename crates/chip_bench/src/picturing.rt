@@ -1,0 +1,133 @@
+//! `picture`: the screen after some steps, printed or written to files.
+ghost use Rattle.std.specs.Prelude.{◌≡◌, Some};
+ghost use Rattle.chip_bench.specs.SettingWords.{settings_asked};
+ghost use Rattle.chip_bench.specs.Doing.{Pictures, PicturesBy, PrintsPicture, WritesPicture, letters_of};
+
+use crate::ending::{Ending, Failure};
+use crate::entry::write_image;
+use crate::output::{picture_source, print};
+use crate::reading::{Asked, file_name, read_asked, settings_of};
+use chip_arguments::PictureWords;
+use chip_session::{Counted, PictureForm};
+use chip_views::Letters;
+use std::alloc::Global;
+use std::io::{Read, Write};
+use std::rt::Files;
+
+// Without a file for it, the picture is printed.
+pub(crate) fn picture<'a, F: Files, I: Read, O: Write>(
+    alloc: Global,
+    files: &F,
+    words: &PictureWords<'a>,
+    input: &mut Counted<I>,
+    output: &mut Counted<O>,
+) -> Result<Ending, Failure<'a>>
+    ensures { Pictures I.remaining O.contents input.old input.new output.old output.new
+        words.now result }
+{
+    let asked = read_asked(alloc, files, &words.run, input)?;
+    let shot = Shot {
+        words: *words,
+        asked,
+    };
+    match (words.bitmap, words.png) {
+        (None, None) => shot.print(alloc, PictureForm::Text(letters_of(words.ascii)), output),
+        (Some(name), None) => shot.write(alloc, files, PictureForm::Bitmap, name, output),
+        (None, Some(name)) => shot.write(alloc, files, PictureForm::Png, name, output),
+        (Some(bitmap), Some(png)) => shot.write_both(alloc, files, bitmap, png, output),
+    }
+}
+
+// Which characters stand for the points.
+fn letters_of(ascii: bool) -> Letters
+    ensures { result ≡ letters_of ascii }
+{
+    if ascii {
+        Letters::Plain
+    } else {
+        Letters::Blocks
+    }
+}
+
+// The screen of a source's image after some steps.
+#[derive(Drop)]
+struct Shot<'a> {
+    words: PictureWords<'a>,
+    asked: Asked<'a>,
+}
+
+impl<'a> Shot<'a> {
+    fn print<O: Write>(
+        &self,
+        alloc: Global,
+        form: PictureForm,
+        output: &mut Counted<O>,
+    ) -> Result<Ending, Failure<'a>>
+        ensures { PrintsPicture O.contents output.old output.new
+            (settings_asked self.now.words.run.settings) self.now.asked.source.items
+            self.now.asked.keys.bytes.items self.now.words.run.steps form result }
+    {
+        let settings = settings_of(alloc, &self.words.run.settings)?;
+        let steps = self.words.run.steps;
+        let asked = &self.asked;
+        picture_source(
+            alloc,
+            &asked.source,
+            &asked.keys,
+            steps,
+            form,
+            settings,
+            output,
+        )
+    }
+
+    // Writes the picture to a file, atomically. Where there is no picture, why is
+    // printed.
+    fn write<F: Files, O: Write>(
+        &self,
+        alloc: Global,
+        files: &F,
+        form: PictureForm,
+        name: &'a str,
+        output: &mut Counted<O>,
+    ) -> Result<Ending, Failure<'a>>
+        ensures { WritesPicture O.contents output.old output.new
+            (settings_asked self.now.words.run.settings) self.now.asked.source.items
+            self.now.asked.keys.bytes.items self.now.words.run.steps form name.entry result }
+    {
+        let mut picture = Counted::new(Vec::new(alloc));
+        match self.print(alloc, form, &mut picture) {
+            Ok(Ending::Done) => {
+                let source = file_name(self.words.run.source);
+                // Of two pictures the bitmap is written first.
+                let bitmap = self.words.bitmap.filter(|_| form == PictureForm::Png);
+                let taken = [source, self.words.run.keys, bitmap];
+                write_image(alloc, files, &taken, name, picture.get())
+            }
+            Ok(Ending::Faulty) => print(picture.get(), Ending::Faulty, output),
+            // A write to memory fails for want of it.
+            Err(Failure::Output) => Err(Failure::OutOfMemory),
+            Err(failure) => Err(failure),
+        }
+    }
+
+    // Writes a bitmap, and then a PNG picture.
+    fn write_both<F: Files, O: Write>(
+        &self,
+        alloc: Global,
+        files: &F,
+        bitmap: &'a str,
+        png: &'a str,
+        output: &mut Counted<O>,
+    ) -> Result<Ending, Failure<'a>>
+        ensures { PicturesBy O.contents output.old output.new
+            (settings_asked self.now.words.run.settings) self.now.asked.source.items
+            self.now.asked.keys.bytes.items self.now.words (Some bitmap.entry) (Some png.entry)
+            result }
+    {
+        match self.write(alloc, files, PictureForm::Bitmap, bitmap, output) {
+            Ok(Ending::Done) => self.write(alloc, files, PictureForm::Png, png, output),
+            ended => ended,
+        }
+    }
+}

@@ -1,0 +1,254 @@
+//! What the commands read: settings, sources, images and files of key events.
+ghost use Rattle.std.specs.Prelude.{◌≡◌, ◌≤◌, ◌⊎◌, Ok, None, Some, length, take, IfOk, IfErr, IsErr, IfSome};
+ghost use Rattle.hex.specs.Hex.{decode_of};
+ghost use Rattle.chip_lang.specs.declared.limits.TheConstants.{IMAGE_BYTES};
+ghost use Rattle.chip_views.specs.Dis.{source_of_image};
+ghost use Rattle.chip_bench.specs.SettingWords.{settings_asked, tape_asked};
+ghost use Rattle.chip_bench.specs.Running.{IsUnread, source_bytes_read};
+ghost use Rattle.chip_bench.specs.inner.Reads.{IsAsked, IsGiven, IsKeysUnread, IsNotGiven, IsNotTaken, IsTaken, IsUnasked};
+ghost use Rattle.chip_bench.specs.Doing.{GivesSource, IsImageRefused, IsInputUnread, IsSourceUnread};
+
+use crate::ending::Failure;
+use crate::limits::KEY_FILE_BYTES;
+use crate::output::KeyFile;
+use chip_arguments::{RunWords, SettingWords};
+use chip_asm::limits::SOURCE_BYTES;
+use chip_files::read_most;
+use chip_machine::limits::IMAGE_BYTES;
+use chip_session::{Counted, Settings, tape_of};
+use chip_views::source_of_image;
+use hex::FromHexError;
+use std::alloc::Global;
+use std::io;
+use std::io::Read;
+use std::rt::Files;
+
+// The name of a source that is read from the standard input.
+const INPUT: &str = "-";
+
+// A source of this length or more doesn't open.
+pub(crate) const MOST_SOURCE: u32 = SOURCE_BYTES as u32 + 1;
+
+// The name of a source that is a file.
+pub(crate) fn file_name(source: &str) -> Option<&str> {
+    (source != INPUT).then_some(source)
+}
+
+// The settings that the words ask for.
+pub(crate) fn settings_of<'a>(
+    alloc: Global,
+    words: &SettingWords<'_>,
+) -> Result<Settings, Failure<'a>>
+    ensures ok { IfOk result (λ settings. settings_asked words.now ≡ Some settings) }
+    ensures err { IfErr result (λ failure. (failure ≡ Failure.OutOfMemory)
+        ⊎ ((failure ≡ Failure.BadTape) × (settings_asked words.now ≡ None))) }
+{
+    let tape = tape_bytes(alloc, words)?;
+    let settings = Settings::new(alloc, words.rate, &tape)?.with_profile(words.profile);
+    Ok(settings.with_spacing(words.spacing)?)
+}
+
+// The tape that the words ask for. A tape and a seed don't go together.
+fn tape_bytes<'a>(alloc: Global, words: &SettingWords<'_>) -> Result<Vec<u8>, Failure<'a>>
+    ensures ok { IfOk result (λ tape. tape_asked words.now ≡ Some tape.items) }
+    ensures err { IfErr result (λ failure. (failure ≡ Failure.OutOfMemory)
+        ⊎ ((failure ≡ Failure.BadTape) × (tape_asked words.now ≡ None))) }
+{
+    match (words.tape, words.seed) {
+        (Some(_), Some(_)) => Err(Failure::BadTape),
+        (Some(digits), None) => tape_from_hex(alloc, digits),
+        (None, Some(seed)) => Ok(tape_of(alloc, seed)?),
+        (None, None) => Ok(Vec::from_slice(alloc, &[0])?),
+    }
+}
+
+fn tape_from_hex<'a>(alloc: Global, digits: &str) -> Result<Vec<u8>, Failure<'a>>
+    ensures ok { IfOk result (λ tape. decode_of digits.now ≡ Ok tape.items) }
+    ensures err { IfErr result (λ failure. (failure ≡ Failure.OutOfMemory)
+        ⊎ ((failure ≡ Failure.BadTape) × IsErr (decode_of digits.now))) }
+{
+    match hex::decode(alloc, digits) {
+        Ok(tape) => Ok(tape),
+        Err(FromHexError::OutOfMemory) => Err(Failure::OutOfMemory),
+        Err(_) => Err(Failure::BadTape),
+    }
+}
+
+// What a run is asked on: a source, a file of key events and settings.
+#[derive(Drop)]
+pub(crate) struct Asked<'a> {
+    pub(crate) source: Vec<u8>,
+    pub(crate) keys: KeyFile<'a>,
+    pub(crate) settings: Settings,
+}
+
+// The settings are judged before a file is read, and the key events are read before the source.
+pub(crate) fn read_asked<'a, F: Files, I: Read>(
+    alloc: Global,
+    files: &F,
+    words: &RunWords<'a>,
+    input: &mut Counted<I>,
+) -> Result<Asked<'a>, Failure<'a>>
+    ensures ok { IfOk result (λ asked. IsAsked I.remaining input.old input.new words.entry.now
+        asked) }
+    ensures err { IfErr result (λ why. IsUnasked I.remaining input.old input.new words.entry.now
+        why) }
+{
+    let settings = settings_of(alloc, &words.settings)?;
+    let keys = read_keys(alloc, files, words.keys)?;
+    let source = read_given(alloc, files, words.source, words.is_image, input)?;
+    Ok(Asked {
+        source,
+        keys,
+        settings,
+    })
+}
+
+// The file of key events of that name, or no events without one.
+fn read_keys<'a, F: Files>(
+    alloc: Global,
+    files: &F,
+    name: Option<&'a str>,
+) -> Result<KeyFile<'a>, Failure<'a>>
+    ensures ok { IfOk result (λ keys. name.entry ≡ None → keys.bytes.items ≡ []) }
+    ensures err { IfErr result (IsKeysUnread name.entry) }
+{
+    match name {
+        Some(name) => read_key_file(alloc, files, name),
+        None => Ok(KeyFile {
+            name: "",
+            bytes: Vec::new(alloc),
+        }),
+    }
+}
+
+// A file of key events, unless it is too long.
+fn read_key_file<'a, F: Files>(
+    alloc: Global,
+    files: &F,
+    name: &'a str,
+) -> Result<KeyFile<'a>, Failure<'a>>
+    ensures { IfErr result (IsUnread name.entry) }
+{
+    let bytes = read_bounded(
+        alloc,
+        files,
+        name,
+        KEY_FILE_BYTES,
+        "it has over 10000000 bytes",
+    )?;
+    Ok(KeyFile { name, bytes })
+}
+
+// The bytes of a file, unless there are over so many.
+pub(crate) fn read_bounded<'a, F: Files>(
+    alloc: Global,
+    files: &F,
+    name: &'a str,
+    most: u32,
+    over: &'static str,
+) -> Result<Vec<u8>, Failure<'a>>
+    ensures { IfErr result (IsUnread name.entry) }
+{
+    let bytes = read_file(alloc, files, name, most.saturating_add(1))?;
+    if bytes.len() > most as usize {
+        let error = io::Error::new(io::ErrorKind::InvalidData, over);
+        return Err(Failure::CannotRead(name, error));
+    }
+    Ok(bytes)
+}
+
+// The source of that name, or where an image has the name, what `dis` prints of it.
+pub(crate) fn read_given<'a, F: Files, I: Read>(
+    alloc: Global,
+    files: &F,
+    name: &'a str,
+    is_image: bool,
+    input: &mut Counted<I>,
+) -> Result<Vec<u8>, Failure<'a>>
+    ensures ok { IfOk result (λ source. IsGiven I.remaining input.old input.new is_image name.entry
+        source.items) }
+    ensures err { IfErr result (IsNotGiven I.remaining input.old input.new is_image name.entry) }
+{
+    let bytes = read_source(alloc, files, name, input)?;
+    as_source(alloc, name, is_image, bytes)
+}
+
+// The bytes themselves, or the source that `dis` prints of them.
+pub(crate) fn as_source<'a>(
+    alloc: Global,
+    name: &'a str,
+    is_image: bool,
+    bytes: Vec<u8>,
+) -> Result<Vec<u8>, Failure<'a>>
+    ensures ok { IfOk result (λ source. IsTaken is_image name.entry bytes.entry.items source.items) }
+    ensures err { IfErr result (IsNotTaken is_image name.entry bytes.entry.items) }
+{
+    if is_image {
+        source_of(alloc, name, &bytes)
+    } else {
+        Ok(bytes)
+    }
+}
+
+// The source that `dis` prints of an image.
+fn source_of<'a>(alloc: Global, name: &'a str, image: &[u8]) -> Result<Vec<u8>, Failure<'a>>
+    ensures ok { IfOk result (λ source. (length image.now ≤ IMAGE_BYTES)
+        × (source.items ≡ source_of_image image.now)) }
+    ensures err { IfErr result (IsImageRefused name.entry image.now) }
+{
+    if image.len() > IMAGE_BYTES {
+        let error = io::Error::new(io::ErrorKind::InvalidData, "it has over 3584 bytes");
+        return Err(Failure::CannotRead(name, error));
+    }
+    Ok(source_of_image(alloc, image)?)
+}
+
+// The bytes of a file, or of the standard input where the name is `-`.
+pub(crate) fn read_source<'a, F: Files, I: Read>(
+    alloc: Global,
+    files: &F,
+    name: &'a str,
+    input: &mut Counted<I>,
+) -> Result<Vec<u8>, Failure<'a>>
+    ensures ok { IfOk result (λ bytes. GivesSource I.remaining input.old input.new
+        name.entry.now bytes.items) }
+    ensures err { IfErr result (IsSourceUnread input.old input.new name.entry) }
+{
+    if name == INPUT {
+        read_input(alloc, input)
+    } else {
+        read_file(alloc, files, name, MOST_SOURCE)
+    }
+}
+
+fn read_input<'a, I: Read>(alloc: Global, input: &mut Counted<I>) -> Result<Vec<u8>, Failure<'a>>
+    ensures ok { IfOk result (λ bytes. IfSome (I.remaining input.old.inner)
+        (λ all. bytes.items ≡ take source_bytes_read all)) }
+    ensures err { IfErr result (IsInputUnread input.old input.new) }
+{
+    let failures = input.failures();
+    let mut bytes = Vec::new(alloc);
+    match read_most(&mut *input, &mut bytes, MOST_SOURCE) {
+        Ok(()) => Ok(bytes),
+        // Where no read failed there was no memory for the bytes.
+        Err(_) if input.failures() == failures => Err(Failure::OutOfMemory),
+        Err(_) => Err(Failure::Input),
+    }
+}
+
+// The bytes of a file, up to a number.
+pub(crate) fn read_file<'a, F: Files>(
+    alloc: Global,
+    files: &F,
+    name: &'a str,
+    most: u32,
+) -> Result<Vec<u8>, Failure<'a>>
+    ensures { IfErr result (IsUnread name.entry) }
+{
+    match chip_files::read_file(alloc, files, name, most) {
+        Ok(bytes) => Ok(bytes),
+        Err(error) if error.kind() == io::ErrorKind::OutOfMemory => Err(Failure::OutOfMemory),
+        Err(error) => Err(Failure::CannotRead(name, error)),
+    }
+}
