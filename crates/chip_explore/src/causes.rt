@@ -1,8 +1,8 @@
 //! Which stop causes are wanted.
 
-ghost use Rattle.std.specs.Prelude.{◌≡◌, ◌^◌, bit_or};
+ghost use Rattle.std.specs.Prelude.{◌≡◌, ◌-◌, ◌^◌, bit_or, is_some, IfSome};
 ghost use Rattle.chip_machine.specs.Numbers.{stop_number};
-ghost use Rattle.chip_explore.specs.Causes.{is_wanted, stops_so};
+ghost use Rattle.chip_explore.specs.Causes.{is_wanted, stops_so, with_number, StopsFor};
 
 use chip_machine::{Machine, Stop};
 use std::marker::Model;
@@ -32,6 +32,25 @@ impl Causes {
         Causes { mask: 0 }
     }
 
+    /// S2 to S7: every cause but the end of the program.
+    pub fn faults() -> Causes
+        ensures { result ≡ 2 ^ 8 - 2 ^ 2 }
+    {
+        Causes { mask: 0xfc }
+    }
+
+    /// These causes and Sk, by its number k: `None` where no cause has the number.
+    pub fn with_number(self, number: u8) -> Option<Causes>
+        ensures { result ≡ with_number self number }
+    {
+        match number {
+            1..=7 => Some(Causes {
+                mask: self.mask | 1 << number,
+            }),
+            _ => None,
+        }
+    }
+
     /// These causes and one more.
     pub fn with(self, cause: Stop) -> Causes
         ensures { result ≡ bit_or self (2 ^ stop_number cause) }
@@ -48,13 +67,14 @@ impl Causes {
         self.mask >> cause.number() & 1 == 1
     }
 
-    /// Whether a machine has stopped for one of these causes.
-    pub(crate) fn stops(self, machine: &Machine) -> bool
-        ensures { result ≡ stops_so self machine.now }
+    /// The cause for which a machine has stopped, if it is one of these.
+    pub(crate) fn stop_of(self, machine: &Machine) -> Option<Stop>
+        ensures cause { IfSome result (λ cause. StopsFor self machine.now cause) }
+        ensures some { is_some result ≡ stops_so self machine.now }
     {
         match machine.stopped() {
-            Some(cause) => self.contains(cause),
-            None => false,
+            Some(cause) if self.contains(cause) => Some(cause),
+            _ => None,
         }
     }
 }

@@ -1,12 +1,12 @@
 //! A key script that a search found, run again.
 
-ghost use Rattle.std.specs.Prelude.{◌≡◌, ◌<◌, IfOk, IsTrue};
+ghost use Rattle.std.specs.Prelude.{◌≡◌, ◌<◌, IfOk, IfSome};
 ghost use Rattle.chip_explore.specs.Scripts.{keys_of};
 ghost use Rattle.chip_explore.specs.inner.Cover.{Confirms};
 
 use crate::script::KeyEvent;
 use crate::setting::Setting;
-use chip_machine::{Machine, Touch};
+use chip_machine::{Machine, Stop, Touch};
 use chip_replay::{KeyFault, Keys};
 use std::alloc::{AllocError, Global};
 
@@ -21,27 +21,27 @@ pub(crate) fn keys_of(alloc: Global, events: &[KeyEvent]) -> Result<Keys, KeyFau
     Ok(keys)
 }
 
-/// Whether under some events the machine has stopped for a wanted cause at a step, with none but
-/// allowed keys down before it.
-pub(crate) fn confirms(
+/// The wanted cause for which the machine has stopped at a step under some events, if it has, with
+/// none but allowed keys down before it.
+pub(crate) fn stop_under(
     start: &Machine,
     setting: &Setting,
     keys: &Keys,
     step: u32,
-) -> Result<bool, AllocError>
+) -> Result<Option<Stop>, AllocError>
     requires { 0 < setting.now.rate }
-    ensures { IfOk result (λ answer. IsTrue answer
-        → Confirms setting.now start.now keys.now step) }
+    ensures { IfOk result (λ answer. IfSome answer
+        (λ cause. Confirms setting.now start.now keys.now step cause)) }
 {
     let mut machine = start.copy_of()?;
     let mut touch = Touch::new();
     for made in 0..step {
         let down = keys.held(made);
         if down & setting.allowed != down {
-            return Ok(false);
+            return Ok(None);
         }
         let number = u64::from(made) + 1;
         machine.step(down, number % u64::from(setting.rate) == 0, &mut touch);
     }
-    Ok(setting.causes.stops(&machine))
+    Ok(setting.causes.stop_of(&machine))
 }

@@ -1,6 +1,7 @@
 //! In which order states are taken up, where one may be found, and how each was reached. Nothing is
 //! claimed of it: what it answers is checked.
 
+use crate::seen::Seen;
 use std::alloc::{AllocError, Global};
 use std::collections::{BTreeSet, HashMap};
 
@@ -36,6 +37,8 @@ pub(crate) struct Finder {
     pub(crate) origins: Vec<Origin>,
     /// How the machine stopped for a wanted cause, if it did.
     pub(crate) hit: Option<Origin>,
+    /// For which other causes it stopped.
+    pub(crate) seen: Seen,
     pub(crate) is_timer_set: bool,
 }
 
@@ -47,6 +50,7 @@ impl Finder {
             turns: BTreeSet::new(alloc),
             origins: Vec::new(alloc),
             hit: None,
+            seen: Seen::none(),
             is_timer_set: false,
         }
     }

@@ -85,7 +85,7 @@ impl Runner {
         if step >= limit {
             return Some(End::Past);
         }
-        if setting.causes.stops(&self.machine) {
+        if setting.causes.stop_of(&self.machine).is_some() {
             return Some(End::Wanted);
         }
         if setting.free && self.machine.delay() != 0 {

@@ -13,6 +13,7 @@ mod members;
 mod question;
 mod script;
 mod search;
+mod seen;
 mod setting;
 mod sum;
 #[cfg(test)]
@@ -22,3 +23,4 @@ pub use causes::Causes;
 pub use limits::END;
 pub use question::{Bounds, Explored, Outcome, Question, explore};
 pub use script::KeyEvent;
+pub use seen::{STOPS, Seen};

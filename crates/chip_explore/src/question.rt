@@ -1,6 +1,6 @@
 //! A question about all key scripts, and its answer.
 
-ghost use Rattle.std.specs.Prelude.{◌≡◌, ◌<◌, false, IfOk, IsTrue};
+ghost use Rattle.std.specs.Prelude.{◌≡◌, ◌<◌, false, IfOk, IfSome};
 ghost use Rattle.chip_explore.specs.Answers.{Answers};
 ghost use Rattle.chip_explore.specs.Causes.{stops_so};
 ghost use Rattle.chip_explore.specs.inner.Cover.{view_of, Confirms, Holds, Safe};
@@ -8,7 +8,7 @@ ghost use Rattle.chip_explore.specs.Scripts.{Avoids};
 ghost use Rattle.chip_explore.specs.Scripts as spec;
 
 use crate::causes::Causes;
-use crate::confirm::{confirms, keys_of};
+use crate::confirm::{keys_of, stop_under};
 use crate::finder::{Finder, Origin};
 use crate::kept::Base;
 use crate::leg::Runner;
@@ -16,9 +16,10 @@ use crate::limits::END;
 use crate::members::Members;
 use crate::script::{KeyEvent, script_to};
 use crate::search::Search;
+use crate::seen::Seen;
 use crate::setting::Setting;
-use chip_machine::Machine;
 use chip_machine::laws::relevant_steps;
+use chip_machine::{Machine, Stop};
 use chip_replay::{KeyFault, LAST_STEP};
 use std::alloc::{AllocError, Global};
 
@@ -45,9 +46,13 @@ pub struct Bounds {
 /// What a search found.
 #[derive(Drop)]
 pub enum Outcome {
-    /// With these events of the keys, in the order of their steps, the machine has stopped for a
-    /// wanted cause at the step, and with no key script at an earlier one.
-    Found { events: Vec<KeyEvent>, step: u32 },
+    /// With these events of the keys, in the order of their steps, the machine has stopped for the
+    /// cause, which is wanted, at the step, and with no key script for a wanted one earlier.
+    Found {
+        events: Vec<KeyEvent>,
+        step: u32,
+        cause: Stop,
+    },
     /// With no key script has it at a step up to this one.
     Within(u64),
     /// With no key script has it at any step below `END`.
@@ -56,11 +61,25 @@ pub enum Outcome {
     OutOfMemory,
 }
 
-/// What a search found, and how many states it kept.
+/// What a search found, which causes it met beside the wanted ones, and how many states it kept.
 #[derive(Drop)]
 pub struct Explored {
     pub outcome: Outcome,
+    pub seen: Seen,
     pub states: usize,
+}
+
+impl Explored {
+    /// What a search says that kept no state.
+    fn at_once(outcome: Outcome) -> Explored
+        ensures { result.outcome ≡ outcome }
+    {
+        Explored {
+            outcome,
+            seen: Seen::none(),
+            states: 0,
+        }
+    }
 }
 
 /// Whether under some key script, of the allowed keys alone, a machine that has drawn no random
@@ -73,10 +92,7 @@ pub fn explore(alloc: Global, start: &Machine, question: &Question, bounds: &Bou
 {
     match explore_both(alloc, start, question, bounds) {
         Ok(explored) => explored,
-        Err(_) => Explored {
-            outcome: Outcome::OutOfMemory,
-            states: 0,
-        },
+        Err(_) => Explored::at_once(Outcome::OutOfMemory),
     }
 }
 
@@ -92,10 +108,14 @@ fn explore_both(
     ensures { IfOk result (λ explored. Answers question.now.rate question.now.allowed
         question.now.causes start.now explored.outcome) }
 {
-    if question.causes.stops(start) {
+    if let Some(cause) = question.causes.stop_of(start) {
         let events = Vec::new(alloc);
-        let outcome = Outcome::Found { events, step: 0 };
-        return Ok(Explored { outcome, states: 0 });
+        let outcome = Outcome::Found {
+            events,
+            step: 0,
+            cause,
+        };
+        return Ok(Explored::at_once(outcome));
     }
     let mut setting = Setting {
         rate: question.rate,
@@ -153,6 +173,7 @@ fn search_once(
     search.run(setting, bounds.steps, bounds.states)?;
     let explored = Explored {
         outcome: outcome_of(alloc, setting, &search.members, &search.finder)?,
+        seen: search.finder.seen,
         states: search.members.steps.len(),
     };
     Ok(Attempt {
@@ -203,28 +224,32 @@ fn outcome_of(
     {
         let step = members.limit as u32;
         let events = script_to(alloc, members, finder, origin)?;
-        if is_script(alloc, setting, members, &events, step)? {
-            return Ok(Outcome::Found { events, step });
+        if let Some(cause) = stop_by(alloc, setting, members, &events, step)? {
+            return Ok(Outcome::Found {
+                events,
+                step,
+                cause,
+            });
         }
     }
     Ok(Outcome::Within(covered))
 }
 
-/// Whether the machine has stopped for a wanted cause at a step, with these events.
-fn is_script(
+/// The wanted cause for which the machine has stopped at a step with these events, if it has.
+fn stop_by(
     alloc: Global,
     setting: &Setting,
     members: &Members,
     events: &[KeyEvent],
     step: u32,
-) -> Result<bool, AllocError>
+) -> Result<Option<Stop>, AllocError>
     requires { 0 < setting.now.rate }
-    ensures { IfOk result (λ answer. IsTrue answer → Confirms setting.now members.now.start
-        (spec.keys_of events.now) step) }
+    ensures { IfOk result (λ answer. IfSome answer (λ cause. Confirms setting.now
+        members.now.start (spec.keys_of events.now) step cause)) }
 {
     match keys_of(alloc, events) {
-        Ok(keys) => confirms(&members.start, setting, &keys, step),
+        Ok(keys) => stop_under(&members.start, setting, &keys, step),
         Err(KeyFault::OutOfMemory) => Err(AllocError),
-        Err(_) => Ok(false),
+        Err(_) => Ok(None),
     }
 }

@@ -83,7 +83,11 @@ impl Search {
                 self.members.lower_limit(setting, leg.step);
                 self.finder.is_timer_set = true;
             }
-            End::Halted => {}
+            End::Halted => {
+                if let Some(cause) = self.runner.machine.stopped() {
+                    self.finder.seen.note(cause, leg.step);
+                }
+            }
             End::Joined => self.join(setting, leg.step, origin)?,
         }
         Ok(())

@@ -28,12 +28,16 @@ fn found(alloc: Global, allowed: u16) -> Result<Outcome, Fail> {
 #[test]
 fn finds_the_key(rt: HostRuntime) -> Result<(), Fail> {
     let is_found = match found(rt.alloc(), 0xffff)? {
-        Outcome::Found { events, step } => {
+        Outcome::Found {
+            events,
+            step,
+            cause,
+        } => {
             let is_pressed = match events.first() {
                 Some(event) => event.step == 0 && event.key == 5 && event.down,
                 None => false,
             };
-            is_pressed && step == 3
+            is_pressed && step == 3 && cause == Stop::NoInstruction
         }
         _ => false,
     };

@@ -16,11 +16,12 @@ use Rattle.std.specs.Prelude.{◌≡◌, ℕ, zero, suc, ◌+◌, ◌-◌, ◌%�
 use Rattle.chip_machine.specs.Block.{ticks}
 use Rattle.chip_machine.specs.Choices.{IsWithin, Represents}
 use Rattle.chip_machine.specs.Relevant.{relevant}
+use Rattle.chip_machine.specs.declared.stop.Stop.{Stop}
 use Rattle.chip_machine.specs.State.{State}
 use Rattle.chip_machine.specs.Step.{step_of}
 use Rattle.chip_replay.specs.Keys.{Events, held}
 use Rattle.chip_replay.specs.Run.{run}
-use Rattle.chip_explore.specs.Causes.{stops_so}
+use Rattle.chip_explore.specs.Causes.{stops_so, StopsFor}
 use Rattle.chip_explore.specs.declared.leg.End.{End}
 use Rattle.chip_explore.specs.declared.leg.End.TheVariants.{Past, Wanted, TimerSet, Halted, Joined}
 use Rattle.chip_explore.specs.inner.Kept.{state_at}
@@ -124,6 +125,6 @@ IsEnd p limit s t Halted = IsFine p s × (is_some s.core.stopped ≡ true)
 IsEnd p limit s t Joined = IsFine p s
 
 -- what a run under some events shows
-pub record Confirms (p : Setting) (start : State) (keys : Events) (step : ℕ) : Type 0 where
-  pub stops : stops_so p.causes (run step_of p.rate (held keys) start step) ≡ true
+pub record Confirms (p : Setting) (start : State) (keys : Events) (step : ℕ) (cause : Stop) : Type 0 where
+  pub stops : StopsFor p.causes (run step_of p.rate (held keys) start step) cause
   pub allowed_only : (t : ℕ) → t < step → IsWithin p.allowed (held keys t)

@@ -1,0 +1,48 @@
+//! The stop causes that a search met beside the wanted ones.
+
+ghost use Rattle.std.specs.Prelude.{◌≡◌, None, slice_index_or};
+ghost use Rattle.chip_machine.specs.Numbers.{stop_number};
+
+use chip_machine::Stop;
+
+/// The stop causes, in the order S1 to S7.
+pub const STOPS: &[Stop] = &[
+    Stop::Exit,
+    Stop::NoInstruction,
+    Stop::PcOutOfRange,
+    Stop::FramesFull,
+    Stop::NoFrame,
+    Stop::AddressOutOfRange,
+    Stop::NoFlag,
+];
+
+/// The causes outside the wanted ones for which the machine stopped in a search, each with the least
+/// step at which the search met it. Nothing is claimed of it: other key scripts may lead to other
+/// causes, or to these earlier.
+#[derive(Clone, Copy)]
+pub struct Seen {
+    /// That of Sk at k.
+    first_steps: [Option<u64>; 8],
+}
+
+impl Seen {
+    /// No cause was met.
+    pub(crate) fn none() -> Seen {
+        Seen {
+            first_steps: [None; 8],
+        }
+    }
+
+    /// Notes that the machine had stopped for a cause at a step.
+    pub(crate) fn note(&mut self, cause: Stop, step: u64) {
+        let first = &mut self.first_steps[cause.number() as usize];
+        *first = Some(first.map_or(step, |earlier| earlier.min(step)));
+    }
+
+    /// The least step at which a search met a cause, if it did.
+    pub fn first_step(&self, cause: Stop) -> Option<u64>
+        ensures { result ≡ slice_index_or self.now.first_steps (stop_number cause) None }
+    {
+        self.first_steps[cause.number() as usize]
+    }
+}
