@@ -1,13 +1,13 @@
 -- What each command did, from what its steps did.
-use Rattle.std.proofs.Common.{◌≡◌, ◌⊎◌, inl, inr, ℕ, List, [], ◌++◌, append_assoc, Option, Some, None, Result, Ok, Err, IfErr, length, ◌<◌, ◌≤◌, arith, refl, sym, ◌∙◌, ap, subst}
+use Rattle.std.proofs.Common.{◌≡◌, ◌⊎◌, inl, inr, ℕ, Bool, true, false, List, [], ◌++◌, append_assoc, Option, Some, None, Result, Ok, Err, IfOk, IfErr, length, ◌<◌, ◌≤◌, arith, refl, sym, ◌∙◌, ap, subst}
 use Rattle.std.specs.Prelude.{IsErrAnd}
 use Rattle.std.specs.Borrow.{Bor}
 use Rattle.std.specs.declared.io.Error.{Error as IoError}
 use Rattle.chip_asm.specs.Lines.{lines_of, open_fault}
 use Rattle.chip_lang.specs.declared.limits.TheConstants.{IMAGE_BYTES}
 use Rattle.chip_views.specs.Dis.{source_of_image}
-use Rattle.chip_bench.specs.Doing.{Assembles, AssemblesBy, Checks, Debugs, Declined, Disassembles, DisassemblesBytes, Does, Explains, FromKeys, FromSource, GivesSource, IfSettled, IsFileWritten, IsShort, IsSourceUnread, IsUnsettled, Lists, Outcome, Pictures, PicturesBy, PrintsPage, PrintsPicture, Runs, Traces, TracesBy, WithAsked, image_in}
-use Rattle.chip_bench.specs.inner.Reads.{IsAsked, IsImageHindered, IsImageOrFaults, IsKeysUnread, IsUnasked}
+use Rattle.chip_bench.specs.Doing.{AsSource, Assembles, AssemblesBy, Checks, Debugs, Declined, Disassembles, DisassemblesBytes, Does, Explains, FromGiven, FromKeys, FromSource, GivesSource, IfSettled, IsFileWritten, IsImageRefused, IsShort, IsSourceUnread, IsUnsettled, Lists, Outcome, Pictures, PicturesBy, PrintsPage, PrintsPicture, Runs, Traces, TracesBy, WithAsked, image_in}
+use Rattle.chip_bench.specs.inner.Reads.{IsAsked, IsGiven, IsImageHindered, IsImageOrFaults, IsKeysUnread, IsNotGiven, IsNotTaken, IsTaken, IsUnasked}
 use Rattle.chip_pages.specs.Pages.{IsExplained}
 use Rattle.chip_bench.specs.Printing.{IsPrintedCheck, IsPrintedOf, Prints, PrintsSuch, PrintsUnder, printed_listing, printed_picture, printed, printed_of, printed_run}
 use Rattle.chip_arguments.specs.declared.command_line.PictureWords.{PictureWords}
@@ -82,6 +82,18 @@ module _ {R : Type 0} (remaining : R → Option (List ℕ)) (in_old in_new : Tal
   source_next name Did Next f (inl (bytes, gives, did)) = inl (bytes, gives, f bytes did)
   source_next name Did Next f (inr (why, u)) = inr (errs (IsSourceUnread in_old in_new name) why)
 
+  -- the source that some bytes are
+  taken_next : (is_image : Bool) (name : Bor (List ℕ)) (Did Next : List ℕ → Outcome → Type 0) → ((bytes : List ℕ) → Did bytes ended → Next bytes other) →
+      (bytes : List ℕ) → AsSource is_image name U Did bytes ended → AsSource is_image name V Next bytes other
+  taken_next false name Did Next f bytes did = f bytes did
+  taken_next true name Did Next f image (inl (short, did)) = inl (short, f (source_of_image image) did)
+  taken_next true name Did Next f image (inr (why, u)) = inr (errs (IsImageRefused name image) why)
+
+  pub given_next : (is_image : Bool) (name : Bor (List ℕ)) (Did Next : List ℕ → Outcome → Type 0) → ((bytes : List ℕ) → Did bytes ended → Next bytes other) →
+      FromGiven remaining in_old in_new U is_image name Did ended → FromGiven remaining in_old in_new V is_image name Next other
+  given_next is_image name Did Next f =
+      source_next name (AsSource is_image name U Did) (AsSource is_image name V Next) (taken_next is_image name Did Next f)
+
   keys_next : (keys : Option (Bor (List ℕ))) (Did Next : List ℕ → Outcome → Type 0) → ((bytes : List ℕ) → Did bytes ended → Next bytes other) →
       FromKeys remaining in_old in_new U keys Did ended → FromKeys remaining in_old in_new V keys Next other
   keys_next None Did Next f did = f [] did
@@ -100,12 +112,12 @@ module _ {R : Type 0} (remaining : R → Option (List ℕ)) (in_old in_new : Tal
       WithAsked remaining in_old in_new U words Did ended → WithAsked remaining in_old in_new V words Next other
   asked_next words Did Next f =
       settled_next (settings_asked words.settings)
-      (λ settings. FromKeys remaining in_old in_new U words.keys (λ keys. FromSource remaining in_old in_new U words.source (Did settings keys)))
-      (λ settings. FromKeys remaining in_old in_new V words.keys (λ keys. FromSource remaining in_old in_new V words.source (Next settings keys)))
+      (λ settings. FromKeys remaining in_old in_new U words.keys (λ keys. FromGiven remaining in_old in_new U words.is_image words.source (Did settings keys)))
+      (λ settings. FromKeys remaining in_old in_new V words.keys (λ keys. FromGiven remaining in_old in_new V words.is_image words.source (Next settings keys)))
       (λ settings. keys_next words.keys
-      (λ keys. FromSource remaining in_old in_new U words.source (Did settings keys))
-      (λ keys. FromSource remaining in_old in_new V words.source (Next settings keys))
-      (λ keys. source_next words.source (Did settings keys) (Next settings keys) (f settings keys)))
+      (λ keys. FromGiven remaining in_old in_new U words.is_image words.source (Did settings keys))
+      (λ keys. FromGiven remaining in_old in_new V words.is_image words.source (Next settings keys))
+      (λ keys. given_next words.is_image words.source (Did settings keys) (Next settings keys) (f settings keys)))
 
 module _ {R : Type 0} (remaining : R → Option (List ℕ)) (in_old in_new : Tally R) (V : Type 0) (words : RunWords)
     (Did : SessionSettings → List ℕ → List ℕ → Outcome → Type 0) (ended : Outcome) where
@@ -124,20 +136,60 @@ module _ {R : Type 0} (remaining : R → Option (List ℕ)) (in_old in_new : Tal
       asked_next remaining in_old in_new (Unit {0}) V (Err why) ended (λ Why h. (fails Why ended why e h, quiet)) words
       (λ settings keys source done. ⊥) Did (λ settings keys source none. absurd none) is
 
+module _ {R : Type 0} (remaining : R → Option (List ℕ)) (in_old in_new : Tally R) (is_image : Bool) (name : Bor (List ℕ)) where
+  -- bytes were read, and they are a source
+  pub given_is : {E : Type 0} {S : Type 0} (items : S → List ℕ) (bytes : List ℕ) (result : Result S E) → GivesSource remaining in_old in_new name.now bytes →
+      IfOk result (λ source. IsTaken is_image name bytes (items source)) →
+      IfOk result (λ source. IsGiven remaining in_old in_new is_image name (items source))
+  given_is items bytes (Ok source) gives taken = inl (bytes, gives, taken)
+  given_is items bytes (Err e) gives taken = tt
+
+  -- or they are refused
+  pub given_not : {S : Type 0} (bytes : List ℕ) (result : Result S Failure) → GivesSource remaining in_old in_new name.now bytes →
+      IfErr result (IsNotTaken is_image name bytes) → IfErr result (IsNotGiven remaining in_old in_new is_image name)
+  given_not bytes (Ok source) gives refused = tt
+  given_not bytes (Err why) gives refused = inl (bytes, gives, refused)
+
+  -- no bytes were read
+  pub given_unread : {S : Type 0} (result : Result S Failure) (why : Failure) → result ≡ Err why → IsSourceUnread in_old in_new name why →
+      IfErr result (IsNotGiven remaining in_old in_new is_image name)
+  given_unread {S} result why e w =
+      subst (λ (r : Result S Failure). IfErr r (IsNotGiven remaining in_old in_new is_image name)) (sym e)
+      (source_unread remaining in_old in_new (Unit {0}) tt name (AsSource is_image name (Unit {0}) (λ source ended. ⊥)) (Err why) why refl w)
+
+-- the source that an image is
+pub taken_image : {E : Type 0} {S : Type 0} (items : S → List ℕ) (name : Bor (List ℕ)) (image : List ℕ) (result : Result S E) →
+    IfOk result (λ source. (length image ≤ IMAGE_BYTES) × (items source ≡ source_of_image image)) →
+    IfOk result (λ source. IsTaken true name image (items source))
+taken_image items name image (Ok source) is = inl (is.0, sym is.1)
+taken_image items name image (Err e) is = tt
+
+pub taken_not : {S : Type 0} (name : Bor (List ℕ)) (image : List ℕ) (result : Result S Failure) → IfErr result (IsImageRefused name image) →
+    IfErr result (IsNotTaken true name image)
+taken_not name image (Ok source) is = tt
+taken_not name image (Err why) is = inr (is, tt)
+
 module _ {R W : Type 0} (remaining : R → Option (List ℕ)) (contents : W → Option (List ℕ)) (in_old in_new : Tally R) (out_old out_new : Tally W) where
   -- a session on the bytes of a file
-  pub debugs_file : (source : Option (Bor (List ℕ))) (name : Bor (List ℕ)) (words : SettingWords) (settings : SessionSettings) (bytes text : List ℕ)
-      (ended : Outcome) → source ≡ Some name → settings_asked words ≡ Some settings → text ≡ bytes →
+  pub debugs_file : (source : Option (Bor (List ℕ))) (is_image : Bool) (name : Bor (List ℕ)) (words : SettingWords) (settings : SessionSettings)
+      (bytes text : List ℕ) (ended : Outcome) → source ≡ Some name → settings_asked words ≡ Some settings → IsTaken is_image name bytes text →
       AnswersScript remaining contents settings text in_old in_new out_old out_new ended →
-      Debugs remaining contents in_old in_new out_old out_new source words ended
-  debugs_file source name words settings bytes text ended some asked same script =
-      rw (some, asked) (inl (inl (text, script)))
+      Debugs remaining contents in_old in_new out_old out_new source is_image words ended
+  debugs_file source is_image name words settings bytes text ended some asked taken script =
+      rw (some, asked) (inl (inl (bytes, by_kind is_image taken)))
+    where
+      by_kind : (is_image : Bool) → IsTaken is_image name bytes text →
+          AsSource is_image name ((in_new ≡ in_old) × (out_new ≡ out_old))
+          (λ source. AnswersScript remaining contents settings source in_old in_new out_old out_new) bytes ended
+      by_kind false is = rw is script
+      by_kind true (inl (short, is)) = inl (short, rw is script)
+      by_kind true (inr (none, _)) = absurd none
 
   -- on the empty source
-  pub debugs_none : (source : Option (Bor (List ℕ))) (words : SettingWords) (settings : SessionSettings) (ended : Outcome) → source ≡ None →
+  pub debugs_none : (source : Option (Bor (List ℕ))) (is_image : Bool) (words : SettingWords) (settings : SessionSettings) (ended : Outcome) → source ≡ None →
       settings_asked words ≡ Some settings → AnswersScript remaining contents settings [] in_old in_new out_old out_new ended →
-      Debugs remaining contents in_old in_new out_old out_new source words ended
-  debugs_none source words settings ended none asked script = rw (none, asked) script
+      Debugs remaining contents in_old in_new out_old out_new source is_image words ended
+  debugs_none source is_image words settings ended none asked script = rw (none, asked) script
 
   pub does_it : (asked other : CommandLine) (ended : Outcome) → asked ≡ other → Does remaining contents in_old in_new out_old out_new other ended →
       Does remaining contents in_old in_new out_old out_new asked ended
@@ -183,17 +235,31 @@ module _ {R W : Type 0} (remaining : R → Option (List ℕ)) (contents : W → 
 
 module _ {R W : Type 0} (remaining : R → Option (List ℕ)) (contents : W → Option (List ℕ)) (input : Tally R) (output : Tally W) where
   -- there are no settings for a session
-  pub debugs_unsettled : (source : Option (Bor (List ℕ))) (words : SettingWords) (ended : Outcome) (why : Failure) → ended ≡ Err why →
-      Unsettles (settings_asked words) why → Debugs remaining contents input input output output source words ended
-  debugs_unsettled None words ended why e u = unsettled remaining contents (settings_asked words) why ended input output e u
-  debugs_unsettled (Some name) words ended why e u = unsettles remaining input input (output ≡ output) refl (settings_asked words) _ ended why e refl u
+  pub debugs_unsettled : (source : Option (Bor (List ℕ))) (is_image : Bool) (words : SettingWords) (ended : Outcome) (why : Failure) → ended ≡ Err why →
+      Unsettles (settings_asked words) why → Debugs remaining contents input input output output source is_image words ended
+  debugs_unsettled None is_image words ended why e u = unsettled remaining contents (settings_asked words) why ended input output e u
+  debugs_unsettled (Some name) is_image words ended why e u = unsettles remaining input input (output ≡ output) refl (settings_asked words) _ ended why e refl u
 
   -- the file can't be read
-  pub debugs_unread : (source : Option (Bor (List ℕ))) (name : Bor (List ℕ)) (words : SettingWords) (settings : SessionSettings) (ended : Outcome)
-      (why : Failure) → ended ≡ Err why → source ≡ Some name → settings_asked words ≡ Some settings → IsUnread name why →
-      Debugs remaining contents input input output output source words ended
-  debugs_unread source name words settings ended why e some asked w =
+  pub debugs_unread : (source : Option (Bor (List ℕ))) (is_image : Bool) (name : Bor (List ℕ)) (words : SettingWords) (settings : SessionSettings)
+      (ended : Outcome) (why : Failure) → ended ≡ Err why → source ≡ Some name → settings_asked words ≡ Some settings → IsUnread name why →
+      Debugs remaining contents input input output output source is_image words ended
+  debugs_unread source is_image name words settings ended why e some asked w =
       rw (some, asked) (inl (inr (declines remaining input input (output ≡ output) refl (IsUnread name) ended why e w refl)))
+
+  -- it is an image that is refused
+  pub debugs_refused : (source : Option (Bor (List ℕ))) (is_image : Bool) (name : Bor (List ℕ)) (words : SettingWords) (settings : SessionSettings)
+      (bytes : List ℕ) (ended : Outcome) (why : Failure) → ended ≡ Err why → source ≡ Some name → settings_asked words ≡ Some settings →
+      IsNotTaken is_image name bytes why → Debugs remaining contents input input output output source is_image words ended
+  debugs_refused source is_image name words settings bytes ended why e some asked refused =
+      rw (some, asked) (inl (inl (bytes, by_kind is_image refused)))
+    where
+      by_kind : (is_image : Bool) → IsNotTaken is_image name bytes why →
+          AsSource is_image name ((input ≡ input) × (output ≡ output))
+          (λ source. AnswersScript remaining contents settings source input input output output) bytes ended
+      by_kind false is = absurd is
+      by_kind true (inl (short, is)) = absurd is
+      by_kind true (inr (is, _)) = inr (fails (IsImageRefused name bytes) ended why e is, (refl, refl))
 
 module _ {W : Type 0} (contents : W → Option (List ℕ)) (old new : Tally W) where
   -- a page is printed, or there is none
@@ -298,31 +364,33 @@ module _ {R W : Type 0} (remaining : R → Option (List ℕ)) (contents : W → 
 module _ {R : Type 0} (remaining : R → Option (List ℕ)) (in_old in_new : Tally R) (words : RunWords) where
   -- what a run's words ask for was read
   pub asked_is : (asked : Asked) → settings_asked words.settings ≡ Some asked.settings → (words.keys ≡ None → asked.keys.bytes.items ≡ []) →
-      GivesSource remaining in_old in_new words.source.now asked.source.items → IsAsked remaining in_old in_new words asked
-  asked_is asked settled keys gives = (
+      IsGiven remaining in_old in_new words.is_image words.source asked.source.items → IsAsked remaining in_old in_new words asked
+  asked_is asked settled keys given = (
     settles remaining in_old in_new (Unit {0}) tt (settings_asked words.settings) asked.settings
-        (λ settings. FromKeys remaining in_old in_new (Unit {0}) words.keys (λ keys. FromSource remaining in_old in_new (Unit {0}) words.source
+        (λ settings. FromKeys remaining in_old in_new (Unit {0}) words.keys (λ keys. FromGiven remaining in_old in_new (Unit {0}) words.is_image words.source
         (λ source ended. (settings ≡ asked.settings) × (keys ≡ asked.keys.bytes.items) × (source ≡ asked.source.items))))
         (Ok Done) settled
         (keys_read remaining in_old in_new (Unit {0}) tt words.keys asked.keys.bytes.items
-        (λ keys. FromSource remaining in_old in_new (Unit {0}) words.source
+        (λ keys. FromGiven remaining in_old in_new (Unit {0}) words.is_image words.source
         (λ source ended. (asked.settings ≡ asked.settings) × (keys ≡ asked.keys.bytes.items) × (source ≡ asked.source.items))) (Ok Done) keys
-        (inl (asked.source.items, gives, (refl, refl, refl)))),
+        (given_next remaining in_old in_new (Unit {0}) (Unit {0}) (Ok Done) (Ok Done) (λ Why h. (h, tt)) words.is_image words.source
+        (λ source ended. source ≡ asked.source.items)
+        (λ source ended. (asked.settings ≡ asked.settings) × (asked.keys.bytes.items ≡ asked.keys.bytes.items) × (source ≡ asked.source.items))
+        (λ source e. (refl, refl, e)) given)),
     settled,
   )
 
   -- the source wasn't
   pub unasked_source : {T : Type 0} (settings : SessionSettings) (bytes : List ℕ) (result : Result T Failure) (why : Failure) → result ≡ Err why →
-      settings_asked words.settings ≡ Some settings → (words.keys ≡ None → bytes ≡ []) → IsSourceUnread in_old in_new words.source why →
+      settings_asked words.settings ≡ Some settings → (words.keys ≡ None → bytes ≡ []) → IsNotGiven remaining in_old in_new words.is_image words.source why →
       IfErr result (λ y. IsUnasked remaining in_old in_new words y)
   unasked_source {T} settings bytes result why e settled keys w =
       subst (λ (r : Result T Failure). IfErr r (λ y. IsUnasked remaining in_old in_new words y)) (sym e)
       (settles remaining in_old in_new (Unit {0}) tt (settings_asked words.settings) settings
-      (λ settings. FromKeys remaining in_old in_new (Unit {0}) words.keys (λ keys. FromSource remaining in_old in_new (Unit {0}) words.source (λ source ended. ⊥)))
+      (λ settings. FromKeys remaining in_old in_new (Unit {0}) words.keys (λ keys. FromGiven remaining in_old in_new (Unit {0}) words.is_image words.source (λ source ended. ⊥)))
       (Err why) settled
       (keys_read remaining in_old in_new (Unit {0}) tt words.keys bytes
-      (λ keys. FromSource remaining in_old in_new (Unit {0}) words.source (λ source ended. ⊥)) (Err why) keys
-      (source_unread remaining in_old in_new (Unit {0}) tt words.source (λ source ended. ⊥) (Err why) why refl w)))
+      (λ keys. FromGiven remaining in_old in_new (Unit {0}) words.is_image words.source (λ source ended. ⊥)) (Err why) keys w))
 
 module _ {W : Type 0} (contents : W → Option (List ℕ)) (old new : Tally W) where
   -- there are no settings for a picture

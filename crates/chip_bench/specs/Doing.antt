@@ -46,6 +46,7 @@ use Rattle.chip_bench.specs.Exploring.{AsksSet, IsSearchPrinted, cause_named, ke
 use Rattle.chip_explore.specs.Answers.{Answers}
 use Rattle.chip_explore.specs.declared.question.Outcome.{Outcome as Answer}
 use Rattle.chip_machine.specs.Start.{start_of}
+use Rattle.chip_machine.specs.State.{State}
 use Rattle.chip_arguments.specs.declared.command_line.CommandLine.{CommandLine}
 use Rattle.chip_arguments.specs.declared.command_line.CommandLine.TheVariants as line
 use Rattle.chip_arguments.specs.declared.command_line.ExploreWords.{ExploreWords}
@@ -187,7 +188,8 @@ module _ {R : Type 0} (remaining : R → Option (List ℕ)) (in_old in_new : Tal
   -- with the sets that an argument for stop causes and one for keys ask for
   abbrev pub IfSets : (causes keys : Option ℕ) → (ℕ → ℕ → Outcome → Type 0) → Outcome → Type 0
   IfSets (Some causes) (Some keys) Did ended = Did causes keys ended
-  IfSets _ _ Did ended = Declined IsBadSet ended
+  IfSets (Some causes) None Did ended = Declined IsBadSet ended
+  IfSets None keys Did ended = Declined IsBadSet ended
 
   abbrev pub WithSets : (causes keys : Option (List ℕ)) → (ℕ → ℕ → Outcome → Type 0) → Outcome
       → Type 0
@@ -283,20 +285,24 @@ module _ {W : Type 0} (contents : W → Option (List ℕ)) (out_old out_new : Ta
       ((bytes : List ℕ) × TracesBeside words settings keys source name (lines bytes) ended)
       ⊎ Fails (IsUnread name) ended
 
-  -- what hinders telling what a search found: there was no memory, or its file couldn't be written
-  abbrev pub IsSearchHindered : Option (Bor (List ℕ)) → Failure → Type 0
-  IsSearchHindered None why = IsShort why
-  IsSearchHindered (Some name) why = IsUnwritten name why
+  -- what hinders writing the script that was found
+  abbrev pub IsScriptUnwritten : Option (Bor (List ℕ)) → Failure → Type 0
+  IsScriptUnwritten None why = ⊥
+  IsScriptUnwritten (Some name) why = IsUnwritten name why
 
-  -- `explore`: where the source has an image, what a search over all key scripts answers is printed;
-  -- else the faults are
+  -- what a search over all key scripts of a machine answers is printed
+  abbrev pub SearchesFrom : ExploreWords → (rate causes keys : ℕ) → State → Outcome → Type 0
+  SearchesFrom words rate causes keys start ended =
+      ((answer : Answer) × Answers rate keys causes start answer
+      × PrintsSuch contents out_old out_new (IsSearchPrinted answer) ended)
+      ⊎ Fails (IsScriptUnwritten words.keys_to) ended
+
+  -- `explore`: where the source has an image, that of its machine; else the faults
   abbrev pub Searches : ExploreWords → SessionSettings → (causes keys : ℕ) → Option (List ℕ)
       → (source : List ℕ) → Outcome → Type 0
   Searches words settings causes keys (Some image) source ended =
-      ((answer : Answer)
-      × Answers settings.rate keys causes (start_of image settings.tape settings.profile) answer
-      × (wanted : Printed) × IsSearchPrinted answer wanted × Prints contents out_old out_new wanted ended)
-      ⊎ Fails (IsSearchHindered words.keys_to) ended
+      SearchesFrom words settings.rate causes keys
+      (start_of image settings.tape settings.profile) ended
   Searches words settings causes keys None source ended =
       Prints contents out_old out_new
       (printed_of (open_fault source) (printed_faults (lines_of source))) ended

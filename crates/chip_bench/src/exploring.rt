@@ -1,11 +1,10 @@
 //! `explore`: what a search over all key scripts answers of a source's image.
-ghost use Rattle.std.specs.Prelude.{◌≡◌, ◌++◌, ◌∷◌, [], Some, IfOk, IfErr, OnOk, IfSome, option_copied};
+ghost use Rattle.std.specs.Prelude.{◌≡◌, ◌<◌, ◌++◌, Some, None, IfOk, IfErr, OnOk, IfSome, option_copied, option_map};
 ghost use Rattle.std.specs.Fmt.{decimal};
-ghost use Rattle.chip_explore.specs.Answers.{Answers};
-ghost use Rattle.chip_bench.specs.Doing.{Explores, IsSearchHindered, Searches};
-ghost use Rattle.chip_bench.specs.Exploring.{AsksSet, IsFirstPart, IsSet, cause_named, cause_word, first_lines, key_named, number_line, search_ending, usual_causes, usual_keys, with_number};
-ghost use Rattle.chip_bench.specs.inner.Sets.{IsSearched, number_by};
-ghost use Rattle.chip_machine.specs.Start.{start_of};
+ghost use Rattle.chip_bench.specs.Doing.{Explores, IsBadSet, IsScriptUnwritten, Searches, SearchesFrom, image_in};
+ghost use Rattle.chip_bench.specs.Exploring.{AsksSet, IsFirstPart, IsSearchPrinted, IsSet, cause_named, cause_word, first_lines, key_named, number_line, search_ending, usual_causes, usual_keys, with_number};
+ghost use Rattle.chip_bench.specs.Printing.{PrintsSuch};
+ghost use Rattle.chip_bench.specs.inner.Sets.{IsNoQuestion, IsQuestion, number_by};
 
 use crate::ending::{Ending, Failure};
 use crate::entry::write_image;
@@ -133,14 +132,18 @@ pub(crate) fn explore<'a, F: Files, I: Read, O: Write>(
 
 // What is asked of all key scripts.
 fn question_of<'a>(words: &ExploreWords<'a>, settings: &Settings) -> Result<Question, Failure<'a>>
-    ensures ok { IfOk result (λ question. IsQuestion words.entry.now settings.now question) }
+    ensures ok { IfOk result (IsQuestion words.entry.now settings.now) }
     ensures err { IfErr result (IsNoQuestion words.entry.now) }
 {
-    Ok(Question {
-        rate: settings.rate(),
-        causes: causes_of(words.causes)?,
-        allowed: keys_of(words.allowed_keys)?,
-    })
+    match (causes_of(words.causes), keys_of(words.allowed_keys)) {
+        (Ok(causes), Ok(allowed)) => Ok(Question {
+            rate: settings.rate(),
+            allowed,
+            causes,
+        }),
+        (Err(why), _) => Err(why),
+        (Ok(_), Err(why)) => Err(why),
+    }
 }
 
 fn search_source<'a, F: Files, O: Write>(
@@ -178,7 +181,8 @@ fn search<'a, F: Files, O: Write>(
 ) -> Result<Ending, Failure<'a>>
     requires rate { 0 < question.now.rate }
     requires fresh { start.now.core.draws ≡ 0 }
-    ensures { Asks.. }
+    ensures { SearchesFrom O.contents output.old output.new words.entry.now question.now.rate
+        question.now.causes question.now.allowed start.now result }
 {
     let bounds = Bounds {
         steps: match words.steps {
@@ -190,4 +194,113 @@ fn search<'a, F: Files, O: Write>(
     let explored = chip_explore::explore(alloc, start, question, &bounds);
     write_script(alloc, files, words, &explored.outcome)?;
     print_search(alloc, &explored, output)
+}
+
+// Writes the key events of the script that was found, where there is a file for them.
+fn write_script<'a, F: Files>(
+    alloc: Global,
+    files: &F,
+    words: &ExploreWords<'a>,
+    outcome: &Outcome,
+) -> Result<Ending, Failure<'a>>
+    ensures { IfErr result (IsScriptUnwritten words.entry.now.keys_to) }
+{
+    match (outcome, words.keys_to) {
+        (Outcome::Found { events, .. }, Some(name)) => {
+            let text = script_text(alloc, events)?;
+            write_image(alloc, files, &[file_name(words.source)], name, &text)
+        }
+        _ => Ok(Ending::Done),
+    }
+}
+
+// Key events as lines of a key file.
+fn script_text(alloc: Global, events: &[KeyEvent]) -> Result<Vec<u8>, AllocError> {
+    let mut text = Vec::new(alloc);
+    for event in events {
+        push_decimal(&mut text, u64::from(event.step))?;
+        text.push(b' ')?;
+        push_decimal(&mut text, u64::from(event.key))?;
+        text.extend_from_slice(if event.down { b" down\n" } else { b" up\n" })?;
+    }
+    Ok(text)
+}
+
+fn print_search<'a, O: Write>(
+    alloc: Global,
+    explored: &Explored,
+    output: &mut Counted<O>,
+) -> Result<Ending, Failure<'a>>
+    ensures { PrintsSuch O.contents output.old output.new
+        (IsSearchPrinted explored.now.outcome) result }
+{
+    let mut text = Vec::new(alloc);
+    let ending = push_first_lines(&mut text, &explored.outcome)?;
+    text.extend_from_slice(&lines_below(alloc, explored)?)?;
+    print(&text, ending, output)
+}
+
+// What is printed first of what a search found.
+fn push_first_lines<'a>(text: &mut Vec<u8>, outcome: &Outcome) -> Result<Ending, Failure<'a>>
+    ensures ok { IfOk result (λ ending. (ending ≡ search_ending outcome.now)
+        × (option_map (λ lines. text.old.items ++ lines) (first_lines outcome.now)
+        ≡ Some text.new.items)) }
+    ensures err { IfErr result (λ why. why ≡ Failure.OutOfMemory) }
+{
+    match outcome {
+        Outcome::Found {
+            events,
+            step,
+            cause,
+        } => {
+            push_line(text, &cause_word(*cause), u64::from(*step))?;
+            push_line(text, b"keys ", events.len() as u64)?;
+            Ok(Ending::Faulty)
+        }
+        Outcome::Within(step) => {
+            push_line(text, b"within ", *step)?;
+            Ok(Ending::Done)
+        }
+        Outcome::Never => {
+            text.extend_from_slice(b"never\n")?;
+            Ok(Ending::Done)
+        }
+        Outcome::OutOfMemory => Err(Failure::OutOfMemory),
+    }
+}
+
+// The other causes that a search met, and how many states it kept.
+fn lines_below(alloc: Global, explored: &Explored) -> Result<Vec<u8>, AllocError> {
+    let mut text = Vec::new(alloc);
+    for cause in STOPS {
+        if let Some(step) = explored.seen.first_step(*cause) {
+            push_line(&mut text, &cause_word(*cause), step)?;
+        }
+    }
+    push_line(&mut text, b"states ", explored.states as u64)?;
+    Ok(text)
+}
+
+// A stop cause before a number.
+fn cause_word(cause: Stop) -> [u8; 3]
+    ensures { result ≡ cause_word cause }
+{
+    [b'S', b'0' + cause.number() as u8, b' ']
+}
+
+// Adds a word, a number and the end of the line.
+fn push_line(text: &mut Vec<u8>, word: &[u8], number: u64) -> Result<(), AllocError>
+    ensures { OnOk result (text.new.items ≡ text.old.items ++ number_line word.now number) }
+{
+    text.extend_from_slice(word)?;
+    push_decimal(text, number)?;
+    text.push(b'\n')
+}
+
+// Adds a number in decimal.
+fn push_decimal(text: &mut Vec<u8>, number: u64) -> Result<(), AllocError>
+    ensures { OnOk result (text.new.items ≡ text.old.items ++ decimal number) }
+{
+    let mut digits = Buffer::new();
+    text.extend_from_slice(digits.format(number).as_bytes())
 }

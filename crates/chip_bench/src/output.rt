@@ -17,7 +17,10 @@ use chip_asm::{OpenError, Source};
 use chip_check::check_text;
 use chip_machine::limits::IMAGE_BYTES;
 use chip_pages::{contents, page_text};
-use chip_session::{Bench, Counted, KeyFileError, PictureForm, Question, Refusal, ServeError, Settings, faults_answer, insert_keys, listing_answer, refuse, serve, write_all};
+use chip_session::{
+    Bench, Counted, KeyFileError, PictureForm, Question, Refusal, ServeError, Settings,
+    faults_answer, insert_keys, listing_answer, refuse, serve, write_all,
+};
 use chip_views::source_of_image;
 use std::alloc::Global;
 use std::io::{Read, Write};

@@ -11,7 +11,7 @@ use std::marker::Model;
 #[derive(Clone, Copy)]
 pub struct Causes {
     /// Sk at bit k.
-    mask: u8,
+    mask: u16,
 }
 
 impl Model for Causes {
@@ -30,6 +30,13 @@ impl Causes {
         ensures { result ≡ 0 }
     {
         Causes { mask: 0 }
+    }
+
+    /// The causes at the set bits of a mask, Sk at bit k.
+    pub fn of_mask(mask: u16) -> Causes
+        ensures { result ≡ mask }
+    {
+        Causes { mask }
     }
 
     /// S2 to S7: every cause but the end of the program.

@@ -133,7 +133,7 @@ impl Settings {
     }
 
     /// How many steps there are to a tick.
-    pub(crate) fn rate(&self) -> u32
+    pub fn rate(&self) -> u32
         ensures value { result ≡ self.now.rate }
         ensures above { 0 < result }
         ensures most { result ≤ MOST_RATE }
@@ -142,7 +142,7 @@ impl Settings {
     }
 
     /// The bytes that stand for random ones.
-    pub(crate) fn tape(&self) -> &[u8]
+    pub fn tape(&self) -> &[u8]
         ensures value { result.now ≡ self.now.tape }
         ensures some { 0 < length result.now }
         ensures most { length result.now ≤ TAPE_BYTES }
@@ -151,7 +151,7 @@ impl Settings {
     }
 
     /// Which machine it is.
-    pub(crate) fn profile(&self) -> Profile
+    pub fn profile(&self) -> Profile
         ensures { result ≡ self.now.profile }
     {
         self.profile

@@ -1,11 +1,11 @@
 -- What private contracts of `explore` say (own).
-use Rattle.std.specs.Prelude.{◌≡◌, ◌⊎◌, ℕ, List, Option, Some}
-use Rattle.std.specs.Borrow.{Bor}
-use Rattle.chip_explore.specs.declared.question.Outcome.{Outcome as Answer}
-use Rattle.chip_session.specs.Tally.{Tally}
-use Rattle.chip_bench.specs.Doing.{Fails, IsSearchHindered, Outcome}
-use Rattle.chip_bench.specs.Exploring.{IsSearchPrinted, cause_named, key_named}
-use Rattle.chip_bench.specs.Printing.{Printed, Prints}
+use Rattle.std.specs.Prelude.{◌≡◌, ◌⊎◌, ℕ, List, Option, Some, None, option_copied}
+use Rattle.chip_explore.specs.declared.question.Question.{Question}
+use Rattle.chip_arguments.specs.declared.command_line.ExploreWords.{ExploreWords}
+use Rattle.chip_session.specs.Settings.{SessionSettings}
+use Rattle.chip_bench.specs.Doing.{IsBadSet}
+use Rattle.chip_bench.specs.Exploring.{AsksSet, cause_named, key_named, usual_causes, usual_keys}
+use Rattle.chip_bench.specs.declared.ending.Failure.{Failure}
 use Rattle.chip_bench.specs.declared.exploring.Item.{Item}
 use Rattle.chip_bench.specs.declared.exploring.Item.TheVariants.{Cause, Key}
 
@@ -14,9 +14,17 @@ abbrev pub number_by : Item → List ℕ → Option ℕ
 number_by Cause = cause_named
 number_by Key = key_named
 
-module _ {W : Type 0} (contents : W → Option (List ℕ)) (out_old out_new : Tally W) where
-  -- an answer of a search was told, or couldn't be
-  abbrev pub IsSearched : Option (Bor (List ℕ)) → Answer → Outcome → Type 0
-  IsSearched keys_to answer ended =
-      ((wanted : Printed) × IsSearchPrinted answer wanted × Prints contents out_old out_new wanted ended)
-      ⊎ Fails contents out_old out_new (IsSearchHindered contents out_old out_new keys_to) ended
+-- the question that the words ask
+pub record IsQuestion (words : ExploreWords) (settings : SessionSettings) (question : Question) : Type 0 where
+  pub rate : question.rate ≡ settings.rate
+  pub causes : AsksSet cause_named usual_causes (option_copied words.causes) (Some question.causes)
+  pub keys : AsksSet key_named usual_keys (option_copied words.allowed_keys) (Some question.allowed)
+
+-- one of the sets that they ask for is none
+pub record IsNoQuestion (words : ExploreWords) (why : Failure) : Type 0 where
+  pub bad : IsBadSet why
+  pub causes : Option ℕ
+  pub keys : Option ℕ
+  pub asks_causes : AsksSet cause_named usual_causes (option_copied words.causes) causes
+  pub asks_keys : AsksSet key_named usual_keys (option_copied words.allowed_keys) keys
+  pub none : (causes ≡ None) ⊎ (keys ≡ None)
