@@ -2,24 +2,25 @@
 _chipbench() {
     local word=${COMP_WORDS[COMP_CWORD]} before=${COMP_WORDS[COMP_CWORD-1]} options=
     if [ "$COMP_CWORD" -eq 1 ]; then
-        COMPREPLY=($(compgen -W "debug asm list dis run trace picture check test explain help --help --version" -- "$word"))
+        COMPREPLY=($(compgen -W "debug asm list dis run trace picture check test explore explain help --help --version" -- "$word"))
         return
     fi
     case $before in
         --profile) COMPREPLY=($(compgen -W "schip vip" -- "$word")); return ;;
-        --rate | --tape | --seed | --every | --steps | --from) return ;;
+        --rate | --tape | --seed | --every | --steps | --from | --states | --want | --keys-allowed) return ;;
         explain) COMPREPLY=($(compgen -W "$(chipbench explain 2>/dev/null | cut -d ' ' -f 1)" -- "$word")); return ;;
     esac
     case ${COMP_WORDS[1]} in
-        debug) options="--rate --tape --seed --profile --every --help" ;;
+        debug) options="--rate --tape --seed --profile --every --image --help" ;;
         asm) options=" --help" ;;
         list) options=" --help" ;;
         dis) options=" --help" ;;
-        run) options="--steps --rate --tape --seed --profile --keys --help" ;;
-        trace) options="--steps --rate --tape --seed --profile --keys --from --hash --against --help" ;;
-        picture) options="--steps --rate --tape --seed --profile --keys --ascii --pbm --png --help" ;;
+        run) options="--steps --rate --tape --seed --profile --keys --image --help" ;;
+        trace) options="--steps --rate --tape --seed --profile --keys --image --from --hash --against --help" ;;
+        picture) options="--steps --rate --tape --seed --profile --keys --image --ascii --pbm --png --help" ;;
         check) options=" --help" ;;
         test) options="--update --tap --help" ;;
+        explore) options="--steps --states --want --keys-allowed --keys-to --rate --tape --seed --profile --image --help" ;;
         explain) options=" --help" ;;
     esac
     case $word in

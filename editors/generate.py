@@ -46,7 +46,7 @@ class Language:
 class Argument:
     def __init__(self, body, consts):
         made = re.search(
-            r'\b(option|place|flag)\(\s*alloc,\s*"(\w+)",\s*(?:"([A-Z]+)",\s*)?(?:"((?:[^"\\]|\\.)*)"|([A-Z_]+))', body)
+            r'\b(option|place|flag)\(\s*alloc,\s*"([\w-]+)",\s*(?:"([A-Z]+)",\s*)?(?:"((?:[^"\\]|\\.)*)"|([A-Z_]+))', body)
         kind, name, self.value, text, const = made.groups()
         self.long, self.help = None if kind == "place" else name, text or consts[const]
 
@@ -192,7 +192,7 @@ def manual(words):
         value = f" {option.value}" if option.value else ""
         lines += [".TP", f".B {roff('--' + option.long + value)}", roff(option.help) + "."]
     lines += [
-        ".SH EXIT STATUS", ".TP", "0", "Done.", ".TP", "1", "The source has faults, or doesn't open; traces differ; a case fails.",
+        ".SH EXIT STATUS", ".TP", "0", "Done.", ".TP", "1", "The source has faults, or doesn't open; traces differ; a case fails; `explore` found a script.",
         ".TP", "2", "The words, a tape or a file of key events are faulty.", ".TP", "3",
         "A file, the input or the output failed, or there was too much input.", ".TP", "4",
         "Out of memory.", ".SH SEE ALSO", ".BR chipbench\\-page (1),", ".br",

@@ -14,6 +14,7 @@ COMMANDS = {
     "run": (["run", "good.asm", "--steps", "3"], 0),
     "picture": (["picture", "good.asm", "--steps", "3"], 0),
     "dis": (["dis", "image"], 0),
+    "explore": (["explore", "good.asm"], 0),
     "explain": (["explain"], 0),
     "explain F9": (["explain", "F9"], 0),
     "--help": (["--help"], 0),
@@ -24,6 +25,7 @@ COMMANDS = {
     "check with a fault": (["check", "faulty.asm"], 1),
     "run with a fault": (["run", "faulty.asm", "--steps", "3"], 1),
     "picture with a fault": (["picture", "faulty.asm", "--steps", "3"], 1),
+    "explore with a fault": (["explore", "faulty.asm"], 1),
 }
 # The commands that print nothing: a full output doesn't matter.
 SILENT = {

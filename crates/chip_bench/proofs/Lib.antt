@@ -3,3 +3,5 @@ pub mod TestLemmas
 pub mod TraceLemmas
 pub mod OpenedLemmas
 pub mod DoingLemmas
+pub mod SetLemmas
+pub mod ExploringLemmas

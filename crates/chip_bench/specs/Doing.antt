@@ -87,6 +87,11 @@ abbrev pub IsUnwritten : Bor (List ℕ) → Failure → Type 0
 IsUnwritten name why =
     (why ≡ failure.OutOfMemory) ⊎ ((because : IoError) × (why ≡ failure.CannotWrite name because))
 
+-- what hinders writing the script that was found
+abbrev pub IsScriptUnwritten : Option (Bor (List ℕ)) → Failure → Type 0
+IsScriptUnwritten None why = ⊥
+IsScriptUnwritten (Some name) why = IsUnwritten name why
+
 -- a file of that name was written, or it couldn't be
 abbrev pub IsFileWritten : Bor (List ℕ) → Outcome → Type 0
 IsFileWritten name ended = (ended ≡ Ok Done) ⊎ IsErrAnd ended (IsUnwritten name)
@@ -284,11 +289,6 @@ module _ {W : Type 0} (contents : W → Option (List ℕ)) (out_old out_new : Ta
   TracesBy words (Some name) settings keys source ended =
       ((bytes : List ℕ) × TracesBeside words settings keys source name (lines bytes) ended)
       ⊎ Fails (IsUnread name) ended
-
-  -- what hinders writing the script that was found
-  abbrev pub IsScriptUnwritten : Option (Bor (List ℕ)) → Failure → Type 0
-  IsScriptUnwritten None why = ⊥
-  IsScriptUnwritten (Some name) why = IsUnwritten name why
 
   -- what a search over all key scripts of a machine answers is printed
   abbrev pub SearchesFrom : ExploreWords → (rate causes keys : ℕ) → State → Outcome → Type 0

@@ -80,7 +80,7 @@ abbrev pub number_line : List ℕ → ℕ → List ℕ
 number_line word number = word ++ decimal number ++ 10 ∷ []
 
 abbrev pub cause_word : Stop → List ℕ
-cause_word cause = 83 ∷ 48 + stop_number cause ∷ 32 ∷ []
+cause_word cause = 83 ∷ (48 + stop_number cause) ∷ 32 ∷ []
 
 -- what is printed first of what a search found: the cause with its step and how many key events lead
 -- there; up to which step it avoids the wanted causes; or that it does ever. Nothing where memory

@@ -157,8 +157,8 @@ fn search_source<'a, F: Files, O: Write>(
 ) -> Result<Ending, Failure<'a>>
     requires { question.now.rate ≡ settings.now.rate }
     ensures { Searches O.contents output.old output.new words.entry.now settings.now
-        question.now.causes question.now.allowed (image_in source.entry.items)
-        source.entry.items result }
+        question.now.causes question.now.allowed (image_in source.items)
+        source.items result }
 {
     let Some(image) = image_or_faults(alloc, source, output)? else {
         return Ok(Ending::Faulty);
@@ -294,7 +294,8 @@ fn push_line(text: &mut Vec<u8>, word: &[u8], number: u64) -> Result<(), AllocEr
 {
     text.extend_from_slice(word)?;
     push_decimal(text, number)?;
-    text.push(b'\n')
+    text.push(b'\n')?;
+    Ok(())
 }
 
 // Adds a number in decimal.

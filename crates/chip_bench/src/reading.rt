@@ -1,5 +1,5 @@
 //! What the commands read: settings, sources, images and files of key events.
-ghost use Rattle.std.specs.Prelude.{◌≡◌, ◌≤◌, ◌⊎◌, Ok, None, Some, length, take, IfOk, IfErr, IsErr, IfSome};
+ghost use Rattle.std.specs.Prelude.{◌≡◌, ◌≤◌, ◌⊎◌, [], Ok, None, Some, length, take, IfOk, IfErr, IsErr, IfSome};
 ghost use Rattle.hex.specs.Hex.{decode_of};
 ghost use Rattle.chip_lang.specs.declared.limits.TheConstants.{IMAGE_BYTES};
 ghost use Rattle.chip_views.specs.Dis.{source_of_image};
@@ -181,8 +181,8 @@ pub(crate) fn as_source<'a>(
     is_image: bool,
     bytes: Vec<u8>,
 ) -> Result<Vec<u8>, Failure<'a>>
-    ensures ok { IfOk result (λ source. IsTaken is_image name.entry bytes.entry.items source.items) }
-    ensures err { IfErr result (IsNotTaken is_image name.entry bytes.entry.items) }
+    ensures ok { IfOk result (λ source. IsTaken is_image name.entry bytes.items source.items) }
+    ensures err { IfErr result (IsNotTaken is_image name.entry bytes.items) }
 {
     if is_image {
         source_of(alloc, name, &bytes)
