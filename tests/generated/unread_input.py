@@ -13,6 +13,7 @@ COMMANDS = {
     "run": ["run", "a.asm", "--steps", "3"],
     "picture": ["picture", "a.asm", "--steps", "3", "--keys", "keys"],
     "dis": ["dis", "a.ch8"],
+    "explore": ["explore", "a.asm", "--want", "S1"],
     "explain": ["explain"],
     "explain S3": ["explain", "S3"],
     "--help": ["--help"],

@@ -1,5 +1,5 @@
 -- What `explore` did, from what its steps did.
-use Rattle.std.proofs.Common.{◌≡◌, ◌⊎◌, ◌∙◌, inl, inr, ℕ, List, ◌++◌, Option, Some, None, Result, Ok, Err, option_map, refl, sym, ap, subst}
+use Rattle.std.proofs.Common.{◌≡◌, ◌⊎◌, ◌∙◌, inl, inr, ℕ, List, [], ◌++◌, Option, Some, None, Result, Ok, Err, option_map, refl, sym, ap, subst}
 use Rattle.std.specs.Prelude.{IsErrAnd, option_copied}
 use Rattle.std.specs.Borrow.{Bor}
 use Rattle.chip_arguments.specs.declared.command_line.ExploreWords.{ExploreWords}
@@ -7,7 +7,9 @@ use Rattle.chip_explore.specs.Answers.{Answers}
 use Rattle.chip_explore.specs.declared.question.Outcome.{Outcome as Answer}
 use Rattle.chip_explore.specs.declared.question.Outcome.TheVariants.{OutOfMemory}
 use Rattle.chip_explore.specs.declared.question.Question.{Question}
+use Rattle.chip_machine.specs.Start.{start_of}
 use Rattle.chip_machine.specs.State.{State}
+use Rattle.chip_machine.specs.declared.profile.Profile.{Profile}
 use Rattle.chip_session.specs.Settings.{SessionSettings}
 use Rattle.chip_session.specs.Tally.{Tally}
 use Rattle.chip_bench.specs.Doing.{Declined, Explores, FromGiven, IfSets, IfSettled, IsBadSet, IsScriptUnwritten, IsShort, Outcome, Searches, SearchesFrom, WithSets, image_in}
@@ -21,6 +23,14 @@ use Rattle.chip_bench.specs.declared.ending.Failure.TheVariants as failure
 use Rattle.chip_bench.specs.inner.Reads.{IsGiven, IsImageHindered, IsImageOrFaults, IsNotGiven}
 use Rattle.chip_bench.specs.inner.Sets.{IsNoQuestion, IsQuestion}
 use Rattle.chip_bench.proofs.DoingLemmas.{Unsettles, declines, fails, given_next, settles, unsettles}
+
+some_is_none : {k : ℕ} → Some k ≡ None → ⊥
+some_is_none h = cc
+
+-- the first lines, where nothing stood before them
+pub first_told : (old : List ℕ) (first : Option (List ℕ)) (text : List ℕ) → old ≡ [] → option_map (λ lines. old ++ lines) first ≡ Some text → first ≡ Some text
+first_told old None text none is = cc
+first_told old (Some lines) text none is = subst (λ (l : List ℕ). Some (l ++ lines) ≡ Some text) none is
 
 module _ {W : Type 0} (contents : W → Option (List ℕ)) (out_old out_new : Tally W) where
   -- memory ran out, so nothing is claimed
@@ -42,12 +52,6 @@ module _ {W : Type 0} (contents : W → Option (List ℕ)) (out_old out_new : Ta
   search_printed answer text below lines ending ended first is end prints =
       inl (printed text ending, record { lines = lines; first = first; begins = (below, is); ending = end }, prints)
 
-  pub searches_image : (words : ExploreWords) (settings : SessionSettings) (causes keys : ℕ) (source image : List ℕ) (ended : Outcome) →
-      image_in source ≡ Some image → Searches contents out_old out_new words settings causes keys (Some image) source ended →
-      Searches contents out_old out_new words settings causes keys (image_in source) source ended
-  searches_image words settings causes keys source image ended is did =
-      subst (λ (o : Option (List ℕ)). Searches contents out_old out_new words settings causes keys o source ended) (sym is) did
-
   pub searches_faults : (words : ExploreWords) (settings : SessionSettings) (causes keys : ℕ) (source : List ℕ) (ended : Outcome) →
       image_in source ≡ None → Searches contents out_old out_new words settings causes keys None source ended →
       Searches contents out_old out_new words settings causes keys (image_in source) source ended
@@ -65,6 +69,20 @@ module _ {W : Type 0} (contents : W → Option (List ℕ)) (out_old out_new : Ta
       by_image None = rw (e, short) same
   searches_not words settings causes keys source ended why e (inr (none, prints)) =
       searches_faults words settings causes keys source ended none (rw e prints)
+
+-- the machine of an image was searched
+pub searches_image : {W : Type 0} (contents : W → Option (List ℕ)) (old middle new : Tally W) (words : ExploreWords) (settings : SessionSettings)
+    (rate causes keys : ℕ) (source image text tape : List ℕ) (profile : Profile) (start : State) (ended : Outcome) → image_in source ≡ Some image →
+    middle ≡ old → rate ≡ settings.rate → text ≡ image → tape ≡ settings.tape → profile ≡ settings.profile → start ≡ start_of text tape profile →
+    SearchesFrom contents middle new words rate causes keys start ended →
+    Searches contents old new words settings causes keys (image_in source) source ended
+searches_image {W} contents old middle new words settings rate causes keys source image text tape profile start ended is unwritten r t a p s did =
+    let begun : start ≡ start_of image settings.tape settings.profile =
+    s ∙ ap (λ x. start_of x tape profile) t ∙ ap (λ x. start_of image x profile) a ∙ ap (λ x. start_of image settings.tape x) p in
+    let at_old = subst (λ (o : Tally W). SearchesFrom contents o new words rate causes keys start ended) unwritten did in
+    let at_rate = subst (λ (n : ℕ). SearchesFrom contents old new words n causes keys start ended) r at_old in
+    let at_start = subst (λ (m : State). SearchesFrom contents old new words settings.rate causes keys m ended) begun at_rate in
+    subst (λ (o : Option (List ℕ)). Searches contents old new words settings causes keys o source ended) (sym is) at_start
 
 module _ {R W : Type 0} (remaining : R → Option (List ℕ)) (contents : W → Option (List ℕ)) (in_old in_new : Tally R) (out_old out_new : Tally W)
     (words : ExploreWords) (ended : Outcome) where
@@ -95,8 +113,8 @@ module _ {R W : Type 0} (remaining : R → Option (List ℕ)) (contents : W → 
       by_sets : (causes keys : Option ℕ) → (causes ≡ None) ⊎ (keys ≡ None) → IfSets remaining in_old in_new (out_new ≡ out_old) causes keys (Did settings) ended
       by_sets None keys none = refuses
       by_sets (Some causes) None none = refuses
-      by_sets (Some causes) (Some keys) (inl none) = absurd none
-      by_sets (Some causes) (Some keys) (inr none) = absurd none
+      by_sets (Some causes) (Some keys) (inl none) = absurd (some_is_none none)
+      by_sets (Some causes) (Some keys) (inr none) = absurd (some_is_none none)
 
   with_question : (settings : SessionSettings) (question : Question) → settings_asked words.settings ≡ Some settings → IsQuestion words settings question →
       Did settings question.causes question.allowed ended → Explores remaining contents in_old in_new out_old out_new words ended

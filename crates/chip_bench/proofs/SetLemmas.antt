@@ -20,14 +20,14 @@ pub goes_on : (number : List ℕ → Option ℕ) (text rest part next : List ℕ
 goes_on number text rest part next set more completes first is [] are = absurd are
 goes_on number text rest part next set more completes first is (p ∷ ps) are =
     let all = completes (part ∷ p ∷ ps) (next, first, are) in
-    (all.0, all.1.0, all.1.1 ∙ ap (λ (s : Option ℕ). fold (λ taken part. with_number taken (number part)) s (p ∷ ps)) (sym is))
+    (all.0, all.1, all.2 ∙ ap (λ (s : Option ℕ). fold (λ taken part. with_number taken (number part)) s (p ∷ ps)) (sym is))
 
 -- the last part
 pub ends : (number : List ℕ → Option ℕ) (text rest part : List ℕ) (set more : Option ℕ) → Completes number text rest set →
     IsFirstPart rest part None → more ≡ with_number set (number part) → IsSet number text more
 ends number text rest part set more completes first is =
     let all = completes (part ∷ []) first in
-    (all.0, all.1.0, is ∙ sym all.1.1)
+    (all.0, all.1, is ∙ sym all.2)
 
 -- what follows a comma is shorter
 pub shorter : (text part rest : List ℕ) → IsFirstPart text part (Some rest) → length rest < length text

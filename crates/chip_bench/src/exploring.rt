@@ -155,7 +155,8 @@ fn search_source<'a, F: Files, O: Write>(
     question: &Question,
     output: &mut Counted<O>,
 ) -> Result<Ending, Failure<'a>>
-    requires { question.now.rate ≡ settings.now.rate }
+    requires rate { question.now.rate ≡ settings.now.rate }
+    requires positive { 0 < question.now.rate }
     ensures { Searches O.contents output.old output.new words.entry.now settings.now
         question.now.causes question.now.allowed (image_in source.items)
         source.items result }

@@ -1,5 +1,5 @@
 -- What private contracts of `explore` say (own).
-use Rattle.std.specs.Prelude.{◌≡◌, ◌⊎◌, ℕ, List, Option, Some, None, option_copied}
+use Rattle.std.specs.Prelude.{◌≡◌, ◌⊎◌, ℕ, ◌<◌, List, Option, Some, None, option_copied}
 use Rattle.chip_explore.specs.declared.question.Question.{Question}
 use Rattle.chip_arguments.specs.declared.command_line.ExploreWords.{ExploreWords}
 use Rattle.chip_session.specs.Settings.{SessionSettings}
@@ -17,6 +17,7 @@ number_by Key = key_named
 -- the question that the words ask
 pub record IsQuestion (words : ExploreWords) (settings : SessionSettings) (question : Question) : Type 0 where
   pub rate : question.rate ≡ settings.rate
+  pub positive : 0 < question.rate
   pub causes : AsksSet cause_named usual_causes (option_copied words.causes) (Some question.causes)
   pub keys : AsksSet key_named usual_keys (option_copied words.allowed_keys) (Some question.allowed)
 

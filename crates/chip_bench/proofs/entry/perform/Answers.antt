@@ -51,3 +51,8 @@ pub returns-in-Explain : goal.returns-in-Explain
 returns-in-Explain g c =
     does_it g.I.Read.remaining g.O.Write.contents c.args.input.now c.args.input.now c.args.output.now c.explain.new.output c.args.line _ c.explain.result
     c.in-Explain.is (c.explain.ensures, refl)
+
+pub returns-in-Explore : goal.returns-in-Explore
+returns-in-Explore g c =
+    does_it g.I.Read.remaining g.O.Write.contents c.args.input.now c.explore.new.input c.args.output.now c.explore.new.output c.args.line _ c.explore.result
+    c.in-Explore.is c.explore.ensures

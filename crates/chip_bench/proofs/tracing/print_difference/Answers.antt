@@ -1,7 +1,7 @@
 use Rattle.std.proofs.Common.{◌∙◌, [], inl, refl, sym, Some, None}
 use Rattle.chip_trace.specs.Difference.{IsDifferenceText}
 use Rattle.chip_bench.specs.Printing.{printed}
-use Rattle.chip_bench.specs.Tracing.{machine_of}
+use Rattle.chip_session.specs.Answers.{machine_of}
 use Rattle.chip_bench.specs.declared.ending.Ending.TheVariants.{Done, Faulty}
 use Rattle.std.proofs.KnownBytes.{Appends-nil}
 use Rattle.chip_bench.proofs.tracing.print_difference.Goals as goal

@@ -3,7 +3,8 @@ use Rattle.std.proofs.lemmas.Result.{err_from_is_err_and}
 use Rattle.chip_trace.specs.Columns.{header_line}
 use Rattle.chip_trace.specs.Lines.{trace_lines}
 use Rattle.chip_bench.specs.Printing.{Prints, printed}
-use Rattle.chip_bench.specs.Tracing.{machine_of, trace_of}
+use Rattle.chip_session.specs.Answers.{machine_of}
+use Rattle.chip_bench.specs.Tracing.{trace_of}
 use Rattle.chip_bench.specs.declared.ending.Ending.TheVariants.{Done}
 use Rattle.chip_bench.proofs.TraceLemmas.{fewer_left, none_left, stream_adds, stream_ends, stream_fails, stream_starts, stream_writes}
 use Rattle.chip_bench.proofs.tracing.stream.Goals as goal

@@ -1,5 +1,6 @@
 use Rattle.std.proofs.Common.{◌≡◌, length}
-use Rattle.chip_bench.specs.Tracing.{machine_of, trace_of}
+use Rattle.chip_session.specs.Answers.{machine_of}
+use Rattle.chip_bench.specs.Tracing.{trace_of}
 use Rattle.chip_trace.specs.Lines.{remaining}
 use Rattle.chip_bench.proofs.TraceLemmas.{Streamed}
 use Rattle.chip_bench.proofs.tracing.stream.Given as goal
