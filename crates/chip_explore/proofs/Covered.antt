@@ -1,6 +1,6 @@
--- What is safe from the start on, and from each state that was taken up, no key script passes a
--- wanted cause in.
-use Rattle.std.proofs.Common.{◌≡◌, ℕ, zero, suc, ◌+◌, ◌-◌, ◌*◌, ◌/◌, ◌%◌, ◌^◌, ◌<◌, ◌≤◌, ◌==◌, ◌⊎◌, Bool, true, false, length, slice_index, is_some, refl, sym, ap, subst, ◌∙◌, inl, inr, ⊎_elim, if◌then◌else◌, arith, add-one}
+-- What is safe from the start on, and from each state that was taken up, no key script meets the
+-- target in.
+use Rattle.std.proofs.Common.{◌≡◌, ℕ, zero, suc, ◌+◌, ◌-◌, ◌*◌, ◌/◌, ◌%◌, ◌^◌, ◌<◌, ◌≤◌, ◌==◌, ◌⊎◌, Bool, true, false, None, length, slice_index, is_some, refl, sym, ap, subst, ◌∙◌, inl, inr, ⊎_elim, if◌then◌else◌, arith, add-one}
 use Rattle.std.proofs.Math.Nat.{mod-add-div', add-mul-mod_self_right}
 use Rattle.std.proofs.lemmas.Nat.Bits.{bit_at-zero}
 use Rattle.chip_machine.specs.Block.{ticks}
@@ -9,8 +9,8 @@ use Rattle.chip_machine.specs.Relevant.{relevant, AlikeSteps, DrawsGrow, QuietTi
 use Rattle.chip_machine.specs.State.{State}
 use Rattle.chip_machine.specs.Step.{effect_at, is_down, perform, settle, step_of}
 use Rattle.chip_replay.specs.Run.{run}
-use Rattle.chip_explore.specs.Causes.{is_wanted_stop, stops_so}
 use Rattle.chip_explore.specs.Scripts.{Avoids, IsScript}
+use Rattle.chip_explore.specs.Target.{met_in}
 use Rattle.chip_explore.specs.declared.setting.Setting.{Setting}
 use Rattle.chip_explore.specs.inner.Cover.{phase, tick_at, View, IsFine, Joins, SafeFor, Safe, IsTaken}
 
@@ -146,12 +146,12 @@ module _ (alike : AlikeSteps) (grow : DrawsGrow) (quiet : QuietTick) where
             subst (λ (m : ℕ). Near (run step_of p.rate held start (suc t)) m) (add-one t)
             (next (run step_of p.rate held start t) t (held t) (omega arith) (script t) (omega arith) (near_run t (omega arith)))
 
-        avoided : (t : ℕ) → t ≤ n → stops_so p.causes (run step_of p.rate held start t) ≡ false
+        avoided : (t : ℕ) → t ≤ n → met_in p.target (run step_of p.rate held start t) ≡ None
         avoided t within_n =
             let near = near_run t within_n in
             let early = near.early in
-            ap (λ (r : State). is_wanted_stop p.causes r.core.stopped) near.same
+            ap (met_in p.target) near.same
             ∙ (fine_of near.moves near.state near.at near.safe (omega arith)).avoided
 
-      pub covered : (start : State) → start.core.draws ≡ 0 → Safe p v start 0 → n < 2 ^ 64 - 1 → Avoids p.rate p.allowed p.causes start n
+      pub covered : (start : State) → start.core.draws ≡ 0 → Safe p v start 0 → n < 2 ^ 64 - 1 → Avoids p.rate p.allowed p.target start n
       covered start fresh begun below_end held script t within_n = avoided start fresh begun below_end held script t within_n

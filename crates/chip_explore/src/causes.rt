@@ -1,10 +1,10 @@
-//! Which stop causes are wanted.
+//! Sets of stop causes.
 
-ghost use Rattle.std.specs.Prelude.{◌≡◌, ◌-◌, ◌^◌, bit_or, is_some, IfSome};
+ghost use Rattle.std.specs.Prelude.{◌≡◌, ◌-◌, ◌^◌, bit_or};
 ghost use Rattle.chip_machine.specs.Numbers.{stop_number};
-ghost use Rattle.chip_explore.specs.Causes.{is_wanted, stops_so, with_number, StopsFor};
+ghost use Rattle.chip_explore.specs.Causes.{is_wanted, with_number};
 
-use chip_machine::{Machine, Stop};
+use chip_machine::Stop;
 use std::marker::Model;
 
 /// A set of stop causes.
@@ -72,16 +72,5 @@ impl Causes {
         ensures { result ≡ is_wanted self cause }
     {
         self.mask >> cause.number() & 1 == 1
-    }
-
-    /// The cause for which a machine has stopped, if it is one of these.
-    pub(crate) fn stop_of(self, machine: &Machine) -> Option<Stop>
-        ensures cause { IfSome result (λ cause. StopsFor self machine.now cause) }
-        ensures some { is_some result ≡ stops_so self machine.now }
-    {
-        match machine.stopped() {
-            Some(cause) if self.contains(cause) => Some(cause),
-            _ => None,
-        }
     }
 }

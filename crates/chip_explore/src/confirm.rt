@@ -6,7 +6,8 @@ ghost use Rattle.chip_explore.specs.inner.Cover.{Confirms};
 
 use crate::script::KeyEvent;
 use crate::setting::Setting;
-use chip_machine::{Machine, Stop, Touch};
+use crate::target::Met;
+use chip_machine::{Machine, Touch};
 use chip_replay::{KeyFault, Keys};
 use std::alloc::{AllocError, Global};
 
@@ -21,17 +22,17 @@ pub(crate) fn keys_of(alloc: Global, events: &[KeyEvent]) -> Result<Keys, KeyFau
     Ok(keys)
 }
 
-/// The wanted cause for which the machine has stopped at a step under some events, if it has, with
-/// none but allowed keys down before it.
-pub(crate) fn stop_under(
+/// What the machine meets of the target at a step under some events, if anything, with none but
+/// allowed keys down before it.
+pub(crate) fn met_under(
     start: &Machine,
     setting: &Setting,
     keys: &Keys,
     step: u32,
-) -> Result<Option<Stop>, AllocError>
+) -> Result<Option<Met>, AllocError>
     requires { 0 < setting.now.rate }
     ensures { IfOk result (λ answer. IfSome answer
-        (λ cause. Confirms setting.now start.now keys.now step cause)) }
+        (λ met. Confirms setting.now start.now keys.now step met)) }
 {
     let mut machine = start.copy_of()?;
     let mut touch = Touch::new();
@@ -43,5 +44,5 @@ pub(crate) fn stop_under(
         let number = u64::from(made) + 1;
         machine.step(down, number % u64::from(setting.rate) == 0, &mut touch);
     }
-    Ok(setting.causes.stop_of(&machine))
+    Ok(setting.target.met_in(&machine))
 }

@@ -15,8 +15,9 @@ pub(crate) struct Turn {
 /// How a state was reached.
 #[derive(Clone, Copy)]
 pub(crate) struct Origin {
-    /// The place of the state before the last step that could tell keys apart, if there was one.
-    pub(crate) parent: Option<usize>,
+    /// The place of the state before the last step that could tell keys apart: past all places if
+    /// there was none.
+    parent: u32,
     /// The keys that were down in that step, key k at bit k.
     pub(crate) keys: u16,
 }
@@ -24,20 +25,37 @@ pub(crate) struct Origin {
 impl Origin {
     /// That of a state before which no step can tell keys apart.
     pub(crate) const START: Origin = Origin {
-        parent: None,
+        parent: u32::MAX,
         keys: 0,
     };
+
+    /// That of a state that a step of the state at a place led to, with these keys down.
+    pub(crate) fn from(place: usize, keys: u16) -> Origin {
+        Origin {
+            parent: u32::try_from(place).unwrap_or(u32::MAX),
+            keys,
+        }
+    }
+
+    /// The place of the state before that step, if there was one.
+    pub(crate) fn parent(self) -> Option<usize> {
+        if self.parent == u32::MAX {
+            None
+        } else {
+            Some(self.parent as usize)
+        }
+    }
 }
 
 /// The untrusted part of a search.
 #[derive(Drop)]
 pub(crate) struct Finder {
-    places: HashMap<u64, usize>,
+    places: HashMap<u64, u32>,
     turns: BTreeSet<Turn>,
     pub(crate) origins: Vec<Origin>,
-    /// How the machine stopped for a wanted cause, if it did.
+    /// How the target was met, if it was.
     pub(crate) hit: Option<Origin>,
-    /// For which other causes it stopped.
+    /// For which other causes the machine stopped.
     pub(crate) seen: Seen,
     pub(crate) is_timer_set: bool,
 }
@@ -55,14 +73,19 @@ impl Finder {
         }
     }
 
-    /// The place of a state with this hash, if one is known.
-    pub(crate) fn place(&self, hash: u64) -> Option<usize> {
-        self.places.get(&hash).copied()
+    /// The place of a state with this sum, if one is known.
+    pub(crate) fn place(&self, sum: u64) -> Option<usize> {
+        match self.places.get(&sum) {
+            Some(place) => Some(*place as usize),
+            None => None,
+        }
     }
 
     /// Notes a new state.
-    pub(crate) fn note(&mut self, hash: u64, turn: Turn, origin: Origin) -> Result<(), AllocError> {
-        self.places.insert(hash, turn.place)?;
+    pub(crate) fn note(&mut self, sum: u64, turn: Turn, origin: Origin) -> Result<(), AllocError> {
+        if let Ok(place) = u32::try_from(turn.place) {
+            self.places.insert(sum, place)?;
+        }
         self.origins.push(origin)?;
         self.turns.insert(turn)?;
         Ok(())

@@ -2,29 +2,16 @@
 
 ghost use Rattle.std.specs.Prelude.{◌≡◌, ◌+◌, ◌*◌, ◌^◌, fold, IfOk, IsTrue, OnOk};
 ghost use Rattle.chip_machine.specs.Relevant.{relevant};
-ghost use Rattle.chip_explore.specs.inner.Kept.{state_of, with_byte, with_row};
+ghost use Rattle.chip_explore.specs.inner.Kept.{parts_of, state_of, with_byte, with_row};
 
-use chip_machine::limits::{FLAGS, FRAMES, MEMORY_BYTES};
+use crate::backdrop::{Backdrop, Backdrops};
+use chip_machine::limits::FRAMES;
 use chip_machine::{Machine, Parts};
 use std::alloc::{AllocError, Global};
+use std::rc::Rc;
 
 /// How many rows a screen has.
-const ROWS: usize = 64;
-
-/// A byte of the memory that is not as in the base.
-#[derive(Clone, Copy)]
-pub(crate) struct BytePatch {
-    pub(crate) at: u16,
-    pub(crate) byte: u8,
-}
-
-/// A row of the screen that is not as in the base, by its halves.
-#[derive(Clone, Copy)]
-pub(crate) struct RowPatch {
-    pub(crate) left: u64,
-    pub(crate) right: u64,
-    pub(crate) row: u8,
-}
+pub(crate) const ROWS: usize = 64;
 
 /// A machine, and the rows of points of its screen.
 #[derive(Drop)]
@@ -36,18 +23,13 @@ pub(crate) struct Base {
 /// A state, by what it has beside a base.
 #[derive(Drop)]
 pub(crate) struct Kept {
-    pub(crate) parts: Parts,
-    pub(crate) bytes: Vec<BytePatch>,
-    pub(crate) rows: Vec<RowPatch>,
-}
-
-impl RowPatch {
-    /// The points of the row, the leftmost the highest bit.
-    fn points(self) -> u128
-        ensures { result ≡ self.left * 2 ^ 64 + self.right }
-    {
-        u128::from(self.left) * (1 << 64) + u128::from(self.right)
-    }
+    pub(crate) registers: [u8; 16],
+    pub(crate) index: u16,
+    pub(crate) pc: u16,
+    /// The place on the tape.
+    pub(crate) draws: u16,
+    pub(crate) delay: u8,
+    pub(crate) backdrop: Rc<Backdrop>,
 }
 
 impl Base {
@@ -64,97 +46,43 @@ impl Base {
     }
 }
 
-/// The registers, the frames, the delay timer and the place on the tape of a machine.
-fn parts_of(machine: &Machine) -> Parts {
-    let mut registers = [0; 16];
-    registers.copy_from_slice(machine.registers());
-    let mut flags = [0; FLAGS];
-    flags.copy_from_slice(machine.flags());
-    let mut frames = [0; FRAMES];
-    let depth = machine.frames().len();
-    frames[..depth].copy_from_slice(machine.frames());
-    Parts {
-        registers,
-        index: machine.index(),
-        pc: machine.pc(),
-        frames,
-        depth: depth as u8,
-        delay: machine.delay(),
-        flags,
-        draws: machine.tape_place() as u16,
-        high: machine.high(),
-    }
-}
-
-/// The bytes of the memory that are not as in the base.
-fn bytes_of(alloc: Global, base: &Base, machine: &Machine) -> Result<Vec<BytePatch>, AllocError> {
-    let old = base.machine.memory();
-    let new = machine.memory();
-    let count = old.iter().zip(new).filter(|pair| pair.0 != pair.1).count();
-    let mut bytes = Vec::with_capacity(alloc, count)?;
-    for at in 0..MEMORY_BYTES {
-        if old[at] != new[at] {
-            bytes.push(BytePatch {
-                at: at as u16,
-                byte: new[at],
-            })?;
-        }
-    }
-    Ok(bytes)
-}
-
-/// The rows of the screen that are not as in the base.
-fn rows_of(alloc: Global, base: &Base, machine: &Machine) -> Result<Vec<RowPatch>, AllocError> {
-    let mut rows = Vec::new(alloc);
-    for row in 0..ROWS {
-        let points = machine.row(row);
-        if row >= base.rows.len() || points != base.rows[row] {
-            rows.push(RowPatch {
-                left: (points >> 64) as u64,
-                right: (points % (1 << 64)) as u64,
-                row: row as u8,
-            })?;
-        }
-    }
-    rows.shrink_to_fit();
-    Ok(rows)
-}
-
 impl Kept {
-    /// The state of a machine. Nothing is claimed of it: it is loaded again, and compared.
-    pub(crate) fn of(alloc: Global, base: &Base, machine: &Machine) -> Result<Kept, AllocError> {
+    /// The state of a machine, whose backdrop has this sum. Nothing is claimed of it: it is loaded
+    /// again, and compared.
+    pub(crate) fn of(
+        base: &Base,
+        machine: &Machine,
+        backdrops: &mut Backdrops,
+        sum: u64,
+    ) -> Result<Kept, AllocError> {
+        let mut registers = [0; 16];
+        registers.copy_from_slice(machine.registers());
         Ok(Kept {
-            parts: parts_of(machine),
-            bytes: bytes_of(alloc, base, machine)?,
-            rows: rows_of(alloc, base, machine)?,
+            registers,
+            index: machine.index(),
+            pc: machine.pc(),
+            draws: machine.tape_place() as u16,
+            delay: machine.delay(),
+            backdrop: backdrops.of(base, machine, sum)?,
         })
     }
 
-    /// Puts the bytes in the memory of a machine.
-    fn put_bytes(&self, machine: &mut Machine)
-        ensures { machine.new ≡ fold with_byte machine.old self.now.bytes.items }
+    /// What the state has beside its memory and its screen.
+    fn parts(&self) -> Parts
+        ensures { result ≡ parts_of self.now }
     {
-        for patch in &self.bytes {
-            if (patch.at as usize) < MEMORY_BYTES {
-                machine.poke(patch.at, patch.byte);
-            }
+        let backdrop: &Backdrop = &self.backdrop;
+        Parts {
+            registers: self.registers,
+            index: self.index,
+            pc: self.pc,
+            frames: backdrop.frames,
+            depth: backdrop.depth,
+            delay: self.delay,
+            flags: backdrop.flags,
+            draws: self.draws,
+            high: backdrop.high,
         }
-    }
-
-    /// Puts the rows among those of the base.
-    fn put_rows(&self, base: &Base, rows: &mut Vec<u128>) -> Result<(), AllocError>
-        ensures { OnOk result (rows.new.items
-            ≡ fold with_row base.now.rows.items self.now.rows.items) }
-    {
-        rows.clear();
-        rows.extend_from_slice(&base.rows)?;
-        for patch in &self.rows {
-            let row = patch.row as usize;
-            if row < rows.len() {
-                rows[row] = patch.points();
-            }
-        }
-        Ok(())
     }
 
     /// Gives a machine this state: the answer is whether that was possible. The rows are room for
@@ -168,13 +96,15 @@ impl Kept {
         ensures { IfOk result (λ answer. IsTrue answer
             → machine.new ≡ state_of base.now self.now) }
     {
-        self.put_rows(base, rows)?;
-        if self.parts.depth as usize > FRAMES || rows.len() != ROWS {
+        let backdrop: &Backdrop = &self.backdrop;
+        let parts = self.parts();
+        backdrop.put_rows(base, rows)?;
+        if parts.depth as usize > FRAMES || rows.len() != ROWS {
             return Ok(false);
         }
         machine.copy_from(&base.machine)?;
-        machine.restore(&self.parts);
-        self.put_bytes(machine);
+        machine.restore(&parts);
+        backdrop.put_bytes(machine);
         machine.set_screen(rows);
         Ok(true)
     }

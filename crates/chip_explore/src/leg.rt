@@ -13,7 +13,7 @@ use std::alloc::{AllocError, Global};
 pub(crate) enum End {
     /// The limit is met.
     Past,
-    /// The machine has stopped for a wanted cause.
+    /// The machine meets the target.
     Wanted,
     /// The delay timer is above 0, where the timers are free.
     TimerSet,
@@ -85,7 +85,7 @@ impl Runner {
         if step >= limit {
             return Some(End::Past);
         }
-        if setting.causes.stop_of(&self.machine).is_some() {
+        if setting.target.met_in(&self.machine).is_some() {
             return Some(End::Wanted);
         }
         if setting.free && self.machine.delay() != 0 {

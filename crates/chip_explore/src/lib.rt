@@ -1,7 +1,8 @@
-//! A search over all key scripts: events of the keys under which a machine stops for a wanted cause,
-//! or that none do.
+//! A search over all key scripts: events of the keys under which a machine stops for a wanted cause
+//! or comes to an address, or that none do.
 #![tactic(auto)]
 
+mod backdrop;
 mod causes;
 mod confirm;
 mod finder;
@@ -16,6 +17,7 @@ mod search;
 mod seen;
 mod setting;
 mod sum;
+mod target;
 #[cfg(test)]
 mod tests;
 
@@ -24,3 +26,4 @@ pub use limits::END;
 pub use question::{Bounds, Explored, Outcome, Question, explore};
 pub use script::KeyEvent;
 pub use seen::{STOPS, Seen};
+pub use target::{Met, Target};

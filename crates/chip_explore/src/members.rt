@@ -100,12 +100,12 @@ impl Members {
         Ok(probe.machine.is_alike(machine))
     }
 
-    /// Keeps a state, which was reached at a step: the answer is whether that was possible. The
-    /// probe is room for the state.
+    /// Keeps the state of a machine, which was reached at a step: the answer is whether what is to
+    /// be kept is that state. The probe is room for it.
     pub(crate) fn add(
         &mut self,
-        alloc: Global,
         setting: &Setting,
+        kept: Kept,
         machine: &Machine,
         step: u64,
         probe: &mut Base,
@@ -115,7 +115,6 @@ impl Members {
         ensures joins { IfOk result (λ answer. IsTrue answer
             → Joins setting.now (view_of self.new) machine.now step) }
     {
-        let kept = Kept::of(alloc, &self.base, machine)?;
         let is_same = kept.is_of(&self.base, machine, probe)?;
         if !is_same {
             return Ok(false);

@@ -1,14 +1,14 @@
 //! A question about all key scripts, and its answer.
 
-ghost use Rattle.std.specs.Prelude.{◌≡◌, ◌<◌, false, IfOk, IfSome};
+ghost use Rattle.std.specs.Prelude.{◌≡◌, ◌<◌, None, IfOk, IfSome};
 ghost use Rattle.chip_explore.specs.Answers.{Answers};
-ghost use Rattle.chip_explore.specs.Causes.{stops_so};
 ghost use Rattle.chip_explore.specs.inner.Cover.{view_of, Confirms, Holds, Safe};
 ghost use Rattle.chip_explore.specs.Scripts.{Avoids};
 ghost use Rattle.chip_explore.specs.Scripts as spec;
+ghost use Rattle.chip_explore.specs.Target.{met_in};
 
-use crate::causes::Causes;
-use crate::confirm::{keys_of, stop_under};
+use crate::backdrop::Backdrops;
+use crate::confirm::{keys_of, met_under};
 use crate::finder::{Finder, Origin};
 use crate::kept::Base;
 use crate::leg::Runner;
@@ -18,20 +18,20 @@ use crate::script::{KeyEvent, script_to};
 use crate::search::Search;
 use crate::seen::Seen;
 use crate::setting::Setting;
+use crate::target::{Met, Target};
+use chip_machine::Machine;
 use chip_machine::laws::relevant_steps;
-use chip_machine::{Machine, Stop};
 use chip_replay::{KeyFault, LAST_STEP};
 use std::alloc::{AllocError, Global};
 
-/// Whether any player can make a machine stop for a wanted cause.
+/// Whether any player can make a machine meet a target.
 #[derive(Clone, Copy)]
 pub struct Question {
     /// The timers tick at each step whose number plus 1 is a multiple of it: 1 at least.
     pub rate: u32,
     /// The keys that may be down, key k at bit k.
     pub allowed: u16,
-    /// The causes that are wanted.
-    pub causes: Causes,
+    pub target: Target,
 }
 
 /// How far a search goes.
@@ -46,16 +46,16 @@ pub struct Bounds {
 /// What a search found.
 #[derive(Drop)]
 pub enum Outcome {
-    /// With these events of the keys, in the order of their steps, the machine has stopped for the
-    /// cause, which is wanted, at the step, and with no key script for a wanted one earlier.
+    /// With these events of the keys, in the order of their steps, the machine meets this of the
+    /// target at the step, and with no key script anything of it earlier.
     Found {
         events: Vec<KeyEvent>,
         step: u32,
-        cause: Stop,
+        met: Met,
     },
-    /// With no key script has it at a step up to this one.
+    /// With no key script does it at a step up to this one.
     Within(u64),
-    /// With no key script has it at any step below `END`.
+    /// With no key script does it at any step below `END`.
     Never,
     /// Memory ran out, and nothing is said.
     OutOfMemory,
@@ -83,11 +83,11 @@ impl Explored {
 }
 
 /// Whether under some key script, of the allowed keys alone, a machine that has drawn no random
-/// byte yet stops for a wanted cause.
+/// byte yet meets the target.
 pub fn explore(alloc: Global, start: &Machine, question: &Question, bounds: &Bounds) -> Explored
     requires rate { 0 < question.now.rate }
     requires fresh { start.now.core.draws ≡ 0 }
-    ensures { Answers question.now.rate question.now.allowed question.now.causes start.now
+    ensures { Answers question.now.rate question.now.allowed question.now.target start.now
         result.outcome }
 {
     match explore_both(alloc, start, question, bounds) {
@@ -106,21 +106,21 @@ fn explore_both(
     requires rate { 0 < question.now.rate }
     requires fresh { start.now.core.draws ≡ 0 }
     ensures { IfOk result (λ explored. Answers question.now.rate question.now.allowed
-        question.now.causes start.now explored.outcome) }
+        question.now.target start.now explored.outcome) }
 {
-    if let Some(cause) = question.causes.stop_of(start) {
+    if let Some(met) = question.target.met_in(start) {
         let events = Vec::new(alloc);
         let outcome = Outcome::Found {
             events,
             step: 0,
-            cause,
+            met,
         };
         return Ok(Explored::at_once(outcome));
     }
     let mut setting = Setting {
         rate: question.rate,
         allowed: question.allowed,
-        causes: question.causes,
+        target: question.target,
         free: true,
     };
     let first = search_once(alloc, start, &setting, bounds)?;
@@ -158,15 +158,15 @@ fn search_once(
 ) -> Result<Attempt, AllocError>
     requires rate { 0 < setting.now.rate }
     requires fresh { start.now.core.draws ≡ 0 }
-    requires going { stops_so setting.now.causes start.now ≡ false }
+    requires going { met_in setting.now.target start.now ≡ None }
     ensures { IfOk result (λ attempt. Answers setting.now.rate setting.now.allowed
-        setting.now.causes start.now attempt.explored.outcome) }
+        setting.now.target start.now attempt.explored.outcome) }
 {
     let mut search = Search {
-        alloc,
         members: Members::new(alloc, start, base_for(alloc, start, setting)?)?,
         runner: Runner::new(alloc, start)?,
         finder: Finder::new(alloc),
+        backdrops: Backdrops::new(alloc),
         probe: Base::of(alloc, start)?,
     };
     search.run_on(setting, 0, Origin::START)?;
@@ -182,14 +182,14 @@ fn search_once(
     })
 }
 
-/// A step up to which no key script makes the machine stop for a wanted cause.
+/// A step up to which no key script makes the machine meet the target.
 fn covered_by(setting: &Setting, members: &Members) -> u64
     requires positive { 0 < members.now.limit }
     requires fresh { members.now.start.core.draws ≡ 0 }
     requires holds { Holds setting.now members.now }
     requires begun { Safe setting.now (view_of members.now) members.now.start 0 }
     ensures below { result < members.now.limit }
-    ensures avoids { Avoids setting.now.rate setting.now.allowed setting.now.causes
+    ensures avoids { Avoids setting.now.rate setting.now.allowed setting.now.target
         members.now.start result }
 {
     relevant_steps();
@@ -205,11 +205,11 @@ fn outcome_of(
 ) -> Result<Outcome, AllocError>
     requires rate { 0 < setting.now.rate }
     requires fresh { members.now.start.core.draws ≡ 0 }
-    requires going { stops_so setting.now.causes members.now.start ≡ false }
+    requires going { met_in setting.now.target members.now.start ≡ None }
     requires holds { Holds setting.now members.now }
     requires begun { Safe setting.now (view_of members.now) members.now.start 0 }
     ensures { IfOk result (λ outcome. Answers setting.now.rate setting.now.allowed
-        setting.now.causes members.now.start outcome) }
+        setting.now.target members.now.start outcome) }
 {
     if members.limit == 0 {
         return Ok(Outcome::Within(0));
@@ -224,31 +224,27 @@ fn outcome_of(
     {
         let step = members.limit as u32;
         let events = script_to(alloc, members, finder, origin)?;
-        if let Some(cause) = stop_by(alloc, setting, members, &events, step)? {
-            return Ok(Outcome::Found {
-                events,
-                step,
-                cause,
-            });
+        if let Some(met) = met_by(alloc, setting, members, &events, step)? {
+            return Ok(Outcome::Found { events, step, met });
         }
     }
     Ok(Outcome::Within(covered))
 }
 
-/// The wanted cause for which the machine has stopped at a step with these events, if it has.
-fn stop_by(
+/// What the machine meets of the target at a step with these events, if anything.
+fn met_by(
     alloc: Global,
     setting: &Setting,
     members: &Members,
     events: &[KeyEvent],
     step: u32,
-) -> Result<Option<Stop>, AllocError>
+) -> Result<Option<Met>, AllocError>
     requires { 0 < setting.now.rate }
-    ensures { IfOk result (λ answer. IfSome answer (λ cause. Confirms setting.now
-        members.now.start (spec.keys_of events.now) step cause)) }
+    ensures { IfOk result (λ answer. IfSome answer (λ met. Confirms setting.now
+        members.now.start (spec.keys_of events.now) step met)) }
 {
     match keys_of(alloc, events) {
-        Ok(keys) => stop_under(&members.start, setting, &keys, step),
+        Ok(keys) => met_under(&members.start, setting, &keys, step),
         Err(KeyFault::OutOfMemory) => Err(AllocError),
         Err(_) => Ok(None),
     }

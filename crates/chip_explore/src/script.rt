@@ -31,7 +31,7 @@ fn presses(
     let mut presses = Vec::new(alloc);
     let mut origin = last;
     for _state in 0..=members.steps.len() {
-        let Some(parent) = origin.parent else {
+        let Some(parent) = origin.parent() else {
             return Ok(presses);
         };
         if parent >= members.steps.len() || parent >= finder.origins.len() {

@@ -5,22 +5,23 @@ ghost use Rattle.chip_machine.specs.Step.{step_of};
 ghost use Rattle.chip_machine.specs.Step as spec;
 ghost use Rattle.chip_explore.specs.inner.Cover.{tick_at, view_of, Holds, HasChoices, Goes, IsFine, Safe};
 
+use crate::backdrop::Backdrops;
 use crate::finder::{Finder, Origin, Turn};
-use crate::kept::Base;
+use crate::kept::{Base, Kept};
 use crate::keys::{alone, is_down};
 use crate::leg::{End, Runner};
 use crate::members::Members;
 use crate::setting::Setting;
-use crate::sum::sum_of;
-use std::alloc::{AllocError, Global};
+use crate::sum::{backdrop_sum, sum_of};
+use std::alloc::AllocError;
 
 /// A search under way.
 #[derive(Drop)]
 pub(crate) struct Search {
-    pub(crate) alloc: Global,
     pub(crate) members: Members,
     pub(crate) runner: Runner,
     pub(crate) finder: Finder,
+    pub(crate) backdrops: Backdrops,
     /// Room for a state.
     pub(crate) probe: Base,
 }
@@ -36,7 +37,8 @@ impl Search {
             self.old.runner.machine step) }
     {
         let machine = &self.runner.machine;
-        let sum = sum_of(machine, setting.phase(step));
+        let backdrop = backdrop_sum(machine);
+        let sum = sum_of(backdrop, machine, setting.phase(step));
         if let Some(place) = self.finder.place(sum)
             && self
                 .members
@@ -49,9 +51,10 @@ impl Search {
             return Ok(());
         }
         let place = self.members.steps.len();
+        let kept = Kept::of(&self.members.base, machine, &mut self.backdrops, backdrop)?;
         if !self
             .members
-            .add(self.alloc, setting, machine, step, &mut self.probe)?
+            .add(setting, kept, machine, step, &mut self.probe)?
         {
             self.members.lower_limit(setting, step);
             return Ok(());
@@ -121,8 +124,7 @@ impl Search {
         runner
             .machine
             .step(keys, setting.tick_at(step), &mut runner.touch);
-        let parent = Some(place);
-        self.run_on(setting, step + 1, Origin { parent, keys })
+        self.run_on(setting, step + 1, Origin::from(place, keys))
     }
 
     /// Makes the step of a state with each of these keys down alone, and goes on from there.

@@ -36,7 +36,10 @@ impl Seen {
     /// Notes that the machine had stopped for a cause at a step.
     pub(crate) fn note(&mut self, cause: Stop, step: u64) {
         let first = &mut self.first_steps[cause.number() as usize];
-        *first = Some(first.map_or(step, |earlier| earlier.min(step)));
+        match *first {
+            Some(earlier) if earlier <= step => {}
+            _ => *first = Some(step),
+        }
     }
 
     /// The least step at which a search met a cause, if it did.

@@ -3,7 +3,7 @@
 ghost use Rattle.std.specs.Prelude.{◌≡◌, ◌<◌, ◌-◌, ◌^◌};
 ghost use Rattle.chip_explore.specs.inner.Cover.{phase, tick_at};
 
-use crate::causes::Causes;
+use crate::target::Target;
 
 /// What a search is about, and how it takes the timers.
 #[derive(Clone, Copy)]
@@ -12,8 +12,7 @@ pub(crate) struct Setting {
     pub(crate) rate: u32,
     /// The keys that may be down, key k at bit k.
     pub(crate) allowed: u16,
-    /// The causes that are wanted.
-    pub(crate) causes: Causes,
+    pub(crate) target: Target,
     /// No state has a delay timer above 0, so the ticks change nothing.
     pub(crate) free: bool,
 }

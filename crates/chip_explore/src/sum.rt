@@ -1,15 +1,13 @@
-//! A sum of a machine's state, by which a state like it is looked up. Nothing is claimed of it.
+//! Sums of a machine's state, by which a state like it is looked up. Nothing is claimed of them.
 
-ghost use Rattle.std.specs.Prelude.{◌≡◌, length};
+ghost use Rattle.std.specs.Prelude.{◌≡◌, ◌+◌, ◌≤◌, length};
 
+use crate::kept::ROWS;
 use chip_machine::Machine;
 use chip_machine::limits::MEMORY_BYTES;
 
 /// A quarter of the memory's bytes.
 const QUARTER: usize = MEMORY_BYTES / 4;
-
-/// The multiplier of FNV for 64 bits.
-const PRIME: u64 = 0x100_0000_01b3;
 
 /// A sum and one more number.
 fn add(sum: u64, number: u64) -> u64 {
@@ -20,43 +18,68 @@ fn add(sum: u64, number: u64) -> u64 {
 fn add_bytes(sum: u64, bytes: &[u8]) -> u64 {
     let mut total = sum;
     for byte in bytes {
-        total = (total ^ u64::from(*byte)).wrapping_mul(PRIME);
+        total = add(total, u64::from(*byte));
     }
     total
 }
 
-/// A sum and the bytes of a memory, whose quarters are summed side by side.
-fn add_memory(sum: u64, memory: &[u8]) -> u64
+/// Eight bytes as one number.
+fn word_at(bytes: &[u8], at: usize) -> u64
+    requires { at + 8 ≤ length bytes.now }
+{
+    u64::from_le_bytes([
+        bytes[at],
+        bytes[at + 1],
+        bytes[at + 2],
+        bytes[at + 3],
+        bytes[at + 4],
+        bytes[at + 5],
+        bytes[at + 6],
+        bytes[at + 7],
+    ])
+}
+
+/// The sum of the bytes of a memory, whose quarters are summed side by side.
+fn memory_sum(memory: &[u8]) -> u64
     requires { length memory.now ≡ MEMORY_BYTES }
 {
-    let mut first = sum;
-    let mut second = sum;
-    let mut third = sum;
-    let mut fourth = sum;
-    for at in 0..QUARTER {
-        first = (first ^ u64::from(memory[at])).wrapping_mul(PRIME);
-        second = (second ^ u64::from(memory[at + QUARTER])).wrapping_mul(PRIME);
-        third = (third ^ u64::from(memory[at + 2 * QUARTER])).wrapping_mul(PRIME);
-        fourth = (fourth ^ u64::from(memory[at + 3 * QUARTER])).wrapping_mul(PRIME);
+    let mut first = 1;
+    let mut second = 2;
+    let mut third = 3;
+    let mut fourth = 4;
+    for word in 0..QUARTER / 8 {
+        let at = 8 * word;
+        first = add(first, word_at(memory, at));
+        second = add(second, word_at(memory, at + QUARTER));
+        third = add(third, word_at(memory, at + 2 * QUARTER));
+        fourth = add(fourth, word_at(memory, at + 3 * QUARTER));
     }
     add(add(add(first, second), third), fourth)
 }
 
-/// The sum of all that later steps depend on, with the part of the step's number on which the ticks
-/// depend.
-pub(crate) fn sum_of(machine: &Machine, phase: u64) -> u64 {
-    let mut sum = add(phase, u64::from(machine.pc()));
-    sum = add(sum, u64::from(machine.index()));
-    sum = add(sum, u64::from(machine.delay()));
-    sum = add_bytes(sum, machine.registers());
-    sum = add_bytes(sum, machine.flags());
+/// The sum of what changes seldom: the memory, the screen, the frames and the flag registers.
+pub(crate) fn backdrop_sum(machine: &Machine) -> u64 {
+    let mut left = memory_sum(machine.memory());
+    let mut right = u64::from(machine.high());
+    for row in 0..ROWS {
+        let points = machine.row(row);
+        left = add(left, (points >> 64) as u64);
+        right = add(right, (points % (1 << 64)) as u64);
+    }
+    let mut sum = add_bytes(add(left, right), machine.flags());
     for frame in machine.frames() {
         sum = add(sum, u64::from(*frame));
     }
-    for row in 0..64 {
-        let points = machine.row(row);
-        sum = add(sum, (points >> 64) as u64);
-        sum = add(sum, (points % (1 << 64)) as u64);
-    }
-    add_memory(sum, machine.memory())
+    sum
+}
+
+/// The sum of all that later steps depend on, by that of the backdrop, with the part of the step's
+/// number on which the ticks depend.
+pub(crate) fn sum_of(backdrop: u64, machine: &Machine, phase: u64) -> u64 {
+    let mut sum = add(backdrop, phase);
+    sum = add(sum, u64::from(machine.pc()));
+    sum = add(sum, u64::from(machine.index()));
+    sum = add(sum, u64::from(machine.delay()));
+    sum = add(sum, machine.tape_place() as u64);
+    add_bytes(sum, machine.registers())
 }

@@ -1,6 +1,6 @@
 //! A program that one key crashes.
 
-use crate::{Bounds, Causes, Outcome, Question, explore};
+use crate::{Bounds, Causes, Met, Outcome, Question, Target, explore};
 use chip_machine::{Machine, Profile, Stop};
 use std::alloc::Global;
 use std::test::Fail;
@@ -16,7 +16,10 @@ fn found(alloc: Global, allowed: u16) -> Result<Outcome, Fail> {
     let question = Question {
         rate: 10,
         allowed,
-        causes: Causes::none().with(Stop::NoInstruction),
+        target: Target {
+            causes: Causes::none().with(Stop::NoInstruction),
+            address: None,
+        },
     };
     let bounds = Bounds {
         steps: 1_000_000,
@@ -28,16 +31,12 @@ fn found(alloc: Global, allowed: u16) -> Result<Outcome, Fail> {
 #[test]
 fn finds_the_key(rt: HostRuntime) -> Result<(), Fail> {
     let is_found = match found(rt.alloc(), 0xffff)? {
-        Outcome::Found {
-            events,
-            step,
-            cause,
-        } => {
+        Outcome::Found { events, step, met } => {
             let is_pressed = match events.first() {
                 Some(event) => event.step == 0 && event.key == 5 && event.down,
                 None => false,
             };
-            is_pressed && step == 3 && cause == Stop::NoInstruction
+            is_pressed && step == 3 && met == Met::Cause(Stop::NoInstruction)
         }
         _ => false,
     };

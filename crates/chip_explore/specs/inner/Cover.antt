@@ -5,28 +5,29 @@
 --                     as the delay timer stays at 0, they never do
 --     View            the states that are kept, each with the least step at which it was reached,
 --                     and the step below which the search speaks of
---     IsFine          a state that has not stopped for a wanted cause
+--     IsFine          a state that doesn't meet the target
 --     Safe            from a state at a step on, steps that don't tell keys apart lead to the
---                     limit, to a stop, or to a state that is kept, and past no wanted cause
+--                     limit, to a stop, or to a state that is kept, and past no state that meets
+--                     the target
 --     IsTaken         so does each step from a state that is kept
 --     Extends         a view knows more than another
 --     Holds           all is safe from each state that is closed on
 --     Goes            a call keeps that, and its view extends the one before
-use Rattle.std.specs.Prelude.{◌≡◌, ℕ, zero, suc, ◌+◌, ◌-◌, ◌%◌, ◌^◌, ◌<◌, ◌≤◌, ◌⊎◌, Bool, true, false, List, length, is_some, slice_index, slice_index_or, if◌then◌else◌}
+use Rattle.std.specs.Prelude.{◌≡◌, ℕ, zero, suc, ◌+◌, ◌-◌, ◌%◌, ◌^◌, ◌<◌, ◌≤◌, ◌⊎◌, Bool, true, false, Some, None, List, length, is_some, slice_index, slice_index_or, if◌then◌else◌}
 use Rattle.chip_machine.specs.Block.{ticks}
 use Rattle.chip_machine.specs.Choices.{IsWithin, Represents}
 use Rattle.chip_machine.specs.Relevant.{relevant}
-use Rattle.chip_machine.specs.declared.stop.Stop.{Stop}
 use Rattle.chip_machine.specs.State.{State}
 use Rattle.chip_machine.specs.Step.{step_of}
 use Rattle.chip_replay.specs.Keys.{Events, held}
 use Rattle.chip_replay.specs.Run.{run}
-use Rattle.chip_explore.specs.Causes.{stops_so, StopsFor}
+use Rattle.chip_explore.specs.Target.{met_in}
 use Rattle.chip_explore.specs.declared.leg.End.{End}
 use Rattle.chip_explore.specs.declared.leg.End.TheVariants.{Past, Wanted, TimerSet, Halted, Joined}
 use Rattle.chip_explore.specs.inner.Kept.{state_at}
 use Rattle.chip_explore.specs.declared.members.Members.{Members}
 use Rattle.chip_explore.specs.declared.setting.Setting.{Setting}
+use Rattle.chip_explore.specs.declared.target.Met.{Met}
 
 abbrev pub phase : Setting → ℕ → ℕ
 phase p t = if p.free then 0 else t % p.rate
@@ -40,7 +41,7 @@ pub record View : Type 0 where
   pub limit : ℕ
 
 pub record IsFine (p : Setting) (s : State) : Type 0 where
-  pub avoided : stops_so p.causes s ≡ false
+  pub avoided : met_in p.target s ≡ None
   pub calm : p.free ≡ true → s.core.delay ≡ 0
 
 -- the next step is the same whatever allowed keys are down
@@ -125,6 +126,6 @@ IsEnd p limit s t Halted = IsFine p s × (is_some s.core.stopped ≡ true)
 IsEnd p limit s t Joined = IsFine p s
 
 -- what a run under some events shows
-pub record Confirms (p : Setting) (start : State) (keys : Events) (step : ℕ) (cause : Stop) : Type 0 where
-  pub stops : StopsFor p.causes (run step_of p.rate (held keys) start step) cause
+pub record Confirms (p : Setting) (start : State) (keys : Events) (step : ℕ) (met : Met) : Type 0 where
+  pub meets : met_in p.target (run step_of p.rate (held keys) start step) ≡ Some met
   pub allowed_only : (t : ℕ) → t < step → IsWithin p.allowed (held keys t)

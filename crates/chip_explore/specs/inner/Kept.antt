@@ -2,6 +2,7 @@
 -- Source: own.
 --     with_byte       a state with a byte in its memory
 --     with_row        rows of points with one in the place of another
+--     parts_of        what a state that is kept has beside its memory and its screen
 --     state_of        the state that a base has with the parts, the bytes and the rows of one that
 --                     is kept
 --     nth             the item at a place, if there is one
@@ -10,10 +11,11 @@ use Rattle.std.specs.Prelude.{ℕ, zero, suc, ◌+◌, ◌*◌, ◌^◌, nat_lt,
 use Rattle.chip_machine.specs.Limits.{MEMORY_BYTES}
 use Rattle.chip_machine.specs.Restored.{with_parts, with_screen}
 use Rattle.chip_machine.specs.State.{State, with_memory}
+use Rattle.chip_machine.specs.declared.parts.Parts.{Parts}
+use Rattle.chip_explore.specs.declared.backdrop.BytePatch.{BytePatch}
+use Rattle.chip_explore.specs.declared.backdrop.RowPatch.{RowPatch}
 use Rattle.chip_explore.specs.declared.kept.Base.{Base}
-use Rattle.chip_explore.specs.declared.kept.BytePatch.{BytePatch}
 use Rattle.chip_explore.specs.declared.kept.Kept.{Kept}
-use Rattle.chip_explore.specs.declared.kept.RowPatch.{RowPatch}
 
 abbrev pub with_byte : State → BytePatch → State
 with_byte s patch =
@@ -25,10 +27,24 @@ with_row rows patch =
     if nat_lt patch.row (length rows) then slice_set rows patch.row (patch.left * 2 ^ 64 + patch.right)
     else rows
 
+abbrev pub parts_of : Kept → Parts
+parts_of kept =
+    record {
+      registers = kept.registers;
+      index = kept.index;
+      pc = kept.pc;
+      frames = kept.backdrop.value.frames;
+      depth = kept.backdrop.value.depth;
+      delay = kept.delay;
+      flags = kept.backdrop.value.flags;
+      draws = kept.draws;
+      high = kept.backdrop.value.high;
+    }
+
 abbrev pub state_of : Base → Kept → State
 state_of base kept =
-    with_screen (fold with_row base.rows.items kept.rows.items)
-    (fold with_byte (with_parts kept.parts base.machine) kept.bytes.items)
+    with_screen (fold with_row base.rows.items kept.backdrop.value.rows.items)
+    (fold with_byte (with_parts (parts_of kept) base.machine) kept.backdrop.value.bytes.items)
 
 abbrev pub nth : List Kept → ℕ → Option Kept
 nth [] j = None

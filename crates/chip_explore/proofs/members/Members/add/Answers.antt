@@ -17,7 +17,7 @@ returns-clause-goes c =
     let m = c.args.self.now in
     let p = c.args.setting.now in
     let states = c.in_ok-push.ensures.items in
-    let kept = c.in_ok-kept.kept in
+    let kept = c.args.kept in
     let closed = c.in_ok-push-2.ensures.items in
     let steps = c.in_ok-push-3.ensures.items in
     let more_states = ap (length {A = Kept}) states ∙ length-append m.states.items (kept ∷ []) in
@@ -46,7 +46,7 @@ returns-clause-joins c =
     let m = c.args.self.now in
     let p = c.args.setting.now in
     let states = c.in_ok-push.ensures.items in
-    let kept = c.in_ok-kept.kept in
+    let kept = c.args.kept in
     let steps = c.in_ok-push-3.ensures.items in
     let count = c.requires.states in
     let more_steps = ap (length {A = ℕ}) steps ∙ length-append m.steps.items (c.args.step ∷ []) in

@@ -1,0 +1,159 @@
+//! What changes seldom of a state, which states share.
+
+ghost use Rattle.std.specs.Prelude.{◌≡◌, ◌+◌, ◌*◌, ◌^◌, fold, OnOk};
+ghost use Rattle.chip_explore.specs.inner.Kept.{with_byte, with_row};
+
+use crate::kept::{Base, ROWS};
+use chip_machine::Machine;
+use chip_machine::limits::{FLAGS, FRAMES, MEMORY_BYTES};
+use std::alloc::{AllocError, Global};
+use std::collections::HashMap;
+use std::rc::Rc;
+
+/// A byte of the memory that is not as in the base.
+#[derive(Clone, Copy)]
+pub(crate) struct BytePatch {
+    pub(crate) at: u16,
+    pub(crate) byte: u8,
+}
+
+/// A row of the screen that is not as in the base, by its halves.
+#[derive(Clone, Copy)]
+pub(crate) struct RowPatch {
+    pub(crate) left: u64,
+    pub(crate) right: u64,
+    pub(crate) row: u8,
+}
+
+/// The frames, the flag registers, the size of the screen, and what the memory and the screen have
+/// beside a base.
+#[derive(Drop)]
+pub(crate) struct Backdrop {
+    pub(crate) frames: [u16; FRAMES],
+    pub(crate) flags: [u8; FLAGS],
+    pub(crate) depth: u8,
+    pub(crate) high: bool,
+    pub(crate) bytes: Vec<BytePatch>,
+    pub(crate) rows: Vec<RowPatch>,
+}
+
+/// The backdrops of the states that are kept, by their sums. Nothing is claimed of it.
+#[derive(Drop)]
+pub(crate) struct Backdrops {
+    alloc: Global,
+    by_sum: HashMap<u64, Rc<Backdrop>>,
+}
+
+impl RowPatch {
+    /// The points of the row, the leftmost the highest bit.
+    fn points(self) -> u128
+        ensures { result ≡ self.left * 2 ^ 64 + self.right }
+    {
+        u128::from(self.left) * (1 << 64) + u128::from(self.right)
+    }
+}
+
+/// The bytes of the memory that are not as in the base.
+fn bytes_of(alloc: Global, base: &Base, machine: &Machine) -> Result<Vec<BytePatch>, AllocError> {
+    let old = base.machine.memory();
+    let new = machine.memory();
+    let mut bytes = Vec::new(alloc);
+    for at in 0..MEMORY_BYTES {
+        if old[at] != new[at] {
+            bytes.push(BytePatch {
+                at: at as u16,
+                byte: new[at],
+            })?;
+        }
+    }
+    bytes.shrink_to_fit();
+    Ok(bytes)
+}
+
+/// The rows of the screen that are not as in the base.
+fn rows_of(alloc: Global, base: &Base, machine: &Machine) -> Result<Vec<RowPatch>, AllocError> {
+    let mut rows = Vec::new(alloc);
+    for row in 0..ROWS {
+        let points = machine.row(row);
+        if row >= base.rows.len() || points != base.rows[row] {
+            rows.push(RowPatch {
+                left: (points >> 64) as u64,
+                right: (points % (1 << 64)) as u64,
+                row: row as u8,
+            })?;
+        }
+    }
+    rows.shrink_to_fit();
+    Ok(rows)
+}
+
+impl Backdrop {
+    /// That of a machine.
+    fn of(alloc: Global, base: &Base, machine: &Machine) -> Result<Backdrop, AllocError> {
+        let mut flags = [0; FLAGS];
+        flags.copy_from_slice(machine.flags());
+        let mut frames = [0; FRAMES];
+        let depth = machine.frames().len();
+        frames[..depth].copy_from_slice(machine.frames());
+        Ok(Backdrop {
+            frames,
+            flags,
+            depth: depth as u8,
+            high: machine.high(),
+            bytes: bytes_of(alloc, base, machine)?,
+            rows: rows_of(alloc, base, machine)?,
+        })
+    }
+
+    /// Puts the bytes in the memory of a machine.
+    pub(crate) fn put_bytes(&self, machine: &mut Machine)
+        ensures { machine.new ≡ fold with_byte machine.old self.now.bytes.items }
+    {
+        for patch in &self.bytes {
+            if (patch.at as usize) < MEMORY_BYTES {
+                machine.poke(patch.at, patch.byte);
+            }
+        }
+    }
+
+    /// Puts the rows among those of the base.
+    pub(crate) fn put_rows(&self, base: &Base, rows: &mut Vec<u128>) -> Result<(), AllocError>
+        ensures { OnOk result (rows.new.items
+            ≡ fold with_row base.now.rows.items self.now.rows.items) }
+    {
+        rows.clear();
+        rows.extend_from_slice(&base.rows)?;
+        for patch in &self.rows {
+            let row = patch.row as usize;
+            if row < rows.len() {
+                rows[row] = patch.points();
+            }
+        }
+        Ok(())
+    }
+}
+
+impl Backdrops {
+    /// None is kept yet.
+    pub(crate) fn new(alloc: Global) -> Backdrops {
+        Backdrops {
+            alloc,
+            by_sum: HashMap::new(alloc),
+        }
+    }
+
+    /// The backdrop with a sum: that of the machine, if none is kept yet.
+    pub(crate) fn of(
+        &mut self,
+        base: &Base,
+        machine: &Machine,
+        sum: u64,
+    ) -> Result<Rc<Backdrop>, AllocError> {
+        if let Some(backdrop) = self.by_sum.get(&sum) {
+            return backdrop.clone();
+        }
+        let backdrop = Rc::new(self.alloc, Backdrop::of(self.alloc, base, machine)?)?;
+        self.by_sum.insert(sum, backdrop.clone()?)?;
+        Ok(backdrop)
+    }
+}
