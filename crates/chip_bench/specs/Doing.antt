@@ -45,6 +45,7 @@ use Rattle.chip_bench.specs.Testing.{Tests}
 use Rattle.chip_bench.specs.Exploring.{AsksSet, IsSearchPrinted, cause_named, key_named, usual_causes, usual_keys}
 use Rattle.chip_explore.specs.Answers.{Answers}
 use Rattle.chip_explore.specs.declared.question.Outcome.{Outcome as Answer}
+use Rattle.chip_explore.specs.declared.target.Target.{Target}
 use Rattle.chip_machine.specs.Start.{start_of}
 use Rattle.chip_machine.specs.State.{State}
 use Rattle.chip_arguments.specs.declared.command_line.CommandLine.{CommandLine}
@@ -86,6 +87,10 @@ IsBadSet why =
 abbrev pub IsUnwritten : Bor (List ℕ) → Failure → Type 0
 IsUnwritten name why =
     (why ≡ failure.OutOfMemory) ⊎ ((because : IoError) × (why ≡ failure.CannotWrite name because))
+
+-- what a search looks for: a stop for one of these causes, at any address
+abbrev pub stops_for : (causes : ℕ) → Target
+stops_for causes = record { causes = causes; address = None }
 
 -- what hinders writing the script that was found
 abbrev pub IsScriptUnwritten : Option (Bor (List ℕ)) → Failure → Type 0
@@ -291,19 +296,19 @@ module _ {W : Type 0} (contents : W → Option (List ℕ)) (out_old out_new : Ta
       ⊎ Fails (IsUnread name) ended
 
   -- what a search over all key scripts of a machine answers is printed
-  abbrev pub SearchesFrom : ExploreWords → (rate causes keys : ℕ) → State → Outcome → Type 0
-  SearchesFrom words rate causes keys start ended =
-      ((answer : Answer) × Answers rate keys causes start answer
+  abbrev pub SearchesFrom : ExploreWords → (rate keys : ℕ) → Target → State → Outcome → Type 0
+  SearchesFrom words rate keys target start ended =
+      ((answer : Answer) × Answers rate keys target start answer
       × PrintsSuch contents out_old out_new (IsSearchPrinted answer) ended)
       ⊎ Fails (IsScriptUnwritten words.keys_to) ended
 
   -- `explore`: where the source has an image, that of its machine; else the faults
-  abbrev pub Searches : ExploreWords → SessionSettings → (causes keys : ℕ) → Option (List ℕ)
+  abbrev pub Searches : ExploreWords → SessionSettings → (keys : ℕ) → Target → Option (List ℕ)
       → (source : List ℕ) → Outcome → Type 0
-  Searches words settings causes keys (Some image) source ended =
-      SearchesFrom words settings.rate causes keys
+  Searches words settings keys target (Some image) source ended =
+      SearchesFrom words settings.rate keys target
       (start_of image settings.tape settings.profile) ended
-  Searches words settings causes keys None source ended =
+  Searches words settings keys target None source ended =
       Prints contents out_old out_new
       (printed_of (open_fault source) (printed_faults (lines_of source))) ended
 
@@ -394,7 +399,8 @@ module _ {R W : Type 0} (remaining : R → Option (List ℕ)) (contents : W → 
       (λ settings. WithSets remaining in_old in_new (out_new ≡ out_old)
       (option_copied words.causes) (option_copied words.allowed_keys) (λ causes keys.
       FromGiven remaining in_old in_new (out_new ≡ out_old) words.is_image words.source (λ source.
-      Searches contents out_old out_new words settings causes keys (image_in source) source))) ended
+      Searches contents out_old out_new words settings keys (stops_for causes) (image_in source)
+      source))) ended
 
   -- what the program did for what it was asked
   abbrev pub Does : CommandLine → Outcome → Type 0

@@ -12,6 +12,8 @@ use Rattle.chip_machine.specs.Numbers.{stop_number}
 use Rattle.chip_machine.specs.declared.stop.Stop.{Stop}
 use Rattle.chip_explore.specs.declared.question.Outcome.{Outcome}
 use Rattle.chip_explore.specs.declared.question.Outcome.TheVariants.{Found, Within, Never, OutOfMemory}
+use Rattle.chip_explore.specs.declared.target.Met.{Met}
+use Rattle.chip_explore.specs.declared.target.Met.TheVariants.{Cause, Address}
 use Rattle.chip_session.specs.Serving.{BeginsWith}
 use Rattle.chip_bench.specs.Printing.{Printed}
 use Rattle.chip_bench.specs.declared.ending.Ending.{Ending}
@@ -82,19 +84,24 @@ number_line word number = word ++ decimal number ++ 10 ∷ []
 abbrev pub cause_word : Stop → List ℕ
 cause_word cause = 83 ∷ (48 + stop_number cause) ∷ 32 ∷ []
 
+-- what was met, before the step
+abbrev pub met_word : Met → List ℕ
+met_word (Cause cause) = cause_word cause
+met_word Address = codes "reached "
+
 -- what is printed first of what a search found: the cause with its step and how many key events lead
 -- there; up to which step it avoids the wanted causes; or that it does ever. Nothing where memory
 -- ran out.
 abbrev pub first_lines : Outcome → Option (List ℕ)
-first_lines (Found events step cause) =
-    Some (number_line (cause_word cause) step ++ number_line (codes "keys ") (length events.items))
+first_lines (Found events step met) =
+    Some (number_line (met_word met) step ++ number_line (codes "keys ") (length events.items))
 first_lines (Within step) = Some (number_line (codes "within ") step)
 first_lines Never = Some (codes "never\n")
 first_lines OutOfMemory = None
 
 -- a script that was found is a fault of the source
 abbrev pub search_ending : Outcome → Ending
-search_ending (Found events step cause) = Faulty
+search_ending (Found events step met) = Faulty
 search_ending _ = Done
 
 -- What is printed of what a search found: those lines, and below them what no contract speaks of,

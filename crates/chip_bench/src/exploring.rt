@@ -2,7 +2,7 @@
 ghost use Rattle.std.specs.Prelude.{◌≡◌, ◌<◌, ◌++◌, Some, None, IfOk, IfErr, OnOk, IfSome, option_copied, option_map};
 ghost use Rattle.std.specs.Fmt.{decimal};
 ghost use Rattle.chip_bench.specs.Doing.{Explores, IsBadSet, IsScriptUnwritten, Searches, SearchesFrom, image_in};
-ghost use Rattle.chip_bench.specs.Exploring.{AsksSet, IsFirstPart, IsSearchPrinted, IsSet, cause_named, cause_word, first_lines, key_named, number_line, search_ending, usual_causes, usual_keys, with_number};
+ghost use Rattle.chip_bench.specs.Exploring.{AsksSet, IsFirstPart, IsSearchPrinted, IsSet, cause_named, cause_word, first_lines, key_named, met_word, number_line, search_ending, usual_causes, usual_keys, with_number};
 ghost use Rattle.chip_bench.specs.Printing.{PrintsSuch};
 ghost use Rattle.chip_bench.specs.inner.Sets.{IsNoQuestion, IsQuestion, number_by};
 
@@ -11,7 +11,9 @@ use crate::entry::write_image;
 use crate::output::{image_or_faults, print};
 use crate::reading::{file_name, read_given, settings_of};
 use chip_arguments::ExploreWords;
-use chip_explore::{Bounds, Causes, END, Explored, KeyEvent, Outcome, Question, STOPS};
+use chip_explore::{
+    Bounds, Causes, END, Explored, KeyEvent, Met, Outcome, Question, STOPS, Target,
+};
 use chip_machine::{Machine, Stop};
 use chip_session::{Counted, Settings};
 use itoa::Buffer;
@@ -139,7 +141,10 @@ fn question_of<'a>(words: &ExploreWords<'a>, settings: &Settings) -> Result<Ques
         (Ok(causes), Ok(allowed)) => Ok(Question {
             rate: settings.rate(),
             allowed,
-            causes,
+            target: Target {
+                causes,
+                address: None,
+            },
         }),
         (Err(why), _) => Err(why),
         (Ok(_), Err(why)) => Err(why),
@@ -158,7 +163,7 @@ fn search_source<'a, F: Files, O: Write>(
     requires rate { question.now.rate ≡ settings.now.rate }
     requires positive { 0 < question.now.rate }
     ensures { Searches O.contents output.old output.new words.entry.now settings.now
-        question.now.causes question.now.allowed (image_in source.items)
+        question.now.allowed question.now.target (image_in source.items)
         source.items result }
 {
     let Some(image) = image_or_faults(alloc, source, output)? else {
@@ -183,7 +188,7 @@ fn search<'a, F: Files, O: Write>(
     requires rate { 0 < question.now.rate }
     requires fresh { start.now.core.draws ≡ 0 }
     ensures { SearchesFrom O.contents output.old output.new words.entry.now question.now.rate
-        question.now.causes question.now.allowed start.now result }
+        question.now.allowed question.now.target start.now result }
 {
     let bounds = Bounds {
         steps: match words.steps {
@@ -249,12 +254,8 @@ fn push_first_lines<'a>(text: &mut Vec<u8>, outcome: &Outcome) -> Result<Ending,
     ensures err { IfErr result (λ why. why ≡ Failure.OutOfMemory) }
 {
     match outcome {
-        Outcome::Found {
-            events,
-            step,
-            cause,
-        } => {
-            push_line(text, &cause_word(*cause), u64::from(*step))?;
+        Outcome::Found { events, step, met } => {
+            push_met(text, *met, u64::from(*step))?;
             push_line(text, b"keys ", events.len() as u64)?;
             Ok(Ending::Faulty)
         }
@@ -267,6 +268,15 @@ fn push_first_lines<'a>(text: &mut Vec<u8>, outcome: &Outcome) -> Result<Ending,
             Ok(Ending::Done)
         }
         Outcome::OutOfMemory => Err(Failure::OutOfMemory),
+    }
+}
+
+fn push_met(text: &mut Vec<u8>, met: Met, step: u64) -> Result<(), AllocError>
+    ensures { OnOk result (text.new.items ≡ text.old.items ++ number_line (met_word met) step) }
+{
+    match met {
+        Met::Cause(cause) => push_line(text, &cause_word(cause), step),
+        Met::Address => push_line(text, b"reached ", step),
     }
 }
 
