@@ -60,7 +60,7 @@ export class Editor extends EventTarget {
     return this.#text.value;
   }
 
-  /** Another text, which is no edit. */
+  /** Another text. It isn't told as an edit. */
   set text(text) {
     if (text === this.#text.value) return;
     this.#text.value = text;
