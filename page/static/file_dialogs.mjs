@@ -129,7 +129,7 @@ export class FileDialogs {
     const source = kind === 'image' ? await sourceOf(content) : content;
     const game = readGame(source);
     if (game !== null) await this.#checkKeys(game.keys);
-    this.#documents.openText(name.replace(/\.(ch8|rom|bin)$/i, '.asm'), game?.source ?? source);
+    this.#documents.openText(name, game?.source ?? source);
     if (game !== null) this.#takeGame(game);
   }
 
