@@ -115,7 +115,7 @@ class Bridge:
         if content is None:
             raise Refused(409, f"there is no file {shown(path)}")
         if "dis" not in self._words:
-            raise Refused(409, "this program has no word `dis`, which makes a source of an image")
+            raise Refused(409, "this program has no command `dis`, which prints a source of an image")
         status, output, errors = self._run_on("dis", content)
         if status != 0:
             found = re.search(r"^reason: (.*)$", errors, re.MULTILINE)
@@ -242,7 +242,7 @@ class Bridge:
     def search(self, request: dict[str, Any]) -> dict[str, Any]:
         """The first steps from `first` to `last`, or the last ones, whose lines in `trace` have what is looked for; at most `most`."""
         if not self._trace_options:
-            raise Refused(409, "this program has no word `trace`")
+            raise Refused(409, "this program has no command `trace`")
         source, keys = bytes_of(request.get("source"), MAX_FILE), bytes_of(request.get("keys"), MAX_FILE)
         options = request.get("options")
         # what `trace` doesn't take makes no difference to a run

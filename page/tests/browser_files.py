@@ -101,7 +101,7 @@ class FileTests(PageTests):
                 assert self.said(browser.value("document.getElementById('source-text').value"), ["image"]) == self.said(text, ["image"])
                 self.check_an_edited_image(place)
             else:
-                browser.wait("/no word `dis`/.test(document.getElementById('notices').textContent)")
+                browser.wait("/no command `dis`/.test(document.getElementById('notices').textContent)")
                 assert browser.value("document.getElementById('source-text').value") == text
 
     def check_an_edited_image(self, place: Path) -> None:

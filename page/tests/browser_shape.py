@@ -103,6 +103,9 @@ class ShapeTests(PageTests):
                     ("--faint", "--here-ground"), ("--accent-text", "--accent"), ("--text", "--changed-ground"), ("--text", "--fault-ground"), ("--faint", "--ground"),
                 ):  # fmt: skip
                     assert self.contrast(one, other) >= 4.5, (theme, one, other, self.contrast(one, other))
+                for one in ("--comment", "--word", "--directive", "--register", "--number", "--string"):
+                    for other in ("--sunken", "--here-ground", "--fault-ground"):
+                        assert self.contrast(one, other) >= 4.5, (theme, one, other, self.contrast(one, other))
                 assert self.contrast("--screen-lit", "--screen-dark") >= 7
 
     def contrast(self, one: str, other: str) -> float:

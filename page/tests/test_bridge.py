@@ -610,7 +610,7 @@ class AnImage(Running):
 
     def test_a_program_without_dis(self) -> None:
         self.bridge._words.remove("dis")
-        with self.assertRaisesRegex(files.Refused, "no word `dis`"):
+        with self.assertRaisesRegex(files.Refused, "no command `dis`"):
             self.bridge.open_image(self.image)
 
 
