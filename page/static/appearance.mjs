@@ -1,4 +1,4 @@
-// How the page looks: its colours, the widths of its parts, and which part is shown where there is room for one. It stays so.
+// How the page looks: its colours, the widths of its parts, and which part is shown where there is room for one. The browser keeps colours and widths.
 
 import { byId, themeChanged } from './dom.mjs';
 

@@ -36,12 +36,12 @@ export class Documents {
   #editor;
   #store;
   #open = { name: WITHOUT_NAME, slot: WITHOUT_NAME, isFile: false, digest: null, file: null };
-  /** The text of the file when it was read or saved last, or null; and the digest of another program's that was told of. */
+  /** The text of the file when it was read or saved last, or null; and the digest of the file's text that the author was told of last. */
   #savedText = null;
   #toldDigest = null;
   #askName;
 
-  /** Of the file that the bridge tells `about`; `askName(name)` asks under which name to save. */
+  /** `about` is what the page was opened on; `askName(name)` asks under which name to save. */
   constructor(about, { model, editor, askName }) {
     this.#about = about;
     this.#model = model;
@@ -88,7 +88,7 @@ export class Documents {
     tabDocument.write({ start: this.#about.start, name, slot, isFile });
     this.#showName();
     for (const told of ['kept', 'ends', 'save', 'disk']) takeAway(told);
-    if (file?.mended) notice('ends', 'A CR in this file stands elsewhere than at the end of each line: it is shown as the end of a line, and saved as LF.');
+    if (file?.hasStrayCr) notice('ends', 'A CR in this file stands elsewhere than at the end of each line: it is shown as the end of a line, and saved as LF.');
     const isKept = kept !== null && kept.text !== file?.text;
     if (isKept && file !== null && (digest === null || kept.known !== digest)) {
       this.#putAside(kept, isFile ? 'the file was changed since' : 'opened anew');

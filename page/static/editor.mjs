@@ -20,7 +20,7 @@ export class Editor extends EventTarget {
   #lines = [''];
   #listing = [];
   #faults = new Map();
-  /** Where the faults lie and what the program says of them, by line; a line that isn't there is told by its code alone. */
+  /** Where the faults lie and what the program says of them, by line; other faulty lines show their code alone. */
   #places = new Map();
   #covered = new Map();
   #here = null;
