@@ -41,6 +41,15 @@ KINDS = {
     ".svg": "image/svg+xml",
 }
 
+# the settings at the start, as for `chipbench debug`
+SETTINGS = {
+    "rate": ("N", "how many steps lie between two ticks of the timers"),
+    "tape": ("HEX", "the random bytes"),
+    "seed": ("N", "a number that makes the random bytes"),
+    "profile": ("NAME", "schip or vip"),
+    "every": ("P", "how many steps lie between two checkpoints"),
+}
+
 HEADERS = {
     "Content-Security-Policy": "default-src 'none'; script-src 'self'; style-src 'self'; img-src 'self'; connect-src 'self'; "
     "base-uri 'none'; form-action 'none'; frame-ancestors 'none'; require-trusted-types-for 'script'",
@@ -232,8 +241,8 @@ def parser() -> argparse.ArgumentParser:
     words.add_argument("--build", metavar="COMMAND", help=argparse.SUPPRESS)
     words.add_argument("--port", metavar="N", help=f"the port (default: the first free one from {FIRST_PORT} on)")
     words.add_argument("--no-open", action="store_true", help="print the address and open no browser")
-    for name in OPTION_VALUES:
-        words.add_argument(f"--{name}", metavar="VALUE", help=f"the {name} at the start, as for `chipbench debug`")
+    for name, (value, text) in SETTINGS.items():
+        words.add_argument(f"--{name}", metavar=value, help=f"at the start: {text}")
     return words
 
 
