@@ -235,7 +235,7 @@ def parser() -> argparse.ArgumentParser:
         allow_abbrev=False,
     )
     words.add_argument("source", nargs="?", metavar="SOURCE", help="the source; a file that isn't there is made when you save")
-    words.add_argument("--image", metavar="FILE", help="open the source that `chipbench dis` prints of an image, in the place of SOURCE")
+    words.add_argument("--image", metavar="FILE", help="open the source that `chipbench dis` prints of an image, in place of SOURCE")
     words.add_argument("--program", metavar="PATH", required=True, help="the chipbench to run (default: the proved one)")
     # a command that makes the program, once the arguments are seen to be good
     words.add_argument("--build", metavar="COMMAND", help=argparse.SUPPRESS)

@@ -110,7 +110,7 @@ class Bridge:
     # Files ---------------------------------------------------------------------------------------------------------------
 
     def open_image(self, path: Path) -> None:
-        """Opens the page on the source that `dis` prints of an image, in the place of SOURCE."""
+        """Opens the page on the source that `dis` prints of an image, in place of SOURCE."""
         content = read_file(path)
         if content is None:
             raise Refused(409, f"there is no file {shown(path)}")

@@ -121,7 +121,7 @@ export class Documents {
 
   // Other documents and texts -------------------------------------------------------------------------------------------------
 
-  /** Opens another document in the place of this one, whose text is kept. */
+  /** Opens another document in place of this one, whose text is kept. */
   open(document, why) {
     this.#store.keep();
     const { text } = this.#model;

@@ -219,7 +219,7 @@ export class Editor extends EventTarget {
     this.#reveal(this.line);
   }
 
-  /** Puts a text in the place of a part, as typing would. */
+  /** Puts a text in place of a part, as typing would. */
   replace(start, end, text) {
     this.#selection = [this.#text.selectionStart, this.#text.selectionEnd];
     this.#text.setRangeText(text, start, end, 'end');

@@ -143,7 +143,7 @@ class PageTests:
         assert self.browser.value(POINTS) == rows_of("".join(said[3:])), step
 
     def put_line(self, line: int, text: str) -> None:
-        """Types a text in the place of a line."""
+        """Types a text in place of a line."""
         self.browser.value(
             f"chipbenchPage.editor.goToLine({line});"
             "{ const area = document.getElementById('source-text');"

@@ -502,7 +502,7 @@ class Saving(Running):
         self.assertEqual(sorted(os.listdir(self.folder)), ["chipbench", "game.asm"])
 
     def test_a_pipe_is_told(self) -> None:
-        """A pipe in the place of SOURCE, or of another file, is neither waited for nor written."""
+        """A pipe in place of SOURCE, or of another file, is neither waited for nor written."""
         self.path.unlink()
         os.mkfifo(self.path)
         for name, body in (("about", {}), ("read", {"name": "game.asm"}), ("save", {"name": "game.asm", "text": "CLS\n", "known": None})):
@@ -571,7 +571,7 @@ class OtherFiles(Running):
 
 
 class AnImage(Running):
-    """The page on an image, in the place of SOURCE."""
+    """The page on an image, in place of SOURCE."""
 
     def setUp(self) -> None:
         super().setUp()
