@@ -193,7 +193,7 @@ def manual(words):
         lines += [".TP", f".B {roff('--' + option.long + value)}", roff(option.help) + "."]
     lines += [
         ".SH EXIT STATUS", ".TP", "0", "Done.", ".TP", "1", "The source has faults, or doesn't open; traces differ; a case fails; `explore` found a script.",
-        ".TP", "2", "The words, a tape or a file of key events are faulty.", ".TP", "3",
+        ".TP", "2", "The arguments, a tape or a file of key events are faulty.", ".TP", "3",
         "A file, the input or the output failed, or there was too much input.", ".TP", "4",
         "Out of memory.", ".SH SEE ALSO", ".BR chipbench\\-page (1),", ".br",
         "docs/FORMATS.md (commands and answers),", ".br", "docs/LANGUAGE.md (the language of sources),", ".br",

@@ -41,6 +41,15 @@ KINDS = {
     ".svg": "image/svg+xml",
 }
 
+# the settings at the start, as for `chipbench debug`
+SETTINGS = {
+    "rate": ("N", "how many steps lie between two ticks of the timers"),
+    "tape": ("HEX", "the random bytes"),
+    "seed": ("N", "a number that makes the random bytes"),
+    "profile": ("NAME", "schip or vip"),
+    "every": ("P", "how many steps lie between two checkpoints"),
+}
+
 HEADERS = {
     "Content-Security-Policy": "default-src 'none'; script-src 'self'; style-src 'self'; img-src 'self'; connect-src 'self'; "
     "base-uri 'none'; form-action 'none'; frame-ancestors 'none'; require-trusted-types-for 'script'",
@@ -94,7 +103,7 @@ class Server(http.server.ThreadingHTTPServer):
             self.connections.leave(request)
 
     def handle_error(self, request: Any, client_address: Any) -> None:
-        """A browser that closes a connection is no error."""
+        """A browser that closes a connection isn't an error."""
         if not isinstance(sys.exc_info()[1], (ConnectionError, TimeoutError)):
             super().handle_error(request, client_address)
 
@@ -220,19 +229,20 @@ def make_server(port: int | None, bridge: Bridge) -> Server:
 def parser() -> argparse.ArgumentParser:
     words = argparse.ArgumentParser(
         prog="chipbench-page",
-        usage="%(prog)s [SOURCE] [OPTIONS]",
+        usage="%(prog)s [SOURCE | --image FILE] [OPTIONS]",
         description="Opens a page in the browser beside a source: its listing and faults, and the machine at any step.",
-        epilog="The page and this bridge stand beside the proved workbench and are no part of it.",
+        epilog="The page and this bridge are not part of the proved workbench.",
         allow_abbrev=False,
     )
     words.add_argument("source", nargs="?", metavar="SOURCE", help="the source; a file that isn't there is made when you save")
+    words.add_argument("--image", metavar="FILE", help="open the source that `chipbench dis` prints of an image, in place of SOURCE")
     words.add_argument("--program", metavar="PATH", required=True, help="the chipbench to run (default: the proved one)")
     # a command that makes the program, once the arguments are seen to be good
     words.add_argument("--build", metavar="COMMAND", help=argparse.SUPPRESS)
     words.add_argument("--port", metavar="N", help=f"the port (default: the first free one from {FIRST_PORT} on)")
     words.add_argument("--no-open", action="store_true", help="print the address and open no browser")
-    for name in OPTION_VALUES:
-        words.add_argument(f"--{name}", metavar="VALUE", help=f"the {name} at the start, as for `chipbench debug`")
+    for name, (value, text) in SETTINGS.items():
+        words.add_argument(f"--{name}", metavar=value, help=f"at the start: {text}")
     return words
 
 
@@ -259,10 +269,21 @@ def faulty_argument(words: argparse.Namespace, settings: dict[str, str]) -> str 
     for name, value in settings.items():
         if not OPTION_VALUES[name].fullmatch(value):
             return f"--{name} can't be {value}"
-    path = Path(words.source) if words.source is not None else None
-    if path is not None and path.exists() and not path.is_file():
-        return f"{shown(path)} is not a file"
+    if words.source is not None and words.image is not None:
+        return "give SOURCE or --image, and not both"
+    if words.image is not None and not Path(words.image).exists():
+        return f"there is no file {shown(words.image)}"
+    name = words.source if words.image is None else words.image
+    if name is not None and Path(name).exists() and not Path(name).is_file():
+        return f"{shown(name)} is not a file"
     return None
+
+
+def files_of(words: argparse.Namespace) -> Files:
+    """SOURCE and the files beside it; those beside the image, where that is given."""
+    if words.image is not None:
+        return Files(None, Path(words.image).parent)
+    return Files(Path(words.source) if words.source is not None else None)
 
 
 def fail(reason: str, status: int) -> int:
@@ -278,17 +299,21 @@ def main(arguments: list[str]) -> int:
     if words.build is not None and (status := subprocess.run([words.build, "--help"], stdout=subprocess.DEVNULL).returncode) != 0:
         return status
     try:
-        bridge = Bridge(words.program, Files(Path(words.source) if words.source is not None else None), settings)
+        bridge = Bridge(words.program, files_of(words), settings)
     except OSError as error:
         return fail(f"cannot run {shown(words.program)}: {error.strerror}", 3)
     try:
         if (reason := bridge.refusal()) is not None:
             return fail(reason, 2)
+        if words.image is not None:
+            bridge.open_image(Path(words.image))
         try:
             server = make_server(None if words.port is None else int(words.port), bridge)
         except OSError as error:
             return fail(f"the port can't be used: {error.strerror}", 3)
         serve(server, bridge, opens=not words.no_open)
+    except Refused as refused:
+        return fail(refused.reason, 2)
     finally:
         bridge.close()
     return 0

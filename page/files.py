@@ -34,11 +34,12 @@ def shown(path: Path | str) -> str:
 
 
 class Files:
-    """SOURCE, where there is one, and the folder that the page may read files from and save them to, by their plain names."""
+    """SOURCE, where there is one, and the folder that the page may read files from and save them to, by their plain names: that of
+    SOURCE, else `folder`, else the current one."""
 
-    def __init__(self, source: Path | None) -> None:
+    def __init__(self, source: Path | None, folder: Path | None = None) -> None:
         self.source = source
-        self.folder = Path.cwd() if source is None else source.parent.absolute()
+        self.folder = (source.parent if source is not None else folder or Path.cwd()).absolute()
 
     def path_of(self, name: Any) -> Path:
         """The path of a plain name in the folder. SOURCE's own name is always one."""
@@ -64,22 +65,7 @@ class Files:
 
     def read(self, name: str) -> bytes | None:
         """The content of a file, or none where there is no such file."""
-        path = self.path_of(name)
-        try:
-            # a pipe without a writer is no reason to wait
-            handle = os.open(path, os.O_RDONLY | os.O_NONBLOCK | os.O_CLOEXEC)
-        except FileNotFoundError:
-            return None
-        except OSError as error:
-            raise Refused(409, f"{shown(path)} can't be read: {error.strerror}") from None
-        if not stat.S_ISREG(os.fstat(handle).st_mode):
-            os.close(handle)
-            raise Refused(409, f"{shown(path)} is not a file")
-        with os.fdopen(handle, "rb") as file:
-            content = file.read(MAX_FILE + 1)
-        if len(content) > MAX_FILE:
-            raise Refused(413, f"{shown(path)} is too long for a source")
-        return content
+        return read_file(self.path_of(name))
 
     def save(self, name: str, content: bytes, known: str | None) -> bool:
         """Writes the content, unless the file is no longer the one with the digest `known`."""
@@ -104,6 +90,25 @@ class Files:
             with contextlib.suppress(OSError):
                 os.unlink(part)
         return True
+
+
+def read_file(path: Path) -> bytes | None:
+    """The content of a file, or none where there is no such file."""
+    try:
+        # a pipe without a writer must not block
+        handle = os.open(path, os.O_RDONLY | os.O_NONBLOCK | os.O_CLOEXEC)
+    except FileNotFoundError:
+        return None
+    except OSError as error:
+        raise Refused(409, f"{shown(path)} can't be read: {error.strerror}") from None
+    if not stat.S_ISREG(os.fstat(handle).st_mode):
+        os.close(handle)
+        raise Refused(409, f"{shown(path)} is not a file")
+    with os.fdopen(handle, "rb") as file:
+        content = file.read(MAX_FILE + 1)
+    if len(content) > MAX_FILE:
+        raise Refused(413, f"{shown(path)} is too long for a source")
+    return content
 
 
 def takes_its_place(new: os.stat_result, old: os.stat_result) -> bool:

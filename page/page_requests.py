@@ -9,7 +9,7 @@ import threading
 from pathlib import Path
 from typing import Any
 
-from files import MAX_FILE, Files, Refused, digest_of, shown
+from files import MAX_FILE, Files, Refused, digest_of, read_file, shown
 from program import Ended, Program, TooMuch, run_once
 from trace_search import MOST_STEPS, find_steps, pattern_of
 
@@ -37,7 +37,7 @@ def bytes_of(value: Any, most: int) -> bytes:
     try:
         return value.encode("latin-1")
     except UnicodeEncodeError:
-        raise Refused(400, "a character that is no byte") from None
+        raise Refused(400, "a character that isn't a byte") from None
 
 
 def number_of(value: Any) -> int:
@@ -76,6 +76,7 @@ class Bridge:
         self._program = program
         self._files = files
         self._settings = settings
+        self._image: dict[str, Any] | None = None
         self._running: Program | None = None
         self._session = 0
         self._start = secrets.token_hex(8)
@@ -108,12 +109,38 @@ class Bridge:
 
     # Files ---------------------------------------------------------------------------------------------------------------
 
+    def open_image(self, path: Path) -> None:
+        """Opens the page on the source that `dis` prints of an image, in place of SOURCE."""
+        content = read_file(path)
+        if content is None:
+            raise Refused(409, f"there is no file {shown(path)}")
+        if "dis" not in self._words:
+            raise Refused(409, "this program has no command `dis`, which prints a source of an image")
+        status, output, errors = self._run_on("dis", content)
+        if status != 0:
+            found = re.search(r"^reason: (.*)$", errors, re.MULTILINE)
+            reason = found[1] if found else errors.strip() or f"the program ended with status {status}"
+            raise Refused(409, f"{shown(path)} can't be opened: {reason}")
+        self._image = {
+            "name": path.name,
+            "path": str(path.resolve()),
+            "text": output.decode("latin-1"),
+            "digest": digest_of(content),
+            "isImage": True,
+        }
+
+    def _opened(self) -> dict[str, Any]:
+        """The document that the page was opened on."""
+        if self._image is not None:
+            return self._image
+        source = self._files.source
+        found = {"name": None, "path": None, "text": None, "digest": None} if source is None else self._read(source.name)
+        return {**found, "isImage": False}
+
     def about(self, _: dict[str, Any]) -> dict[str, Any]:
         """What the page was opened on, and what the program takes."""
-        source = self._files.source
-        opened = {"name": None, "path": None, "text": None, "digest": None} if source is None else self._read(source.name)
         return {
-            **opened,
+            **self._opened(),
             "start": self._start,
             "folder": str(self._files.folder),
             "settings": self._settings,
@@ -215,7 +242,7 @@ class Bridge:
     def search(self, request: dict[str, Any]) -> dict[str, Any]:
         """The first steps from `first` to `last`, or the last ones, whose lines in `trace` have what is looked for; at most `most`."""
         if not self._trace_options:
-            raise Refused(409, "this program has no word `trace`")
+            raise Refused(409, "this program has no command `trace`")
         source, keys = bytes_of(request.get("source"), MAX_FILE), bytes_of(request.get("keys"), MAX_FILE)
         options = request.get("options")
         # what `trace` doesn't take makes no difference to a run

@@ -68,7 +68,7 @@ def pattern_of(where: Any) -> re.Pattern[bytes]:
     columns = {}
     for one in where:
         if not isinstance(one, list) or len(one) != 3 or not isinstance(one[0], str) or one[0] not in COLUMNS or not isinstance(one[1], list):
-            raise Refused(400, "what is looked for is no column with its values")
+            raise Refused(400, "what is looked for isn't a column with its values")
         name, values, is_not = one
         if not 0 < len(values) <= MOST_VALUES or not all(isinstance(value, str) and VALUE.fullmatch(value) for value in values):
             raise Refused(400, "the values of a column are missing, or too many, or no numbers")

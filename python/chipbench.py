@@ -42,7 +42,7 @@ MOST_BYTES = 1 << 30
 # An answer whose first line is `no CODE` ends there. Of the others these end with a line `.`, and these have several lines.
 ENDED_BY_DOT = {b"syms", b"list", b"faults", b"screen", b"dis"}
 LINES = {b"regs": 3}
-# What the program prints in the place of all answers where the source doesn't open.
+# What the program prints in place of all answers where the source doesn't open.
 NOT_OPENED = b"no O"
 
 OK = b"ok\n"

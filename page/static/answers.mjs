@@ -64,7 +64,7 @@ export function readFaults(answer) {
   );
 }
 
-/** For each line of the listing its address, or null where it isn't live, and the field of its bytes. */
+/** For each line of the listing its address, or null where it isn't active, and the field of its bytes. */
 export function readListing(answer) {
   return linesOf(answer)
     .slice(0, -1)

@@ -1,4 +1,4 @@
-// How the page looks: its colours, the widths of its parts, and which part is shown where there is room for one. It stays so.
+// How the page looks: its colours, the widths of its parts, and which part is shown where there is room for one. The browser keeps colours and widths.
 
 import { byId, themeChanged } from './dom.mjs';
 
@@ -14,6 +14,8 @@ const SPLITTERS = [
 ];
 
 const system = matchMedia(THEMES.system);
+/** Where the source is behind a tab, as in style.css. */
+const narrow = matchMedia('(max-width: 699px)');
 
 export class Appearance {
   #kept = kept();
@@ -24,6 +26,7 @@ export class Appearance {
     byId('tabs').addEventListener('keydown', (event) => this.#moveTab(event));
     byId('full-screen').addEventListener('click', () => this.#toggleFullScreen());
     system.addEventListener('change', themeChanged);
+    narrow.addEventListener('change', () => this.showTab(document.body.dataset.tab));
     this.#apply();
     this.showTab(document.body.dataset.tab);
   }
@@ -42,9 +45,11 @@ export class Appearance {
 
   showTab(name) {
     document.body.dataset.tab = name;
+    // a source that has a place of its own leaves the one below the timeline to the machine
+    const shown = name === 'source' && !narrow.matches ? 'machine' : name;
     for (const tab of document.querySelectorAll('#tabs [role=tab]')) {
-      tab.setAttribute('aria-selected', String(tab.dataset.tab === name));
-      tab.tabIndex = tab.dataset.tab === name ? 0 : -1;
+      tab.setAttribute('aria-selected', String(tab.dataset.tab === shown));
+      tab.tabIndex = tab.dataset.tab === shown ? 0 : -1;
     }
   }
 

@@ -1,4 +1,4 @@
-// The lines at which the run is to be looked at. They go along with the lines as these move.
+// The lines at which Break stops. They move with their lines.
 
 export class Breakpoints extends EventTarget {
   #lines = new Set();

@@ -21,18 +21,27 @@ function fileDocument({ name, path, text, digest }) {
 
 const elsewhere = (name, file) => ({ name, slot: `elsewhere ${name}`, isFile: false, digest: null, file });
 
+/** The source of an image that the bridge was started on; the digest is that of the image. */
+const imageDocument = ({ name, text, digest }) => ({ ...elsewhere(name, readFile(text)), digest });
+
+/** The name under which a document that is in no file is saved, where the author gives no other. */
+function sourceName(name) {
+  if (name === WITHOUT_NAME) return 'game.asm';
+  return /\.(asm|s|txt)$/i.test(name) ? name : `${name.replace(/\.[^.]*$/, '')}.asm`;
+}
+
 export class Documents {
   #about;
   #model;
   #editor;
   #store;
   #open = { name: WITHOUT_NAME, slot: WITHOUT_NAME, isFile: false, digest: null, file: null };
-  /** The text of the file when it was read or saved last, or null; and the digest of another program's that was told of. */
+  /** The text of the file when it was read or saved last, or null; and the digest of the file's text that the author was told of last. */
   #savedText = null;
   #toldDigest = null;
   #askName;
 
-  /** Of the file that the bridge tells `about`; `askName(name)` asks under which name to save. */
+  /** `about` is what the page was opened on; `askName(name)` asks under which name to save. */
   constructor(about, { model, editor, askName }) {
     this.#about = about;
     this.#model = model;
@@ -40,7 +49,7 @@ export class Documents {
     this.#askName = askName;
     this.#store = new Store(model, {
       known: () => this.#open.digest,
-      onFull: () => notice('full', 'This browser keeps no more: save or download the text.', { bad: true }),
+      onFull: () => notice('full', 'This browser has no room left: save or download the text.', { bad: true }),
       onOther: () => this.#offerEarlier('Another window has changed this text.'),
     });
     addEventListener('focus', () => this.#checkDisk());
@@ -57,7 +66,7 @@ export class Documents {
 
   /** Opens the document that the tab had, or that of the bridge. Returns what the browser kept of it, or null. */
   async begin() {
-    if (this.#about.name !== null) this.#open = fileDocument(this.#about);
+    if (this.#about.name !== null) this.#open = this.#about.isImage ? imageDocument(this.#about) : fileDocument(this.#about);
     const kept = tabDocument.read(this.#about.start);
     if (kept !== null && kept.slot !== this.#open.slot) {
       const found = kept.isFile ? await request('read', { name: kept.name }).then(fileDocument).catch(() => null) : elsewhere(kept.name, null);
@@ -79,15 +88,15 @@ export class Documents {
     tabDocument.write({ start: this.#about.start, name, slot, isFile });
     this.#showName();
     for (const told of ['kept', 'ends', 'save', 'disk']) takeAway(told);
-    if (file?.mended) notice('ends', 'A CR in this file stands elsewhere than at the end of each line: it is shown as the end of a line, and saved as LF.');
+    if (file?.hasStrayCr) notice('ends', 'A CR in this file stands elsewhere than at the end of each line: it is shown as the end of a line, and saved as LF.');
     const isKept = kept !== null && kept.text !== file?.text;
-    if (isKept && file !== null && (!isFile || kept.known !== digest)) {
+    if (isKept && file !== null && (digest === null || kept.known !== digest)) {
       this.#putAside(kept, isFile ? 'the file was changed since' : 'opened anew');
       this.#take({ ...file, keys: kept.keys, keyHistory: kept.keyHistory });
       this.#offerEarlier(`The text is that of ${name}.`);
     } else if (isKept) {
       this.#take(kept);
-      if (isFile && file !== null) this.#tellKept(file);
+      if (file !== null) this.#tellKept(file);
     } else {
       this.#take({ ...(kept ?? {}), ...(file ?? readFile(kept?.text ?? '')), form: file === null ? kept?.form : undefined });
     }
@@ -102,15 +111,17 @@ export class Documents {
   }
 
   #tellKept(file) {
-    const takeFile = () => this.#replace(file.text, file, 'The text is now that of the file.');
-    notice('kept', "This text was kept by the browser and isn't in the file yet.", {
-      choices: [['Go on', () => {}], ['Take the text of the file', takeFile]],
+    const { isFile } = this.#open;
+    const origin = isFile ? 'text of the file' : 'source of the image';
+    const takeFile = () => this.#replace(file.text, file, `The text is now the ${origin}.`);
+    notice('kept', `This text was kept by the browser and isn't in ${isFile ? 'the' : 'a'} file yet.`, {
+      choices: [['Go on', () => {}], [`Take the ${origin}`, takeFile]],
     });
   }
 
   // Other documents and texts -------------------------------------------------------------------------------------------------
 
-  /** Opens another document in the place of this one, whose text is kept. */
+  /** Opens another document in place of this one, whose text is kept. */
   open(document, why) {
     this.#store.keep();
     const { text } = this.#model;
@@ -128,7 +139,7 @@ export class Documents {
   }
 
   openText(name, byteString) {
-    this.open(elsewhere(name, readFile(byteString)), `${name} is open now. It isn't in the folder of the bridge: Save asks for a name.`);
+    this.open(elsewhere(name, readFile(byteString)), `${name} is open now. Save asks for a name.`);
   }
 
   /** Another text takes the place of the author's, as an edit that can be undone. */
@@ -192,8 +203,9 @@ export class Documents {
   }
 
   async saveAs() {
-    const name = await this.#askName(this.#open.name === WITHOUT_NAME ? 'game.asm' : this.#open.name);
-    if (name !== null) await this.#write(name, name === this.#open.name && this.#open.isFile ? this.#open.digest : null);
+    const { name: own, isFile, digest } = this.#open;
+    const name = await this.#askName(isFile ? own : sourceName(own));
+    if (name !== null) await this.#write(name, isFile && name === own ? digest : null);
   }
 
   /** Writes a file, where it is still the one that is known. */

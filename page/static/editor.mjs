@@ -20,7 +20,7 @@ export class Editor extends EventTarget {
   #lines = [''];
   #listing = [];
   #faults = new Map();
-  /** Where the faults lie and what the program says of them, by line; a line that isn't there is told by its code alone. */
+  /** Where the faults lie and what the program says of them, by line; other faulty lines show their code alone. */
   #places = new Map();
   #covered = new Map();
   #here = null;
@@ -60,7 +60,7 @@ export class Editor extends EventTarget {
     return this.#text.value;
   }
 
-  /** Another text, which is no edit. */
+  /** Another text. It isn't told as an edit. */
   set text(text) {
     if (text === this.#text.value) return;
     this.#text.value = text;
@@ -219,7 +219,7 @@ export class Editor extends EventTarget {
     this.#reveal(this.line);
   }
 
-  /** Puts a text in the place of a part, as typing would. */
+  /** Puts a text in place of a part, as typing would. */
   replace(start, end, text) {
     this.#selection = [this.#text.selectionStart, this.#text.selectionEnd];
     this.#text.setRangeText(text, start, end, 'end');

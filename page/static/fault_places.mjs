@@ -1,4 +1,4 @@
-// Where the faults of a text lie, and what the program says of them, by its word `check`.
+// Where the faults of a text lie, and what the program says of them, by its command `check`.
 
 import { request } from './bridge.mjs';
 import { decodeText } from './text_form.mjs';

@@ -129,7 +129,7 @@ export class FileDialogs {
     const source = kind === 'image' ? await sourceOf(content) : content;
     const game = readGame(source);
     if (game !== null) await this.#checkKeys(game.keys);
-    this.#documents.openText(name.replace(/\.(ch8|rom|bin)$/i, '.asm'), game?.source ?? source);
+    this.#documents.openText(name, game?.source ?? source);
     if (game !== null) this.#takeGame(game);
   }
 
@@ -204,7 +204,7 @@ function kindOf(name) {
 /** The source text of an image, by the program's own `dis`. */
 async function sourceOf(image) {
   const { status, output, errors } = await request('word', { word: 'dis', content: image });
-  if (status === 2) throw new Error('this program has no word `dis`, which makes a source of an image');
+  if (status === 2) throw new Error('this program has no command `dis`, which prints a source of an image');
   const reason = /^reason: (.*)$/m.exec(errors)?.[1] ?? errors.trim();
   if (status !== 0) throw new Error(reason || `the program ended with status ${status}`);
   return output;

@@ -21,7 +21,7 @@ export function encodeGif({ frames, width, height, scale, colours, hundredths })
   return joined(parts);
 }
 
-/** Frames that are the same one after another are one that is shown longer. */
+/** Equal frames in a row become one that is shown longer. */
 function merged(frames) {
   const all = [];
   for (const pixels of frames) {

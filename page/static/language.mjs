@@ -81,7 +81,7 @@ const KINDS = new Map([
 
 const TOKEN = /(?<comment>;.*)|(?<text>'[^']*'?|"[^"]*"?)|(?<number>[0-9#@$][A-Za-z0-9_.]*)|(?<word>[A-Za-z_][A-Za-z0-9_]*)|(?<sign>[^\s])/g;
 
-/** The tokens of a line, each with its kind, its text and where it begins. A bad token has the kind that it begins as. */
+/** The tokens of a line, each with its kind, its text and where it begins. A bad token has the kind of what it begins like. */
 export function tokensOf(line) {
   const tokens = [];
   for (const found of line.matchAll(TOKEN)) {
@@ -92,7 +92,7 @@ export function tokensOf(line) {
   return tokens;
 }
 
-/** What a word of the language does, a row of text for each of its forms; empty where it is none. */
+/** What a word of the language does, a row of text for each of its forms; empty for other words. */
 export function rowsOf(word) {
   const wanted = word.toUpperCase();
   if (DIRECTIVES.has(wanted)) return [DIRECTIVES.get(wanted)];

@@ -9,8 +9,8 @@ const REMOVE = 2;
 const INSERT = 3;
 
 /**
- * The fewest commands that make `before` into `after`, or null where they would be too many. Lines are taken out and replaced
- * from the last to the first, so that each number is still that of `before`; then lines are put in from the first to the last,
+ * The fewest commands that make `before` into `after`, or null where they would be too many. Lines are removed and replaced
+ * from the last to the first, so that each number is still that of `before`; then lines are inserted from the first to the last,
  * at their numbers in `after`. So there are never more lines than the longer of the two has.
  */
 export function lineCommands(before, after) {

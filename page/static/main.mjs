@@ -355,7 +355,7 @@ class Page {
       const text = 'The bridge gives no answer. Your text and keys are kept in this browser: start ./chipbench-page again, and open its new address.';
       notice('fault', text, { bad: true, choices: [['Try again', again]] });
     } else {
-      const kind = fault instanceof BridgeFault ? 'The bridge refused' : fault instanceof ProgramEnded ? 'No answer' : 'A fault of this page';
+      const kind = fault instanceof BridgeFault ? 'The bridge refused' : fault instanceof ProgramEnded ? 'No answer' : 'An error of this page';
       notice('fault', `${kind}: ${fault.message}. Nothing is lost; change something, or try again.`, { bad: true, choices: [['Try again', again]] });
       if (!(fault instanceof BridgeFault || fault instanceof ProgramEnded)) console.error(fault);
     }

@@ -5,7 +5,7 @@ import { byId, element } from './dom.mjs';
 const place = byId('notices');
 
 /**
- * Shows a notice in the place of one with the same name. `choices` are pairs of a text and what it does; each takes the notice
+ * Shows a notice in place of one with the same name. `choices` are pairs of a text and what it does; each takes the notice
  * away. Without choices it can be closed.
  */
 export function notice(name, text, { bad = false, choices = [] } = {}) {

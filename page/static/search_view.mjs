@@ -9,7 +9,7 @@ const SUBJECTS = [
   ['pc', 'pc'],
   ['byte', 'the byte'],
   ...Array.from({ length: 16 }, (_, register) => [`v${hex(register, 1)}`, `V${hex(register, 1).toUpperCase()}`]),
-  ...[['i', 'I'], ['dt', 'DT'], ['st', 'ST'], ['draws', 'random bytes used'], ['frames', 'frames of the call stack'], ['stopped', 'the machine stopped']],
+  ...[['i', 'I'], ['dt', 'DT'], ['st', 'ST'], ['draws', 'random bytes used'], ['frames', 'depth of the call stack'], ['stopped', 'the machine stopped']],
 ];
 
 export class SearchView {
@@ -97,8 +97,8 @@ export class SearchView {
     const wanted = isStop ? 1 : readNumber(value.value, this.#symbols());
     const at = readNumber(address.value, this.#symbols());
     const kind = isStop ? 'is' : relation.value;
-    if (kind !== 'changes' && wanted === null) return this.#tell(`'${value.value}' is no number and no name of the source`);
-    if (chosen.value === 'byte' && !(at !== null && at < 4096)) return this.#tell(`'${address.value}' is no address`);
+    if (kind !== 'changes' && wanted === null) return this.#tell(`'${value.value}' is neither a number nor a name of the source`);
+    if (chosen.value === 'byte' && !(at !== null && at < 4096)) return this.#tell(`'${address.value}' is not an address`);
     this.#tell('');
     const told = await this.find(forward, { of: subject(chosen.value, at ?? 0), relation: kind, wanted: [wanted] });
     if (told !== null) this.#tell(told);
@@ -117,7 +117,7 @@ export class SearchView {
       return `step ${grouped(found)}`;
     } catch (fault) {
       if (fault instanceof NoSuchStep) return `no such step: ${fault.message}`;
-      return fault instanceof SearchStopped ? 'stopped' : fault.message || 'the search was given up';
+      return fault instanceof SearchStopped ? 'stopped' : fault.message || 'the search failed';
     } finally {
       this.#show(false);
     }

@@ -7,7 +7,7 @@ export class SourceMap {
   /** Of the listing's lines, and the number of bytes in the image. */
   constructor(listing = [], imageLength = 0, imageStart = 512) {
     this.#spans = [];
-    // a line with bytes ends where the next live line begins
+    // a line with bytes ends where the next active line begins
     let end = imageStart + imageLength;
     for (let place = listing.length - 1; place >= 0; place -= 1) {
       const { address, field } = listing[place];

@@ -24,7 +24,7 @@ export class Store {
   #text = null;
 
   /**
-   * `known()` is the digest of the file that the text was last the same as. `onFull()` is called when the browser keeps no more,
+   * `known()` is the digest of the file that the text was last the same as. `onFull()` is called when the browser has no room left,
    * `onOther()` when the text of another window was put aside for that of this one.
    */
   constructor(model, { known, onFull, onOther }) {

@@ -30,8 +30,8 @@ function toByteString(bytes) {
 }
 
 /**
- * How a file's bytes are shown: `encoding` utf-8, or latin-1 where they are no UTF-8; `lineEnd` CR LF where each line ends so;
- * `mended` where a CR stood elsewhere, which an editor shows as the end of a line.
+ * How a file's bytes are shown: `encoding` utf-8, or latin-1 where they are not UTF-8; `lineEnd` CR LF where each line ends so;
+ * `hasStrayCr` where a CR stood elsewhere, which an editor shows as the end of a line.
  */
 export function readFile(byteString) {
   const bytes = toBytes(byteString);
@@ -40,8 +40,8 @@ export function readFile(byteString) {
   const ends = text.split('\n').length - 1;
   const pairs = text.split('\r\n').length - 1;
   const lineEnd = pairs > 0 && pairs === ends ? '\r\n' : '\n';
-  const mended = text.split('\r').length - 1 !== (lineEnd === '\r\n' ? pairs : 0);
-  return { text: text.replace(/\r\n?/g, '\n'), encoding, lineEnd, mended };
+  const hasStrayCr = text.split('\r').length - 1 !== (lineEnd === '\r\n' ? pairs : 0);
+  return { text: text.replace(/\r\n?/g, '\n'), encoding, lineEnd, hasStrayCr };
 }
 
 /** The bytes of an editor's text, as a byte string. A character that latin-1 lacks becomes `?`. */

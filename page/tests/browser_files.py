@@ -96,11 +96,12 @@ class FileTests(PageTests):
             browser.wait("chipbenchPage.model.keys.at(40, 5)?.down === true && chipbenchPage.model.keys.size === 1")
             self.upload(place / "guess.ch8")
             if browser.value("fetch('about', { method: 'POST', body: '{}' }).then((reply) => reply.json()).then(({ words }) => words.includes('dis'))"):
-                browser.wait("document.getElementById('source-text').value.includes('RND V0')")
+                browser.wait("document.getElementById('file-name').textContent === 'guess.ch8'")
+                assert self.source() != text
                 assert self.said(browser.value("document.getElementById('source-text').value"), ["image"]) == self.said(text, ["image"])
                 self.check_an_edited_image(place)
             else:
-                browser.wait("/no word `dis`/.test(document.getElementById('notices').textContent)")
+                browser.wait("/no command `dis`/.test(document.getElementById('notices').textContent)")
                 assert browser.value("document.getElementById('source-text').value") == text
 
     def check_an_edited_image(self, place: Path) -> None:
@@ -140,8 +141,8 @@ class FileTests(PageTests):
             browser.wait("document.getElementById('source-text').value === 'LD V0, 3\\n'")
             browser.press("s", "KeyS", CONTROL)
             time.sleep(0.3)
-            assert first.read_text() == "CLS\n"
-            assert self.text_of("#file-name") == "third.asm"
+            assert first.read_text() == "CLS\n", f"the first file has the text of another: {first.read_text()!r}"
+            assert self.text_of("#file-name") == "third.asm", self.text_of("#file-name")
             assert browser.value("document.title").startswith("third.asm")
             browser.wait("document.getElementById('save-as').open")
             browser.click("#save-as [value=save]")
@@ -162,6 +163,37 @@ class FileTests(PageTests):
             self.open_named("third.asm")
             assert self.source() == "LD V0, 33\n"
             assert (self.folder / "third.asm").read_text() == "LD V0, 3\n"
+
+    def test_an_image(self) -> None:
+        """Its source is opened under its name, and is in no file until it is saved; the image stays as it is."""
+        image = bytes.fromhex(self.said(self.example("guess"), ["image"]))
+        with self.page(image, "guess.ch8", ("--tape", "05")) as browser:
+            shown = self.source()
+            assert shown == subprocess.run([self.program, "dis", str(self.path)], capture_output=True, text=True, check=True).stdout
+            assert (self.text_of("#file-name"), browser.value("document.title")) == ("guess.ch8", "guess.ch8 – chipbench")
+            assert self.text_of("#file-state").startswith("not in a file"), self.text_of("#file-state")
+            self.check_step(shown, 300, [], ("--tape", "05"))
+            # what is typed is there again after a reload, and the source of the image can be taken again
+            self.put_line(1, "RND V0, 7 ; mine")
+            mine = self.source()
+            self.rest()
+            self.reload()
+            assert self.source() == mine
+            self.notice_button("Take the source of the image")
+            assert self.source() == shown
+            browser.value("document.getElementById('source-text').focus()")
+            browser.press("z", "KeyZ", CONTROL)
+            assert self.source() == mine
+            # saving asks for a name, and proposes that of a source
+            browser.press("s", "KeyS", CONTROL)
+            browser.wait("document.getElementById('save-as').open")
+            assert browser.value("document.querySelector('#save-as [name=name]').value") == "guess.asm"
+            browser.click("#save-as [value=save]")
+            browser.wait("document.getElementById('file-state').textContent === 'saved'")
+            assert self.text_of("#file-name") == "guess.asm"
+            assert ((self.folder / "guess.asm").read_text(), self.path.read_bytes()) == (mine, image)
+            self.reload()
+            assert (self.text_of("#file-name"), self.source()) == ("guess.asm", mine)
 
     def test_save_as(self) -> None:
         """A file that is there already is told of before it is written over, and its text is kept."""
@@ -290,7 +322,8 @@ class FileTests(PageTests):
             keys = self.folder / "play.keys"
             keys.write_bytes(b"; a play, as the guide writes one\n\n  100 #5 down ; press\r\n#78 5 up\n200 12 down")
             self.upload(keys)
-            browser.wait("chipbenchPage.model.keys.size === 3")
+            browser.wait("chipbenchPage.model.keys.size > 0 || document.querySelector('.notice') !== null")
+            assert browser.value("chipbenchPage.model.keys.size") == 3, self.text_of("#notices")
             self.check_step(text, 300, ["kins 100 5 down", "kins 120 5 up", "kins 200 12 down"])
             for line, code in (("100 16 down", "N6"), ("100 5 down", "N7"), ("1 2 3", "C1"), ("5 5 down now", "C1")):
                 keys.write_text(f"; a comment\n100 5 down\n{line}\n")
@@ -366,18 +399,29 @@ class FileTests(PageTests):
             browser.value("document.getElementById('download-case').click()")
             browser.wait("/can't hold a source with a line `end`/.test(document.getElementById('notices').textContent)")
 
-    def test_addresses_and_arguments(self) -> None:
-        """An address without its last slash is the page; faulty arguments end with a sentence before anything starts."""
+    def test_an_address_without_its_last_slash(self) -> None:
+        """It is the page too."""
         with self.page("LD V0, 5\n") as browser:
             browser.open(self.address.removesuffix("/"))
-            browser.wait(f"location.pathname.endsWith('/') && {SETTLED}")
+            browser.wait(SETTLED)
             self.step(1)
             assert self.registers()["V0"] == "05"
+            assert browser.value("location.pathname").endswith("/"), browser.value("location.pathname")
+
+    def test_faulty_arguments(self) -> None:
+        """Each ends with a sentence that names it, before anything starts."""
+        self.path.write_text("LD V0, 5\n")
+        wrong = []
         for faulty in (("--port", "99999"), ("--seed", "99999999999999999999"), ("--rate", "99999"), ("--profile", "foo")):
             words = [sys.executable, "-B", str(self.page_folder / "bridge.py"), "--program", self.program, "--no-open", *faulty, str(self.path)]
-            run = subprocess.run(words, capture_output=True, text=True, timeout=20)
-            assert (run.returncode, run.stdout) == (2, ""), (faulty, run)
-            assert faulty[1] in run.stderr and "Traceback" not in run.stderr, run.stderr
+            try:
+                run = subprocess.run(words, capture_output=True, text=True, timeout=5 * self.browser.patience)
+            except subprocess.TimeoutExpired:
+                wrong.append((*faulty, "the page was started"))
+                continue
+            if (run.returncode, run.stdout) != (2, "") or faulty[1] not in run.stderr or "Traceback" in run.stderr:
+                wrong.append((*faulty, run.returncode, run.stderr.strip()))
+        assert wrong == [], wrong
 
     def test_the_file_that_a_browser_is_given(self) -> None:
         """It leads on to the page, from a file of mode 0600."""

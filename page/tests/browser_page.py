@@ -69,12 +69,13 @@ class PageTests:
         self.address = ""
 
     @contextlib.contextmanager
-    def page(self, text: str, name: str = "game.asm", words: tuple[str, ...] = ()) -> Iterator[Browser]:
-        """The page on a new file with this text, in a browser that keeps nothing of it yet."""
+    def page(self, text: str | bytes, name: str = "game.asm", words: tuple[str, ...] = ()) -> Iterator[Browser]:
+        """The page on a new file with this text, or on an image with these bytes, in a browser that keeps nothing of it yet."""
         self.path = self.folder / name
-        self.path.write_text(text)
+        self.path.write_bytes(text.encode() if isinstance(text, str) else text)
+        opened = [str(self.path)] if isinstance(text, str) else ["--image", str(self.path)]
         self.bridge = subprocess.Popen(
-            [sys.executable, "-B", str(self.page_folder / "bridge.py"), "--program", self.program, "--no-open", "--port", "0", *words, str(self.path)],
+            [sys.executable, "-B", str(self.page_folder / "bridge.py"), "--program", self.program, "--no-open", "--port", "0", *words, *opened],
             stdout=subprocess.PIPE,
             stderr=subprocess.DEVNULL,
             text=True,
@@ -142,7 +143,7 @@ class PageTests:
         assert self.browser.value(POINTS) == rows_of("".join(said[3:])), step
 
     def put_line(self, line: int, text: str) -> None:
-        """Types a text in the place of a line."""
+        """Types a text in place of a line."""
         self.browser.value(
             f"chipbenchPage.editor.goToLine({line});"
             "{ const area = document.getElementById('source-text');"

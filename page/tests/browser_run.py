@@ -326,14 +326,15 @@ class RunTests(PageTests):
             listing = [line.split() for line in self.said(text, ["list"]).splitlines()[:-1]]
             lines = {words[1]: words[0] for words in listing if len(words) > 2 and words[2][:1] in "0123456789abcdef"}
             browser.value(
-                "globalThis.samples = []; globalThis.sample = () => { const text = (name) => document.querySelector(name)?.textContent ?? '';"
+                "globalThis.samples = []; globalThis.moved = 'played'; globalThis.sample = () => { const text = (name) => document.querySelector(name)?.textContent ?? '';"
                 "const registers = %s; samples.push([registers.pc, text('#disassembly tr.here td:nth-child(2)'), text('#gutter .here .number'),"
-                "document.getElementById('step').value]); if (samples.length < 400) requestAnimationFrame(sample); }" % REGISTERS
+                "document.getElementById('step').value, moved]); if (samples.length < 400) requestAnimationFrame(sample); }" % REGISTERS
             )
             browser.click("#play")
             browser.value("sample()")
             browser.wait("samples.length >= 90")
             browser.click("#play")
+            browser.value("globalThis.moved = 'dragged'")
             x, y, width = browser.value("(() => { const b = document.getElementById('overview').getBoundingClientRect(); return [b.x, b.y + b.height / 2, b.width]; })()")
             browser.mouse("mousePressed", x + 2, y)
             for move in range(60):
@@ -343,7 +344,8 @@ class RunTests(PageTests):
             samples = browser.value("samples")
             assert len({sample[3] for sample in samples}) > 40, len(samples)
             apart = [sample for sample in samples if sample[0] != sample[1] or lines[sample[0]] != sample[2]]
-            assert apart == [], (len(apart), len(samples), apart[:3])
+            counts = {moved: (sum(sample[4] == moved for sample in apart), sum(sample[4] == moved for sample in samples)) for moved in ("played", "dragged")}
+            assert apart == [], (f"of another step or line, of all: {counts}", apart[:3])
             said = dict(zip([sample[3] for sample in samples], [sample[0] for sample in samples]))
             for step, pc in list(said.items())[:: max(1, len(said) // 12)]:
                 assert self.said(text, [f"regs {step}"]).split()[18] == pc, step
@@ -363,9 +365,9 @@ class RunTests(PageTests):
             assert browser.value(size) == 4
             browser.press("t", "KeyT")
             browser.press("z", "KeyZ", CONTROL)
-            assert browser.value(size) == 3
+            assert browser.value(size) == 3, f"of 4 recorded events one undo leaves {browser.value(size)}"
             browser.press("y", "KeyY", CONTROL)
-            assert browser.value(size) == 4
+            assert browser.value(size) == 4, f"one redo leaves {browser.value(size)} of 4 recorded events"
             events = browser.value("chipbenchPage.model.keys.events")
             time.sleep(0.5)
             self.reload()
@@ -386,8 +388,10 @@ class RunTests(PageTests):
         text = self.example("bounce")
         with self.page(text) as browser:
             began = time.monotonic()
-            assert "never above 4350" in self.searched("#7000", "next"), self.text_of("#search-result")
-            assert time.monotonic() - began < 1.0 * self.browser.patience
+            told = self.searched("#7000", "next")
+            took = time.monotonic() - began
+            assert took < 1.0 * self.browser.patience, f"{told!r} after {took:.1f} s"
+            assert "never above 4350" in told, told
             for direction, step in (("next", 0), ("last", browser.value("chipbenchPage.model.lastStep"))):
                 self.step(step)
                 began = time.monotonic()

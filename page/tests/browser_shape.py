@@ -103,6 +103,9 @@ class ShapeTests(PageTests):
                     ("--faint", "--here-ground"), ("--accent-text", "--accent"), ("--text", "--changed-ground"), ("--text", "--fault-ground"), ("--faint", "--ground"),
                 ):  # fmt: skip
                     assert self.contrast(one, other) >= 4.5, (theme, one, other, self.contrast(one, other))
+                for one in ("--comment", "--word", "--directive", "--register", "--number", "--string"):
+                    for other in ("--sunken", "--here-ground", "--fault-ground"):
+                        assert self.contrast(one, other) >= 4.5, (theme, one, other, self.contrast(one, other))
                 assert self.contrast("--screen-lit", "--screen-dark") >= 7
 
     def contrast(self, one: str, other: str) -> float:
@@ -126,6 +129,26 @@ class ShapeTests(PageTests):
                     time.sleep(0.15)
                     self.check_view(width, height)
                     self.picture(f"view-{width}-{height}-{theme}")
+
+    def test_tabs(self) -> None:
+        """At each width the chosen tab is that of the part that is shown, and the keyboard reaches it."""
+        chosen = "[...document.querySelectorAll('#tabs [role=tab]')].filter((tab) => tab.checkVisibility() && tab.getAttribute('aria-selected') === 'true' && tab.tabIndex === 0).map((tab) => tab.dataset.tab).join()"
+        parts = {"source": "source-part", "machine": "registers-part", "keys": "keys-part", "search": "search-part"}
+        with self.page(self.example("bounce")) as browser:
+            for width, at_first in ((1000, "machine"), (360, "source")):
+                browser.size(width, 740)
+                browser.value("chipbenchPage.appearance.showTab('source')")
+                browser.wait(f"{chosen} === '{at_first}'")
+                for tab in (at_first, "keys", "search", "machine"):
+                    browser.value(f"[...document.querySelectorAll('#tabs [role=tab]')].find((tab) => tab.dataset.tab === '{tab}').click()")
+                    assert browser.value(chosen) == tab, (width, tab, browser.value(chosen))
+                    visible = [name for name, part in parts.items() if browser.value(f"document.getElementById('{part}').checkVisibility()")]
+                    assert set(visible) - ({"source"} if width >= 700 else set()) == {tab}, (width, tab, visible)
+            # a window that is made wider or narrower keeps to that
+            browser.value("chipbenchPage.appearance.showTab('source')")
+            for width, tab in ((1000, "machine"), (360, "source")):
+                browser.size(width, 740)
+                browser.wait(f"{chosen} === '{tab}'")
 
     def check_view(self, width: int, height: int) -> None:
         boxes = (

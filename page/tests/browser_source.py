@@ -168,7 +168,7 @@ class SourceTests(PageTests):
             browser.wait("/JP a {2}.1NNN.: goes to a/.test(document.getElementById('hover').textContent)")
 
     def test_faults_are_underlined(self) -> None:
-        """At their tokens, with the program's own sentence, by its word `check`."""
+        """At their tokens, with the program's own sentence, by its command `check`."""
         said = "game.asm:2:12: F9: undefined name\n        JP LOOPS\n           ^~~~~\n"
         program = self.program
         self.program = self.with_check(said)
@@ -185,7 +185,7 @@ class SourceTests(PageTests):
             self.program = program
 
     def with_check(self, said: str) -> str:
-        """The program; where it lacks the word `check`, one that has it, with this answer."""
+        """The program; where it lacks the command `check`, one that has it, with this answer."""
         if re.search(r"^\s+check\b", subprocess.run([self.program, "--help"], capture_output=True, text=True).stdout, re.MULTILINE):
             return self.program
         place, answer = self.folder / "with-check", self.folder / "with-check.out"

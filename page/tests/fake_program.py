@@ -120,7 +120,11 @@ def main(words: list[str]) -> int:
         return 0
     if words[:1] == ["dis"]:
         with open(words[1], "rb") as file:
-            sys.stdout.write(f"DW #{file.read().hex()}\n")
+            image = file.read()
+        if len(image) > 3584:
+            sys.stderr.write(f"chipbench: cannot read {words[1]}\nreason: it has over 3584 bytes\n")
+            return 3
+        sys.stdout.write(f"DW #{image.hex()}\n")
         return 0
     if words == ["trace", "--help"]:
         sys.stdout.write(TRACE_HELP)

@@ -130,7 +130,7 @@ class Firefox(Browser):
         self._theme = name
         with contextlib.suppress(RuntimeError):
             self.wait("location.protocol !== 'http:' || globalThis.chipbenchPage !== undefined", 5.0)
-            self.value(f"globalThis.chipbenchPage?.appearance?.choose({{ ...globalThis.chipbenchPage.appearance.kept, theme: {json.dumps(name)} }})")
+            self.value(f"globalThis.chipbenchPage?.appearance?.choose({{ screen: globalThis.chipbenchPage.appearance.screen, theme: {json.dumps(name)} }})")
 
     def _keys(self, *actions: dict[str, Any]) -> None:
         self.call("input.performActions", context=self._context, actions=[{"type": "key", "id": "keyboard", "actions": list(actions)}])

@@ -502,7 +502,7 @@ class Saving(Running):
         self.assertEqual(sorted(os.listdir(self.folder)), ["chipbench", "game.asm"])
 
     def test_a_pipe_is_told(self) -> None:
-        """A pipe in the place of SOURCE, or of another file, is neither waited for nor written."""
+        """A pipe in place of SOURCE, or of another file, is neither waited for nor written."""
         self.path.unlink()
         os.mkfifo(self.path)
         for name, body in (("about", {}), ("read", {"name": "game.asm"}), ("save", {"name": "game.asm", "text": "CLS\n", "known": None})):
@@ -570,6 +570,50 @@ class OtherFiles(Running):
         self.assertEqual(self.path.read_bytes(), b"RET\n")
 
 
+class AnImage(Running):
+    """The page on an image, in place of SOURCE."""
+
+    def setUp(self) -> None:
+        super().setUp()
+        self.image = self.folder / "game.ch8"
+        self.image.write_bytes(b"\x12\x00")
+        self.bridge._files = files.Files(None, self.folder)
+
+    def test_its_source_is_opened(self) -> None:
+        self.bridge.open_image(self.image)
+        about = self.good("about")
+        self.assertEqual((about["name"], about["text"], about["isImage"]), ("game.ch8", "DW #1200\n", True))
+        self.assertEqual(about["digest"], files.digest_of(b"\x12\x00"))
+        self.assertEqual(self.saved(about["text"], None, "new.asm")[1]["saved"], True)
+        self.assertEqual(((self.folder / "new.asm").read_bytes(), self.image.read_bytes()), (b"DW #1200\n", b"\x12\x00"))
+
+    def test_it_is_read_once(self) -> None:
+        """What takes its place later is opened by another start."""
+        self.bridge.open_image(self.image)
+        self.image.unlink()
+        self.assertEqual(self.good("about")["text"], "DW #1200\n")
+
+    def test_what_is_no_image(self) -> None:
+        long, pipe = self.folder / "long.ch8", self.folder / "pipe.ch8"
+        long.write_bytes(bytes(3585))
+        os.mkfifo(pipe)
+        for path, said in (
+            (long, f"{long} can't be opened: it has over 3584 bytes"),
+            (self.folder / "none.ch8", f"there is no file {self.folder / 'none.ch8'}"),
+            (self.folder, f"{self.folder} is not a file"),
+            (pipe, f"{pipe} is not a file"),
+        ):
+            with self.assertRaises(files.Refused) as caught:
+                self.bridge.open_image(path)
+            self.assertEqual(caught.exception.reason, said)
+        self.assertEqual(self.good("about")["name"], None)
+
+    def test_a_program_without_dis(self) -> None:
+        self.bridge._words.remove("dis")
+        with self.assertRaisesRegex(files.Refused, "no command `dis`"):
+            self.bridge.open_image(self.image)
+
+
 class KeyFiles(Running):
     """Whether the program takes a file of key events; here one without `--keys`, which is asked line by line."""
 
@@ -614,9 +658,30 @@ class TheScript(unittest.TestCase):
             self.assertEqual(running.wait(10), 0)
         self.assertEqual(sorted(os.listdir(self.folder)), ["chipbench", "game.asm"])
 
+    def test_start_on_an_image(self) -> None:
+        """Its source is opened under its name, and files are those of its folder, wherever the bridge is started."""
+        (self.folder / "images").mkdir()
+        (self.folder / "images/-game.ch8").write_bytes(b"\x12\x00")
+        words = ["--program", fake_program(self.folder), "--no-open", "--port", "0", "--image=-game.ch8"]
+        with subprocess.Popen(
+            [str(TOP / "chipbench-page"), *words], stdout=subprocess.PIPE, stderr=subprocess.DEVNULL, text=True, cwd=self.folder / "images"
+        ) as running:
+            assert running.stdout is not None
+            address = running.stdout.readline().split()[1]
+            port, token = re.fullmatch(r"http://127\.0\.0\.1:(\d+)/([\w-]{32})/", address).groups()  # type: ignore[union-attr]
+            connection = http.client.HTTPConnection("127.0.0.1", int(port), timeout=10)
+            connection.request("POST", f"/{token}/about", b"{}", {"Origin": f"http://127.0.0.1:{port}"})
+            about = json.loads(connection.getresponse().read())
+            connection.close()
+            self.assertEqual((about["name"], about["text"], about["folder"]), ("-game.ch8", "DW #1200\n", str(self.folder / "images")))
+            running.terminate()
+            self.assertEqual(running.wait(10), 0)
+
     def test_faulty_arguments(self) -> None:
         """Each ends with a sentence before anything starts."""
         own = ["--program", fake_program(self.folder)]
+        (self.folder / "game.ch8").write_bytes(b"\x12\x00")
+        (self.folder / "long.ch8").write_bytes(bytes(3585))
         for arguments, status, said in (
             ([*own, "--rate", "x"], 2, "--rate can't be x"),
             ([*own, "--rate", "99999"], 2, "99999 is not in 1..=1000"),
@@ -626,6 +691,11 @@ class TheScript(unittest.TestCase):
             ([*own, "--nothing"], 2, "--nothing"),
             ([*own, "a.asm", "b.asm"], 2, "b.asm"),
             ([*own, str(self.folder)], 2, "is not a file"),
+            ([*own, "--image", str(self.folder)], 2, "is not a file"),
+            ([*own, "--image", str(self.folder / "none.ch8")], 2, "there is no file"),
+            ([*own, "--image", str(self.folder / "game.ch8"), "a.asm"], 2, "give SOURCE or --image, and not both"),
+            ([*own, "--image", str(self.folder / "long.ch8")], 2, "it has over 3584 bytes"),
+            ([*own, "--image"], 2, "--image"),
             (["--program", str(self.folder / "none")], 3, "cannot run"),
             (["--help"], 0, ""),
         ):
@@ -641,7 +711,7 @@ class TheScript(unittest.TestCase):
         build.write_text(f'#!/bin/sh\n: > "{built}"\nexit 7\n')
         build.chmod(0o755)
         words = [sys.executable, "-B", str(FOLDER.parent / "bridge.py"), "--program", fake_program(self.folder), "--build", str(build), "--no-open"]
-        for faulty in (("--port", "99999"), ("--seed", "1x"), ("--what",), ("a", "b"), ("--rate",), (str(self.folder),)):
+        for faulty in (("--port", "99999"), ("--seed", "1x"), ("--what",), ("a", "b"), ("--rate",), (str(self.folder),), ("--image", "none.ch8"), ("--image", __file__, "a")):
             run = subprocess.run([*words, *faulty], capture_output=True, text=True, timeout=20)
             self.assertEqual((run.returncode, run.stdout, built.exists()), (2, "", False), faulty)
             self.assertNotIn("Traceback", run.stderr)

@@ -134,11 +134,11 @@ test('texts: bytes stay as they were', () => {
   for (const bytes of ['', 'CLS\n', 'CLS', 'A\r\nB\r\n', '; h\u00c3\u00a9\n', every]) {
     const file = readFile(bytes);
     assert.equal(writeFile(file.text, file), bytes);
-    assert.equal(file.mended, false);
+    assert.equal(file.hasStrayCr, false);
   }
   assert.equal(readFile('; h\u00c3\u00a9').text, '; hé');
   assert.equal(readFile('; \u00e9').encoding, 'latin-1');
-  assert.deepEqual(readFile('A\rB\r\n').mended, true);
+  assert.deepEqual(readFile('A\rB\r\n').hasStrayCr, true);
   assert.equal(encodeText('é€', 'latin-1'), 'é?');
   assert.equal(decodeText(encodeText('é€', 'utf-8'), 'utf-8'), 'é€');
 });

@@ -19,7 +19,7 @@ OpenBench = Callable[[bytes], Bench]
 
 
 class OverLimits(Exception):
-    """The document is no source: the lines that pass a limit, each with a code and a sentence. Lines are counted from 0."""
+    """The document can't be a source: the lines that pass a limit, each with a code and a sentence. Lines are counted from 0."""
 
     def __init__(self, lines: list[tuple[int, str, str]]) -> None:
         super().__init__("the document is over the limits of a source")
@@ -125,7 +125,7 @@ class Document:
         return len(self._lines)
 
     def line(self, number: int) -> str:
-        """A line without its end, counted from 0. There is none beyond the last: that is empty."""
+        """A line without its end, counted from 0; empty past the last line."""
         if not 0 <= number < len(self._lines):
             return ""
         line = self._lines[number]

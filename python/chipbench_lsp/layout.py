@@ -73,7 +73,7 @@ def formatted(line: Line) -> str:
 
 
 def format_lines(document: Document, first: int, last: int, open_bench: OpenBench) -> list[dict[str, Any]]:
-    """The edits that put the lines from `first` to `last` in columns. The source assembles to the same, which is checked."""
+    """The edits that put the lines from `first` to `last` in columns, if the source still assembles to the same."""
     lines = document.lines
     edits = []
     for number in range(max(first, 0), min(last + 1, len(lines))):

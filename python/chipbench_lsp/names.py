@@ -74,7 +74,7 @@ def prepare_rename(document: Document, number: int, place: int) -> dict[str, Any
 
 
 def rename(document: Document, number: int, place: int, new_name: str, open_bench: OpenBench) -> dict[str, Any]:
-    """One edit of all uses. It is refused where the new name can't be one, is taken, or the source would assemble otherwise."""
+    """One edit of all uses. It is refused where the new name can't be one, is taken, or changes what is assembled."""
     token = name_at(document, number, place)
     if token is None:
         raise Failed(REQUEST_FAILED, "there is no name here")

@@ -28,7 +28,7 @@ class Columns:
         return len(text) + sum(character > "\uffff" for character in text)
 
     def index(self, line: str, column: int) -> int:
-        """The place in a line of a column; a column inside a character is before it, one past the end is the end.
+        """The place in a line of a column. Inside a character that is its start, past the end of the line the end.
 
         >>> [Columns().index("a\U0001f600b", column) for column in range(6)]
         [0, 1, 1, 2, 3, 3]

@@ -30,11 +30,11 @@ class Failed(Exception):
 
 
 class BadMessage(Exception):
-    """Bytes that are no message. What follows them can be read."""
+    """Bytes that aren't a message. What follows them can be read."""
 
 
 def read_length(stream: BinaryIO) -> int | None:
-    """The length that the next header names; None at the end of the stream. Lines that are no header are skipped."""
+    """The length that the next header names; None at the end of the stream. Other lines are skipped."""
     length: int | None = None
     while True:
         line = stream.readline(LONGEST_HEADER)

@@ -234,12 +234,14 @@ class Endings(Opened):
 
 class Words(NeedsWords):
     def test_an_image_becomes_a_source(self) -> None:
-        image = bytes.fromhex("00e0a21ef333fffe")
-        with Bench(image=image, program=self.program) as bench:
-            self.assertEqual(bench.image, image)
+        """Whatever it has: words that are not instructions, an odd number of bytes, none, as many as there can be."""
+        for image in (bytes.fromhex("00e0a21ef333fffe"), b"\x60\x05\x07", b"", bytes(3584)):
+            with Bench(image=image, program=self.program) as bench:
+                self.assertEqual(bench.image, image)
+                self.assertEqual(bench.source, chipbench.disassemble(image, self.program))
 
     def test_an_image_that_is_too_long(self) -> None:
-        with self.assertRaises(Ended):
+        with self.assertRaisesRegex(Ended, "it has over 3584 bytes"):
             Bench(image=bytes(3585), program=self.program)
 
     def test_places_of_faults(self) -> None:

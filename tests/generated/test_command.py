@@ -91,7 +91,7 @@ def changed():
     for place, byte in enumerate(GOOD):
         for other in (0, ord("\n"), ord("!"), byte ^ 1, 255):
             if other != byte:
-                yield f"with {other} in the place of byte {place}", GOOD[:place] + bytes([other]) + GOOD[place + 1 :]
+                yield f"with {other} in place of byte {place}", GOOD[:place] + bytes([other]) + GOOD[place + 1 :]
 
 
 def checks(program):

@@ -1,4 +1,4 @@
-"""Standard input that is no business of a command stays as it is: whoever comes next reads it from its first byte."""
+"""Standard input that a command doesn't need stays unread: the next program reads it from its first byte."""
 import pathlib
 import subprocess
 import tempfile
