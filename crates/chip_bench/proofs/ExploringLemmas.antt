@@ -90,7 +90,7 @@ module _ {R W : Type 0} (remaining : R → Option (List ℕ)) (contents : W → 
   abbrev Did : SessionSettings → ℕ → ℕ → Outcome → Type 0
   Did settings causes keys =
       FromGiven remaining in_old in_new (out_new ≡ out_old) words.is_image words.source (λ source.
-      Searches contents out_old out_new words settings keys target (image_in source) source)
+      Searches contents out_old out_new words settings keys (stops_for causes) (image_in source) source)
 
   abbrev WithIts : SessionSettings → Outcome → Type 0
   WithIts settings =
