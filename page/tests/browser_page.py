@@ -183,6 +183,8 @@ class PageTests:
             browser.theme(theme)
             yield browser
             browser.value("document.activeElement.blur()")
+            # the time that is shown is that of a question, and not of the program's start
+            self.rest()
             time.sleep(0.5)
             place = folder / f"page-{name}.png"
             browser.picture(place)

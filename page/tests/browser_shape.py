@@ -150,6 +150,23 @@ class ShapeTests(PageTests):
                 browser.size(width, 740)
                 browser.wait(f"{chosen} === '{tab}'")
 
+    def test_keypad_and_marks(self) -> None:
+        """In a large window the keypad is whole, and the number of a line with a breakpoint lies inside its mark."""
+        bottoms = "['#keypad button:last-child', '#play-rest'].map((name) => document.querySelector(name).getBoundingClientRect().bottom)"
+        edges = (
+            "(() => { const number = document.querySelector('#gutter .break .number'); const text = document.createRange(); text.selectNodeContents(number);"
+            "const [inner, outer] = [text.getBoundingClientRect(), number.getBoundingClientRect()]; return [inner.left - outer.left, outer.right - inner.right]; })()"
+        )
+        with self.page(self.example("bounce")) as browser:
+            browser.value("chipbenchPage.editor.breakpoints.set([9]); chipbenchPage.editor.goToLine(9)")
+            for width, height in ((1440, 900), (1600, 1000)):
+                browser.size(width, height)
+                time.sleep(0.15)
+                key, column = browser.value(bottoms)
+                assert key <= column, (width, height, key, column)
+                before, after = browser.value(edges)
+                assert before >= 2 and after >= 2, (width, height, before, after)
+
     def check_view(self, width: int, height: int) -> None:
         boxes = (
             "(() => { const box = (name) => { const b = document.querySelector(name).getBoundingClientRect(); return [b.left, b.top, b.right, b.bottom]; };"
