@@ -1,5 +1,5 @@
 -- What is kept after a change of the image is sound for the new run.
-use Rattle.std.proofs.Common.{◌≡◌, ℕ, zero, suc, ◌+◌, ◌*◌, ◌/◌, ◌<◌, ◌≤◌, min, Bool, true, false, cond, not, ltb, List, [], ◌∷◌, map, take, length, get_or, slice_index, Option, Some, None, refl, sym, ap, ◌∙◌, subst, arith, ◌⊎◌, inl, inr, get_or-take, length-take, ◌&&◌}
+use Rattle.std.proofs.Common.{◌≡◌, ℕ, zero, suc, ◌+◌, ◌*◌, ◌/◌, ◌<◌, ◌≤◌, min, Bool, true, false, cond, not, ltb, List, [], ◌∷◌, map, take, length, get_or, slice_index, slice_index_or, Option, Some, None, refl, sym, ap, ◌∙◌, subst, arith, ◌⊎◌, inl, inr, get_or-take, length-take, ◌&&◌}
 use Rattle.std.proofs.Math.Nat.{suc-mul}
 use Rattle.std.proofs.lemmas.List.Sums.{prefix_len-le-length}
 use Rattle.std.proofs.lemmas.List.{length-map, map-id, get_or-map}
@@ -15,7 +15,7 @@ use Rattle.chip_replay.proofs.Spaced.{multiple_within, div_mono}
 use Rattle.chip_machine.specs.Block.{ticks}
 use Rattle.chip_replay.specs.Run.{run, first_below, IsStill}
 use Rattle.chip_replay.specs.Image.{differs, affected, touches_change, patched}
-use Rattle.chip_replay.specs.inner.Kept.{IsFirst, IsSound, IsLent, IsCutBack}
+use Rattle.chip_replay.specs.inner.Kept.{IsFirst, AreFirst, IsSound, IsLent, IsCutBack}
 use Rattle.chip_replay.proofs.Patched.{AllUntouched, run-patched, run-proper, patched-proper, after-patched, same_touches}
 use Rattle.chip_replay.specs.Limits.{image_room, image_start, memory_size, never}
 
@@ -77,28 +77,45 @@ touches_change-at touches old new s i l d t =
     (ap (λ j. differs old new j && touched touches s (image_start + j)) place ∙ both _ _ d t)
 
 -- the kept run, cut off at m
-pub sound_cut : {M : Type 0} (p : ℕ) (above : 0 < p) (proper : M → Type 0) (touches : M → ℕ → Bool) (state : ℕ → M) (cs : List M) (first : List ℕ) (reach m : ℕ) → IsSound p proper touches state cs first reach → m ≤ reach → IsSound p proper touches state (take (m / p) cs) (map (λ v. cond (ltb v m) v never) first) m
-sound_cut p above proper touches state cs first reach m sound l =
-    let few : length (take (m / p) cs) ≤ m / p = omega (arith, length-take (m / p) cs) in
+pub sound_cut : {M : Type 0} (p : ℕ) (above : 0 < p) (proper : M → Type 0) (touches : M → ℕ → Bool) (state : ℕ → M) (cs cs' : List M) (first first' : List ℕ) (reach m : ℕ) → IsSound p proper touches state cs first reach → m ≤ reach → cs' ≡ take (m / p) cs → (length first' ≡ memory_size) × AreFirst touches state m first' → IsSound p proper touches state cs' first' m
+sound_cut p above proper touches state cs cs' first first' reach m sound l cut table =
+    let few : length cs' ≡ min (m / p) (length cs) = ap length cut ∙ length-take (m / p) cs in
     record {
       proper_start = sound.proper_start;
       in_range = omega (arith, sound.in_range);
-      few = few;
+      few = omega (arith, few);
       checkpoint = λ i d li.
           (let inside : i < m / p = omega (arith, few) in
-          let there : i < length cs = omega (arith, length-take (m / p) cs) in
-          get_or-take (m / p) cs i d inside ∙ sound.checkpoint i d there);
-      each_address = length-map _ _ ∙ sound.each_address;
-      first = λ at la.
-          subst (λ v. IsFirst (λ s. touches (state s) at) m v) (sym (get_or-map _ first at 0 0 (omega (arith, sound.each_address))))
-          (first_cut _ _ reach m _ (sound.first at la) l (λ s ls. refl));
+          let there : i < length cs = omega (arith, few) in
+          ap (λ xs. slice_index_or xs i d) cut ∙ get_or-take (m / p) cs i d inside ∙ sound.checkpoint i d there);
+      each_address = table.0;
+      first = table.1;
     }
 
-pub sound_cut_to : {M : Type 0} (p : ℕ) (above : 0 < p) (proper : M → Type 0) (touches : M → ℕ → Bool) (state : ℕ → M) (cs cs' : List M) (first first' : List ℕ) (reach m : ℕ) → IsSound p proper touches state cs first reach → m ≤ reach → cs' ≡ take (m / p) cs → first' ≡ map (λ v. cond (ltb v m) v never) first → IsSound p proper touches state cs' first' m
-sound_cut_to p above proper touches state cs cs' first first' reach m sound l ec ef =
-    subst (λ xs. IsSound p proper touches state xs first' m) (sym ec)
-    (subst (λ ys. IsSound p proper touches state (take (m / p) cs) ys m) (sym ef)
-    (sound_cut p above proper touches state cs first reach m sound l))
+-- the table
+pub table_cut : {M : Type 0} (touches : M → ℕ → Bool) (state : ℕ → M) (first first' : List ℕ) (known m : ℕ) → length first ≡ memory_size → AreFirst touches state known first → m ≤ known → first' ≡ map (λ v. cond (ltb v m) v never) first → (length first' ≡ memory_size) × AreFirst touches state m first'
+table_cut touches state first first' known m size firsts l e = (
+  ap length e ∙ length-map _ _ ∙ size,
+  λ at la. subst (λ v. IsFirst (λ s. touches (state s) at) m v) (sym (ap (λ xs. slice_index xs at) e ∙ get_or-map _ first at 0 0 (omega (arith, size))))
+      (first_cut _ _ known m _ (firsts at la) l (λ s ls. refl)),
+)
+
+-- no step from m on touches anything
+pub table_stays : {M : Type 0} (touches : M → ℕ → Bool) (state : ℕ → M) (first : List ℕ) (known m : ℕ) → length first ≡ memory_size → AreFirst touches state known first → m ≤ known → ((s a : ℕ) → m ≤ s → touches (state s) a ≡ false) → (length first ≡ memory_size) × AreFirst touches state m first
+table_stays touches state first known m size firsts l none = (
+  size,
+  λ at la. (
+      let was = firsts at la in
+      record {
+        none_before = λ s ls h. was.none_before s (omega arith) h;
+        passes = λ lv. (
+            let before = was.passes lv in
+            elim (cases_lt (slice_index first at) m) [
+              | inl a ↦ (a, before.1)
+              | inr a ↦ absurd (false≢true (sym (none (slice_index first at) at a) ∙ before.1))
+            ]);
+      }),
+)
 
 -- where fewer are kept than are due
 pub ends_cut : {M : Type 0} (p : ℕ) (above : 0 < p) (after : M → ℕ → Bool → M) (state : ℕ → M) (cs cs' : List M) (reach m : ℕ) → (length cs < reach / p → IsStill after (state (length cs * p))) → m ≤ reach → cs' ≡ take (m / p) cs → length cs' < m / p → IsStill after (state (length cs' * p))

@@ -7,7 +7,7 @@ ghost use Rattle.chip_replay.specs.Run.{run, IsStill};
 ghost use Rattle.chip_replay.specs.Keys.{Events, held};
 ghost use Rattle.chip_replay.specs.inner.Changes.{KnowsKeys};
 ghost use Rattle.chip_replay.specs.Image.{differs, AgreeOutside, patched};
-ghost use Rattle.chip_replay.specs.inner.Kept.{AreFirst, IsSound, EndsStill, IsAt, IsCutBack, IsRight, is_due};
+ghost use Rattle.chip_replay.specs.inner.Kept.{AreFirst, IsTouched, IsSound, IsLent, EndsStill, IsAt, IsCutBack, IsRight, is_due};
 
 use crate::keys::{Cursor, Holding, Keys};
 use crate::limits::{IMAGE_START, LAST_STEP, MEMORY_BYTES, NEVER};
@@ -283,13 +283,11 @@ impl<M: Traced> Kept<M> {
     /// Drops what was kept of the steps from one on.
     pub(crate) fn forget(&mut self, from: u32)
         requires { 0 < self.old.spacing }
-        ensures sound { (state : ℕ → M)
+        ensures sound { (rate : ℕ) (start : M) (events : Events)
+            → IsRight M.is_proper M.touches M.step_of rate start events self.old
             → IsSound self.old.spacing M.is_proper
-            (touched M.touches) state self.old.checkpoints.items self.old.first_touch.items
-            self.old.reach
-            → IsSound self.old.spacing M.is_proper
-            (touched M.touches) state self.new.checkpoints.items self.new.first_touch.items
-            self.new.reach }
+            (touched M.touches) (run M.step_of rate (held events) start)
+            self.new.checkpoints.items self.new.first_touch.items self.new.reach }
         ensures still { (step_of : M → ℕ → Bool → M) (state : ℕ → M)
             → EndsStill step_of state self.old.spacing self.old.checkpoints.items self.old.reach
             → EndsStill step_of state self.old.spacing self.new.checkpoints.items self.new.reach }
@@ -318,9 +316,11 @@ impl<M: Traced> Kept<M> {
         requires { 0 < self.old.spacing }
         ensures checkpoints { self.new.checkpoints.items
             ≡ take (reach / self.old.spacing) self.old.checkpoints.items }
-        ensures table { self.new.first_touch.items
-            ≡ map
-            (λ first. if nat_lt first reach then first else NEVER) self.old.first_touch.items }
+        ensures table { (rate : ℕ) (start : M) (events : Events)
+            → IsRight M.is_proper M.touches M.step_of rate start events self.old
+            → reach ≤ self.old.reach
+            → IsTouched (touched M.touches) (run M.step_of rate (held events) start) reach
+            self.new.first_touch.items }
         ensures lent_step { IfSome self.new.lent_step (λ t. (t ≤ reach)
             × (self.old.lent_step ≡ Some t)) }
         ensures others { self.new ≡ record self.old {
@@ -333,9 +333,29 @@ impl<M: Traced> Kept<M> {
     {
         let count = (reach / self.spacing) as usize;
         set_apart(&mut self.checkpoints, &mut self.spare, count);
-        cut(&mut self.first_touch, reach);
         self.lent_step = if_within(self.lent_step, reach);
+        self.cut_touches(reach);
         self.reach = reach;
+    }
+
+    /// Changes the first touches from a step on to none: there is none where the lent state, that of
+    /// an earlier step, stays as it is.
+    fn cut_touches(&mut self, reach: u32)
+        requires within { IfSome self.old.lent_step (λ t. t ≤ reach) }
+        ensures table { (rate : ℕ) (start : M) (events : Events) (known : ℕ)
+            → IsTouched (touched M.touches) (run M.step_of rate (held events) start) known
+            self.old.first_touch.items
+            → IsLent (run M.step_of rate (held events) start) known self.old.lent
+            self.old.lent_step
+            → reach ≤ known
+            → IsTouched (touched M.touches) (run M.step_of rate (held events) start) reach
+            self.new.first_touch.items }
+        ensures others { self.new ≡ record self.old { first_touch = self.new.first_touch } }
+    {
+        if self.lent_step.is_some() && self.lent.is_still() {
+            return;
+        }
+        cut(&mut self.first_touch, reach);
     }
 
     /// Puts the bytes of the new image in the place of the old one's in each state that is kept.

@@ -2,6 +2,7 @@
 -- Source: own.
 --     IsFirst          the first step below n that passes a test, or a number that is no step
 --     AreFirst         for each address the first step below n that touches it, or no step
+--     IsTouched        a table of all addresses has them
 --     IsSound          the checkpoints and the first touches are those of a run
 --     EndsStill        the run stays as it is after the last checkpoint where others are due
 --     is_due           whether the next checkpoint is that of one of some steps
@@ -28,6 +29,11 @@ pub record IsFirst (p : ℕ → Bool) (n v : ℕ) : Type 0 where
 abbrev pub AreFirst : {M : Type 0} → (M → ℕ → Bool) → (ℕ → M) → ℕ → List ℕ → Type 0
 AreFirst touched state n first_touch =
     (at : ℕ) → at < memory_size → IsFirst (λ s. touched (state s) at) n (slice_index first_touch at)
+
+-- a table of each address, of the steps below n
+abbrev pub IsTouched : {M : Type 0} → (M → ℕ → Bool) → (ℕ → M) → ℕ → List ℕ → Type 0
+IsTouched touched state n first_touch =
+    (length first_touch ≡ memory_size) × AreFirst touched state n first_touch
 
 -- the first ones of the checkpoints that are due, one each p steps, and the step that first touched
 -- each address, of the steps of a run below reach
