@@ -1,5 +1,6 @@
 -- What is kept after a change of the image is sound for the new run.
-use Rattle.std.proofs.Common.{◌≡◌, ℕ, zero, suc, ◌+◌, ◌*◌, ◌/◌, ◌<◌, ◌≤◌, Bool, true, false, cond, not, ltb, List, [], ◌∷◌, map, take, length, get_or, slice_index, Option, Some, None, refl, sym, ap, ◌∙◌, subst, arith, ◌⊎◌, inl, inr, get_or-take, length-take, ◌&&◌}
+use Rattle.std.proofs.Common.{◌≡◌, ℕ, zero, suc, ◌+◌, ◌*◌, ◌/◌, ◌<◌, ◌≤◌, min, Bool, true, false, cond, not, ltb, List, [], ◌∷◌, map, take, length, get_or, slice_index, slice_index_or, Option, Some, None, refl, sym, ap, ◌∙◌, subst, arith, ◌⊎◌, inl, inr, get_or-take, length-take, ◌&&◌}
+use Rattle.std.proofs.Math.Nat.{suc-mul}
 use Rattle.std.proofs.lemmas.List.Sums.{prefix_len-le-length}
 use Rattle.std.proofs.lemmas.List.{length-map, map-id, get_or-map}
 use Rattle.std.proofs.lemmas.Bool.{cases_lt, false≢true}
@@ -12,10 +13,10 @@ use Rattle.chip_machine.specs.Touched.{is_among, touched}
 use Rattle.chip_replay.proofs.TracedLaws.{IsTraced}
 use Rattle.chip_replay.proofs.Spaced.{multiple_within, div_mono}
 use Rattle.chip_machine.specs.Block.{ticks}
-use Rattle.chip_replay.specs.Run.{run, first_below}
+use Rattle.chip_replay.specs.Run.{run, first_below, IsStill}
 use Rattle.chip_replay.specs.Image.{differs, affected, touches_change, patched}
-use Rattle.chip_replay.specs.inner.Kept.{IsFirst, IsSound, IsLent, IsCutBack}
-use Rattle.chip_replay.proofs.Patched.{AllUntouched, run-patched, run-proper, patched-proper, same_touches}
+use Rattle.chip_replay.specs.inner.Kept.{IsFirst, AreFirst, IsSound, IsLent, IsCutBack}
+use Rattle.chip_replay.proofs.Patched.{AllUntouched, run-patched, run-proper, patched-proper, after-patched, same_touches}
 use Rattle.chip_replay.specs.Limits.{image_room, image_start, memory_size, never}
 
 -- a first step, or none, if only the steps below m are known
@@ -76,29 +77,52 @@ touches_change-at touches old new s i l d t =
     (ap (λ j. differs old new j && touched touches s (image_start + j)) place ∙ both _ _ d t)
 
 -- the kept run, cut off at m
-pub sound_cut : {M : Type 0} (p : ℕ) (above : 0 < p) (proper : M → Type 0) (touches : M → ℕ → Bool) (state : ℕ → M) (cs : List M) (first : List ℕ) (reach m : ℕ) → IsSound p proper touches state cs first reach → m ≤ reach → IsSound p proper touches state (take (m / p) cs) (map (λ v. cond (ltb v m) v never) first) m
-sound_cut p above proper touches state cs first reach m sound l =
-    let fewer : m / p ≤ length cs = omega (arith, sound.each_spacing, div_mono m reach p above l) in
-    let few : length (take (m / p) cs) ≡ m / p = length-take (m / p) cs ∙ omega arith in
+pub sound_cut : {M : Type 0} (p : ℕ) (above : 0 < p) (proper : M → Type 0) (touches : M → ℕ → Bool) (state : ℕ → M) (cs cs' : List M) (first first' : List ℕ) (reach m : ℕ) → IsSound p proper touches state cs first reach → m ≤ reach → cs' ≡ take (m / p) cs → (length first' ≡ memory_size) × AreFirst touches state m first' → IsSound p proper touches state cs' first' m
+sound_cut p above proper touches state cs cs' first first' reach m sound l cut table =
+    let few : length cs' ≡ min (m / p) (length cs) = ap length cut ∙ length-take (m / p) cs in
     record {
       proper_start = sound.proper_start;
       in_range = omega (arith, sound.in_range);
-      each_spacing = few;
+      few = omega (arith, few);
       checkpoint = λ i d li.
           (let inside : i < m / p = omega (arith, few) in
-          let there : i < length cs = omega arith in
-          get_or-take (m / p) cs i d inside ∙ sound.checkpoint i d there);
-      each_address = length-map _ _ ∙ sound.each_address;
-      first = λ at la.
-          subst (λ v. IsFirst (λ s. touches (state s) at) m v) (sym (get_or-map _ first at 0 0 (omega (arith, sound.each_address))))
-          (first_cut _ _ reach m _ (sound.first at la) l (λ s ls. refl));
+          let there : i < length cs = omega (arith, few) in
+          ap (λ xs. slice_index_or xs i d) cut ∙ get_or-take (m / p) cs i d inside ∙ sound.checkpoint i d there);
+      each_address = table.0;
+      first = table.1;
     }
 
-pub sound_cut_to : {M : Type 0} (p : ℕ) (above : 0 < p) (proper : M → Type 0) (touches : M → ℕ → Bool) (state : ℕ → M) (cs cs' : List M) (first first' : List ℕ) (reach m : ℕ) → IsSound p proper touches state cs first reach → m ≤ reach → cs' ≡ take (m / p) cs → first' ≡ map (λ v. cond (ltb v m) v never) first → IsSound p proper touches state cs' first' m
-sound_cut_to p above proper touches state cs cs' first first' reach m sound l ec ef =
-    subst (λ xs. IsSound p proper touches state xs first' m) (sym ec)
-    (subst (λ ys. IsSound p proper touches state (take (m / p) cs) ys m) (sym ef)
-    (sound_cut p above proper touches state cs first reach m sound l))
+-- the table
+pub table_cut : {M : Type 0} (touches : M → ℕ → Bool) (state : ℕ → M) (first first' : List ℕ) (known m : ℕ) → length first ≡ memory_size → AreFirst touches state known first → m ≤ known → first' ≡ map (λ v. cond (ltb v m) v never) first → (length first' ≡ memory_size) × AreFirst touches state m first'
+table_cut touches state first first' known m size firsts l e = (
+  ap length e ∙ length-map _ _ ∙ size,
+  λ at la. subst (λ v. IsFirst (λ s. touches (state s) at) m v) (sym (ap (λ xs. slice_index xs at) e ∙ get_or-map _ first at 0 0 (omega (arith, size))))
+      (first_cut _ _ known m _ (firsts at la) l (λ s ls. refl)),
+)
+
+-- no step from m on touches anything
+pub table_stays : {M : Type 0} (touches : M → ℕ → Bool) (state : ℕ → M) (first : List ℕ) (known m : ℕ) → length first ≡ memory_size → AreFirst touches state known first → m ≤ known → ((s a : ℕ) → m ≤ s → touches (state s) a ≡ false) → (length first ≡ memory_size) × AreFirst touches state m first
+table_stays touches state first known m size firsts l none = (
+  size,
+  λ at la. (
+      let was = firsts at la in
+      record {
+        none_before = λ s ls h. was.none_before s (omega arith) h;
+        passes = λ lv. (
+            let before = was.passes lv in
+            elim (cases_lt (slice_index first at) m) [
+              | inl a ↦ (a, before.1)
+              | inr a ↦ absurd (false≢true (sym (none (slice_index first at) at a) ∙ before.1))
+            ]);
+      }),
+)
+
+-- where fewer are kept than are due
+pub ends_cut : {M : Type 0} (p : ℕ) (above : 0 < p) (after : M → ℕ → Bool → M) (state : ℕ → M) (cs cs' : List M) (reach m : ℕ) → (length cs < reach / p → IsStill after (state (length cs * p))) → m ≤ reach → cs' ≡ take (m / p) cs → length cs' < m / p → IsStill after (state (length cs' * p))
+ends_cut p above after state cs cs' reach m ends l cut fewer =
+    let size : length cs' ≡ min (m / p) (length cs) = ap length cut ∙ length-take (m / p) cs in
+    let same : length cs ≡ length cs' = omega arith in
+    subst (λ n. IsStill after (state (n * p))) same (ends (omega (arith, div_mono m reach p above l)))
 
 -- the kept run with its checkpoints changed, for another run that is alike up to there
 pub sound_changed : {M : Type 0} (p : ℕ) (proper : M → Type 0) (touches : M → ℕ → Bool) (state later : ℕ → M) (change : M → M) (cs : List M) (first : List ℕ) (reach : ℕ) → IsSound p proper touches state cs first reach → proper (later 0) → ((t : ℕ) → t ≤ reach → later t ≡ change (state t)) → ((t a : ℕ) → t < reach → touches (later t) a ≡ touches (state t) a) → IsSound p proper touches later (map change cs) first reach
@@ -106,10 +130,10 @@ sound_changed p proper touches state later change cs first reach sound start sam
     record {
       proper_start = start;
       in_range = sound.in_range;
-      each_spacing = length-map cs change ∙ sound.each_spacing;
+      few = omega (arith, length-map cs change, sound.few);
       checkpoint = λ i d li.
           (let there : i < length cs = omega (arith, length-map cs change) in
-          let inside : i < reach / p = omega (arith, sound.each_spacing) in
+          let inside : i < reach / p = omega (arith, sound.few) in
           get_or-map change cs i d d there ∙ ap change (sound.checkpoint i d there)
           ∙ sym (same ((i + 1) * p) (multiple_within i reach p inside)));
       each_address = sound.each_address;
@@ -166,6 +190,18 @@ module _ {S : Type 0} (p : ℕ) (memory : S → List ℕ) (with_memory : S → L
         (patched-proper memory with_memory proper touches after laws old new start sound.proper_start) later_is
         (λ t a l. ap (λ s. touched touches s a) (later_is t (omega arith)) ∙ ap (λ xs. is_among xs a) (same_touches memory with_memory proper touches after laws old new (run after rate held start t) (run-proper memory with_memory proper touches after laws rate held start sound.proper_start t) (untouched t l)))
 
+    pub ends_patched : 0 < p → (cs' : List S) → cs' ≡ map (patched memory with_memory old new) cs → (length cs < reach / p → IsStill after (run after rate held start (length cs * p))) → length cs' < reach / p → IsStill after (run after rate held (patched memory with_memory old new start) (length cs' * p))
+    ends_patched above cs' changed ends fewer =
+        let size : length cs ≡ length cs' = sym (ap length changed ∙ length-map cs _) in
+        let few : length cs < reach / p = omega arith in
+        let place = length cs * p in
+        let early : place < reach = omega (arith, multiple_within (length cs) reach p few, suc-mul (length cs) p) in
+        subst (λ n. IsStill after (run after rate held (patched memory with_memory old new start) (n * p))) size (λ keys tick.
+        ap (λ s. after s keys tick) (later_is place (omega arith))
+        ∙ after-patched memory with_memory proper touches after laws old new (run after rate held start place) keys tick (run-proper memory with_memory proper touches after laws rate held start sound.proper_start place) (untouched place early)
+        ∙ ap (patched memory with_memory old new) (ends few keys tick)
+        ∙ sym (later_is place (omega arith)))
+
     pub lent_patched : (before : ℕ) (lent : S) (step step' : Option ℕ) → IsLent (run after rate held start) before lent step → IfSome step' (λ t. (t ≤ reach) × (step ≡ Some t)) → IsLent (run after rate held (patched memory with_memory old new start)) reach (patched memory with_memory old new lent) step'
     lent_patched before lent step step' known kept = lent_cut (run after rate held start) (run after rate held (patched memory with_memory old new start)) (patched memory with_memory old new) before reach lent step step' known later_is kept
 
@@ -185,6 +221,11 @@ module _ {S : Type 0} (after : S → ℕ → Bool → S) (rate : ℕ) (held late
       subst (λ xs. IsSound p proper touches (run after rate later start) xs first m) (map-id cs)
       (sound_changed p proper touches (run after rate held start) (run after rate later start) (λ x. x) cs first m sound sound.proper_start alike
       (λ t a lt. ap (λ s. touches s a) (alike t (omega arith))))
+
+  pub ends_keys : (p : ℕ) (cs : List S) → (length cs < m / p → IsStill after (run after rate held start (length cs * p))) → length cs < m / p → IsStill after (run after rate later start (length cs * p))
+  ends_keys p cs ends fewer =
+      let early : length cs * p ≤ m = omega (arith, multiple_within (length cs) m p fewer, suc-mul (length cs) p) in
+      subst (IsStill after) (sym (alike (length cs * p) early)) (ends fewer)
 
   pub lent_keys : (reach : ℕ) (lent : S) (step step' : Option ℕ) → IsLent (run after rate held start) reach lent step → IfSome step' (λ t. (t ≤ m) × (step ≡ Some t)) → IsLent (run after rate later start) m lent step'
   lent_keys reach lent step step' known kept = lent_cut (run after rate held start) (run after rate later start) (λ x. x) reach m lent step step' known alike kept

@@ -2,8 +2,9 @@
 -- Source: COSMAC VIP manual for timers that count down in step with the display; own for the rate
 -- in steps.
 --     run            the state after t steps
+--     IsStill        each step leaves the state as it is
 --     first_below    the first step below f that passes a test, or f
-use Rattle.std.specs.Prelude.{ℕ, zero, suc, Bool}
+use Rattle.std.specs.Prelude.{◌≡◌, ℕ, zero, suc, Bool}
 use Rattle.chip_machine.specs.Block.{ticks}
 use Rattle.std.specs.List.{position_or_len, range_with_len}
 
@@ -12,6 +13,10 @@ module _ {S : Type 0} (after : S → ℕ → Bool → S) (rate : ℕ) (held : �
   abbrev pub run : S → ℕ → S
   run start zero = start
   run start (suc t) = after (run start t) (held t) (ticks rate t)
+
+-- each step leaves the state as it is, whatever keys are down
+abbrev pub IsStill : {S : Type 0} → (S → ℕ → Bool → S) → S → Type 0
+IsStill after s = (keys : ℕ) (tick : Bool) → after s keys tick ≡ s
 
 -- the first of the steps 0, 1, .. below f that passes, or f
 unfoldable pub first_below : (ℕ → Bool) → ℕ → ℕ

@@ -1,13 +1,13 @@
 //! What is kept of a machine's run.
 
-ghost use Rattle.std.specs.Prelude.{◌≡◌, ℕ, ◌+◌, ◌-◌, ◌*◌, ◌/◌, ◌<◌, ◌≤◌, ◌==◌, List, [], ◌∷◌, ◌++◌, length, min, max, IfOk, IfSome, OnOk, OnErr, if◌then◌else◌, slice_index, slice_index_or, slice_set, take, map, nat_lt, true, ◌⊎◌};
+ghost use Rattle.std.specs.Prelude.{◌≡◌, ℕ, Bool, ◌+◌, ◌-◌, ◌*◌, ◌/◌, ◌<◌, ◌≤◌, ◌==◌, List, [], ◌∷◌, ◌++◌, length, min, max, IfOk, IfSome, None, OnOk, OnErr, if◌then◌else◌, slice_index, slice_index_or, slice_set, take, map, nat_lt, true, ◌⊎◌};
 ghost use Rattle.chip_replay.specs.Limits.{image_start, image_room};
 ghost use Rattle.chip_machine.specs.Touched.{touched};
-ghost use Rattle.chip_replay.specs.Run.{run};
+ghost use Rattle.chip_replay.specs.Run.{run, IsStill};
 ghost use Rattle.chip_replay.specs.Keys.{Events, held};
 ghost use Rattle.chip_replay.specs.inner.Changes.{KnowsKeys};
 ghost use Rattle.chip_replay.specs.Image.{differs, AgreeOutside, patched};
-ghost use Rattle.chip_replay.specs.inner.Kept.{AreFirst, IsSound, IsLent, IsCutBack, IsHolding, IsRight};
+ghost use Rattle.chip_replay.specs.inner.Kept.{AreFirst, IsTouched, IsSound, IsLent, EndsStill, IsAt, IsCutBack, IsRight, is_due};
 
 use crate::keys::{Cursor, Holding, Keys};
 use crate::limits::{IMAGE_START, LAST_STEP, MEMORY_BYTES, NEVER};
@@ -88,18 +88,49 @@ impl<M: Traced> Kept<M> {
             + (step - self.old.spacing * (min self.old.reach step / self.old.spacing))) }
     {
         let mut at = self.set_out(start, keys, step)?;
-        self.lent_step = None;
         while at < step {
+            if self.lent.is_still() {
+                return self.stay(at, step);
+            }
             let to_checkpoint = self.spacing - at % self.spacing;
             let count = to_checkpoint.min(step - at);
             self.go_on(keys, rate, at, count);
             self.ran = self.ran.saturating_add(u64::from(count));
             at += count;
+            self.lent_step = Some(at);
             if at > self.reach {
-                self.extend(at, count == to_checkpoint)?;
+                self.extend(at, at)?;
             }
         }
-        self.lent_step = Some(step);
+        Ok(())
+    }
+
+    /// The run is known up to a step, since the lent state, that of a step before it, stays as it is.
+    /// After an error it is known as far as before, and the lent state is void.
+    fn stay(&mut self, at: u32, step: u32) -> Result<(), AllocError>
+        requires spaced { 0 < self.old.spacing }
+        requires in_range { step ≤ LAST_STEP }
+        requires order { at ≤ step }
+        requires few { length self.old.checkpoints.items ≤ LAST_STEP }
+        requires still { IsStill M.step_of self.old.lent }
+        requires untouched { M.touches self.old.lent ≡ [] }
+        ensures right { (rate : ℕ) (start : M) (events : Events)
+            → IsRight M.is_proper M.touches M.step_of rate start events self.old
+            → IsAt M.step_of rate start events self.old at
+            → IsRight M.is_proper M.touches M.step_of rate start events self.new }
+        ensures reached { OnOk result (step ≤ self.new.reach) }
+        ensures reach_kept { self.old.reach ≤ self.new.reach }
+        ensures others { self.new ≡ record self.old {
+          checkpoints = self.new.checkpoints;
+          spare = self.new.spare;
+          first_touch = self.new.first_touch;
+          reach = self.new.reach;
+          lent_step = self.new.lent_step;
+        } }
+    {
+        if step > self.reach {
+            self.extend(at, step)?;
+        }
         Ok(())
     }
 
@@ -137,12 +168,15 @@ impl<M: Traced> Kept<M> {
         self.holding = cursor.holding;
     }
 
-    /// The run is known up to a later step, that of the lent state, whose first touches are noted:
-    /// a checkpoint is kept if one is due. After an error it is known as far as before.
+    /// The run is known up to a later step, whose state and those from `at` on are the lent one, and
+    /// the first touches are noted: a checkpoint is kept if the next one is of one of these steps.
+    /// After an error it is known as far as before, and the lent state is void.
     #[inline(always)]
-    fn extend(&mut self, reach: u32, due: bool) -> Result<(), AllocError>
+    fn extend(&mut self, at: u32, reach: u32) -> Result<(), AllocError>
+        requires few { length self.old.checkpoints.items ≤ LAST_STEP }
         ensures kept { OnOk result (self.new.checkpoints.items
-            ≡ (if due then self.old.checkpoints.items ++ self.old.lent ∷ []
+            ≡ (if is_due self.old.spacing (length self.old.checkpoints.items) at reach
+            then self.old.checkpoints.items ++ self.old.lent ∷ []
             else self.old.checkpoints.items)) }
         ensures others { OnOk result (self.new
             ≡ record self.old {
@@ -159,14 +193,29 @@ impl<M: Traced> Kept<M> {
           checkpoints = self.new.checkpoints;
           spare = self.new.spare;
           first_touch = self.new.first_touch;
+          lent_step = None;
         }) }
     {
-        if due && let Err(error) = self.keep() {
+        if self.is_due(at, reach)
+            && let Err(error) = self.keep()
+        {
             cut(&mut self.first_touch, self.reach);
+            self.lent_step = None;
             return Err(error);
         }
         self.reach = reach;
         Ok(())
+    }
+
+    /// Whether a checkpoint has to be kept of a state that is that of the steps from `at` up to
+    /// another: where the next one is of one of them, and no earlier checkpoint is the same.
+    fn is_due(&self, at: u32, last: u32) -> bool
+        requires few { length self.now.checkpoints.items ≤ LAST_STEP }
+        ensures { result ≡ is_due self.now.spacing (length self.now.checkpoints.items) at last }
+    {
+        let spacing = u64::from(self.spacing);
+        let next = (self.checkpoints.len() as u64 + 1) * spacing;
+        u64::from(at) <= next && next <= u64::from(last) && next < u64::from(at) + spacing
     }
 
     /// Keeps the lent state as a checkpoint.
@@ -193,23 +242,20 @@ impl<M: Traced> Kept<M> {
         Ok(())
     }
 
-    /// Makes the lent state one from which the run can go on to a step, and answers which step it
-    /// is of: it stays where no checkpoint up to that step is nearer. An error changes nothing.
+    /// Makes the lent state one from which the run can go on to a step, and answers a step that it
+    /// is of: it stays where no checkpoint up to that step is nearer, and where it is the state of
+    /// each later step. An error changes nothing.
     fn set_out(&mut self, start: &M, keys: &Keys, step: u32) -> Result<u32, AllocError>
         requires spaced { 0 < self.old.spacing }
-        requires each { self.old.reach / self.old.spacing ≤ length self.old.checkpoints.items }
         ensures within { IfOk result (λ from. from ≤ step) }
         ensures near { IfOk result (λ from.
             self.old.spacing * (min self.old.reach step / self.old.spacing) ≤ from) }
-        ensures known { (state : ℕ → M)
-            → start.now ≡ state 0
-            → IsSound self.old.spacing M.is_proper
-            (touched M.touches) state self.old.checkpoints.items self.old.first_touch.items
-            self.old.reach
-            → IsLent state self.old.reach self.old.lent self.old.lent_step
-            → IfOk result (λ from. (from ≤ self.old.reach) × (self.new.lent ≡ state from)) }
-        ensures holding { IsHolding keys.now self.old.lent_step self.old.holding
-            → IfOk result (λ from. KnowsKeys keys.now from self.new.holding) }
+        ensures known { (rate : ℕ)
+            → IsRight M.is_proper M.touches M.step_of rate start.now keys.now self.old
+            → IfOk result (λ from. IsAt M.step_of rate start.now keys.now self.new from) }
+        ensures right { (rate : ℕ)
+            → IsRight M.is_proper M.touches M.step_of rate start.now keys.now self.old
+            → IsRight M.is_proper M.touches M.step_of rate start.now keys.now self.new }
         ensures others { self.new
             ≡ record self.old {
               lent = self.new.lent;
@@ -218,9 +264,11 @@ impl<M: Traced> Kept<M> {
             } }
         ensures err { OnErr result (self.new ≡ self.old) }
     {
-        let place = self.reach.min(step) / self.spacing;
+        let known = self.reach.min(step);
+        let place = known / self.spacing;
         let from = place * self.spacing;
         match self.lent_step {
+            Some(lent_step) if lent_step <= step && self.lent.is_still() => Ok(known),
             Some(lent_step) if from <= lent_step && lent_step <= step => Ok(lent_step),
             _ => {
                 let from_state = nearest(start, &self.checkpoints, place as usize);
@@ -235,13 +283,14 @@ impl<M: Traced> Kept<M> {
     /// Drops what was kept of the steps from one on.
     pub(crate) fn forget(&mut self, from: u32)
         requires { 0 < self.old.spacing }
-        ensures sound { (state : ℕ → M)
+        ensures sound { (rate : ℕ) (start : M) (events : Events)
+            → IsRight M.is_proper M.touches M.step_of rate start events self.old
             → IsSound self.old.spacing M.is_proper
-            (touched M.touches) state self.old.checkpoints.items self.old.first_touch.items
-            self.old.reach
-            → IsSound self.old.spacing M.is_proper
-            (touched M.touches) state self.new.checkpoints.items self.new.first_touch.items
-            self.new.reach }
+            (touched M.touches) (run M.step_of rate (held events) start)
+            self.new.checkpoints.items self.new.first_touch.items self.new.reach }
+        ensures still { (step_of : M → ℕ → Bool → M) (state : ℕ → M)
+            → EndsStill step_of state self.old.spacing self.old.checkpoints.items self.old.reach
+            → EndsStill step_of state self.old.spacing self.new.checkpoints.items self.new.reach }
         ensures reach { self.new.reach ≡ min self.old.reach from }
         ensures lent_step { IsCutBack self.old.reach self.new.reach self.old.lent_step
             self.new.lent_step }
@@ -267,9 +316,11 @@ impl<M: Traced> Kept<M> {
         requires { 0 < self.old.spacing }
         ensures checkpoints { self.new.checkpoints.items
             ≡ take (reach / self.old.spacing) self.old.checkpoints.items }
-        ensures table { self.new.first_touch.items
-            ≡ map
-            (λ first. if nat_lt first reach then first else NEVER) self.old.first_touch.items }
+        ensures table { (rate : ℕ) (start : M) (events : Events)
+            → IsRight M.is_proper M.touches M.step_of rate start events self.old
+            → reach ≤ self.old.reach
+            → IsTouched (touched M.touches) (run M.step_of rate (held events) start) reach
+            self.new.first_touch.items }
         ensures lent_step { IfSome self.new.lent_step (λ t. (t ≤ reach)
             × (self.old.lent_step ≡ Some t)) }
         ensures others { self.new ≡ record self.old {
@@ -282,9 +333,29 @@ impl<M: Traced> Kept<M> {
     {
         let count = (reach / self.spacing) as usize;
         set_apart(&mut self.checkpoints, &mut self.spare, count);
-        cut(&mut self.first_touch, reach);
         self.lent_step = if_within(self.lent_step, reach);
+        self.cut_touches(reach);
         self.reach = reach;
+    }
+
+    /// Changes the first touches from a step on to none: there is none where the lent state, that of
+    /// an earlier step, stays as it is.
+    fn cut_touches(&mut self, reach: u32)
+        requires within { IfSome self.old.lent_step (λ t. t ≤ reach) }
+        ensures table { (rate : ℕ) (start : M) (events : Events) (known : ℕ)
+            → IsTouched (touched M.touches) (run M.step_of rate (held events) start) known
+            self.old.first_touch.items
+            → IsLent (run M.step_of rate (held events) start) known self.old.lent
+            self.old.lent_step
+            → reach ≤ known
+            → IsTouched (touched M.touches) (run M.step_of rate (held events) start) reach
+            self.new.first_touch.items }
+        ensures others { self.new ≡ record self.old { first_touch = self.new.first_touch } }
+    {
+        if self.lent_step.is_some() && self.lent.is_still() {
+            return;
+        }
+        cut(&mut self.first_touch, reach);
     }
 
     /// Puts the bytes of the new image in the place of the old one's in each state that is kept.
@@ -441,13 +512,13 @@ fn set_apart<M: Traced>(states: &mut Vec<M>, spare: &mut Vec<M>, place: usize)
     }
 }
 
-/// The start state, or the checkpoint at a place, counted from 1.
+/// The start state, or the checkpoint at a place, counted from 1, and the last one past it.
 fn nearest<'a, M: Traced>(start: &'a M, checkpoints: &'a [M], place: usize) -> &'a M
-    requires { place ≤ length checkpoints.now }
-    ensures start { place ≡ 0 → result.now ≡ start.now }
-    ensures checkpoint { (i : ℕ) → place ≡ i + 1
+    ensures start { min place (length checkpoints.now) ≡ 0 → result.now ≡ start.now }
+    ensures checkpoint { (i : ℕ) → min place (length checkpoints.now) ≡ i + 1
         → result.now ≡ slice_index_or checkpoints.now i result.now }
 {
+    let place = place.min(checkpoints.len());
     if place == 0 {
         start
     } else {

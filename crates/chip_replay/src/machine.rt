@@ -38,6 +38,11 @@ impl Traced for Machine {
         self.steps(keys, rate, from, count, first_touch);
     }
 
+    #[inline(always)]
+    fn is_still(&self) -> bool {
+        self.stopped().is_some()
+    }
+
     fn poke(&mut self, at: u16, byte: u8) {
         self.poke(at, byte);
     }

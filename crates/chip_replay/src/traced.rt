@@ -1,9 +1,10 @@
 //! What a replay asks of a machine.
 
-ghost use Rattle.std.specs.Prelude.{◌≡◌, ℕ, ◌+◌, ◌^◌, ◌<◌, ◌≤◌, ◌↔◌, Bool, List, All, Contains, IfOk, OnOk, OnErr, IsFalse, length, slice_set};
+ghost use Rattle.std.specs.Prelude.{◌≡◌, ℕ, ◌+◌, ◌^◌, ◌<◌, ◌≤◌, ◌↔◌, Bool, List, [], All, Contains, IfOk, OnOk, OnErr, IsFalse, IsTrue, length, slice_set};
 ghost use Rattle.chip_machine.specs.Block.{block, IsBlockNoted};
 ghost use Rattle.chip_replay.specs.Frame.{AgreeOff, IsFramed};
 ghost use Rattle.chip_replay.specs.Limits.{memory_size};
+ghost use Rattle.chip_replay.specs.Run.{IsStill};
 ghost use Rattle.chip_machine.specs.State.{exchanged};
 ghost use Rattle.chip_machine.specs.Touched.{touched};
 
@@ -64,6 +65,14 @@ pub trait Traced: Drop + Sized {
             self.step(down, (number + 1) % rate == 0, &mut touch);
             touch.note(first_touch, number);
         }
+    }
+
+    /// Whether each step leaves the state as it is, and touches nothing: true only where it does.
+    fn is_still(&self) -> bool
+        ensures still { IsTrue result → IsStill step_of self.now }
+        ensures untouched { IsTrue result → touches self.now ≡ [] }
+    {
+        false
     }
 
     /// Changes the byte at an address.

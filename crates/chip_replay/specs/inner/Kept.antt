@@ -2,15 +2,19 @@
 -- Source: own.
 --     IsFirst          the first step below n that passes a test, or a number that is no step
 --     AreFirst         for each address the first step below n that touches it, or no step
+--     IsTouched        a table of all addresses has them
 --     IsSound          the checkpoints and the first touches are those of a run
+--     EndsStill        the run stays as it is after the last checkpoint where others are due
+--     is_due           whether the next checkpoint is that of one of some steps
 --     IsLent           the state that was lent is that of its step
 --     IsCutBack        a step stays if it is no later than the steps that are still known
 --     IsHolding        the keys that are known of its step are held
+--     IsAt             the lent state is also that of another step
 --     IsRight          what is kept is that of the run from a start state under the events
-use Rattle.std.specs.Prelude.{◌≡◌, ℕ, ◌+◌, ◌*◌, ◌/◌, ◌<◌, ◌≤◌, Bool, true, List, length, slice_index, slice_index_or, Option, Some, IfSome}
+use Rattle.std.specs.Prelude.{◌≡◌, ℕ, ◌+◌, ◌*◌, ◌/◌, ◌<◌, ◌≤◌, ◌&&◌, nat_lt, nat_le, Bool, true, List, length, slice_index, slice_index_or, Option, Some, IfSome}
 use Rattle.chip_machine.specs.Touched.{touched}
 use Rattle.chip_replay.specs.Limits.{last_step, memory_size, never}
-use Rattle.chip_replay.specs.Run.{run}
+use Rattle.chip_replay.specs.Run.{run, IsStill}
 use Rattle.chip_replay.specs.Keys.{Events, held}
 use Rattle.chip_replay.specs.inner.Changes.{KnowsKeys}
 use Rattle.chip_replay.specs.declared.keys.Holding.{Holding}
@@ -26,17 +30,34 @@ abbrev pub AreFirst : {M : Type 0} → (M → ℕ → Bool) → (ℕ → M) → 
 AreFirst touched state n first_touch =
     (at : ℕ) → at < memory_size → IsFirst (λ s. touched (state s) at) n (slice_index first_touch at)
 
--- the checkpoints, one each p steps, and the step that first touched each address, of the steps of
--- a run below reach
+-- a table of each address, of the steps below n
+abbrev pub IsTouched : {M : Type 0} → (M → ℕ → Bool) → (ℕ → M) → ℕ → List ℕ → Type 0
+IsTouched touched state n first_touch =
+    (length first_touch ≡ memory_size) × AreFirst touched state n first_touch
+
+-- the first ones of the checkpoints that are due, one each p steps, and the step that first touched
+-- each address, of the steps of a run below reach
 pub record IsSound {M : Type 0} (p : ℕ) (proper : M → Type 0) (touched : M → ℕ → Bool)
     (state : ℕ → M) (checkpoints : List M) (first_touch : List ℕ) (reach : ℕ) : Type 0 where
   pub proper_start : proper (state 0)
   pub in_range : reach ≤ last_step
-  pub each_spacing : length checkpoints ≡ reach / p
+  pub few : length checkpoints ≤ reach / p
   pub checkpoint : (i : ℕ) (d : M) → i < length checkpoints
       → slice_index_or checkpoints i d ≡ state ((i + 1) * p)
   pub each_address : length first_touch ≡ memory_size
   pub first : AreFirst touched state reach first_touch
+
+-- where others are due, the state of the last checkpoint, or the start state, is that of all later
+-- steps
+abbrev pub EndsStill : {M : Type 0} → (M → ℕ → Bool → M) → (ℕ → M) → ℕ → List M → ℕ → Type 0
+EndsStill step_of state p checkpoints reach =
+    length checkpoints < reach / p → IsStill step_of (state (length checkpoints * p))
+
+-- whether the next checkpoint, after so many one each p steps, is that of one of the steps from at
+-- up to last, and the one before it is that of a step before at
+abbrev pub is_due : ℕ → ℕ → ℕ → ℕ → Bool
+is_due p count at last =
+    nat_le at ((count + 1) * p) && nat_le ((count + 1) * p) last && nat_lt ((count + 1) * p) (at + p)
 
 -- the lent state is that of its step, if it has one
 abbrev pub IsLent : {M : Type 0} → (ℕ → M) → ℕ → M → Option ℕ → Type 0
@@ -51,6 +72,13 @@ IsCutBack reach later step kept = IfSome kept (λ t. (step ≡ Some t) × (t ≤
 abbrev pub IsHolding : Events → Option ℕ → Holding → Type 0
 IsHolding events step h = IfSome step (λ t. KnowsKeys events t h)
 
+-- the lent state is that of a step, and the keys are known of it
+pub record IsAt {M : Type 0} (step_of : M → ℕ → Bool → M) (rate : ℕ) (start : M) (events : Events)
+    (kept : Kept M) (at : ℕ) : Type 0 where
+  pub reached : at ≤ kept.reach
+  pub lent : kept.lent ≡ run step_of rate (held events) start at
+  pub holding : KnowsKeys events at kept.holding
+
 -- the checkpoints, the first touches, the lent state and the keys that are known of its step are
 -- those of the run from a start state under the events
 pub record IsRight {M : Type 0} (proper : M → Type 0) (touches : M → List ℕ)
@@ -58,5 +86,7 @@ pub record IsRight {M : Type 0} (proper : M → Type 0) (touches : M → List �
     (kept : Kept M) : Type 0 where
   pub sound : IsSound kept.spacing proper (touched touches) (run step_of rate (held events) start)
       kept.checkpoints.items kept.first_touch.items kept.reach
+  pub still : EndsStill step_of (run step_of rate (held events) start) kept.spacing
+      kept.checkpoints.items kept.reach
   pub lent : IsLent (run step_of rate (held events) start) kept.reach kept.lent kept.lent_step
   pub holding : IsHolding events kept.lent_step kept.holding

@@ -1,17 +1,53 @@
-use Rattle.std.proofs.Common.{◌*◌, ◌/◌, ◌≤◌, length, slice_index_or, arith, ap, ◌∙◌}
+use Rattle.std.proofs.Common.{ℕ, ◌+◌, ◌*◌, ◌/◌, ◌≤◌, ◌≡◌, length, min, slice_index_or, arith, ap, sym, subst, ◌∙◌}
 use Rattle.std.proofs.Math.Nat.{div-mul-le_self}
 use Rattle.chip_machine.specs.Touched.{touched}
+use Rattle.chip_replay.specs.Run.{run, IsStill}
+use Rattle.chip_replay.specs.Keys.{held}
+use Rattle.chip_replay.specs.inner.Changes.{KnowsKeys}
+use Rattle.chip_replay.specs.inner.Cursor.{knows_later}
+use Rattle.chip_replay.specs.inner.Kept.{IsLent, IsHolding}
 use Rattle.chip_replay.proofs.Spaced.{div_mono}
-use Rattle.chip_replay.proofs.Sound.{nearest_is}
+use Rattle.chip_replay.proofs.Sound.{nearest_is, stays_to}
 use Rattle.chip_replay.proofs.kept.Kept.set_out.Goals as goal
 
-pub returns-in_ok-copy_from-in_default-clause-known : goal.returns-in_ok-copy_from-in_default-clause-known
-returns-in_ok-copy_from-in_default-clause-known g c = λ state start sound lent.
+-- the lent state is that of each later step
+pub returns-in-Some-clause-known : goal.returns-in-Some-clause-known
+returns-in-Some-clause-known g c = λ rate right.
     let m = g.M.Traced in
     let kept = c.args.self.now in
-    let place = c.min.result / kept.spacing in
-    let fewer : place ≤ kept.reach / kept.spacing = div_mono c.min.result kept.reach kept.spacing c.requires.spaced (omega (arith, c.min.ensures)) in
-    let known : place ≤ length kept.checkpoints.items = omega (arith, fewer, sound.each_spacing) in
-    let below : place * kept.spacing ≤ c.min.result = div-mul-le_self c.min.result kept.spacing in
-    let place_is = nearest_is kept.spacing c.requires.spaced m.is_proper (touched m.touches) state kept.checkpoints.items kept.first_touch.items kept.reach sound place c.nearest-from_state.result.now known (λ e. c.nearest-from_state.ensures.start e ∙ start) (λ i e. c.nearest-from_state.ensures.checkpoint i e ∙ ap (λ xs. slice_index_or xs i c.nearest-from_state.result.now) c.deref.ensures.value) in
-    (omega (arith, below, c.min.ensures), c.in_ok-copy_from-in_default.ensures.ok ∙ place_is)
+    let keys = c.args.keys.now in
+    let state = run m.step_of rate (held keys) c.args.start.now in
+    let t = c.in-Some.lent_step in
+    let lent : (t ≤ kept.reach) × (kept.lent ≡ state t) = subst (IsLent state kept.reach kept.lent) c.in-Some.is right.lent in
+    let knows : KnowsKeys keys t kept.holding = subst (λ o. IsHolding keys o kept.holding) c.in-Some.is right.holding in
+    let still : IsStill m.step_of (state t) = subst (IsStill m.step_of) lent.1 (c.is_still.ensures.still c.if-is_still.true) in
+    let later : t ≤ c.min-known.result = omega (arith, c.min-known.ensures, c.if-lent_step-step.true, lent.0) in
+    record {
+      reached = omega (arith, c.min-known.ensures);
+      lent = lent.1 ∙ sym (stays_to m.step_of rate (held keys) c.args.start.now t c.min-known.result still later);
+      holding = knows_later keys t c.min-known.result kept.holding knows later;
+    }
+
+-- it is the nearest checkpoint
+pub returns-in_ok-copy_from-in_default-clause-known : goal.returns-in_ok-copy_from-in_default-clause-known
+returns-in_ok-copy_from-in_default-clause-known g c = λ rate right.
+    let m = g.M.Traced in
+    let kept = c.args.self.now in
+    let place = c.min-known.result / kept.spacing in
+    let known : place ≤ kept.reach / kept.spacing = div_mono c.min-known.result kept.reach kept.spacing c.requires.spaced (omega (arith, c.min-known.ensures)) in
+    let below : place * kept.spacing ≤ c.min-known.result = div-mul-le_self c.min-known.result kept.spacing in
+    let r = c.nearest-from_state.result.now in
+    let nearest = λ (n : ℕ) (e : min place (length kept.checkpoints.items) ≡ n). ap (λ xs. min place (length xs)) c.deref.ensures.value ∙ e in
+    record {
+      reached = omega (arith, below, c.min-known.ensures);
+      lent = c.in_ok-copy_from-in_default.ensures.ok
+          ∙ nearest_is kept.spacing c.requires.spaced m.is_proper (touched m.touches) m.step_of rate (held c.args.keys.now) c.args.start.now kept.checkpoints.items kept.first_touch.items kept.reach right.sound right.still place r known
+          (λ e. c.nearest-from_state.ensures.start (nearest 0 e))
+          (λ i e. c.nearest-from_state.ensures.checkpoint i (nearest (i + 1) e) ∙ ap (λ xs. slice_index_or xs i r) c.deref.ensures.value);
+      holding = c.before-self.ensures;
+    }
+
+pub returns-in_ok-copy_from-in_default-clause-right : goal.returns-in_ok-copy_from-in_default-clause-right
+returns-in_ok-copy_from-in_default-clause-right g c = λ rate right.
+    let is_at = returns-in_ok-copy_from-in_default-clause-known g c rate right in
+    record { sound = right.sound; still = right.still; lent = (is_at.reached, is_at.lent); holding = is_at.holding }

@@ -2,12 +2,12 @@ use Rattle.std.proofs.Common.{◌≡◌, ℕ, ◌+◌, ◌<◌, ◌≤◌, min, 
 use Rattle.chip_replay.specs.Keys.{held}
 use Rattle.chip_replay.specs.Image.{differs, with_image, affected}
 use Rattle.chip_replay.specs.History.{History}
-use Rattle.chip_replay.specs.inner.Kept.{IsSound, IsCutBack}
+use Rattle.chip_replay.specs.inner.Kept.{IsSound, EndsStill, IsCutBack}
 use Rattle.chip_machine.specs.Touched.{touched}
 use Rattle.chip_replay.specs.Run.{run}
 use Rattle.chip_replay.proofs.TracedLaws.{IsTraced}
 use Rattle.chip_replay.proofs.ByStep.{holding_cut}
-use Rattle.chip_replay.proofs.Changed.{sound_patched, lent_patched, affected_le, not_touched, step_kept}
+use Rattle.chip_replay.proofs.Changed.{sound_patched, ends_patched, lent_patched, affected_le, not_touched, step_kept}
 use Rattle.chip_replay.proofs.Bytes.{patched-with_image}
 use Rattle.chip_replay.specs.Limits.{image_room, image_start}
 use Rattle.chip_replay.proofs.replay.Replay.image_changed_within.Goals as goal
@@ -36,7 +36,9 @@ invariant_of-self g c =
     let run_before = run m.step_of was.rate (held was.keys) was.start in
     let cs = c.forget.new.self.checkpoints.items in
     let table = c.forget.new.self.first_touch.items in
-    let sound = subst (λ n. IsSound was.kept.spacing m.is_proper (touched m.touches) run_before cs table n) c.forget.ensures.reach (c.forget.ensures.sound run_before c.self.invariant.2.sound) in
+    let sound = subst (λ n. IsSound was.kept.spacing m.is_proper (touched m.touches) run_before cs table n) c.forget.ensures.reach (c.forget.ensures.sound was.rate was.start was.keys c.self.invariant.2) in
+    let ends = subst (EndsStill m.step_of run_before was.kept.spacing cs) c.forget.ensures.reach (c.forget.ensures.still m.step_of run_before c.self.invariant.2.still) in
+    let above : 0 < was.kept.spacing = omega (arith, c.self.invariant.1.0) in
     let cut_back = subst (λ n. IsCutBack was.kept.reach n was.kept.lent_step c.forget.new.self.lent_step) c.forget.ensures.reach c.forget.ensures.lent_step in
     let kept = step_kept run_before was.kept.reach reach was.kept.lent was.kept.lent_step c.forget.new.self.lent_step c.self.invariant.2.lent cut_back in
     let untouched = λ (s : ℕ) (l : s < reach) (i : ℕ) (li : i < image_room) (d : differs old new i ≡ true). not_touched was.kept.spacing m.is_proper (touched m.touches) run_before was.kept.checkpoints.items was.kept.first_touch.items was.kept.reach reach c.self.invariant.2.sound within (image_start + i) (omega arith) (least i li d) s l in
@@ -45,6 +47,7 @@ invariant_of-self g c =
       c.self.invariant.1,
       record {
         sound = rw c.patch-2.ensures.checkpoints (sound_patched was.kept.spacing m.memory m.with_memory m.is_proper m.touches m.step_of laws was.rate (held was.keys) was.start cs table reach sound old new untouched);
+        still = ends_patched was.kept.spacing m.memory m.with_memory m.is_proper m.touches m.step_of laws was.rate (held was.keys) was.start cs table reach sound old new untouched above _ c.patch-2.ensures.checkpoints ends;
         lent = lent_patched was.kept.spacing m.memory m.with_memory m.is_proper m.touches m.step_of laws was.rate (held was.keys) was.start cs table reach sound old new untouched was.kept.reach was.kept.lent was.kept.lent_step _ c.self.invariant.2.lent kept;
         holding = holding_cut was.keys was.keys reach first was.kept.holding was.kept.lent_step _ (omega arith) c.self.invariant.2.holding (λ s l k. refl) kept;
       },

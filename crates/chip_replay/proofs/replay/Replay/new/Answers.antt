@@ -12,6 +12,7 @@ invariant_of-result g c =
       c.requires.spacing,
       record {
         sound = sound_start c.args.spacing (omega (arith, c.requires.spacing.0)) m.is_proper (touched m.touches) _ c.in_ok-kept.kept.checkpoints.items c.in_ok-kept.kept.first_touch.items c.copy_of.ensures.proper kept.checkpoints kept.table kept.never;
+        still = λ fewer. absurd (omega arith);
         lent = (omega arith, kept.lent.0 ∙ c.in_ok-copy_of.ensures.same);
         holding = kept.holding c.new-2.result;
       },
