@@ -171,7 +171,7 @@ fn hash_argument<'a>(alloc: Global) -> Arg<'a>
     flag(
         alloc,
         "hash",
-        "Also print sums of the screen and of the memory",
+        "Also prints sums of the screen and of the memory",
     )
 }
 
@@ -184,7 +184,7 @@ fn against_argument<'a>(alloc: Global) -> Arg<'a>
         alloc,
         "against",
         "FILE",
-        "Compare with the trace in this file, and print the first difference",
+        "Compares with the trace in this file, and prints the first difference",
     )
 }
 
@@ -350,7 +350,7 @@ fn search_steps_argument<'a>(alloc: Global) -> Arg<'a>
         alloc,
         "steps",
         "N",
-        "Search no further than to this step, 0 to 1000000 [default: until no state is new]",
+        "Searches no further than to this step, 0 to 1000000 [default: until no state is new]",
     )
     .value_parser(value_parser!(u32).range(0..=i64::from(LAST_STEP)))
 }
@@ -405,7 +405,7 @@ fn keys_to_argument<'a>(alloc: Global) -> Arg<'a>
         alloc,
         "keys-to",
         "FILE",
-        "Write the key events of the script that was found to a file, as `run --keys` takes them",
+        "Writes the key events of the script that was found to a file, as `run --keys` takes them",
     )
 }
 

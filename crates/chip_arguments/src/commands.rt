@@ -126,7 +126,7 @@ const COMMANDS: [CommandRow; 11] = [
     },
     CommandRow {
         name: "trace",
-        about: "Print a line for each step: registers, timers and the instruction",
+        about: "Prints a line for each step: registers, timers and the instruction",
         notes: "Example: chipbench trace game.asm --steps 1000 --from 900",
         arguments: &[
             Argument::NeededSource,
@@ -144,7 +144,7 @@ const COMMANDS: [CommandRow; 11] = [
     },
     CommandRow {
         name: "picture",
-        about: "Prints the screen after a number of steps, two points to a character",
+        about: "Prints the screen after a number of steps, two pixels to a character",
         notes: "Example: chipbench picture game.asm --steps 1000 --keys game.keys",
         arguments: &[
             Argument::NeededSource,

@@ -28,7 +28,7 @@ pub enum Question {
 /// How a picture of the screen is written.
 #[derive(Clone, Copy, PartialEq, Eq)]
 pub enum PictureForm {
-    /// As text, two points to a character.
+    /// As text, two pixels to a character.
     Text(Letters),
     /// As a portable bitmap.
     Bitmap,
