@@ -15,7 +15,7 @@ pub struct Target {
 }
 
 /// What a machine meets of a target.
-#[derive(Clone, Copy, PartialEq, Eq)]
+#[derive(Clone, Copy)]
 pub enum Met {
     /// It has stopped for this cause, which is wanted.
     Cause(Stop),

@@ -36,7 +36,7 @@ fn finds_the_key(rt: HostRuntime) -> Result<(), Fail> {
                 Some(event) => event.step == 0 && event.key == 5 && event.down,
                 None => false,
             };
-            is_pressed && step == 3 && met == Met::Cause(Stop::NoInstruction)
+            is_pressed && step == 3 && matches!(met, Met::Cause(Stop::NoInstruction))
         }
         _ => false,
     };

@@ -1,0 +1,178 @@
+"""1,500 random programs, searched by `explore` and by trying each set of allowed keys at each step that reads keys.
+
+The programs store into their own code, call, skip and stop. The answers are computed with the machine of
+tests/trace/emulator.py: a state for each way that the keys can go, and equal states at the same step taken as one. Each
+script that is found is replayed by it.
+"""
+import importlib.util
+import pathlib
+import random
+import tempfile
+
+EMULATOR = pathlib.Path(__file__).resolve().parent.parent / "trace" / "emulator.py"
+PROGRAMS = 1500
+GROUP = 100
+STEPS = 120
+KEYS = (0, 1, 2)
+RATE = 10
+TAPE = "3b5a91c7042fe866"
+# a program with more states at one step is left out
+MOST_STATES = 300
+
+
+def emulator():
+    spec = importlib.util.spec_from_file_location("emulator", EMULATOR)
+    module = importlib.util.module_from_spec(spec)
+    spec.loader.exec_module(module)
+    return module
+
+
+EMULATED = emulator()
+
+
+def word(rng, size):
+    """A word of a program of so many bytes: most read keys, go elsewhere in it or change it."""
+    x, y, kk = rng.randrange(4), rng.randrange(4), rng.choice((0, 1, 2, 3, 5, 16, 250))
+    inside = 0x200 + 2 * rng.randrange(size // 2)
+    return rng.choice((
+        0xE09E | x << 8, 0xE0A1 | x << 8, 0xF00A | x << 8, 0xE09E | x << 8, 0xF00A | x << 8,
+        0x6000 | x << 8 | kk, 0x7000 | x << 8 | kk, 0x8004 | x << 8 | y << 4, 0x8005 | x << 8 | y << 4,
+        0x3000 | x << 8 | kk, 0x4000 | x << 8 | kk, 0x5000 | x << 8 | y << 4, 0x9000 | x << 8 | y << 4,
+        0xA000 | inside, 0xA000 | inside, 0xF01E | x << 8, 0xF055 | x << 8, 0xF055 | x << 8, 0xF065 | x << 8,
+        0xF033 | x << 8, 0x1000 | inside, 0x1000 | inside, 0x2000 | inside, 0x00EE, 0x00FD, 0xC000 | x << 8 | kk,
+        0xF015 | x << 8, 0xF007 | x << 8, 0xF018 | x << 8, 0xD001 | x << 8 | y << 4, 0x00E0, rng.randrange(65536),
+    ))
+
+
+def image(number):
+    rng = random.Random(number)
+    size = 2 * rng.randrange(6, 24)
+    words = [word(rng, size) for _ in range(size // 2 - 1)] + [0x1200]
+    return b"".join(each.to_bytes(2, "big") for each in words)
+
+
+def cause(machine):
+    """The number k of Sk for which the machine has stopped."""
+    if machine.pc > 4094:
+        return 3
+    now = machine.memory[machine.pc] << 8 | machine.memory[machine.pc + 1]
+    x, kk = now >> 8 & 15, now & 255
+    if now == 0x00FD:
+        return 1
+    if now == 0x00EE:
+        return 5
+    if now >> 12 == 2:
+        return 4
+    if now >> 12 == 13 or now >> 12 == 15 and kk in (0x33, 0x55, 0x65):
+        return 6
+    if now >> 12 == 15 and kk in (0x75, 0x85) and x > 7:
+        return 7
+    return 2
+
+
+def masks(machine):
+    """The sets of keys that the next step may tell apart."""
+    if machine.pc > 4094:
+        return (0,)
+    high, low = machine.memory[machine.pc], machine.memory[machine.pc + 1]
+    if high >> 4 == 14 and low in (0x9E, 0xA1) or high >> 4 == 15 and low == 0x0A:
+        return tuple(sum(1 << key for place, key in enumerate(KEYS) if some >> place & 1) for some in range(1 << len(KEYS)))
+    return (0,)
+
+
+def copied(machine):
+    other = object.__new__(type(machine))
+    other.__dict__.update(machine.__dict__)
+    other.memory, other.v, other.flags = machine.memory[:], machine.v[:], machine.flags[:]
+    other.stack, other.screen = machine.stack[:], set(machine.screen)
+    return other
+
+
+def shown(machine):
+    return (
+        machine.pc, machine.i, machine.dt, machine.draws, machine.high, bytes(machine.v), bytes(machine.flags),
+        tuple(machine.stack), bytes(machine.memory), frozenset(machine.screen),
+    )
+
+
+def first_stops(code):
+    """The first step up to STEPS at which some keys stop the program, by the cause's number; None for too many states."""
+    states, first = [EMULATED.Machine(code, False, bytes.fromhex(TAPE), None)], {}
+    for step in range(1, STEPS + 1):
+        later = {}
+        for state in states:
+            choices = masks(state)
+            for keys in choices:
+                after = state if len(choices) == 1 else copied(state)
+                after.step(keys, step % RATE == 0)
+                if after.stopped:
+                    first.setdefault(cause(after), step)
+                else:
+                    later[shown(after)] = after
+        states = list(later.values())
+        if len(states) > MOST_STATES:
+            return None
+    return first
+
+
+def replayed(code, lines, step):
+    """The number of the cause for which the program has stopped at a step, with the keys of a file, and at no earlier one."""
+    events = sorted((int(line.split()[0]), int(line.split()[1]), line.split()[2] == "down") for line in lines)
+    machine = EMULATED.Machine(code, False, bytes.fromhex(TAPE), None)
+    for number in range(step):
+        if machine.stopped:
+            return None
+        machine.step(EMULATED.held(events, number), (number + 1) % RATE == 0)
+    return cause(machine) if machine.stopped else None
+
+
+def asked(program, code, folder):
+    """The lines of the answer, and those of the file of keys."""
+    source, keys = pathlib.Path(folder, "source"), pathlib.Path(folder, "keys")
+    source.write_text("DB " + ", ".join(map(str, code)) + "\n")
+    keys.unlink(missing_ok=True)
+    settings = ["--rate", str(RATE), "--tape", TAPE, "--keys-allowed", ",".join(map(str, KEYS))]
+    ran = program.run(["explore", "source", "--steps", str(STEPS), *settings, "--keys-to", "keys"], b"", folder)
+    lines = [line for line in keys.read_text().splitlines() if line[:1].isdigit()] if keys.exists() else []
+    return ran.stdout.decode().splitlines(), lines
+
+
+def wrong_answer(answer, keys, code, first):
+    """What is wrong with an answer, where the first stops are these."""
+    wanted = {number: step for number, step in first.items() if number != 1}
+    head = answer[0].split() if answer else []
+    seen = {int(line[1]): int(line.split()[1]) for line in answer[1:] if line[:1] == "S"}
+    if not wanted:
+        if head == ["never"] or head[:1] == ["within"] and int(head[1]) >= STEPS:
+            early = {number: step for number, step in seen.items() if step <= STEPS}
+            return "" if early == first else f"met {early}, and not {first}"
+        if head[:1] and head[0][0] == "S" and int(head[1]) > STEPS:
+            return ""
+        return f"{answer} where no keys stop it"
+    step = min(wanted.values())
+    if len(head) != 2 or head[0][0] != "S" or int(head[1]) != step or wanted.get(int(head[0][1])) != step:
+        return f"{answer} and not {wanted}"
+    if answer[1] != f"keys {len(keys)}":
+        return f"{answer} and {len(keys)} keys"
+    stop = replayed(code, keys, step)
+    return "" if stop == int(head[0][1]) else f"{answer}, but its keys lead to {stop}"
+
+
+def wrong_group(program, numbers):
+    """What is wrong with the answers for some programs."""
+    with tempfile.TemporaryDirectory() as folder:
+        for number in numbers:
+            code = image(number)
+            first = first_stops(code)
+            if first is None:
+                continue
+            wrong = wrong_answer(*asked(program, code, folder), code, first)
+            if wrong:
+                return f"program {number} ({code.hex()}): {wrong}"
+    return ""
+
+
+def checks(program):
+    for start in range(0, PROGRAMS, GROUP):
+        numbers = range(start, min(start + GROUP, PROGRAMS))
+        yield f"programs {numbers[0]} to {numbers[-1]}", lambda numbers=numbers: wrong_group(program, numbers)
