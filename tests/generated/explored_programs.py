@@ -128,11 +128,11 @@ def replayed(code, lines, step):
 
 def asked(program, code, folder):
     """The lines of the answer, and those of the file of keys."""
-    source, keys = pathlib.Path(folder, "source"), pathlib.Path(folder, "keys")
-    source.write_text("DB " + ", ".join(map(str, code)) + "\n")
+    file, keys = pathlib.Path(folder, "image"), pathlib.Path(folder, "keys")
+    file.write_bytes(bytes(code))
     keys.unlink(missing_ok=True)
     settings = ["--rate", str(RATE), "--tape", TAPE, "--keys-allowed", ",".join(map(str, KEYS))]
-    ran = program.run(["explore", "source", "--steps", str(STEPS), *settings, "--keys-to", "keys"], b"", folder)
+    ran = program.run(["explore", "--image", "image", "--steps", str(STEPS), *settings, "--keys-to", "keys"], b"", folder)
     lines = [line for line in keys.read_text().splitlines() if line[:1].isdigit()] if keys.exists() else []
     return ran.stdout.decode().splitlines(), lines
 
