@@ -1,9 +1,9 @@
 -- What is known of the line at a place after an edit, when it gets its code.
-use Rattle.std.proofs.Common.{◌≡◌, ℕ, zero, suc, cond, is_some, [], ◌∷◌, ◌+◌, ◌<◌, ◌≤◌, true, false, ◌&&◌, List, length, get_or, slice_get, reverse, refl, ap, sym, ◌∙◌, arith, Option, Some, None, vec_len}
+use Rattle.std.proofs.Common.{◌≡◌, ℕ, zero, suc, cond, is_some, [], ◌∷◌, ◌+◌, ◌<◌, ◌≤◌, Bool, true, false, ◌&&◌, List, length, get_or, slice_get, count_by, take, reverse, refl, ap, sym, ◌∙◌, arith, Option, Some, None, vec_len}
 use Rattle.std.specs.List.{enumerate_from}
 use Rattle.std.specs.Option.{option_map_or}
 use Rattle.std.proofs.lemmas.Bool.{and_parts}
-use Rattle.std.proofs.lemmas.List.{length-map}
+use Rattle.std.proofs.lemmas.List.{length-map, take-take}
 use Rattle.std.proofs.lemmas.Option.{same_Some, slice_get_within, slice_get_read, slice_get-get_or}
 use Rattle.chip_lang.specs.Code.{code_of, own_bytes}
 use Rattle.chip_lang.specs.declared.limits.TheConstants.{IMAGE_BYTES}
@@ -17,7 +17,7 @@ use Rattle.chip_asm.specs.Program.{code_under, names_of_lines}
 use Rattle.chip_asm.specs.computed.Walk.{placed}
 use Rattle.chip_asm.specs.declared.placement.Placement.{Placement}
 use Rattle.chip_asm.specs.declared.recoding.Recoding.{Recoding}
-use Rattle.chip_asm.specs.inner.Codes.{IsWritten, covers_byte, right_byte}
+use Rattle.chip_asm.specs.inner.Codes.{IsByte, IsWritten, covers_byte, right_byte}
 use Rattle.chip_asm.specs.inner.Infos.{IsInfo}
 use Rattle.chip_asm.specs.inner.KeptLine.{KeptLine}
 use Rattle.chip_asm.specs.inner.Layouts.{placements_of}
@@ -25,9 +25,9 @@ use Rattle.chip_asm.specs.inner.Placements.{is_placed}
 use Rattle.chip_asm.specs.inner.Recode.{count_up_to, has_code, is_encoded_again, is_placed_at}
 use Rattle.chip_asm.specs.inner.Recoding.{IsRecoding, IsPlacedThen, code_bytes, code_then, count_then, is_again, is_kept, lines_again, lines_before, lines_then}
 use Rattle.chip_asm.specs.inner.Records.{lines_after, place_before, reading_in}
-use Rattle.chip_asm.proofs.CodeSteps.{IsByte, byte-more, byte-stays, byte-written, count-numbered, count_by-take}
+use Rattle.chip_asm.proofs.CodeSteps.{byte-more, byte-stays, byte-written, count-numbered, count_by-take}
 use Rattle.chip_asm.proofs.ImageSteps.{same-bytes}
-use Rattle.chip_asm.proofs.LinesAfter.{info-at, length-readings_after, line-at, read-at, stood, stood-at}
+use Rattle.chip_asm.proofs.LinesAfter.{Stood, info-at, length-lines_after, length-readings_after, line-at, read-at, stood, stood-at}
 use Rattle.chip_asm.proofs.LinesByPlace.{AtPlace, at-place}
 use Rattle.chip_asm.proofs.Placing.{length-numbered}
 use Rattle.chip_asm.proofs.Resumed.{length-laid}
@@ -124,6 +124,22 @@ carried law r k place before q p now origin is kept =
       long = k.codes.long (let h = before-at r k place before inside origin in omega (arith, length-map r.lines.now reading_in));
     }
 
+-- what is kept of a line that stood somewhere
+pub stood-kept : (r : Recoding) → IsRecoding r → (place before : ℕ) (d : KeptLine) → place < count_then r → place_before r.edit.now place ≡ Some before
+    → slice_get (lines_after r.lines.now r.edit.now) place ≡ Some (get_or r.lines.now before d)
+stood-kept r k place before d inside origin =
+    let there : Stood r.lines.now r.edit.now place before = stood r.lines.now r.edit.now place before k.within inside origin in
+    slice_get-get_or (lines_after r.lines.now r.edit.now) place d (omega (arith, inside, length-lines_after r.lines.now r.edit.now k.within)) ∙ ap Some (there.line d)
+
+-- whether its names keep their values
+pub agree-stood : (r : Recoding) → IsRecoding r → (place before : ℕ) (d : KeptLine) (line : Reading) (b : Bool) → place < count_then r → place_before r.edit.now place ≡ Some before
+    → slice_get (lines_then r) place ≡ Some line → agree_on (values_of r.names.now.before) (values_of r.names.now.symbols) (reading_in (get_or r.lines.now before d)) ≡ b
+    → agree_on (values_of (names_of_lines (lines_before r))) (values_of (names_of_lines (lines_then r))) line ≡ b
+agree-stood r k place before d line b inside origin at is =
+    sym (agree-kept r k line)
+    ∙ ap (agree_on (values_of r.names.now.before) (values_of r.names.now.symbols)) (sym (read-at (lines_after r.lines.now r.edit.now) place (get_or r.lines.now before d) line (stood-kept r k place before d inside origin) at))
+    ∙ is
+
 -- a line with code that is accepted and doesn't keep it is encoded again
 pub again-is : (r : Recoding) → IsRecoding r → (place : ℕ) (q : Placement) (line : Reading) → slice_get r.new.now.placements.items place ≡ Some q → has_code (body_of line) ≡ true → is_placed q ≡ true
     → is_kept r (place, line) ≡ false → is_again r (place, line) ≡ true
@@ -188,6 +204,13 @@ bytes-more r known place inside old new so_far right others k h = by (slice_get 
     by None e = absurd (let bad : false ≡ true = ap is_some (sym e) ∙ some-within r.new.now.placements.items place (let n = long-then r known in omega arith) in cc)
     by (Some q) e =
         byte-more (lines_then r) r.new.now known.new place q k (get_or old k 0) (get_or new k 0) e (so_far k h) (λ covered zero_now. right q k e h covered zero_now) (λ apart. others q k e apart)
+
+-- no fewer are encoded up to a later place
+pub count-later : (r : Recoding) (place later : ℕ) → place ≤ later → count_up_to (lines_before r) (lines_then r) (place_before r.edit.now) place ≤ count_up_to (lines_before r) (lines_then r) (place_before r.edit.now) later
+count-later r place later h =
+    let again = is_encoded_again (lines_before r) (lines_then r) (place_before r.edit.now) in
+    let all = enumerate_from 0 (lines_then r) in
+    omega (arith, count_by-take again (take later all) place, ap (count_by again) (take-take place later all h))
 
 -- how many lines are encoded up to the next place
 pub counted : (r : Recoding) → IsRecoding r → (place : ℕ) → place < count_then r → (start before now : ℕ) → before ≤ start + count_up_to (lines_before r) (lines_then r) (place_before r.edit.now) place

@@ -1,4 +1,4 @@
-use Rattle.std.proofs.Common.{◌≡◌, ◌∙◌, ◌+◌, Some, get_or, slice_get, true, false, ap, sym, subst, arith, is_some}
+use Rattle.std.proofs.Common.{◌≡◌, ◌∙◌, ◌+◌, Some, get_or, slice_get, true, false, ap, sym, subst, arith}
 use Rattle.std.proofs.lemmas.Grind.{common_steps}
 use Rattle.std.proofs.lemmas.Option.{same_Some}
 use Rattle.std.proofs.lemmas.Result.{IfOk-weaker, on_ok_weaker}
@@ -7,7 +7,7 @@ use Rattle.chip_lang.specs.declared.limits.TheConstants.{IMAGE_START}
 use Rattle.chip_asm.specs.Layout.{body_of}
 use Rattle.chip_asm.specs.Program.{fault_in_code, fault_of}
 use Rattle.chip_asm.specs.computed.Walk.{placed}
-use Rattle.chip_asm.specs.inner.Codes.{IsWritten}
+use Rattle.chip_asm.specs.inner.Codes.{IsWritten, right_byte}
 use Rattle.chip_asm.specs.inner.Placements.{is_placed}
 use Rattle.chip_asm.specs.declared.placement.Placement.{Placement}
 use Rattle.chip_asm.specs.inner.Recode.{has_code}
@@ -27,13 +27,15 @@ returns-then-placement-eq0-clause-right c = λ q k there small covered zero_now.
     let p_at : slice_get r.new.now.placements.items c.args.place ≡ Some p = now-at r c.requires.recoding c.args.place p c.requires.place c.index-placement.ensures in
     let same : q ≡ p = same_Some q p (sym there ∙ p_at) in
     let a : AtPlace (lines_then r) c.args.place q = placed-then r c.requires.recoding c.args.place q there in
-    elim c.then-placement-eq0.branch [
+    let stays : c.carry_at.new.image ≡ c.args.image.now = c.carry_at.ensures.same c.in_default.is in
+    let is : get_or c.args.image.now k 0 ≡ right_byte (lines_then r) k = elim c.then-placement-eq0.branch [
       | then-placement-eq0-via-then-placement-eq0 w ↦
           absurd (omega (arith, w.if-placement-eq0.true, ap (λ (o : Placement). o.size) same, covered-parts q (IMAGE_START + k) covered))
       | then-placement-eq0-via-else-placement-eq0+then-not-is_accepted w ↦
           refused-zero (lines_then r) c.args.place q a (IMAGE_START + k) (get_or c.args.image.now k 0) covered (ap is_placed same ∙ sym w.is_accepted.ensures ∙ w.if-not-is_accepted.true)
           (λ none. zero_now (λ line at. ap (λ (l : Reading). has_code (body_of l)) (same_Some line a.x.line (sym at ∙ a.line)) ∙ none))
-    ]
+    ] in
+    ap (λ image. get_or image k 0) stays ∙ is
 
 pub returns-then-placement-eq0-clause-fault : goal.returns-then-placement-eq0-clause-fault
 returns-then-placement-eq0-clause-fault c = λ x at.
@@ -56,7 +58,8 @@ returns-then-not-info-clause-right c = λ q k there small covered zero_now.
     let a : AtPlace (lines_then r) c.args.place q = placed-then r c.requires.recoding c.args.place q there in
     let none : has_code (body_of a.x.line) ≡ false
     = sym (coded-is r c.requires.recoding c.args.place q a c.kept_after-kept.result.now c.kept_after-kept.ensures) ∙ ap (λ i. i.is_coded) (sym c.info.ensures) ∙ uncoded in
-    zero_now (λ line at. ap (λ (l : Reading). has_code (body_of l)) (same_Some line a.x.line (sym at ∙ a.line)) ∙ none) ∙ sym (uncoded-byte (lines_then r) c.args.place q a (IMAGE_START + k) covered none)
+    ap (λ image. get_or image k 0) (c.carry_at.ensures.same c.in_default.is)
+    ∙ zero_now (λ line at. ap (λ (l : Reading). has_code (body_of l)) (same_Some line a.x.line (sym at ∙ a.line)) ∙ none) ∙ sym (uncoded-byte (lines_then r) c.args.place q a (IMAGE_START + k) covered none)
 
 pub returns-then-not-info-clause-fault : goal.returns-then-not-info-clause-fault
 returns-then-not-info-clause-fault c = λ x at.
@@ -69,66 +72,37 @@ returns-then-not-info-clause-fault c = λ x at.
     = sym (coded-is r c.requires.recoding c.args.place p a c.kept_after-kept.result.now c.kept_after-kept.ensures) ∙ ap (λ i. i.is_coded) (sym c.info.ensures) ∙ uncoded in
     sym (uncoded-fault (lines_then r) c.args.place p a (sym c.is_accepted.ensures ∙ c.if-not-is_accepted.false) none) ∙ ap (fault_of (placed (lines_then r))) (same-placed (lines_then r) c.args.place p a x at)
 
-pub carry-requires-clause-placement : goal.carry-requires-clause-placement
-carry-requires-clause-placement c = record {
-  there = now-at c.args.self.now c.requires.recoding c.args.place c.index-placement.result.now c.requires.place c.index-placement.ensures;
-  accepted = sym c.is_accepted.ensures ∙ c.if-not-is_accepted.false;
-}
-
 pub encode-requires-clause-placement : goal.encode-requires-clause-placement
 encode-requires-clause-placement c = record {
   there = now-at c.args.self.now c.requires.recoding c.args.place c.index-placement.result.now c.requires.place c.index-placement.ensures;
   accepted = sym c.is_accepted.ensures ∙ c.if-not-is_accepted.false;
 }
 
-pub returns-in-Some-clause-right : goal.returns-in-Some-clause-right
-returns-in-Some-clause-right c = λ q k there small covered zero_now.
-    let r = c.args.self.now in
-    let p = c.index-placement.result.now in
-    let p_at : slice_get r.new.now.placements.items c.args.place ≡ Some p = now-at r c.requires.recoding c.args.place p c.requires.place c.index-placement.ensures in
-    written-right r c.requires.recoding c.args.place p q p_at there k covered c.args.image.now c.carry.new.image c.carry.ensures.written
-
-pub returns-in-Some-clause-others : goal.returns-in-Some-clause-others
-returns-in-Some-clause-others c = λ q k there apart.
-    let r = c.args.self.now in
-    let p = c.index-placement.result.now in
-    let p_at : slice_get r.new.now.placements.items c.args.place ≡ Some p = now-at r c.requires.recoding c.args.place p c.requires.place c.index-placement.ensures in
-    written-other r c.requires.recoding c.args.place p q p_at there k apart c.args.image.now c.carry.new.image c.carry.ensures.written
-
-pub returns-in-Some-clause-fault : goal.returns-in-Some-clause-fault
-returns-in-Some-clause-fault c = λ x at.
-    let r = c.args.self.now in
-    let p = c.index-placement.result.now in
-    let p_at : slice_get r.new.now.placements.items c.args.place ≡ Some p = now-at r c.requires.recoding c.args.place p c.requires.place c.index-placement.ensures in
-    let a : AtPlace (lines_then r) c.args.place p = placed-then r c.requires.recoding c.args.place p p_at in
-    c.carry.ensures.fault a.x a.at
-    ∙ sym (accepted-fault (lines_then r) c.args.place p a (sym c.is_accepted.ensures ∙ c.if-not-is_accepted.false))
-    ∙ ap (fault_of (placed (lines_then r))) (same-placed (lines_then r) c.args.place p a x at)
-
-pub returns-in-None-clause-right : goal.returns-in-None-clause-right
-returns-in-None-clause-right c = λ q k there small covered zero_now.
+pub returns-clause-right : goal.returns-clause-right
+returns-clause-right c = λ q k there small covered zero_now.
     let r = c.args.self.now in
     let p = c.index-placement.result.now in
     let p_at : slice_get r.new.now.placements.items c.args.place ≡ Some p = now-at r c.requires.recoding c.args.place p c.requires.place c.index-placement.ensures in
     let a : AtPlace (lines_then r) c.args.place p = placed-then r c.requires.recoding c.args.place p p_at in
     on_ok_weaker c.encode.result
-    (λ written. written-right r c.requires.recoding c.args.place p q p_at there k covered c.args.image.now c.encode.new.image
-    (λ x at i. subst (λ y. IsWritten p (code_bytes r y) c.args.image.now c.encode.new.image) (same-placed (lines_then r) c.args.place p a x at) written i))
+    (λ written. written-right r c.requires.recoding c.args.place p q p_at there k covered c.carry_at.new.image c.encode.new.image
+    (λ x at i. subst (λ y. IsWritten p (code_bytes r y) c.carry_at.new.image c.encode.new.image) (same-placed (lines_then r) c.args.place p a x at) written i))
     (c.encode.ensures.written a.x a.at)
 
-pub returns-in-None-clause-others : goal.returns-in-None-clause-others
-returns-in-None-clause-others c = λ q k there apart.
+pub returns-clause-others : goal.returns-clause-others
+returns-clause-others c = λ q k there apart.
     let r = c.args.self.now in
     let p = c.index-placement.result.now in
     let p_at : slice_get r.new.now.placements.items c.args.place ≡ Some p = now-at r c.requires.recoding c.args.place p c.requires.place c.index-placement.ensures in
     let a : AtPlace (lines_then r) c.args.place p = placed-then r c.requires.recoding c.args.place p p_at in
     on_ok_weaker c.encode.result
-    (λ written. written-other r c.requires.recoding c.args.place p q p_at there k apart c.args.image.now c.encode.new.image
-    (λ x at i. subst (λ y. IsWritten p (code_bytes r y) c.args.image.now c.encode.new.image) (same-placed (lines_then r) c.args.place p a x at) written i))
+    (λ written. written-other r c.requires.recoding c.args.place p q p_at there k apart c.carry_at.new.image c.encode.new.image
+    (λ x at i. subst (λ y. IsWritten p (code_bytes r y) c.carry_at.new.image c.encode.new.image) (same-placed (lines_then r) c.args.place p a x at) written i)
+    ∙ ap (λ image. get_or image k 0) (c.carry_at.ensures.same c.in_default.is))
     (c.encode.ensures.written a.x a.at)
 
-pub returns-in-None-clause-fault : goal.returns-in-None-clause-fault
-returns-in-None-clause-fault c = λ x at.
+pub returns-clause-fault : goal.returns-clause-fault
+returns-clause-fault c = λ x at.
     let r = c.args.self.now in
     let p = c.index-placement.result.now in
     let p_at : slice_get r.new.now.placements.items c.args.place ≡ Some p = now-at r c.requires.recoding c.args.place p c.requires.place c.index-placement.ensures in
@@ -137,8 +111,8 @@ returns-in-None-clause-fault c = λ x at.
     = sym (accepted-fault (lines_then r) c.args.place p a (sym c.is_accepted.ensures ∙ c.if-not-is_accepted.false)) ∙ ap (fault_of (placed (lines_then r))) (same-placed (lines_then r) c.args.place p a x at) in
     IfOk-weaker c.encode.result (λ fault. fault ≡ fault_in_code (code_then r a.x)) (λ fault. fault ≡ fault_of (placed (lines_then r)) x) (λ fault e. e ∙ is) (c.encode.ensures.fault a.x a.at)
 
-pub returns-in-None-clause-encoded : goal.returns-in-None-clause-encoded
-returns-in-None-clause-encoded c = λ line at.
+pub returns-clause-encoded : goal.returns-clause-encoded
+returns-clause-encoded c = λ line at.
     let r = c.args.self.now in
     let p = c.index-placement.result.now in
     let coded : c.info.result.is_coded ≡ true = grind (arith, common_steps) in
@@ -147,6 +121,6 @@ returns-in-None-clause-encoded c = λ line at.
     let line_is : line ≡ a.x.line = same_Some line a.x.line (sym at ∙ a.line) in
     let has : has_code (body_of line) ≡ true
     = ap (λ (l : Reading). has_code (body_of l)) line_is ∙ sym (coded-is r c.requires.recoding c.args.place p a c.kept_after-kept.result.now c.kept_after-kept.ensures) ∙ ap (λ i. i.is_coded) (sym c.info.ensures) ∙ coded in
-    let kept : is_kept r (c.args.place, line) ≡ false = sym (c.kept_place.ensures.kept line at) ∙ ap is_some c.in-None.is in
+    let kept : is_kept r (c.args.place, line) ≡ false = c.carry_at.ensures.again line at c.in_default.is in
     let again : is_again r (c.args.place, line) ≡ true = again-is r c.requires.recoding c.args.place p line p_at has (sym c.is_accepted.ensures ∙ c.if-not-is_accepted.false) kept in
     rw again c.encode.ensures.encoded
