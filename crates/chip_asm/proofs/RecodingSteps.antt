@@ -1,9 +1,9 @@
 -- What is known of the line at a place after an edit, when it gets its code.
-use Rattle.std.proofs.Common.{◌≡◌, ℕ, zero, suc, cond, is_some, [], ◌∷◌, ◌+◌, ◌<◌, ◌≤◌, Bool, true, false, ◌&&◌, List, length, get_or, slice_get, count_by, take, reverse, refl, ap, sym, ◌∙◌, arith, Option, Some, None, vec_len}
+use Rattle.std.proofs.Common.{◌≡◌, ℕ, zero, suc, cond, is_some, [], ◌∷◌, ◌+◌, ◌<◌, ◌≤◌, Bool, true, false, ◌&&◌, List, length, get_or, slice_get, reverse, refl, ap, sym, ◌∙◌, arith, Option, Some, None, vec_len}
 use Rattle.std.specs.List.{enumerate_from}
 use Rattle.std.specs.Option.{option_map_or}
 use Rattle.std.proofs.lemmas.Bool.{and_parts}
-use Rattle.std.proofs.lemmas.List.{length-map, take-take}
+use Rattle.std.proofs.lemmas.List.{length-map}
 use Rattle.std.proofs.lemmas.Option.{same_Some, slice_get_within, slice_get_read, slice_get-get_or}
 use Rattle.chip_lang.specs.Code.{code_of, own_bytes}
 use Rattle.chip_lang.specs.declared.limits.TheConstants.{IMAGE_BYTES}
@@ -78,6 +78,11 @@ kept-is r k place before p line origin there =
     ap (λ o. option_map_or (λ b. is_placed_at (placements_of (lines_before r)) b && agree_on (values_of (names_of_lines (lines_before r))) (values_of (names_of_lines (lines_then r))) line) o false) origin
     ∙ ap (λ o. option_map_or is_placed o false && agree_on (values_of (names_of_lines (lines_before r))) (values_of (names_of_lines (lines_then r))) line)
     (ap (λ ps. slice_get ps before) (sym k.old.placements) ∙ there)
+
+-- a line that stood nowhere keeps no code
+pub new-anew : (r : Recoding) (place : ℕ) (line : Reading) → place_before r.edit.now place ≡ None → is_kept r (place, line) ≡ false
+new-anew r place line e =
+    ap (λ (o : Option ℕ). option_map_or (λ b. is_placed_at (placements_of (lines_before r)) b && agree_on (values_of (names_of_lines (lines_before r))) (values_of (names_of_lines (lines_then r))) line) o false) e
 
 pub agree-kept : (r : Recoding) → IsRecoding r → (line : Reading)
     → agree_on (values_of r.names.now.before) (values_of r.names.now.symbols) line ≡ agree_on (values_of (names_of_lines (lines_before r))) (values_of (names_of_lines (lines_then r))) line
@@ -204,13 +209,6 @@ bytes-more r known place inside old new so_far right others k h = by (slice_get 
     by None e = absurd (let bad : false ≡ true = ap is_some (sym e) ∙ some-within r.new.now.placements.items place (let n = long-then r known in omega arith) in cc)
     by (Some q) e =
         byte-more (lines_then r) r.new.now known.new place q k (get_or old k 0) (get_or new k 0) e (so_far k h) (λ covered zero_now. right q k e h covered zero_now) (λ apart. others q k e apart)
-
--- no fewer are encoded up to a later place
-pub count-later : (r : Recoding) (place later : ℕ) → place ≤ later → count_up_to (lines_before r) (lines_then r) (place_before r.edit.now) place ≤ count_up_to (lines_before r) (lines_then r) (place_before r.edit.now) later
-count-later r place later h =
-    let again = is_encoded_again (lines_before r) (lines_then r) (place_before r.edit.now) in
-    let all = enumerate_from 0 (lines_then r) in
-    omega (arith, count_by-take again (take later all) place, ap (count_by again) (take-take place later all h))
 
 -- how many lines are encoded up to the next place
 pub counted : (r : Recoding) → IsRecoding r → (place : ℕ) → place < count_then r → (start before now : ℕ) → before ≤ start + count_up_to (lines_before r) (lines_then r) (place_before r.edit.now) place

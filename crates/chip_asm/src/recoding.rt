@@ -10,7 +10,7 @@ ghost use Rattle.chip_asm.specs.Names.{values_of};
 ghost use Rattle.chip_lang.specs.Uses.{agree_on};
 ghost use Rattle.chip_asm.specs.inner.Infos.{IsInfo};
 ghost use Rattle.chip_asm.specs.inner.Codes.{AreCodesOf, IsWritten, covers_byte, right_byte};
-ghost use Rattle.chip_asm.specs.inner.Recoding.{AreWritten, IsAcceptedAt, IsPlacedThen, IsRecoding, IsUncodedAt, code_bytes, code_then, count_then, is_again, is_kept, lines_again, lines_then};
+ghost use Rattle.chip_asm.specs.inner.Recoding.{AreWritten, IsAcceptedAt, IsPlacedThen, IsRecoding, IsUncodedAt, again_up_to, code_bytes, code_then, count_then, is_again, is_kept, lines_again, lines_then};
 ghost use Rattle.chip_asm.specs.inner.Recode.{has_code};
 ghost use Rattle.chip_asm.specs.inner.Records.{lines_after, place_before, reading_in};
 
@@ -155,53 +155,6 @@ impl<'a> Recoding<'a> {
         Some(self.carry(image, placement, place, before))
     }
 
-    /// Writes the code of the line at a place unless it has to be encoded. The line's fault.
-    fn carry_at(&self, image: &mut [u8], place: usize) -> Option<Option<Fault>>
-        requires recoding { IsRecoding self.now }
-        requires place { place < count_then self.now }
-        requires long { length image.old ≡ IMAGE_BYTES }
-        ensures right { (q : Placement) (k : ℕ)
-            → slice_get self.now.new.now.placements.items place ≡ Some q → k < IMAGE_BYTES
-            → covers_byte q k ≡ true
-            → (IsUncodedAt (lines_then self.now) place → slice_index image.old k ≡ 0)
-            → IfSome result (λ fault. slice_index image.new k ≡ right_byte (lines_then self.now) k) }
-        ensures others { (q : Placement) (k : ℕ)
-            → slice_get self.now.new.now.placements.items place ≡ Some q
-            → covers_byte q k ≡ false
-            → slice_index image.new k ≡ slice_index image.old k }
-        ensures fault { (x : Placed) → IsPlacedThen self.now place x
-            → IfSome result (λ fault. fault ≡ fault_of (placed (lines_then self.now)) x) }
-        ensures again { (line : Reading) → slice_get (lines_then self.now) place ≡ Some line
-            → result ≡ None → is_kept self.now (place, line) ≡ false }
-        ensures same { result ≡ None → image.new ≡ image.old }
-    {
-        let before = place_before(self.edit, place)?;
-        self.carry_line(image, place, before)
-    }
-
-    /// Writes the codes of the lines that stand, one after another, at a place and behind it and were
-    /// there before the edit, up to the first one that has to be encoded. The place of that one.
-    #[inline(never)]
-    fn carry_lines(&self, codes: &mut Codes, place: usize) -> Result<usize, AllocError>
-        requires recoding { IsRecoding self.now }
-        requires place { place ≤ count_then self.now }
-        requires written { AreWritten self.now codes.old place }
-        ensures onward { IfOk result (λ next. place ≤ next) }
-        ensures within { IfOk result (λ next. next ≤ count_then self.now) }
-        ensures written { IfOk result (λ next. AreWritten self.now codes.new next) }
-    {
-        let stretch = stretch_from(self.edit, self.lines.len(), place);
-        let mut next = place;
-        for before in stretch.start..stretch.end {
-            match self.carry_line(&mut codes.image, next, before) {
-                Some(fault) => codes.faults.push(fault)?,
-                None => return Ok(next),
-            }
-            next += 1;
-        }
-        Ok(next)
-    }
-
     /// Encodes the line at a place. The line's fault.
     #[inline(never)]
     fn encode(
@@ -229,6 +182,86 @@ impl<'a> Recoding<'a> {
         let code = code_of(alloc, meter, self.names, kept)?;
         write_line(image, placement, bytes_of(&code));
         Ok(fault_in(&code))
+    }
+
+    /// Writes the bytes of the line at a place, whose code isn't kept. The line's fault.
+    #[inline(never)]
+    fn write_anew(
+        &self,
+        alloc: Global,
+        meter: &mut Meter,
+        image: &mut [u8],
+        place: usize,
+    ) -> Result<Option<Fault>, AllocError>
+        requires recoding { IsRecoding self.now }
+        requires place { place < count_then self.now }
+        requires long { length image.old ≡ IMAGE_BYTES }
+        requires again { (line : Reading) → slice_get (lines_then self.now) place ≡ Some line
+            → is_kept self.now (place, line) ≡ false }
+        ensures right { (q : Placement) (k : ℕ)
+            → slice_get self.now.new.now.placements.items place ≡ Some q → k < IMAGE_BYTES
+            → covers_byte q k ≡ true
+            → (IsUncodedAt (lines_then self.now) place → slice_index image.old k ≡ 0)
+            → OnOk result (slice_index image.new k ≡ right_byte (lines_then self.now) k) }
+        ensures others { (q : Placement) (k : ℕ)
+            → slice_get self.now.new.now.placements.items place ≡ Some q
+            → covers_byte q k ≡ false
+            → OnOk result (slice_index image.new k ≡ slice_index image.old k) }
+        ensures fault { (x : Placed) → IsPlacedThen self.now place x
+            → IfOk result (λ fault. fault ≡ fault_of (placed (lines_then self.now)) x) }
+        ensures encoded { (line : Reading) → slice_get (lines_then self.now) place ≡ Some line
+            → meter.new.encoded
+            ≤ meter.old.encoded + (if is_again self.now (place, line) then 1 else 0) }
+        ensures not_lowered { meter.old.encoded ≤ meter.new.encoded }
+        ensures parsed { meter.new.parsed ≡ meter.old.parsed }
+    {
+        let placement = &self.new.placements[place];
+        if placement.size == 0 || !placement.is_accepted() {
+            return Ok(placement.fault);
+        }
+        let kept = kept_after(self.lines, self.edit, place);
+        if !kept.info().is_coded {
+            return Ok(None);
+        }
+        self.encode(alloc, meter, image, placement, place, kept)
+    }
+
+    /// Writes the bytes of the line at a place, which stood at another one before the edit. The
+    /// line's fault.
+    #[inline(always)]
+    fn write_stood(
+        &self,
+        alloc: Global,
+        meter: &mut Meter,
+        image: &mut [u8],
+        place: usize,
+        before: usize,
+    ) -> Result<Option<Fault>, AllocError>
+        requires recoding { IsRecoding self.now }
+        requires place { place < count_then self.now }
+        requires stood { place_before self.now.edit.now place ≡ Some before }
+        requires long { length image.old ≡ IMAGE_BYTES }
+        ensures right { (q : Placement) (k : ℕ)
+            → slice_get self.now.new.now.placements.items place ≡ Some q → k < IMAGE_BYTES
+            → covers_byte q k ≡ true
+            → (IsUncodedAt (lines_then self.now) place → slice_index image.old k ≡ 0)
+            → OnOk result (slice_index image.new k ≡ right_byte (lines_then self.now) k) }
+        ensures others { (q : Placement) (k : ℕ)
+            → slice_get self.now.new.now.placements.items place ≡ Some q
+            → covers_byte q k ≡ false
+            → OnOk result (slice_index image.new k ≡ slice_index image.old k) }
+        ensures fault { (x : Placed) → IsPlacedThen self.now place x
+            → IfOk result (λ fault. fault ≡ fault_of (placed (lines_then self.now)) x) }
+        ensures encoded { (line : Reading) → slice_get (lines_then self.now) place ≡ Some line
+            → meter.new.encoded
+            ≤ meter.old.encoded + (if is_again self.now (place, line) then 1 else 0) }
+        ensures not_lowered { meter.old.encoded ≤ meter.new.encoded }
+        ensures parsed { meter.new.parsed ≡ meter.old.parsed }
+    {
+        if let Some(fault) = self.carry_line(image, place, before) {
+            return Ok(fault);
+        }
+        self.write_anew(alloc, meter, image, place)
     }
 
     /// Writes the bytes of the line at a place. The line's fault.
@@ -259,18 +292,43 @@ impl<'a> Recoding<'a> {
         ensures not_lowered { meter.old.encoded ≤ meter.new.encoded }
         ensures parsed { meter.new.parsed ≡ meter.old.parsed }
     {
-        if let Some(fault) = self.carry_at(image, place) {
-            return Ok(fault);
+        match place_before(self.edit, place) {
+            Some(before) => self.write_stood(alloc, meter, image, place, before),
+            None => self.write_anew(alloc, meter, image, place),
         }
-        let placement = &self.new.placements[place];
-        if placement.size == 0 || !placement.is_accepted() {
-            return Ok(placement.fault);
+    }
+
+    /// Writes the codes of the lines that stand, one after another, at a place and behind it and were
+    /// there before the edit. The place behind them.
+    #[inline(never)]
+    fn write_stretch(
+        &self,
+        alloc: Global,
+        meter: &mut Meter,
+        codes: &mut Codes,
+        place: usize,
+    ) -> Result<usize, AllocError>
+        requires recoding { IsRecoding self.now }
+        requires place { place ≤ count_then self.now }
+        requires written { AreWritten self.now codes.old place }
+        ensures onward { IfOk result (λ next. place ≤ next) }
+        ensures within { IfOk result (λ next. next ≤ count_then self.now) }
+        ensures written { IfOk result (λ next. AreWritten self.now codes.new next) }
+        ensures encoded { IfOk result (λ next. meter.new.encoded + again_up_to self.now place
+            ≤ meter.old.encoded + again_up_to self.now next) }
+        ensures bound { meter.new.encoded + again_up_to self.now place
+            ≤ meter.old.encoded + lines_again self.now }
+        ensures not_lowered { meter.old.encoded ≤ meter.new.encoded }
+        ensures parsed { meter.new.parsed ≡ meter.old.parsed }
+    {
+        let stretch = stretch_from(self.edit, self.lines.len(), place);
+        let mut next = place;
+        for before in stretch.start..stretch.end {
+            let fault = self.write_stood(alloc, meter, &mut codes.image, next, before)?;
+            codes.faults.push(fault)?;
+            next += 1;
         }
-        let kept = kept_after(self.lines, self.edit, place);
-        if !kept.info().is_coded {
-            return Ok(None);
-        }
-        self.encode(alloc, meter, image, placement, place, kept)
+        Ok(next)
     }
 
     /// The codes of all lines after the edit, in the room of others. The bytes and faults of the
@@ -309,7 +367,7 @@ impl<'a> Recoding<'a> {
         while next < count {
             let fault = self.write(alloc, meter, &mut codes.image, next)?;
             codes.faults.push(fault)?;
-            next = self.carry_lines(&mut codes, next + 1)?;
+            next = self.write_stretch(alloc, meter, &mut codes, next + 1)?;
         }
         codes.count = count_faults(&codes.faults);
         Ok(codes)

@@ -16,7 +16,7 @@ use Rattle.chip_lang.specs.declared.limits.TheConstants.{IMAGE_BYTES}
 use Rattle.chip_asm.specs.inner.Codes.{AreCodesOf, IsByte, line_faults}
 use Rattle.chip_asm.specs.inner.Infos.{AreInfos}
 use Rattle.chip_asm.specs.inner.Layouts.{IsLayoutOf}
-use Rattle.chip_asm.specs.inner.Recode.{count_again, has_code, is_encoded_again, keeps_code}
+use Rattle.chip_asm.specs.inner.Recode.{count_again, count_up_to, has_code, is_encoded_again, keeps_code}
 use Rattle.chip_asm.specs.inner.Records.{IsPlaceWithin, count_after, lines_after, place_before, readings_in}
 use Rattle.chip_asm.specs.inner.Resume.{AreSteady, first_changed}
 
@@ -51,6 +51,11 @@ is_again r at = is_encoded_again (lines_before r) (lines_then r) (place_before r
 -- how many lines are
 abbrev pub lines_again : Recoding → ℕ
 lines_again r = count_again (lines_before r) (lines_then r) (place_before r.edit.now)
+
+-- how many of those before a place are
+abbrev pub again_up_to : Recoding → ℕ → ℕ
+again_up_to r place =
+    count_up_to (lines_before r) (lines_then r) (place_before r.edit.now) place
 
 -- the line at a place keeps its code
 abbrev pub is_kept : Recoding → ℕ × Reading → Bool

@@ -14,7 +14,7 @@ use Rattle.chip_asm.proofs.Bounds.{end-low}
 use Rattle.chip_asm.proofs.CodeSteps.{byte-done, count_by-take, count_faults, fault-at, faults-counted, faults-more, length-faults, refilled}
 use Rattle.chip_asm.proofs.FrontSteps.{AreFrontFaults, FoundThen, IsFrontByte, Stays, begun-recoding, bytes-stay, faults-begin, faults-done, faults-next, faults-stay, found-then, front-after, front-begins, front-bytes, front-done, front-more, front-zero, stays}
 use Rattle.chip_asm.proofs.LinesAfter.{length-readings_after, read-at}
-use Rattle.chip_asm.proofs.RecodingSteps.{LineThen, bytes-more, count-later, counted, kept-info, line-then, long-then}
+use Rattle.chip_asm.proofs.RecodingSteps.{LineThen, bytes-more, counted, kept-info, line-then, long-then}
 use Rattle.chip_asm.proofs.RelayoutSteps.{Begun}
 use Rattle.chip_asm.proofs.recoding.Recoding.codes.Goals as goal
 use Rattle.chip_asm.proofs.recoding.Recoding.codes.Goals.{then-self, else-self}
@@ -166,8 +166,8 @@ returns-in_err-push-clause-encoded c =
     let inside : c.loop-next.next < count_then r = omega (arith, c.loop-next-test.true, c.len-count.ensures, long-then r c.requires, r.new.now.placements.ok.0) in
     (counted r c.requires c.loop-next.next inside c.args.meter.now.encoded c.loop-next.meter.encoded c.write-in-loop-next.new.meter.encoded c.loop-next.invariant.2 c.write-in-loop-next.ensures.encoded).1
 
-pub carry_lines-requires-clause-written : goal.carry_lines-requires-clause-written
-carry_lines-requires-clause-written c =
+pub write_stretch-requires-clause-written : goal.write_stretch-requires-clause-written
+write_stretch-requires-clause-written c =
     let r = c.args.self.now in
     let so_far : AreWritten r c.loop-next.codes c.loop-next.next = c.loop-next.invariant.0 in
     let long : length c.write-in-loop-next.new.image ≡ c.loop-next.codes.image.len = c.write-in-loop-next.auto.image ∙ c.deref_mut-in-loop-next.ensures.len in
@@ -184,8 +184,8 @@ carry_lines-requires-clause-written c =
           ∙ sym (faults-more (lines_then r) c.loop-next.next line.x c.in_ok-fault-2.fault line.at (c.in_ok-fault-2.ensures.fault line.x line.at));
     }
 
-pub carry_lines-requires-clause-place : goal.carry_lines-requires-clause-place
-carry_lines-requires-clause-place c =
+pub write_stretch-requires-clause-place : goal.write_stretch-requires-clause-place
+write_stretch-requires-clause-place c =
     let r = c.args.self.now in
     omega (arith, c.loop-next-test.true, c.len-count.ensures, long-then r c.requires, r.new.now.placements.ok.0)
 
@@ -193,7 +193,8 @@ pub returns-in_err-next-clause-encoded : goal.returns-in_err-next-clause-encoded
 returns-in_err-next-clause-encoded c =
     let r = c.args.self.now in
     let inside : c.loop-next.next < count_then r = omega (arith, c.loop-next-test.true, c.len-count.ensures, long-then r c.requires, r.new.now.placements.ok.0) in
-    (counted r c.requires c.loop-next.next inside c.args.meter.now.encoded c.loop-next.meter.encoded c.write-in-loop-next.new.meter.encoded c.loop-next.invariant.2 c.write-in-loop-next.ensures.encoded).1
+    let step = counted r c.requires c.loop-next.next inside c.args.meter.now.encoded c.loop-next.meter.encoded c.write-in-loop-next.new.meter.encoded c.loop-next.invariant.2 c.write-in-loop-next.ensures.encoded in
+    omega (arith, step.0, c.write_stretch.ensures.bound)
 
 pub loop-next-preserved : goal.loop-next-preserved
 loop-next-preserved c =
@@ -203,9 +204,9 @@ loop-next-preserved c =
     let step = counted r c.requires c.loop-next.next inside c.args.meter.now.encoded c.loop-next.meter.encoded c.write-in-loop-next.new.meter.encoded so_far.2 c.write-in-loop-next.ensures.encoded in (
       c.in_ok-next.ensures.written,
       c.in_ok-next.ensures.within,
-      omega (arith, step.0, count-later r (c.loop-next.next + 1) c.in_ok-next.next c.in_ok-next.ensures.onward),
-      omega (arith, so_far.3, c.write-in-loop-next.ensures.not_lowered),
-      c.write-in-loop-next.ensures.parsed ∙ so_far.4,
+      omega (arith, step.0, c.in_ok-next.ensures.encoded),
+      omega (arith, so_far.3, c.write-in-loop-next.ensures.not_lowered, c.write_stretch.ensures.not_lowered),
+      c.write_stretch.ensures.parsed ∙ c.write-in-loop-next.ensures.parsed ∙ so_far.4,
     )
 
 pub returns-clause-codes : goal.returns-clause-codes
