@@ -185,7 +185,7 @@ impl<'a> Recoding<'a> {
     }
 
     /// Writes the bytes of the line at a place, whose code isn't kept. The line's fault.
-    #[inline(never)]
+    #[inline(always)]
     fn write_anew(
         &self,
         alloc: Global,
@@ -265,6 +265,7 @@ impl<'a> Recoding<'a> {
     }
 
     /// Writes the bytes of the line at a place. The line's fault.
+    #[inline(never)]
     fn write(
         &self,
         alloc: Global,
