@@ -52,7 +52,8 @@ pub record Waits (placements : List Placement) (first k : ℕ) : Type 0 where
   pub covered : covers_byte q k ≡ true
 
 -- what is known of a byte while the lines from a place on wait
-pub record IsByte (lines : List Reading) (placements : List Placement) (place k byte : ℕ) : Type 0 where
+pub record IsByte (lines : List Reading) (placements : List Placement)
+    (place k byte : ℕ) : Type 0 where
   pub waiting : Waits placements place k → byte ≡ 0
   pub done : (Waits placements place k → ⊥) → byte ≡ right_byte lines k
 
