@@ -14,18 +14,13 @@ use Rattle.chip_asm.specs.declared.layout.Layout.{Layout}
 use Rattle.chip_asm.specs.declared.placement.Placement.{Placement}
 use Rattle.chip_asm.specs.Layout.{Placed}
 use Rattle.chip_asm.specs.computed.Walk.{placed}
-use Rattle.chip_asm.specs.inner.Codes.{Waits, count_of, covers_byte, line_faults, right_byte}
+use Rattle.chip_asm.specs.inner.Codes.{IsByte, Waits, count_of, covers_byte, line_faults, right_byte}
 use Rattle.chip_asm.specs.inner.Layouts.{IsLayoutOf}
 use Rattle.chip_asm.specs.inner.Placements.{is_placed}
 use Rattle.chip_asm.specs.Program.{bytes_in_code, code_under, fault_of, faults_of_lines, numbered_fault}
 use Rattle.chip_asm.proofs.LinesByPlace.{AtPlace, byte-line, byte-nowhere, bytes-fit, covered-once, low, high}
 use Rattle.chip_asm.proofs.Placing.{length-numbered}
 use Rattle.std.proofs.lemmas.Bool.Decides.{nat_tests}
-
--- what is known of a byte while the lines from a place on wait
-pub record IsByte (lines : List Reading) (placements : List Placement) (place k byte : ℕ) : Type 0 where
-  pub waiting : Waits placements place k → byte ≡ 0
-  pub done : (Waits placements place k → ⊥) → byte ≡ right_byte lines k
 
 -- at first each byte is zero
 pub byte-zero : (lines : List Reading) (layout : Layout) → IsLayoutOf layout lines → (k byte : ℕ) → byte ≡ 0 → IsByte lines layout.placements.items 0 k byte

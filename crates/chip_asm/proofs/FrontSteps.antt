@@ -13,10 +13,8 @@ use Rattle.chip_asm.specs.Layout.{Placed, body_of}
 use Rattle.chip_asm.specs.Program.{bytes_in_code, fault_in_code}
 use Rattle.chip_asm.specs.computed.Walk.{address, placed}
 use Rattle.chip_asm.specs.declared.placement.Placement.{Placement}
-use Rattle.chip_asm.specs.declared.edit.Edit.{Edit}
-use Rattle.chip_asm.specs.declared.edit.Edit.TheVariants.{Insert, Replace, Delete, Open}
 use Rattle.chip_asm.specs.declared.recoding.Recoding.{Recoding}
-use Rattle.chip_asm.specs.inner.Codes.{Waits, covers_byte, line_faults, right_byte}
+use Rattle.chip_asm.specs.inner.Codes.{IsByte, Waits, covers_byte, line_faults, right_byte}
 use Rattle.chip_asm.specs.inner.Follows.{placement_of}
 use Rattle.chip_asm.specs.inner.KeptLine.{KeptLine}
 use Rattle.chip_asm.specs.inner.Recode.{has_code}
@@ -24,10 +22,9 @@ use Rattle.chip_asm.specs.inner.Layouts.{first_placements}
 use Rattle.chip_asm.specs.inner.Placements.{is_placed}
 use Rattle.chip_asm.specs.inner.Recoding.{IsPlacedThen, IsRecoding, IsUncodedAt, lines_before, lines_then}
 use Rattle.chip_asm.specs.inner.Records.{lines_after, place_before, reading_in}
-use Rattle.chip_asm.specs.inner.Resume.{first_changed}
 use Rattle.chip_asm.proofs.Bounds.{end-high}
-use Rattle.chip_asm.proofs.CodeSteps.{IsByte, fault-at, length-faults}
-use Rattle.chip_asm.proofs.LinesAfter.{Stood, length-lines_after, length-readings_after, stood, stood-at}
+use Rattle.chip_asm.proofs.CodeSteps.{fault-at, length-faults}
+use Rattle.chip_asm.proofs.LinesAfter.{Stood, length-lines_after, length-readings_after, origin, stood, stood-at}
 use Rattle.chip_asm.proofs.NameValues.{all-agree}
 use Rattle.chip_asm.proofs.LinesByPlace.{AtPlace, accepted-fault, byte-line, byte-nowhere, covered-once, covered-parts, ends-by, refused-byte, refused-fault, starts-by, uncoded-byte}
 use Rattle.chip_asm.proofs.RecodingSteps.{Carried, LineThen, SameCode, agree-kept, carried, kept-is, line-then, long-before, long-then, placed-before, placed-then}
@@ -36,13 +33,6 @@ use Rattle.chip_asm.proofs.Resumed.{AllSteady, first-laid}
 
 pub begun-recoding : (r : Recoding) → IsRecoding r → Begun r.lines.now r.edit.now r.first
 begun-recoding r k = begun r.names.now.keys r.lines.now r.edit.now r.first k.within k.infos k.stays k.steady
-
--- a line before the edit stood there
-pub origin : (edit : Edit) (place : ℕ) → place < first_changed edit → place_before edit place ≡ Some place
-origin (Insert at line) place h = grind arith
-origin (Replace at line) place h = grind arith
-origin (Delete at) place h = grind arith
-origin (Open all) place h = absurd (omega arith)
 
 -- what is found of a first line was found before
 pub front-same : (r : Recoding) → IsRecoding r → (place : ℕ) (q : Placement) → place < r.first → slice_get r.new.now.placements.items place ≡ Some q → slice_get r.old.now.placements.items place ≡ Some q

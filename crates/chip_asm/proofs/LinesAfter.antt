@@ -2,6 +2,7 @@
 use Rattle.std.proofs.Common.{◌≡◌, ℕ, suc, ◌+◌, ◌-◌, ◌<◌, ◌≤◌, Bool, true, false, cond, nat_lt, nat_eq, List, ◌∷◌, ◌++◌, length, take, drop, get_or, slice_get, refl, ap, sym, subst, ◌∙◌, arith, Option, None, Some, option_map, length-append, length-drop, length-set}
 use Rattle.std.proofs.Math.Seq.{take-append_seam}
 use Rattle.std.proofs.lemmas.Bool.{ltb-true, ltb-false, eqb-false}
+use Rattle.std.proofs.lemmas.Bool.Decides.{nat_tests}
 use Rattle.std.proofs.lemmas.List.{length-take, length-take-le, length-map, take-map, take-set, take-take, get_or-set_other}
 use Rattle.std.proofs.lemmas.List.Elements.{All-get_or}
 use Rattle.std.proofs.lemmas.List.Edits.{get_or-insert_below, get_or-insert_above, get_or-remove_below, get_or-remove_above}
@@ -12,7 +13,7 @@ use Rattle.chip_asm.specs.inner.Infos.{AreInfos, IsInfo}
 use Rattle.chip_asm.specs.inner.KeptLine.{KeptLine}
 use Rattle.chip_asm.specs.declared.edit.Edit.{Edit}
 use Rattle.chip_asm.specs.declared.edit.Edit.TheVariants.{Insert, Replace, Delete, Open}
-use Rattle.chip_asm.specs.inner.Records.{reading_in, readings_in, IsPlaceWithin, lines_after, count_after, place_before}
+use Rattle.chip_asm.specs.inner.Records.{reading_in, readings_in, IsPlaceWithin, IsStretch, lines_after, count_after, place_before}
 use Rattle.chip_asm.specs.inner.Resume.{first_changed}
 
 -- two lists that begin alike begin alike for less of them
@@ -150,3 +151,122 @@ first-before count (Insert at line) h = h
 first-before count (Replace at line) h = omega arith
 first-before count (Delete at) h = omega arith
 first-before count (Open all) h = omega arith
+
+-- a line before the edit stood there
+pub origin : (edit : Edit) (place : ℕ) → place < first_changed edit → place_before edit place ≡ Some place
+origin (Insert at line) place h = grind arith
+origin (Replace at line) place h = grind arith
+origin (Delete at) place h = grind arith
+origin (Open all) place h = absurd (omega arith)
+
+-- lines that stand one after another as they stood
+
+pub stretch-front : (count : ℕ) (edit : Edit) (place start : ℕ) → IsPlaceWithin count edit → place < first_changed edit → place_before edit place ≡ Some start → IsStretch count edit place start (first_changed edit)
+stretch-front count edit place start within front e =
+    let same : place ≡ start = some-same place start (sym (origin edit place front) ∙ e) in
+    let low = first-before count edit within in
+    let high = first-within count edit within in
+    record {
+      ordered = omega arith;
+      within = low;
+      after = omega arith;
+      stood = λ next before at from to. (let here : next ≡ before = omega arith in ap (place_before edit) here ∙ origin edit before to);
+    }
+
+behind-insert : (at next before : ℕ) → at ≤ before → next ≡ before + 1 → cond (nat_lt next at) (Some next) (cond (nat_eq next at) None (Some (next - 1))) ≡ Some before
+behind-insert at next before h e = grind (arith, nat_tests)
+
+behind-replace : (at next before : ℕ) → at < before → next ≡ before → cond (nat_eq next at) None (Some next) ≡ Some before
+behind-replace at next before h e = grind (arith, nat_tests)
+
+behind-delete : (at next before : ℕ) → at < before → next + 1 ≡ before → cond (nat_lt next at) (Some next) (Some (next + 1)) ≡ Some before
+behind-delete at next before h e = grind (arith, nat_tests)
+
+start-insert : (at place start : ℕ) → at ≤ place → cond (nat_lt place at) (Some place) (cond (nat_eq place at) None (Some (place - 1))) ≡ Some start → (at ≤ start) × (place ≡ start + 1)
+start-insert at place start h e = by (nat_lt place at) (nat_eq place at) refl refl e
+  where
+    later : (p a : ℕ) → a ≤ p → (p ≡ a → ⊥) → a < p
+    later p a h n = omega arith
+
+    by : (below here : Bool) → nat_lt place at ≡ below → nat_eq place at ≡ here → cond below (Some place) (cond here None (Some (place - 1))) ≡ Some start → (at ≤ start) × (place ≡ start + 1)
+    by true here lt eq e = absurd (let k : place < at = ltb-true place at lt in omega arith)
+    by false true lt eq e = cc
+    by false false lt eq e =
+        let same : place - 1 ≡ start = some-same (place - 1) start e in
+        let k : at < place = later place at h (eqb-false place at eq) in
+        (omega arith, omega arith)
+
+start-replace : (at place start : ℕ) → at ≤ place → cond (nat_eq place at) None (Some place) ≡ Some start → (at < start) × (place ≡ start)
+start-replace at place start h e = by (nat_eq place at) refl e
+  where
+    later : (p a : ℕ) → a ≤ p → (p ≡ a → ⊥) → a < p
+    later p a h n = omega arith
+
+    by : (here : Bool) → nat_eq place at ≡ here → cond here None (Some place) ≡ Some start → (at < start) × (place ≡ start)
+    by true eq e = cc
+    by false eq e =
+        let same : place ≡ start = some-same place start e in
+        let k : at < place = later place at h (eqb-false place at eq) in
+        (omega arith, same)
+
+start-delete : (at place start : ℕ) → at ≤ place → cond (nat_lt place at) (Some place) (Some (place + 1)) ≡ Some start → place + 1 ≡ start
+start-delete at place start h e = by (nat_lt place at) refl e
+  where
+    by : (below : Bool) → nat_lt place at ≡ below → cond below (Some place) (Some (place + 1)) ≡ Some start → place + 1 ≡ start
+    by true lt e = absurd (let k : place < at = ltb-true place at lt in omega arith)
+    by false lt e = some-same (place + 1) start e
+
+pub stretch-back : (count : ℕ) (edit : Edit) (place start : ℕ) → IsPlaceWithin count edit → place ≤ count_after count edit → first_changed edit ≤ place → place_before edit place ≡ Some start → IsStretch count edit place start count
+stretch-back count (Insert at line) place start within inside back e =
+    let s = start-insert at place start back e in
+    record {
+      ordered = omega arith;
+      within = omega arith;
+      after = omega arith;
+      stood = λ next before at_next from to. behind-insert at next before (omega arith) (omega arith);
+    }
+stretch-back count (Replace at line) place start within inside back e =
+    let s = start-replace at place start back e in
+    record {
+      ordered = omega arith;
+      within = omega arith;
+      after = omega arith;
+      stood = λ next before at_next from to. behind-replace at next before (omega arith) (omega arith);
+    }
+stretch-back count (Delete at) place start within inside back e =
+    let s = start-delete at place start back e in
+    record {
+      ordered = omega arith;
+      within = omega arith;
+      after = omega arith;
+      stood = λ next before at_next from to. behind-delete at next before (omega arith) (omega arith);
+    }
+stretch-back count (Open all) place start within inside back e = cc
+
+pub no-stretch : (count : ℕ) (edit : Edit) (place : ℕ) → place ≤ count_after count edit → IsStretch count edit place 0 0
+no-stretch count edit place inside = record {
+  ordered = omega arith;
+  within = omega arith;
+  after = omega arith;
+  stood = λ next before at from to. absurd (omega arith);
+}
+
+-- a line of such a stretch
+pub record InStretch (lines : List KeptLine) (edit : Edit) (next before : ℕ) : Type 0 where
+  pub inside : next < count_after (length lines) edit
+  pub was : before < length lines
+  pub origin : place_before edit next ≡ Some before
+  pub line : (d : KeptLine) → slice_get (lines_after lines edit) next ≡ Some (get_or lines before d)
+
+pub in-stretch : (lines : List KeptLine) (edit : Edit) (place start end next before : ℕ) → IsPlaceWithin (length lines) edit → IsStretch (length lines) edit place start end
+    → next + start ≡ place + before → start ≤ before → before < end → InStretch lines edit next before
+in-stretch lines edit place start end next before within s at from to =
+    let inside : next < count_after (length lines) edit = (let a = s.after in omega arith) in
+    let from_there = s.stood next before at from to in
+    let there : Stood lines edit next before = stood lines edit next before within inside from_there in
+    record {
+      inside = inside;
+      was = there.inside;
+      origin = from_there;
+      line = λ d. slice_get-get_or (lines_after lines edit) next d (let n = length-lines_after lines edit within in omega arith) ∙ ap Some (there.line d);
+    }

@@ -1,5 +1,5 @@
 -- What is known of the line at a place after an edit, when it gets its code.
-use Rattle.std.proofs.Common.{◌≡◌, ℕ, zero, suc, cond, is_some, [], ◌∷◌, ◌+◌, ◌<◌, ◌≤◌, true, false, ◌&&◌, List, length, get_or, slice_get, reverse, refl, ap, sym, ◌∙◌, arith, Option, Some, None, vec_len}
+use Rattle.std.proofs.Common.{◌≡◌, ℕ, zero, suc, cond, is_some, [], ◌∷◌, ◌+◌, ◌<◌, ◌≤◌, Bool, true, false, ◌&&◌, List, length, get_or, slice_get, reverse, refl, ap, sym, ◌∙◌, arith, Option, Some, None, vec_len}
 use Rattle.std.specs.List.{enumerate_from}
 use Rattle.std.specs.Option.{option_map_or}
 use Rattle.std.proofs.lemmas.Bool.{and_parts}
@@ -17,7 +17,7 @@ use Rattle.chip_asm.specs.Program.{code_under, names_of_lines}
 use Rattle.chip_asm.specs.computed.Walk.{placed}
 use Rattle.chip_asm.specs.declared.placement.Placement.{Placement}
 use Rattle.chip_asm.specs.declared.recoding.Recoding.{Recoding}
-use Rattle.chip_asm.specs.inner.Codes.{IsWritten, covers_byte, right_byte}
+use Rattle.chip_asm.specs.inner.Codes.{IsByte, IsWritten, covers_byte, right_byte}
 use Rattle.chip_asm.specs.inner.Infos.{IsInfo}
 use Rattle.chip_asm.specs.inner.KeptLine.{KeptLine}
 use Rattle.chip_asm.specs.inner.Layouts.{placements_of}
@@ -25,9 +25,9 @@ use Rattle.chip_asm.specs.inner.Placements.{is_placed}
 use Rattle.chip_asm.specs.inner.Recode.{count_up_to, has_code, is_encoded_again, is_placed_at}
 use Rattle.chip_asm.specs.inner.Recoding.{IsRecoding, IsPlacedThen, code_bytes, code_then, count_then, is_again, is_kept, lines_again, lines_before, lines_then}
 use Rattle.chip_asm.specs.inner.Records.{lines_after, place_before, reading_in}
-use Rattle.chip_asm.proofs.CodeSteps.{IsByte, byte-more, byte-stays, byte-written, count-numbered, count_by-take}
+use Rattle.chip_asm.proofs.CodeSteps.{byte-more, byte-stays, byte-written, count-numbered, count_by-take}
 use Rattle.chip_asm.proofs.ImageSteps.{same-bytes}
-use Rattle.chip_asm.proofs.LinesAfter.{info-at, length-readings_after, line-at, read-at, stood, stood-at}
+use Rattle.chip_asm.proofs.LinesAfter.{Stood, info-at, length-lines_after, length-readings_after, line-at, read-at, stood, stood-at}
 use Rattle.chip_asm.proofs.LinesByPlace.{AtPlace, at-place}
 use Rattle.chip_asm.proofs.Placing.{length-numbered}
 use Rattle.chip_asm.proofs.Resumed.{length-laid}
@@ -79,6 +79,11 @@ kept-is r k place before p line origin there =
     ∙ ap (λ o. option_map_or is_placed o false && agree_on (values_of (names_of_lines (lines_before r))) (values_of (names_of_lines (lines_then r))) line)
     (ap (λ ps. slice_get ps before) (sym k.old.placements) ∙ there)
 
+-- a line that stood nowhere keeps no code
+pub new-anew : (r : Recoding) (place : ℕ) (line : Reading) → place_before r.edit.now place ≡ None → is_kept r (place, line) ≡ false
+new-anew r place line e =
+    ap (λ (o : Option ℕ). option_map_or (λ b. is_placed_at (placements_of (lines_before r)) b && agree_on (values_of (names_of_lines (lines_before r))) (values_of (names_of_lines (lines_then r))) line) o false) e
+
 pub agree-kept : (r : Recoding) → IsRecoding r → (line : Reading)
     → agree_on (values_of r.names.now.before) (values_of r.names.now.symbols) line ≡ agree_on (values_of (names_of_lines (lines_before r))) (values_of (names_of_lines (lines_then r))) line
 agree-kept r k line =
@@ -123,6 +128,22 @@ carried law r k place before q p now origin is kept =
           ∙ ap (code_then r) (same-placed (lines_then r) place q a x at);
       long = k.codes.long (let h = before-at r k place before inside origin in omega (arith, length-map r.lines.now reading_in));
     }
+
+-- what is kept of a line that stood somewhere
+pub stood-kept : (r : Recoding) → IsRecoding r → (place before : ℕ) (d : KeptLine) → place < count_then r → place_before r.edit.now place ≡ Some before
+    → slice_get (lines_after r.lines.now r.edit.now) place ≡ Some (get_or r.lines.now before d)
+stood-kept r k place before d inside origin =
+    let there : Stood r.lines.now r.edit.now place before = stood r.lines.now r.edit.now place before k.within inside origin in
+    slice_get-get_or (lines_after r.lines.now r.edit.now) place d (omega (arith, inside, length-lines_after r.lines.now r.edit.now k.within)) ∙ ap Some (there.line d)
+
+-- whether its names keep their values
+pub agree-stood : (r : Recoding) → IsRecoding r → (place before : ℕ) (d : KeptLine) (line : Reading) (b : Bool) → place < count_then r → place_before r.edit.now place ≡ Some before
+    → slice_get (lines_then r) place ≡ Some line → agree_on (values_of r.names.now.before) (values_of r.names.now.symbols) (reading_in (get_or r.lines.now before d)) ≡ b
+    → agree_on (values_of (names_of_lines (lines_before r))) (values_of (names_of_lines (lines_then r))) line ≡ b
+agree-stood r k place before d line b inside origin at is =
+    sym (agree-kept r k line)
+    ∙ ap (agree_on (values_of r.names.now.before) (values_of r.names.now.symbols)) (sym (read-at (lines_after r.lines.now r.edit.now) place (get_or r.lines.now before d) line (stood-kept r k place before d inside origin) at))
+    ∙ is
 
 -- a line with code that is accepted and doesn't keep it is encoded again
 pub again-is : (r : Recoding) → IsRecoding r → (place : ℕ) (q : Placement) (line : Reading) → slice_get r.new.now.placements.items place ≡ Some q → has_code (body_of line) ≡ true → is_placed q ≡ true

@@ -1,5 +1,5 @@
 //! What is kept of a line beside its reading, for steps over all lines.
-ghost use Rattle.std.specs.Prelude.{◌≡◌, List, IfOk, IfSome};
+ghost use Rattle.std.specs.Prelude.{◌≡◌, List, IfOk, IfSome, None};
 ghost use Rattle.chip_lang.specs.Line.{Reading};
 ghost use Rattle.chip_lang.specs.SeenLine.{seen_line};
 ghost use Rattle.chip_lang.specs.Uses.{name_defined, names_used};
@@ -173,5 +173,16 @@ impl LineInfo {
             return None;
         }
         Some(if self.is_coded { 2 } else { 0 })
+    }
+
+    /// The size of a line of which the first pass asks nothing else.
+    pub(crate) fn unnamed_size(self) -> Option<usize>
+        ensures { (keys : List Name) (line : Reading) → IsInfo keys self line
+            → IfSome result (λ size. IsBare line None size) }
+    {
+        match self.defines {
+            Some(_) => None,
+            None => self.bare_size(),
+        }
     }
 }

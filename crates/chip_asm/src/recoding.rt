@@ -1,5 +1,5 @@
 //! The codes of the lines after an edit: those that it doesn't touch are carried over.
-ghost use Rattle.std.specs.Prelude.{◌≡◌, ℕ, ◌+◌, ◌<◌, ◌≤◌, true, false, IfOk, OnOk, IfSome, Some, is_some, length, slice_get, slice_index, if◌then◌else◌};
+ghost use Rattle.std.specs.Prelude.{◌≡◌, ℕ, ◌+◌, ◌<◌, ◌≤◌, true, false, IfOk, OnOk, IfSome, None, Some, length, slice_get, slice_index, if◌then◌else◌};
 ghost use Rattle.chip_lang.specs.declared.limits.TheConstants.{IMAGE_BYTES};
 ghost use Rattle.chip_lang.specs.Line.{Reading};
 ghost use Rattle.chip_lang.specs.Code.{coded, own_bytes};
@@ -10,12 +10,12 @@ ghost use Rattle.chip_asm.specs.Names.{values_of};
 ghost use Rattle.chip_lang.specs.Uses.{agree_on};
 ghost use Rattle.chip_asm.specs.inner.Infos.{IsInfo};
 ghost use Rattle.chip_asm.specs.inner.Codes.{AreCodesOf, IsWritten, covers_byte, right_byte};
-ghost use Rattle.chip_asm.specs.inner.Recoding.{IsAcceptedAt, IsPlacedThen, IsRecoding, IsUncodedAt, code_bytes, code_then, count_then, is_again, is_kept, lines_again, lines_then};
+ghost use Rattle.chip_asm.specs.inner.Recoding.{AreWritten, IsAcceptedAt, IsPlacedThen, IsRecoding, IsUncodedAt, again_up_to, code_bytes, code_then, count_then, is_again, is_kept, lines_again, lines_then};
 ghost use Rattle.chip_asm.specs.inner.Recode.{has_code};
 ghost use Rattle.chip_asm.specs.inner.Records.{lines_after, place_before, reading_in};
 
 use crate::codes::{Codes, bytes_of, count_faults, fault_in, write_line};
-use crate::edit::{Edit, kept_after, place_before};
+use crate::edit::{Edit, kept_after, place_before, stretch_from};
 use crate::kept_line::BoxedLine;
 use crate::layout::Layout;
 use crate::line_info::Uses;
@@ -87,30 +87,9 @@ impl<'a> Recoding<'a> {
         self.same_names || keeps_values(self.names, kept)
     }
 
-    /// Where the line at a place stood before the edit, if its code is still the one that it had:
-    /// it was accepted there, and its names keep their values.
-    #[inline(always)]
-    fn kept_place(&self, place: usize, kept: &BoxedLine) -> Option<usize>
-        requires recoding { IsRecoding self.now }
-        requires place { place < count_then self.now }
-        requires line { slice_get (lines_after self.now.lines.now self.now.edit.now) place
-            ≡ Some kept.now }
-        ensures kept { (line : Reading) → slice_get (lines_then self.now) place ≡ Some line
-            → is_some result ≡ is_kept self.now (place, line) }
-        ensures stood { IfSome result (λ before. place_before self.now.edit.now place
-            ≡ Some before) }
-    {
-        let before = place_before(self.edit, place)?;
-        if self.old.placements[before].is_accepted() && self.keeps_values(kept) {
-            Some(before)
-        } else {
-            None
-        }
-    }
-
     /// Writes the code of the line at a place, as it was before the edit, where the line stands
     /// now. The line's fault.
-    #[inline(never)]
+    #[inline(always)]
     fn carry(
         &self,
         image: &mut [u8],
@@ -138,6 +117,42 @@ impl<'a> Recoding<'a> {
             &self.codes.image[first..first + stood.size as usize],
         );
         self.codes.faults[before]
+    }
+
+    /// Writes the code of the line at a place, which stood at another one before the edit, unless it
+    /// has to be encoded. The line's fault.
+    #[inline(always)]
+    fn carry_line(&self, image: &mut [u8], place: usize, before: usize) -> Option<Option<Fault>>
+        requires recoding { IsRecoding self.now }
+        requires place { place < count_then self.now }
+        requires stood { place_before self.now.edit.now place ≡ Some before }
+        requires long { length image.old ≡ IMAGE_BYTES }
+        ensures right { (q : Placement) (k : ℕ)
+            → slice_get self.now.new.now.placements.items place ≡ Some q → k < IMAGE_BYTES
+            → covers_byte q k ≡ true
+            → (IsUncodedAt (lines_then self.now) place → slice_index image.old k ≡ 0)
+            → IfSome result (λ fault. slice_index image.new k ≡ right_byte (lines_then self.now) k) }
+        ensures others { (q : Placement) (k : ℕ)
+            → slice_get self.now.new.now.placements.items place ≡ Some q
+            → covers_byte q k ≡ false
+            → slice_index image.new k ≡ slice_index image.old k }
+        ensures fault { (x : Placed) → IsPlacedThen self.now place x
+            → IfSome result (λ fault. fault ≡ fault_of (placed (lines_then self.now)) x) }
+        ensures again { (line : Reading) → slice_get (lines_then self.now) place ≡ Some line
+            → result ≡ None → is_kept self.now (place, line) ≡ false }
+        ensures same { result ≡ None → image.new ≡ image.old }
+    {
+        let placement = &self.new.placements[place];
+        if placement.size == 0 || !placement.is_accepted() {
+            return Some(placement.fault);
+        }
+        if !self.old.placements[before].is_accepted() {
+            return None;
+        }
+        if !self.keeps_values(&self.lines[before]) {
+            return None;
+        }
+        Some(self.carry(image, placement, place, before))
     }
 
     /// Encodes the line at a place. The line's fault.
@@ -169,8 +184,88 @@ impl<'a> Recoding<'a> {
         Ok(fault_in(&code))
     }
 
-    /// Writes the bytes of the line at a place. The line's fault.
+    /// Writes the bytes of the line at a place, whose code isn't kept. The line's fault.
     #[inline(always)]
+    fn write_anew(
+        &self,
+        alloc: Global,
+        meter: &mut Meter,
+        image: &mut [u8],
+        place: usize,
+    ) -> Result<Option<Fault>, AllocError>
+        requires recoding { IsRecoding self.now }
+        requires place { place < count_then self.now }
+        requires long { length image.old ≡ IMAGE_BYTES }
+        requires again { (line : Reading) → slice_get (lines_then self.now) place ≡ Some line
+            → is_kept self.now (place, line) ≡ false }
+        ensures right { (q : Placement) (k : ℕ)
+            → slice_get self.now.new.now.placements.items place ≡ Some q → k < IMAGE_BYTES
+            → covers_byte q k ≡ true
+            → (IsUncodedAt (lines_then self.now) place → slice_index image.old k ≡ 0)
+            → OnOk result (slice_index image.new k ≡ right_byte (lines_then self.now) k) }
+        ensures others { (q : Placement) (k : ℕ)
+            → slice_get self.now.new.now.placements.items place ≡ Some q
+            → covers_byte q k ≡ false
+            → OnOk result (slice_index image.new k ≡ slice_index image.old k) }
+        ensures fault { (x : Placed) → IsPlacedThen self.now place x
+            → IfOk result (λ fault. fault ≡ fault_of (placed (lines_then self.now)) x) }
+        ensures encoded { (line : Reading) → slice_get (lines_then self.now) place ≡ Some line
+            → meter.new.encoded
+            ≤ meter.old.encoded + (if is_again self.now (place, line) then 1 else 0) }
+        ensures not_lowered { meter.old.encoded ≤ meter.new.encoded }
+        ensures parsed { meter.new.parsed ≡ meter.old.parsed }
+    {
+        let placement = &self.new.placements[place];
+        if placement.size == 0 || !placement.is_accepted() {
+            return Ok(placement.fault);
+        }
+        let kept = kept_after(self.lines, self.edit, place);
+        if !kept.info().is_coded {
+            return Ok(None);
+        }
+        self.encode(alloc, meter, image, placement, place, kept)
+    }
+
+    /// Writes the bytes of the line at a place, which stood at another one before the edit. The
+    /// line's fault.
+    #[inline(always)]
+    fn write_stood(
+        &self,
+        alloc: Global,
+        meter: &mut Meter,
+        image: &mut [u8],
+        place: usize,
+        before: usize,
+    ) -> Result<Option<Fault>, AllocError>
+        requires recoding { IsRecoding self.now }
+        requires place { place < count_then self.now }
+        requires stood { place_before self.now.edit.now place ≡ Some before }
+        requires long { length image.old ≡ IMAGE_BYTES }
+        ensures right { (q : Placement) (k : ℕ)
+            → slice_get self.now.new.now.placements.items place ≡ Some q → k < IMAGE_BYTES
+            → covers_byte q k ≡ true
+            → (IsUncodedAt (lines_then self.now) place → slice_index image.old k ≡ 0)
+            → OnOk result (slice_index image.new k ≡ right_byte (lines_then self.now) k) }
+        ensures others { (q : Placement) (k : ℕ)
+            → slice_get self.now.new.now.placements.items place ≡ Some q
+            → covers_byte q k ≡ false
+            → OnOk result (slice_index image.new k ≡ slice_index image.old k) }
+        ensures fault { (x : Placed) → IsPlacedThen self.now place x
+            → IfOk result (λ fault. fault ≡ fault_of (placed (lines_then self.now)) x) }
+        ensures encoded { (line : Reading) → slice_get (lines_then self.now) place ≡ Some line
+            → meter.new.encoded
+            ≤ meter.old.encoded + (if is_again self.now (place, line) then 1 else 0) }
+        ensures not_lowered { meter.old.encoded ≤ meter.new.encoded }
+        ensures parsed { meter.new.parsed ≡ meter.old.parsed }
+    {
+        if let Some(fault) = self.carry_line(image, place, before) {
+            return Ok(fault);
+        }
+        self.write_anew(alloc, meter, image, place)
+    }
+
+    /// Writes the bytes of the line at a place. The line's fault.
+    #[inline(never)]
     fn write(
         &self,
         alloc: Global,
@@ -198,18 +293,43 @@ impl<'a> Recoding<'a> {
         ensures not_lowered { meter.old.encoded ≤ meter.new.encoded }
         ensures parsed { meter.new.parsed ≡ meter.old.parsed }
     {
-        let placement = &self.new.placements[place];
-        if placement.size == 0 || !placement.is_accepted() {
-            return Ok(placement.fault);
+        match place_before(self.edit, place) {
+            Some(before) => self.write_stood(alloc, meter, image, place, before),
+            None => self.write_anew(alloc, meter, image, place),
         }
-        let kept = kept_after(self.lines, self.edit, place);
-        if !kept.info().is_coded {
-            return Ok(None);
+    }
+
+    /// Writes the codes of the lines that stand, one after another, at a place and behind it and were
+    /// there before the edit. The place behind them.
+    #[inline(never)]
+    fn write_stretch(
+        &self,
+        alloc: Global,
+        meter: &mut Meter,
+        codes: &mut Codes,
+        place: usize,
+    ) -> Result<usize, AllocError>
+        requires recoding { IsRecoding self.now }
+        requires place { place ≤ count_then self.now }
+        requires written { AreWritten self.now codes.old place }
+        ensures onward { IfOk result (λ next. place ≤ next) }
+        ensures within { IfOk result (λ next. next ≤ count_then self.now) }
+        ensures written { IfOk result (λ next. AreWritten self.now codes.new next) }
+        ensures encoded { IfOk result (λ next. meter.new.encoded + again_up_to self.now place
+            ≤ meter.old.encoded + again_up_to self.now next) }
+        ensures bound { meter.new.encoded + again_up_to self.now place
+            ≤ meter.old.encoded + lines_again self.now }
+        ensures not_lowered { meter.old.encoded ≤ meter.new.encoded }
+        ensures parsed { meter.new.parsed ≡ meter.old.parsed }
+    {
+        let stretch = stretch_from(self.edit, self.lines.len(), place);
+        let mut next = place;
+        for before in stretch.start..stretch.end {
+            let fault = self.write_stood(alloc, meter, &mut codes.image, next, before)?;
+            codes.faults.push(fault)?;
+            next += 1;
         }
-        match self.kept_place(place, kept) {
-            Some(before) => Ok(self.carry(image, placement, place, before)),
-            None => self.encode(alloc, meter, image, placement, place, kept),
-        }
+        Ok(next)
     }
 
     /// The codes of all lines after the edit, in the room of others. The bytes and faults of the
@@ -244,9 +364,11 @@ impl<'a> Recoding<'a> {
             let fault = self.write(alloc, meter, &mut codes.image, place)?;
             codes.faults[place] = fault;
         }
-        for next in self.first..count {
+        let mut next = self.first;
+        while next < count {
             let fault = self.write(alloc, meter, &mut codes.image, next)?;
             codes.faults.push(fault)?;
+            next = self.write_stretch(alloc, meter, &mut codes, next + 1)?;
         }
         codes.count = count_faults(&codes.faults);
         Ok(codes)

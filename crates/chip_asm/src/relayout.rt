@@ -13,7 +13,7 @@ ghost use Rattle.chip_asm.specs.inner.Records.{reading_in};
 ghost use Rattle.chip_asm.specs.inner.Resume.{AreSteady, BeginsAsOld, IsRelayout, IsWalked, count_then, lines_before, lines_then};
 ghost use Rattle.chip_asm.specs.inner.Tables.{KeepsBefore};
 
-use crate::edit::{Edit, count_after, kept_after, place_before};
+use crate::edit::{Edit, count_after, kept_after, place_before, stretch_from};
 use crate::kept_line::BoxedLine;
 use crate::layout::{Layout, mark_unclosed};
 use crate::line_info::Uses;
@@ -138,6 +138,39 @@ impl<'a> Relayout<'a> {
         }
     }
 
+    /// What is found of the lines that stand, one after another, at a place and behind it and were
+    /// there before the edit, up to the first one of which more is asked than its size. The place of
+    /// that one.
+    #[inline(never)]
+    fn walk_bare(
+        &self,
+        placements: &mut Vec<Placement>,
+        pass: &mut Pass,
+        place: usize,
+    ) -> Result<usize, AllocError>
+        requires relayout { IsRelayout pass.old.names.keys self.now }
+        requires place { place ≤ count_then self.now }
+        requires walked { IsWalked placements.old.items pass.old (lines_then self.now) place }
+        ensures onward { IfOk result (λ next. place ≤ next) }
+        ensures within { IfOk result (λ next. next ≤ count_then self.now) }
+        ensures walked { IfOk result (λ next. IsWalked placements.new.items pass.new
+            (lines_then self.now) next) }
+        ensures keeps { KeepsBefore pass.old.names pass.new.names }
+    {
+        let stretch = stretch_from(self.edit, self.lines.len(), place);
+        let mut next = place;
+        for before in stretch.start..stretch.end {
+            let info = self.lines[before].info();
+            let Some(size) = info.unnamed_size() else {
+                return Ok(next);
+            };
+            let placement = pass.step_bare(next + 1, size);
+            placements.push(placement)?;
+            next += 1;
+        }
+        Ok(next)
+    }
+
     /// What is found of the lines from a place on, behind what was found of those before it.
     #[inline(never)]
     fn walk(
@@ -154,9 +187,12 @@ impl<'a> Relayout<'a> {
             (count_then self.now)) }
         ensures keeps { KeepsBefore pass.old.names pass.new.names }
     {
-        for next in place..count_after(self.lines.len(), self.edit) {
+        let count = count_after(self.lines.len(), self.edit);
+        let mut next = place;
+        while next < count {
             let placement = self.step_at(pass, next)?;
             placements.push(placement)?;
+            next = self.walk_bare(placements, pass, next + 1)?;
         }
         Ok(())
     }

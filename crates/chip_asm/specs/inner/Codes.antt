@@ -51,6 +51,12 @@ pub record Waits (placements : List Placement) (first k : ℕ) : Type 0 where
   pub there : slice_get placements place ≡ Some q
   pub covered : covers_byte q k ≡ true
 
+-- what is known of a byte while the lines from a place on wait
+pub record IsByte (lines : List Reading) (placements : List Placement)
+    (place k byte : ℕ) : Type 0 where
+  pub waiting : Waits placements place k → byte ≡ 0
+  pub done : (Waits placements place k → ⊥) → byte ≡ right_byte lines k
+
 -- the bytes of a line are written, and no others
 abbrev pub IsWritten : Placement → (bytes old new : List ℕ) → Type 0
 IsWritten q bytes old new =

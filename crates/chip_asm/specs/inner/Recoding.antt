@@ -1,5 +1,5 @@
 -- What is known of an edit when the lines after it get their codes (own).
-use Rattle.std.specs.Prelude.{◌≡◌, ℕ, ◌≤◌, Bool, true, false, List, length, reverse, Some, Result, slice_get}
+use Rattle.std.specs.Prelude.{◌≡◌, ℕ, ◌<◌, ◌≤◌, Bool, true, false, List, length, reverse, Some, Result, slice_get, slice_index, take, vec_len}
 use Rattle.chip_lang.specs.Line.{Reading}
 use Rattle.chip_asm.specs.declared.limits.TheConstants.{MOST_LINES}
 use Rattle.chip_asm.specs.declared.recoding.Recoding.{Recoding}
@@ -11,10 +11,12 @@ use Rattle.chip_asm.specs.Layout.{Placed, body_of}
 use Rattle.chip_asm.specs.computed.Walk.{placed}
 use Rattle.chip_asm.specs.Program.{bytes_in_code, code_under, names_of_lines}
 use Rattle.chip_asm.specs.inner.Placements.{is_placed}
-use Rattle.chip_asm.specs.inner.Codes.{AreCodesOf}
+use Rattle.chip_asm.specs.declared.codes.Codes.{Codes}
+use Rattle.chip_lang.specs.declared.limits.TheConstants.{IMAGE_BYTES}
+use Rattle.chip_asm.specs.inner.Codes.{AreCodesOf, IsByte, line_faults}
 use Rattle.chip_asm.specs.inner.Infos.{AreInfos}
 use Rattle.chip_asm.specs.inner.Layouts.{IsLayoutOf}
-use Rattle.chip_asm.specs.inner.Recode.{count_again, has_code, is_encoded_again, keeps_code}
+use Rattle.chip_asm.specs.inner.Recode.{count_again, count_up_to, has_code, is_encoded_again, keeps_code}
 use Rattle.chip_asm.specs.inner.Records.{IsPlaceWithin, count_after, lines_after, place_before, readings_in}
 use Rattle.chip_asm.specs.inner.Resume.{AreSteady, first_changed}
 
@@ -50,6 +52,11 @@ is_again r at = is_encoded_again (lines_before r) (lines_then r) (place_before r
 abbrev pub lines_again : Recoding → ℕ
 lines_again r = count_again (lines_before r) (lines_then r) (place_before r.edit.now)
 
+-- how many of those before a place are
+abbrev pub again_up_to : Recoding → ℕ → ℕ
+again_up_to r place =
+    count_up_to (lines_before r) (lines_then r) (place_before r.edit.now) place
+
 -- the line at a place keeps its code
 abbrev pub is_kept : Recoding → ℕ × Reading → Bool
 is_kept r at = keeps_code (lines_before r) (lines_then r) (place_before r.edit.now) at
@@ -74,3 +81,10 @@ code_then r x = code_under (placed (lines_then r)) x
 
 abbrev pub code_bytes : Recoding → Placed → List ℕ
 code_bytes r x = bytes_in_code (code_then r x)
+
+-- the lines before a place have their codes, and those from there on wait
+pub record AreWritten (r : Recoding) (codes : Codes) (place : ℕ) : Type 0 where
+  pub long : vec_len codes.image ≡ IMAGE_BYTES
+  pub bytes : (k : ℕ) → k < IMAGE_BYTES
+      → IsByte (lines_then r) r.new.now.placements.items place k (slice_index codes.image.items k)
+  pub faults : codes.faults.items ≡ take place (line_faults (lines_then r))

@@ -1,5 +1,5 @@
 -- What is kept of each line, before and after a change of one line (own).
-use Rattle.std.specs.Prelude.{◌≡◌, ℕ, ◌+◌, ◌-◌, ◌<◌, ◌≤◌, List, length, map, insert, remove, slice_set, Option, None}
+use Rattle.std.specs.Prelude.{◌≡◌, ℕ, ◌+◌, ◌-◌, ◌<◌, ◌≤◌, List, length, map, insert, remove, slice_set, Option, None, Some}
 use Rattle.chip_lang.specs.Line.{Reading}
 use Rattle.chip_lang.specs.SeenLine.{seen_line}
 use Rattle.chip_asm.specs.inner.KeptLine.{KeptLine}
@@ -42,3 +42,11 @@ place_before (Insert at line) place = before_insert at place
 place_before (Replace at line) place = before_replace at place
 place_before (Delete at) place = before_delete at place
 place_before (Open all) place = None
+
+-- the lines of some places before the edit stand one after another from a place after it on
+pub record IsStretch (count : ℕ) (edit : Edit) (place start end : ℕ) : Type 0 where
+  pub ordered : start ≤ end
+  pub within : end ≤ count
+  pub after : place + end ≤ count_after count edit + start
+  pub stood : (next before : ℕ) → next + start ≡ place + before → start ≤ before → before < end
+      → place_before edit next ≡ Some before

@@ -5,13 +5,13 @@ use Rattle.chip_lang.specs.declared.fault.Fault.{Fault}
 use Rattle.chip_lang.specs.declared.limits.TheConstants.{IMAGE_START}
 use Rattle.chip_lang.specs.Uses.{agree_on}
 use Rattle.chip_asm.specs.Names.{values_of}
-use Rattle.chip_asm.specs.inner.Codes.{line_faults}
+use Rattle.chip_asm.specs.inner.Codes.{IsByte, line_faults}
 use Rattle.chip_asm.specs.inner.KeptLine.{KeptLine}
 use Rattle.chip_asm.specs.inner.Recode.{count_up_to, is_encoded_again}
-use Rattle.chip_asm.specs.inner.Recoding.{count_then, lines_before, lines_then}
+use Rattle.chip_asm.specs.inner.Recoding.{AreWritten, count_then, lines_before, lines_then}
 use Rattle.chip_asm.specs.inner.Records.{lines_after, place_before, reading_in}
 use Rattle.chip_asm.proofs.Bounds.{end-low}
-use Rattle.chip_asm.proofs.CodeSteps.{IsByte, byte-done, count_by-take, count_faults, fault-at, faults-counted, faults-more, length-faults, refilled}
+use Rattle.chip_asm.proofs.CodeSteps.{byte-done, count_by-take, count_faults, fault-at, faults-counted, faults-more, length-faults, refilled}
 use Rattle.chip_asm.proofs.FrontSteps.{AreFrontFaults, FoundThen, IsFrontByte, Stays, begun-recoding, bytes-stay, faults-begin, faults-done, faults-next, faults-stay, found-then, front-after, front-begins, front-bytes, front-done, front-more, front-zero, stays}
 use Rattle.chip_asm.proofs.LinesAfter.{length-readings_after, read-at}
 use Rattle.chip_asm.proofs.RecodingSteps.{LineThen, bytes-more, counted, kept-info, line-then, long-then}
@@ -136,10 +136,14 @@ pub loop-next-init : goal.loop-next-init
 loop-next-init c =
     let r = c.args.self.now in
     let known = c.loop-place.invariant in
+    let b : Begun r.lines.now r.edit.now r.first = begun-recoding r c.requires in
     let all : c.loop-place.place ≡ r.first = omega (arith, c.loop-place-test.false, c.loop-place.auto.place-end) in (
-      known.0,
-      (λ k h. front-done r k (get_or c.loop-place.codes.image.items k 0) (subst (λ place. IsFrontByte r place k (get_or c.loop-place.codes.image.items k 0)) all (known.1 k h))),
-      faults-done r c.requires c.loop-place.codes.faults.items (subst (λ place. AreFrontFaults r place c.loop-place.codes.faults.items) all known.2),
+      record {
+        long = omega (arith, known.0, c.loop-place.codes.image.ok.0);
+        bytes = λ k h. front-done r k (get_or c.loop-place.codes.image.items k 0) (subst (λ place. IsFrontByte r place k (get_or c.loop-place.codes.image.items k 0)) all (known.1 k h));
+        faults = faults-done r c.requires c.loop-place.codes.faults.items (subst (λ place. AreFrontFaults r place c.loop-place.codes.faults.items) all known.2);
+      },
+      b.within,
       subst (λ place. c.loop-place.meter.encoded ≤ c.args.meter.now.encoded + count_up_to (lines_before r) (lines_then r) (place_before r.edit.now) place) all known.3,
       known.4,
       known.5,
@@ -154,45 +158,68 @@ pub returns-in_err-fault-2-clause-encoded : goal.returns-in_err-fault-2-clause-e
 returns-in_err-fault-2-clause-encoded c =
     let r = c.args.self.now in
     let inside : c.loop-next.next < count_then r = omega (arith, c.loop-next-test.true, c.len-count.ensures, long-then r c.requires, r.new.now.placements.ok.0) in
-    (counted r c.requires c.loop-next.next inside c.args.meter.now.encoded c.loop-next.meter.encoded c.write-in-loop-next.new.meter.encoded c.loop-next.invariant.3 c.write-in-loop-next.ensures.encoded).1
+    (counted r c.requires c.loop-next.next inside c.args.meter.now.encoded c.loop-next.meter.encoded c.write-in-loop-next.new.meter.encoded c.loop-next.invariant.2 c.write-in-loop-next.ensures.encoded).1
 
 pub returns-in_err-push-clause-encoded : goal.returns-in_err-push-clause-encoded
 returns-in_err-push-clause-encoded c =
     let r = c.args.self.now in
     let inside : c.loop-next.next < count_then r = omega (arith, c.loop-next-test.true, c.len-count.ensures, long-then r c.requires, r.new.now.placements.ok.0) in
-    (counted r c.requires c.loop-next.next inside c.args.meter.now.encoded c.loop-next.meter.encoded c.write-in-loop-next.new.meter.encoded c.loop-next.invariant.3 c.write-in-loop-next.ensures.encoded).1
+    (counted r c.requires c.loop-next.next inside c.args.meter.now.encoded c.loop-next.meter.encoded c.write-in-loop-next.new.meter.encoded c.loop-next.invariant.2 c.write-in-loop-next.ensures.encoded).1
+
+pub write_stretch-requires-clause-written : goal.write_stretch-requires-clause-written
+write_stretch-requires-clause-written c =
+    let r = c.args.self.now in
+    let so_far : AreWritten r c.loop-next.codes c.loop-next.next = c.loop-next.invariant.0 in
+    let long : length c.write-in-loop-next.new.image ≡ c.loop-next.codes.image.len = c.write-in-loop-next.auto.image ∙ c.deref_mut-in-loop-next.ensures.len in
+    let image = refilled c.loop-next.codes.image.len c.write-in-loop-next.new.image c.loop-next.codes.image.items long in
+    let inside : c.loop-next.next < count_then r = omega (arith, c.loop-next-test.true, c.len-count.ensures, long-then r c.requires, r.new.now.placements.ok.0) in
+    let line : LineThen r c.loop-next.next = line-then r c.requires c.loop-next.next inside in
+    record {
+      long = so_far.long;
+      bytes = λ k h. subst (λ bytes. IsByte (lines_then r) r.new.now.placements.items (c.loop-next.next + 1) k (get_or bytes k 0)) (sym image)
+          (bytes-more r c.requires c.loop-next.next inside c.deref_mut-in-loop-next.result.now c.write-in-loop-next.new.image
+          (λ i small. subst (λ bytes. IsByte (lines_then r) r.new.now.placements.items c.loop-next.next i (get_or bytes i 0)) (sym c.deref_mut-in-loop-next.ensures.value) (so_far.bytes i small))
+          (λ q i there small covered zero_now. c.in_ok-fault-2.ensures.right q i there small covered (λ none. zero_now)) c.in_ok-fault-2.ensures.others k h);
+      faults = c.in_ok-push.ensures.items ∙ ap (λ fs. fs ++ c.in_ok-fault-2.fault ∷ []) so_far.faults
+          ∙ sym (faults-more (lines_then r) c.loop-next.next line.x c.in_ok-fault-2.fault line.at (c.in_ok-fault-2.ensures.fault line.x line.at));
+    }
+
+pub write_stretch-requires-clause-place : goal.write_stretch-requires-clause-place
+write_stretch-requires-clause-place c =
+    let r = c.args.self.now in
+    omega (arith, c.loop-next-test.true, c.len-count.ensures, long-then r c.requires, r.new.now.placements.ok.0)
+
+pub returns-in_err-next-clause-encoded : goal.returns-in_err-next-clause-encoded
+returns-in_err-next-clause-encoded c =
+    let r = c.args.self.now in
+    let inside : c.loop-next.next < count_then r = omega (arith, c.loop-next-test.true, c.len-count.ensures, long-then r c.requires, r.new.now.placements.ok.0) in
+    let step = counted r c.requires c.loop-next.next inside c.args.meter.now.encoded c.loop-next.meter.encoded c.write-in-loop-next.new.meter.encoded c.loop-next.invariant.2 c.write-in-loop-next.ensures.encoded in
+    omega (arith, step.0, c.write_stretch.ensures.bound)
 
 pub loop-next-preserved : goal.loop-next-preserved
 loop-next-preserved c =
     let r = c.args.self.now in
     let so_far = c.loop-next.invariant in
-    let long : length c.write-in-loop-next.new.image ≡ c.loop-next.codes.image.len = c.write-in-loop-next.auto.image ∙ c.deref_mut-in-loop-next.ensures.len in
-    let image = refilled c.loop-next.codes.image.len c.write-in-loop-next.new.image c.loop-next.codes.image.items long in
     let inside : c.loop-next.next < count_then r = omega (arith, c.loop-next-test.true, c.len-count.ensures, long-then r c.requires, r.new.now.placements.ok.0) in
-    let line : LineThen r c.loop-next.next = line-then r c.requires c.loop-next.next inside in (
-      ap length image ∙ omega (arith, long, c.loop-next.codes.image.ok.0, so_far.0),
-      (λ k h. subst (λ bytes. IsByte (lines_then r) r.new.now.placements.items (c.loop-next.next + 1) k (get_or bytes k 0)) (sym image)
-          (bytes-more r c.requires c.loop-next.next inside c.deref_mut-in-loop-next.result.now c.write-in-loop-next.new.image
-          (λ i small. subst (λ bytes. IsByte (lines_then r) r.new.now.placements.items c.loop-next.next i (get_or bytes i 0)) (sym c.deref_mut-in-loop-next.ensures.value) (so_far.1 i small))
-          (λ q i there small covered zero_now. c.in_ok-fault-2.ensures.right q i there small covered (λ none. zero_now)) c.in_ok-fault-2.ensures.others k h)),
-      c.in_ok-push.ensures.items ∙ ap (λ fs. fs ++ c.in_ok-fault-2.fault ∷ []) so_far.2
-          ∙ sym (faults-more (lines_then r) c.loop-next.next line.x c.in_ok-fault-2.fault line.at (c.in_ok-fault-2.ensures.fault line.x line.at)),
-      (counted r c.requires c.loop-next.next inside c.args.meter.now.encoded c.loop-next.meter.encoded c.write-in-loop-next.new.meter.encoded so_far.3 c.write-in-loop-next.ensures.encoded).0,
-      omega (arith, so_far.4, c.write-in-loop-next.ensures.not_lowered),
-      c.write-in-loop-next.ensures.parsed ∙ so_far.5,
+    let step = counted r c.requires c.loop-next.next inside c.args.meter.now.encoded c.loop-next.meter.encoded c.write-in-loop-next.new.meter.encoded so_far.2 c.write-in-loop-next.ensures.encoded in (
+      c.in_ok-next.ensures.written,
+      c.in_ok-next.ensures.within,
+      omega (arith, step.0, c.in_ok-next.ensures.encoded),
+      omega (arith, so_far.3, c.write-in-loop-next.ensures.not_lowered, c.write_stretch.ensures.not_lowered),
+      c.write_stretch.ensures.parsed ∙ c.write-in-loop-next.ensures.parsed ∙ so_far.4,
     )
 
 pub returns-clause-codes : goal.returns-clause-codes
 returns-clause-codes c =
     let r = c.args.self.now in
-    let known = c.loop-next.invariant in
+    let known : AreWritten r c.loop-next.codes c.loop-next.next = c.loop-next.invariant.0 in
     let all : count_then r ≤ c.loop-next.next = omega (arith, c.loop-next-test.false, c.len-count.ensures, long-then r c.requires, r.new.now.placements.ok.0) in
     let faults : c.loop-next.codes.faults.items ≡ line_faults (lines_then r)
-    = known.2 ∙ take_all c.loop-next.next (line_faults (lines_then r)) (omega (arith, length-faults (lines_then r), length-readings_after r.lines.now r.edit.now c.requires.within)) in
+    = known.faults ∙ take_all c.loop-next.next (line_faults (lines_then r)) (omega (arith, all, length-faults (lines_then r), length-readings_after r.lines.now r.edit.now c.requires.within)) in
     record {
-      imaged = λ k h. byte-done (lines_then r) r.new.now.placements.items c.loop-next.next k _ (omega (arith, long-then r c.requires)) (known.1 k h);
-      short = omega (arith, known.0, c.loop-next.codes.image.ok.0);
-      long = λ some. omega (arith, known.0, c.loop-next.codes.image.ok.0);
+      imaged = λ k h. byte-done (lines_then r) r.new.now.placements.items c.loop-next.next k _ (omega (arith, all, long-then r c.requires)) (known.bytes k h);
+      short = omega (arith, known.long);
+      long = λ some. known.long;
       faulty = faults;
       counted = c.count_faults.ensures ∙ ap count_faults (c.deref-3.ensures.value ∙ faults) ∙ faults-counted (lines_then r);
     }
@@ -200,4 +227,4 @@ returns-clause-codes c =
 pub returns-clause-encoded : goal.returns-clause-encoded
 returns-clause-encoded c =
     let r = c.args.self.now in
-    omega (arith, c.loop-next.invariant.3, count_by-take (is_encoded_again (lines_before r) (lines_then r) (place_before r.edit.now)) (enumerate_from 0 (lines_then r)) c.loop-next.next)
+    omega (arith, c.loop-next.invariant.2, count_by-take (is_encoded_again (lines_before r) (lines_then r) (place_before r.edit.now)) (enumerate_from 0 (lines_then r)) c.loop-next.next)
