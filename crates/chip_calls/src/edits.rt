@@ -83,7 +83,7 @@ fn answers_alike(alloc: Global, source: &Source, lines: &[&str]) -> Result<bool,
         text.push_str(line)?;
         text.push('\n')?;
     }
-    match opened(alloc, text.as_bytes()) {
+    match opened(alloc, "open", text.as_bytes()) {
         Ok(fresh) => Ok(answers(alloc, source)?.as_slice() == answers(alloc, &fresh)?.as_slice()),
         Err(_) => Ok(false),
     }

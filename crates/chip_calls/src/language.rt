@@ -61,13 +61,14 @@ pub(crate) fn answer(
 }
 
 /// A line as it is read.
-fn read(alloc: Global, line: &[u8]) -> Result<Line, AllocError> {
-    read_line(alloc, &mut Meter::new(), line)
+fn read(alloc: Global, line: &[u8]) -> Result<Box<Line>, AllocError> {
+    let line = read_line(alloc, &mut Meter::new(), line)?;
+    Ok(Box::new(alloc, line)?)
 }
 
 /// What a line says.
 fn push_reading(alloc: Global, out: &mut String, bytes: &[u8]) -> Result<(), AllocError> {
-    push_line(alloc, out, &read(alloc, bytes)?)
+    push_line(alloc, out, &*read(alloc, bytes)?)
 }
 
 /// How long that is.
@@ -171,7 +172,7 @@ fn push_used_name(
 ) -> Result<(), AllocError> {
     let (place, line) = split_word(rest);
     match number(place) {
-        Some(place) => push_use(out, &read(alloc, line_bytes(built, line))?, place as usize),
+        Some(place) => push_use(out, &*read(alloc, line_bytes(built, line))?, place as usize),
         None => refuse(out),
     }
 }
@@ -182,7 +183,7 @@ fn push_use(out: &mut String, line: &Line, place: usize) -> Result<(), AllocErro
 
 /// What there is to say of the names of a line.
 fn push_names(alloc: Global, out: &mut String, word: &str, bytes: &[u8]) -> Result<(), AllocError> {
-    push_names_of(out, word, &read(alloc, bytes)?)
+    push_names_of(out, word, &*read(alloc, bytes)?)
 }
 
 fn push_names_of(out: &mut String, word: &str, line: &Line) -> Result<(), AllocError> {
@@ -227,7 +228,7 @@ fn push_mnemonic(alloc: Global, out: &mut String, bytes: &[u8]) -> Result<(), Al
 }
 
 /// The faults, each at the place of its number, counted from 1.
-const FAULTS: [Fault; 17] = [
+const FAULTS: &[Fault] = &[
     Fault::BadCharacter,
     Fault::UnfinishedString,
     Fault::UnknownWord,
