@@ -71,16 +71,17 @@ fn some_machine(alloc: Global, state: &mut u32) -> Result<Machine, AllocError> {
 }
 
 /// A run of a generated program.
-fn opened(alloc: Global, state: &mut u32) -> Result<Run, AllocError> {
+fn opened(alloc: Global, state: &mut u32) -> Result<Box<Run>, AllocError> {
     let start = some_machine(alloc, state)?;
     let rate = 1 + next(state) % 12;
     let replay = Replay::new(alloc, start.copy_of()?, rate, LEAST_SPACING)?;
-    Ok(Run {
+    let run = Run {
         start,
         rate,
         events: vec![in alloc; None; (STEPS / APART * KEYS) as usize]?,
         replay,
-    })
+    };
+    Ok(Box::new(alloc, run)?)
 }
 
 /// The keys that are down in a step, by those that were down in the one before it.
@@ -189,7 +190,7 @@ fn first_difference(alloc: Global, seed: u32) -> Result<Option<u32>, AllocError>
     let mut state = seed;
     let mut run = opened(alloc, &mut state)?;
     for command in 0..COMMANDS {
-        if !goes_on(&mut run, &mut state)? {
+        if !goes_on(&mut *run, &mut state)? {
             return Ok(Some(command));
         }
     }
