@@ -12,14 +12,13 @@ use crate::text::{line_bytes, number, push_bytes, push_hex, refuse, split_word};
 use chip_asm::{OpenError, Refusal, Source};
 use std::alloc::{AllocError, Global};
 
-/// Opens a source by a copy of its bytes.
-pub(crate) fn opened(alloc: Global, text: &[u8]) -> Result<Source, OpenError> {
-    Source::open(alloc, text)
-}
-
-/// Opens a source by its bytes.
-pub(crate) fn opened_whole(alloc: Global, text: &[u8]) -> Result<Source, OpenError> {
-    Source::open_bytes(alloc, Vec::from_slice(alloc, text)?)
+/// Opens a source: by its bytes for `open-bytes`, else by a copy of them.
+pub(crate) fn opened(alloc: Global, word: &str, text: &[u8]) -> Result<Source, OpenError> {
+    if word == "open-bytes" {
+        Source::open_bytes(alloc, Vec::from_slice(alloc, text)?)
+    } else {
+        Source::open(alloc, text)
+    }
 }
 
 /// Makes the edit of a command.
@@ -91,14 +90,28 @@ fn push_work(out: &mut String, source: &Source, word: &str, rest: &str) -> Resul
 
 fn push_image(out: &mut String, source: &Source) -> Result<(), AllocError> {
     match source.image() {
+        Some(image) => push_code(out, image),
         None => out.push_str("none"),
-        Some([]) => out.push_str("empty"),
-        Some(image) if image.len() <= 32 => push_hex(out, image),
-        Some(image) => {
-            let others = image.iter().filter(|byte| **byte != 0).count();
-            write!(out, "{} bytes, {others} not 0", image.len())
+    }
+}
+
+fn push_code(out: &mut String, image: &[u8]) -> Result<(), AllocError> {
+    match image.len() {
+        0 => out.push_str("empty"),
+        1..=32 => push_hex(out, image),
+        length => write!(out, "{length} bytes, {} not 0", count_of_others(image)),
+    }
+}
+
+/// How many bytes are not 0.
+fn count_of_others(bytes: &[u8]) -> usize {
+    let mut count = 0usize;
+    for byte in bytes {
+        if *byte != 0 {
+            count = count.saturating_add(1);
         }
     }
+    count
 }
 
 fn push_fault(out: &mut String, source: &Source, line: &str) -> Result<(), AllocError> {

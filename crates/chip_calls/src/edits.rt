@@ -83,7 +83,7 @@ fn answers_alike(alloc: Global, source: &Source, lines: &[&str]) -> Result<bool,
         text.push_str(line)?;
         text.push('\n')?;
     }
-    match opened(alloc, text.as_bytes()) {
+    match opened(alloc, "open", text.as_bytes()) {
         Ok(fresh) => Ok(answers(alloc, source)?.as_slice() == answers(alloc, &fresh)?.as_slice()),
         Err(_) => Ok(false),
     }
@@ -138,12 +138,12 @@ fn first_difference(
     count: u32,
     counts: &mut Counts,
 ) -> Result<Option<u32>, AllocError> {
-    let mut source = Source::new(alloc);
+    let mut source = Box::new(alloc, Source::new(alloc))?;
     let mut lines = Vec::new(alloc);
     let mut state = seed;
     for number in 0..count {
-        let is_made = edit_once(alloc, &mut source, &mut lines, &mut state, counts)?;
-        if !is_made || !answers_alike(alloc, &source, &lines)? {
+        let is_made = edit_once(alloc, &mut *source, &mut lines, &mut state, counts)?;
+        if !is_made || !answers_alike(alloc, &*source, &lines)? {
             return Ok(Some(number));
         }
     }

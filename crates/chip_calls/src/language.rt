@@ -60,14 +60,15 @@ pub(crate) fn answer(
     Ok(true)
 }
 
-/// A line as it is read.
-fn read(alloc: Global, line: &[u8]) -> Result<Line, AllocError> {
-    read_line(alloc, &mut Meter::new(), line)
+/// A line as it is read, in a box, so that each caller lets it go by a call.
+pub(crate) fn read(alloc: Global, meter: &mut Meter, line: &[u8]) -> Result<Box<Line>, AllocError> {
+    let line = read_line(alloc, meter, line)?;
+    Ok(Box::new(alloc, line)?)
 }
 
 /// What a line says.
 fn push_reading(alloc: Global, out: &mut String, bytes: &[u8]) -> Result<(), AllocError> {
-    push_line(alloc, out, &read(alloc, bytes)?)
+    push_line(alloc, out, &*read(alloc, &mut Meter::new(), bytes)?)
 }
 
 /// How long that is.
@@ -171,7 +172,11 @@ fn push_used_name(
 ) -> Result<(), AllocError> {
     let (place, line) = split_word(rest);
     match number(place) {
-        Some(place) => push_use(out, &read(alloc, line_bytes(built, line))?, place as usize),
+        Some(place) => push_use(
+            out,
+            &*read(alloc, &mut Meter::new(), line_bytes(built, line))?,
+            place as usize,
+        ),
         None => refuse(out),
     }
 }
@@ -182,7 +187,7 @@ fn push_use(out: &mut String, line: &Line, place: usize) -> Result<(), AllocErro
 
 /// What there is to say of the names of a line.
 fn push_names(alloc: Global, out: &mut String, word: &str, bytes: &[u8]) -> Result<(), AllocError> {
-    push_names_of(out, word, &read(alloc, bytes)?)
+    push_names_of(out, word, &*read(alloc, &mut Meter::new(), bytes)?)
 }
 
 fn push_names_of(out: &mut String, word: &str, line: &Line) -> Result<(), AllocError> {
@@ -227,7 +232,7 @@ fn push_mnemonic(alloc: Global, out: &mut String, bytes: &[u8]) -> Result<(), Al
 }
 
 /// The faults, each at the place of its number, counted from 1.
-const FAULTS: [Fault; 17] = [
+const FAULTS: &[Fault] = &[
     Fault::BadCharacter,
     Fault::UnfinishedString,
     Fault::UnknownWord,

@@ -22,7 +22,7 @@ mod words;
 use crate::machine::Machines;
 use crate::replay::Run;
 use crate::text::{bytes_of_hex, number, refuse, split_word};
-use chip_asm::{OpenError, Source};
+use chip_asm::Source;
 use chip_replay::Keys;
 use std::alloc::{AllocError, Global};
 use std::io;
@@ -113,7 +113,7 @@ impl Calls {
 
     /// Opens the built text.
     fn open(&mut self, alloc: Global, out: &mut String, word: &str) -> Result<(), AllocError> {
-        match open_as(alloc, word, &self.built) {
+        match assembler::opened(alloc, word, &self.built) {
             Ok(source) => {
                 self.source = source;
                 out.push_str("ok")
@@ -139,14 +139,6 @@ impl Calls {
             return Ok(());
         }
         refuse(out)
-    }
-}
-
-fn open_as(alloc: Global, word: &str, text: &[u8]) -> Result<Source, OpenError> {
-    if word == "open" {
-        assembler::opened(alloc, text)
-    } else {
-        assembler::opened_whole(alloc, text)
     }
 }
 

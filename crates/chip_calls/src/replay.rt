@@ -39,17 +39,24 @@ impl Run {
         word: &str,
         rest: &str,
     ) -> Result<bool, AllocError> {
-        match word {
-            "keys" => *self = Run::Keys(Keys::new(alloc)),
-            "toy" => *self = toy_run(alloc, number(rest).unwrap_or(0))?,
-            "toy-image" => *self = toy_with_image(alloc, rest)?,
-            "insert" | "replace" | "delete" | "fill" => self.edit(out, word, rest)?,
-            "held" => self.push_held(out, rest)?,
-            _ => match self {
-                Run::Toy(replay, made) => return answer_toy(out, replay, made, word, rest),
-                Run::Keys(_) => return Ok(false),
-            },
-        }
+        *self = match word {
+            "keys" => Run::Keys(Keys::new(alloc)),
+            "toy" => toy_run(alloc, number(rest).unwrap_or(0))?,
+            "toy-image" => toy_with_image(alloc, rest)?,
+            _ => return self.change(out, word, rest),
+        };
+        Ok(true)
+    }
+
+    /// Answers a command about the run as it is, and says whether it is one of these.
+    fn change(&mut self, out: &mut String, word: &str, rest: &str) -> Result<bool, AllocError> {
+        let answered = match (word, self) {
+            ("insert" | "replace" | "delete" | "fill", run) => run.edit(out, word, rest),
+            ("held", run) => run.push_held(out, rest),
+            (_, Run::Toy(replay, made)) => return answer_toy(out, replay, made, word, rest),
+            (_, Run::Keys(_)) => return Ok(false),
+        };
+        answered?;
         Ok(true)
     }
 

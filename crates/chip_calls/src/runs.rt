@@ -71,16 +71,17 @@ fn some_machine(alloc: Global, state: &mut u32) -> Result<Machine, AllocError> {
 }
 
 /// A run of a generated program.
-fn opened(alloc: Global, state: &mut u32) -> Result<Run, AllocError> {
+fn opened(alloc: Global, state: &mut u32) -> Result<Box<Run>, AllocError> {
     let start = some_machine(alloc, state)?;
     let rate = 1 + next(state) % 12;
     let replay = Replay::new(alloc, start.copy_of()?, rate, LEAST_SPACING)?;
-    Ok(Run {
+    let run = Run {
         start,
         rate,
         events: vec![in alloc; None; (STEPS / APART * KEYS) as usize]?,
         replay,
-    })
+    };
+    Ok(Box::new(alloc, run)?)
 }
 
 /// The keys that are down in a step, by those that were down in the one before it.
@@ -100,20 +101,32 @@ fn keys_in_step(events: &[Option<bool>], step: u32, before: u16) -> u16 {
 
 /// Whether two machines are in the same state.
 fn are_alike(one: &Machine, other: &Machine) -> bool {
-    let counts = |machine: &Machine| (
-        machine.pc(),
-        machine.index(),
-        machine.draws(),
-        machine.high(),
-    );
-    let timers = |machine: &Machine| (machine.delay(), machine.sound(), machine.stopped());
-    (0..64).all(|row| one.row(row) == other.row(row))
-        && counts(one) == counts(other)
-        && timers(one) == timers(other)
+    have_same_rows(one, other)
+        && have_same_counts(one, other)
         && one.registers() == other.registers()
         && one.frames() == other.frames()
         && one.flags() == other.flags()
         && one.memory() == other.memory()
+}
+
+fn have_same_rows(one: &Machine, other: &Machine) -> bool {
+    for row in 0..64 {
+        if one.row(row) != other.row(row) {
+            return false;
+        }
+    }
+    true
+}
+
+/// Whether two machines have the same counters, timers and screen size, and stopped alike.
+fn have_same_counts(one: &Machine, other: &Machine) -> bool {
+    one.pc() == other.pc()
+        && one.index() == other.index()
+        && one.draws() == other.draws()
+        && one.high() == other.high()
+        && one.delay() == other.delay()
+        && one.sound() == other.sound()
+        && one.stopped() == other.stopped()
 }
 
 /// Whether the replay answers some steps from one on as a machine that makes each step.
@@ -177,7 +190,7 @@ fn first_difference(alloc: Global, seed: u32) -> Result<Option<u32>, AllocError>
     let mut state = seed;
     let mut run = opened(alloc, &mut state)?;
     for command in 0..COMMANDS {
-        if !goes_on(&mut run, &mut state)? {
+        if !goes_on(&mut *run, &mut state)? {
             return Ok(Some(command));
         }
     }

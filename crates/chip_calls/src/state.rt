@@ -112,10 +112,11 @@ fn push_place(
     let Some(place) = number(rest) else {
         return refuse(out);
     };
-    let found = if word == "frame" {
-        machine.frame(place as usize)
-    } else {
-        machine.flag(place as usize).map(u16::from)
+    let place = place as usize;
+    let found = match (word, machine.flag(place)) {
+        ("frame", _) => machine.frame(place),
+        (_, Some(flag)) => Some(u16::from(flag)),
+        (_, None) => None,
     };
     match found {
         Some(value) => write!(out, "{value:02x}"),
@@ -157,7 +158,12 @@ fn push_screen(out: &mut String, machine: &Machine) -> Result<(), AllocError> {
 
 /// Whether each row that is lent has the points of the screen, and past the last one there are none.
 fn are_rows_lit(machine: &Machine) -> bool {
-    (0..64).all(|row| machine.row(row) == row_bits(machine, row)) && machine.row(64) == 0
+    for row in 0..64 {
+        if machine.row(row) != row_bits(machine, row) {
+            return false;
+        }
+    }
+    machine.row(64) == 0
 }
 
 /// Names of profiles, and the text of an error.

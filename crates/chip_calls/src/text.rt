@@ -28,11 +28,7 @@ pub(crate) fn hex_number(text: &str) -> Option<u16> {
 
 /// The bytes of a text in hexadecimal, with blanks between them.
 pub(crate) fn bytes_of_hex(alloc: Global, text: &str) -> Option<Vec<u8>> {
-    let digits: String = text
-        .chars()
-        .filter(|digit| *digit != ' ')
-        .collect(alloc)
-        .ok()?;
+    let digits = text.replace(alloc, " ", "").ok()?;
     hex::decode(alloc, digits.as_str()).ok()
 }
 

@@ -6,9 +6,9 @@
 //! - `show-all`: how many lines were read and encoded, where the source text of each word is; each
 //!   has to have the word as its code, and to be one of data where the word is not an instruction.
 
-use crate::language::NoNames;
+use crate::language::{NoNames, read};
 use crate::text::{hex_number, refuse};
-use chip_lang::{Coded, Line, Meter, decode, encode, push_shown, read_line, show, word as word_of};
+use chip_lang::{Coded, Line, Meter, decode, encode, push_shown, show, word as word_of};
 use std::alloc::{AllocError, Global};
 
 /// Answers a command, and says whether it is one of these.
@@ -90,8 +90,8 @@ fn show_all(alloc: Global, out: &mut String) -> Result<(), AllocError> {
 fn gives_back(alloc: Global, meter: &mut Meter, word: u16) -> Result<bool, AllocError> {
     let text = shown(alloc, word)?;
     let is_data = text.as_str().starts_with("DW");
-    let line = read_line(alloc, meter, text.as_bytes())?;
-    Ok(is_data == decoded(word).is_none() && has_code(alloc, meter, &line, word)?)
+    let line = read(alloc, meter, text.as_bytes())?;
+    Ok(is_data == decoded(word).is_none() && has_code(alloc, meter, &*line, word)?)
 }
 
 /// Whether a line has a word as its code.

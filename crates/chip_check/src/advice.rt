@@ -5,46 +5,59 @@ use crate::hint::{Hint, push_help, push_note, push_sentence};
 use crate::known::Known;
 use crate::operand_advice::{out_of_range, register_advice, wrong_operands};
 use crate::other_assemblers::{other_number, other_word};
-use crate::words::{has_twice, is_register, is_special, is_word, text_of, words_of};
+use crate::place::read;
+use crate::words::{has_twice, is_one_of, is_register, is_special, is_word, text_of, words_of};
 use chip_lang::limits::{IMAGE_BYTES, IMAGE_START, NAME_BYTES};
-use chip_lang::{Fault, Line, Meter, read_line};
+use chip_lang::{Fault, Line};
 use std::alloc::{AllocError, Global};
 
-/// The help for a fault of the line of a number, which lies at a place of the line.
-pub(crate) fn hints_of(
+/// Adds the help for a fault of the line of a number, which lies at a place of the line.
+pub(crate) fn push_advice(
     alloc: Global,
+    hints: &mut Vec<Hint>,
     known: &Known,
     number: usize,
     line: &[u8],
     fault: Fault,
     place: usize,
-) -> Result<Vec<Hint>, AllocError> {
-    let mut hints = Vec::new(alloc);
+) -> Result<(), AllocError> {
     let words = words_of(alloc, line)?;
     let text = line.get(place..).unwrap_or(&[]);
     let rest = words_of(alloc, text)?;
     match fault {
-        Fault::BadCharacter | Fault::UnfinishedString | Fault::UnknownWord | Fault::WrongOperands
-            if has_twice("/", &words) => {
-            push_sentence(alloc, &mut hints, Some("a comment begins with `;`"))?;
-        }
-        Fault::BadCharacter => bad_character(alloc, &mut hints, line, text, &rest)?,
-        Fault::UnknownWord => unknown_word(alloc, &mut hints, line, text, &rest)?,
-        Fault::WrongOperands => wrong_operands(alloc, &mut hints, &words, &rest)?,
-        Fault::BadName => bad_name(alloc, &mut hints, &rest)?,
-        Fault::DefinedTwice => defined_twice(alloc, &mut hints, known, &rest)?,
-        Fault::UndefinedName => undefined_name(alloc, &mut hints, known, number, &rest)?,
-        Fault::OutOfRange => out_of_range(alloc, &mut hints, known, line)?,
-        Fault::PastMemory => push_help(
-            &mut hints,
-            format!(in alloc;
-                "code and data have {IMAGE_BYTES} bytes, from address {IMAGE_START} on"
-            )?,
-        )?,
-        Fault::NotInProfile => not_in_profile(alloc, &mut hints, &rest)?,
-        other => push_sentence(alloc, &mut hints, sentence_for(other))?,
+        Fault::UndefinedName => undefined_name(alloc, hints, known, number, &rest),
+        Fault::OutOfRange => out_of_range(alloc, hints, known, line),
+        Fault::DefinedTwice => defined_twice(alloc, hints, known, &rest),
+        _ => push_line_advice(alloc, hints, fault, line, text, &words, &rest),
     }
-    Ok(hints)
+}
+
+/// Help with a fault that no other line has a part in: `text` is the line from its place on, `words`
+/// are those of the line, `rest` those of the text.
+fn push_line_advice(
+    alloc: Global,
+    hints: &mut Vec<Hint>,
+    fault: Fault,
+    line: &[u8],
+    text: &[u8],
+    words: &[String],
+    rest: &[String],
+) -> Result<(), AllocError> {
+    match fault {
+        Fault::BadCharacter | Fault::UnfinishedString | Fault::UnknownWord | Fault::WrongOperands
+            if has_twice("/", words) => push_help(alloc, hints, "a comment begins with `;`"),
+        Fault::BadCharacter => bad_character(alloc, hints, line, text, rest),
+        Fault::UnknownWord => unknown_word(alloc, hints, line, text, rest),
+        Fault::WrongOperands => wrong_operands(alloc, hints, words, rest),
+        Fault::BadName => bad_name(alloc, hints, rest),
+        Fault::NotInProfile => not_in_profile(alloc, hints, rest),
+        Fault::PastMemory => push_help(
+            alloc,
+            hints,
+            format_args!("code and data have {IMAGE_BYTES} bytes, from address {IMAGE_START} on"),
+        ),
+        other => push_sentence(alloc, hints, sentence_for(other)),
+    }
 }
 
 /// What helps with a fault whatever the line says.
@@ -68,23 +81,30 @@ fn bad_character(
     text: &[u8],
     rest: &[String],
 ) -> Result<(), AllocError> {
-    if let [239, 187, 191, ..] = line {
-        let sentence = "the file begins with a byte order mark; save it without one";
-        return push_sentence(alloc, hints, Some(sentence));
+    let sentence = sentence_for_file(line);
+    if sentence.is_some() {
+        return push_sentence(alloc, hints, sentence);
     }
-    for byte in line {
-        if *byte < 9 {
-            let sentence = "this isn't text; `chipbench dis` shows an image as a source";
-            return push_sentence(alloc, hints, Some(sentence));
-        }
-    }
-    let (Some(first), Some(word)) = (text.first(), rest.first()) else {
+    let Some(first) = text.first() else {
         return Ok(());
     };
-    if other_number_help(alloc, hints, word, rest)? {
+    if other_number_help(alloc, hints, rest)? {
         return Ok(());
     }
     push_sentence(alloc, hints, sentence_for_character(*first, rest))
+}
+
+/// What helps where a line shows that the file is no plain text.
+fn sentence_for_file(line: &[u8]) -> Option<&'static str> {
+    if line.starts_with(&[239, 187, 191]) {
+        return Some("the file begins with a byte order mark; save it without one");
+    }
+    for byte in line {
+        if *byte < 9 {
+            return Some("this isn't text; `chipbench dis` shows an image as a source");
+        }
+    }
+    None
 }
 
 /// What helps with a byte that begins no token, where `rest` are the words from it on.
@@ -106,25 +126,20 @@ fn sentence_for_character(first: u8, rest: &[String]) -> Option<&'static str> {
     }
 }
 
-/// Help with a number that another assembler would write so, and whether it is one.
+/// Help with a number that another assembler would write so, and whether the words begin with one.
 fn other_number_help(
     alloc: Global,
     hints: &mut Vec<Hint>,
-    word: &str,
-    rest: &[String],
+    words: &[String],
 ) -> Result<bool, AllocError> {
-    let digits = match (word, rest) {
-        ("%", [_, digits, ..]) => format!(in alloc; "%{digits}")?,
-        _ => String::from_str(alloc, word)?,
-    };
-    let Some((radix, digits)) = other_number(digits.as_bytes()) else {
+    let Some((radix, digits)) = other_number(words) else {
         return Ok(false);
     };
     let (name, sign) = (radix.name(), radix.sign());
-    let digits = text_of(alloc, digits)?;
     push_help(
+        alloc,
         hints,
-        format!(in alloc; "{name} number begins with `{sign}`: {sign}{digits}")?,
+        format_args!("{name} number begins with `{sign}`: {sign}{digits}"),
     )?;
     Ok(true)
 }
@@ -143,56 +158,75 @@ fn unknown_word(
     };
     if is_register(word) || is_special(word) {
         return push_help(
+            alloc,
             hints,
-            format!(in alloc; "an instruction stands first, as in LD {word}, 5")?,
+            format_args!("an instruction stands first, as in LD {word}, 5"),
         );
     }
     let behind = text.get(word.len()..).unwrap_or(&[]);
     let is_label = reads_as_label(alloc, line, behind)?;
-    if let Some(other) = other_word(word) {
-        if !is_label || stands_alone(other) {
-            push_help(hints, format!(in alloc; "{word} is written {other} here")?)?;
-        }
-    } else if let Some(near) = near_heading(word) {
-        if !is_label || stands_alone(near) {
-            push_help(hints, format!(in alloc; "did you mean {near}?")?)?;
-        }
-    }
+    push_meant(alloc, hints, word, is_label)?;
     if is_label {
-        let label = text_of(alloc, text.get(..word.len()).unwrap_or(&[]))?;
-        push_help(
-            hints,
-            format!(in alloc; "a label ends with a colon: {label}:")?,
-        )?;
+        push_label(alloc, hints, text.get(..word.len()).unwrap_or(&[]))?;
     }
     Ok(())
+}
+
+/// Help with a word that was meant as an instruction or a directive; one that may be a label, only
+/// if that stands without operands.
+fn push_meant(
+    alloc: Global,
+    hints: &mut Vec<Hint>,
+    word: &str,
+    is_label: bool,
+) -> Result<(), AllocError> {
+    let other = other_word(word);
+    match other.or(near_heading(word)) {
+        Some(meant) if is_label && !stands_alone(meant) => Ok(()),
+        Some(meant) if other.is_some() => {
+            push_help(alloc, hints, format_args!("{word} is written {meant} here"))
+        }
+        Some(meant) => push_help(alloc, hints, format_args!("did you mean {meant}?")),
+        None => Ok(()),
+    }
+}
+
+/// Help with a word that would be a label with a colon.
+fn push_label(alloc: Global, hints: &mut Vec<Hint>, word: &[u8]) -> Result<(), AllocError> {
+    let label = text_of(alloc, word)?;
+    push_help(
+        alloc,
+        hints,
+        format_args!("a label ends with a colon: {label}:"),
+    )
 }
 
 /// Whether a line would read with a colon before its last bytes.
 fn reads_as_label(alloc: Global, line: &[u8], behind: &[u8]) -> Result<bool, AllocError> {
     let end = line.len().saturating_sub(behind.len());
-    let mut changed = Vec::from_slice(alloc, line.get(..end).unwrap_or(&[]))?;
-    changed.push(b':')?;
-    changed.extend_from_slice(behind)?;
-    let mut meter = Meter::new();
-    let line = read_line(alloc, &mut meter, &changed)?;
-    Ok(matches!(&line, Line::Read { .. }))
+    let front = line.get(..end).unwrap_or(&[]);
+    let changed = [front, b":", behind].concat(alloc)?;
+    let line = read(alloc, &changed)?;
+    Ok(matches!(&*line, Line::Read { .. }))
 }
 
 /// Help with a word that can't be a name; `rest` are the words from it on.
 fn bad_name(alloc: Global, hints: &mut Vec<Hint>, rest: &[String]) -> Result<(), AllocError> {
     match rest {
         [word, more @ ..] if is_register(word) && is_assignment(more) => push_help(
+            alloc,
             hints,
-            format!(in alloc; "{word} is a register; LD gives it a value, as in LD {word}, 5")?,
+            format_args!("{word} is a register; LD gives it a value, as in LD {word}, 5"),
         ),
         [word, ..] if is_reserved(word) => push_help(
+            alloc,
             hints,
-            format!(in alloc; "{word} has a meaning of its own; choose another name")?,
+            format_args!("{word} has a meaning of its own; choose another name"),
         ),
         _ => push_help(
+            alloc,
             hints,
-            format!(in alloc; "a name has at most {NAME_BYTES} bytes")?,
+            format_args!("a name has at most {NAME_BYTES} bytes"),
         ),
     }
 }
@@ -200,11 +234,11 @@ fn bad_name(alloc: Global, hints: &mut Vec<Hint>, rest: &[String]) -> Result<(),
 /// Whether some words begin with `=`, `:=`, EQU or `: EQU`.
 fn is_assignment(words: &[String]) -> bool {
     let equ = match words {
-        [colon, equ, ..] if colon.as_str() == ":" => equ.as_str(),
-        [equ, ..] => equ.as_str(),
-        [] => "",
+        [colon, equ, ..] if colon.as_str() == ":" => equ,
+        [equ, ..] => equ,
+        [] => return false,
     };
-    equ == "=" || equ == "EQU"
+    is_one_of(equ, &["=", "EQU"])
 }
 
 /// Help with a name that has a value already; `rest` are the words from it on.
@@ -219,8 +253,9 @@ fn defined_twice(
     };
     match known.line_of(name) {
         Some(line) => push_note(
+            alloc,
             hints,
-            format!(in alloc; "{name} is defined on line {line}")?,
+            format_args!("{name} is defined on line {line}"),
         ),
         None => Ok(()),
     }
@@ -237,47 +272,72 @@ fn undefined_name(
     let Some(name) = rest.first() else {
         return Ok(());
     };
-    if let Some(line) = known.line_of(name) {
-        return push_note(
-            hints,
-            format!(in alloc;
-                "{name} is defined on line {line}; ORG, DS and EQU see earlier lines"
-            )?,
-        );
-    }
-    match known.lost_line_of(name) {
-        Some(line) if line != number => {
-            return push_note(
-                hints,
-                format!(in alloc; "{name} is on line {line}, which has a fault of its own")?,
-            );
-        }
-        _ => {}
-    }
-    if let Some(near) = known.near_name(alloc, name)? {
-        return push_help(hints, format!(in alloc; "did you mean {near}?")?);
-    }
-    if register_advice(alloc, hints, name)? || other_number_help(alloc, hints, name, rest)? {
+    if other_line_note(alloc, hints, known, number, name)?
+        || near_name_help(alloc, hints, known, name)?
+        || register_advice(alloc, hints, name)?
+        || other_number_help(alloc, hints, rest)?
+    {
         return Ok(());
     }
     push_help(
+        alloc,
         hints,
-        format!(in alloc; "no line gives {name} a value, as {name}: or {name} EQU 5 would")?,
+        format_args!("no line gives {name} a value, as {name}: or {name} EQU 5 would"),
     )
+}
+
+/// A note on a name that stands on another line, and whether it does.
+fn other_line_note(
+    alloc: Global,
+    hints: &mut Vec<Hint>,
+    known: &Known,
+    number: usize,
+    name: &str,
+) -> Result<bool, AllocError> {
+    match (known.line_of(name), known.lost_line_of(name)) {
+        (Some(line), _) => push_note(
+            alloc,
+            hints,
+            format_args!("{name} is defined on line {line}; ORG, DS and EQU see earlier lines"),
+        )?,
+        (_, Some(line)) if line != number => push_note(
+            alloc,
+            hints,
+            format_args!("{name} is on line {line}, which has a fault of its own"),
+        )?,
+        _ => return Ok(false),
+    }
+    Ok(true)
+}
+
+/// Help with a name that is near to one with a value, and whether it is.
+fn near_name_help(
+    alloc: Global,
+    hints: &mut Vec<Hint>,
+    known: &Known,
+    name: &str,
+) -> Result<bool, AllocError> {
+    match known.near_name(alloc, name)? {
+        Some(near) => {
+            push_help(alloc, hints, format_args!("did you mean {near}?"))?;
+            Ok(true)
+        }
+        None => Ok(false),
+    }
 }
 
 /// Help with a directive that this assembler doesn't have.
 fn not_in_profile(alloc: Global, hints: &mut Vec<Hint>, rest: &[String]) -> Result<(), AllocError> {
-    match rest {
-        [word, more @ ..] => match takes(alloc, word, more)? {
-            Some(sentence) => push_help(hints, sentence),
-            None if word.as_str() == "INCLUDE" => push_sentence(
-                alloc,
-                hints,
-                Some("a source is one file; copy the other one's lines into it"),
-            ),
-            None => Ok(()),
-        },
-        [] => Ok(()),
+    let Some((word, more)) = rest.split_first() else {
+        return Ok(());
+    };
+    match takes(alloc, word, more)? {
+        Some(sentence) => push_help(alloc, hints, sentence),
+        None if word.as_str() == "INCLUDE" => push_help(
+            alloc,
+            hints,
+            "a source is one file; copy the other one's lines into it",
+        ),
+        None => Ok(()),
     }
 }

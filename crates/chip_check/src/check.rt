@@ -9,7 +9,7 @@ ghost use Rattle.chip_asm.specs.Program.{fault_at, symbols_of};
 ghost use Rattle.chip_check.specs.Check.{IsCheck, sentence_of, sentence_with, head, blank_of, marks, beginning, hint_line, report_at, report_of};
 ghost use Rattle.chip_check.specs.declared.hint.Hint.{Hint};
 
-use crate::advice::hints_of;
+use crate::advice::push_advice;
 use crate::hint::{Hint, HintKind};
 use crate::known::Known;
 use crate::place::place_in;
@@ -69,7 +69,8 @@ fn push_report(
         return Ok(());
     };
     let span = place_in(alloc, source, known, number, line, fault)?;
-    let hints = hints_of(alloc, known, number, line, fault, span.start)?;
+    let mut hints = Vec::new(alloc);
+    push_advice(alloc, &mut hints, known, number, line, fault, span.start)?;
     push_report_at(alloc, text, name, number, line, fault, span)?;
     push_hints(text, &hints)
 }
@@ -133,24 +134,13 @@ fn push_head(
     ensures { OnOk result (text.new.items ≡ text.old.items
         ++ head name.now number span fault sentence.now) }
 {
+    let (column, code) = (span.start + 1, fault.number());
+    let place = format!(in alloc; ":{number}:{column}: F{code}: ")?;
     text.extend_from_slice(name)?;
-    text.extend_from_slice(b":")?;
-    push_decimal(alloc, text, number)?;
-    text.extend_from_slice(b":")?;
-    push_decimal(alloc, text, span.start + 1)?;
-    text.extend_from_slice(b": F")?;
-    push_decimal(alloc, text, usize::from(fault.number()))?;
-    text.extend_from_slice(b": ")?;
+    text.extend_from_slice(place.as_bytes())?;
     text.extend_from_slice(sentence)?;
     text.extend_from_slice(b"\n")?;
     Ok(())
-}
-
-/// Adds a number in decimal.
-fn push_decimal(alloc: Global, text: &mut Vec<u8>, number: usize) -> Result<(), AllocError>
-    ensures { OnOk result (text.new.items ≡ text.old.items ++ decimal number) }
-{
-    text.extend_from_slice(number.to_string(alloc)?.as_bytes())
 }
 
 /// Adds the marks below a line.

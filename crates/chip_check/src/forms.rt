@@ -1,7 +1,7 @@
 //! The forms of instructions and directives, as help shows them.
 
 use crate::near::{is_near, most_edits};
-use crate::words::{is_register, is_special, is_word, split_operand, words_of};
+use crate::words::{is_one_of, is_register, is_special, is_word, split_operand, words_of};
 use std::alloc::{AllocError, Global};
 
 /// Each form: the instruction or the directive, and its operands. `Vx` and `Vy` are registers,
@@ -114,7 +114,7 @@ pub(crate) fn is_reserved(word: &str) -> bool {
     is_register(word)
         || is_special(word)
         || is_heading(word)
-        || matches!(word, "USED" | "INCLUDE" | "UNDEF")
+        || is_one_of(word, &["USED", "INCLUDE", "UNDEF"])
 }
 
 /// The instruction or the directive that a word comes nearest to, if one is near.
@@ -156,23 +156,28 @@ pub(crate) fn takes(
     operands: &[String],
 ) -> Result<Option<String>, AllocError> {
     let forms = forms_by_nearness(alloc, word, operands)?;
-    match forms.as_slice() {
+    takes_one_of(alloc, word, &forms)
+}
+
+/// What an instruction or a directive of these forms takes.
+fn takes_one_of(alloc: Global, word: &str, forms: &[&str]) -> Result<Option<String>, AllocError> {
+    let sentence = match forms {
         [] => return Ok(None),
-        [form] if *form == word => {
-            return Ok(Some(format!(in alloc; "{word} takes no operands")?));
-        }
-        _ => {}
-    }
-    let mut text = format!(in alloc; "{word} takes:")?;
-    for (index, form) in forms.iter().enumerate() {
-        if index == MOST_SHOWN {
-            text.push_str(" | ..")?;
-            break;
-        }
-        text.push_str(if index == 0 { " " } else { " | " })?;
-        text.push_str(form)?;
-    }
-    Ok(Some(text))
+        [form] if *form == word => format!(in alloc; "{word} takes no operands")?,
+        _ => list_of(alloc, word, forms)?,
+    };
+    Ok(Some(sentence))
+}
+
+/// The first forms of a word, as a sentence.
+fn list_of(alloc: Global, word: &str, forms: &[&str]) -> Result<String, AllocError> {
+    let shown = forms.get(..MOST_SHOWN).unwrap_or(forms).join(alloc, " | ")?;
+    let more = if forms.len() > MOST_SHOWN {
+        " | .."
+    } else {
+        ""
+    };
+    format!(in alloc; "{word} takes: {shown}{more}")
 }
 
 /// How many operands are what a form wants in their places; the first counts twice.
@@ -196,16 +201,24 @@ fn nearness(alloc: Global, form: &str, operands: &[String]) -> Result<usize, All
     Ok(near)
 }
 
+/// The words in a form for which an expression stands.
+const VALUES: &[&str] = &["NIBBLE", "BYTE", "ADDR", "VALUE"];
+
 /// Whether an operand is what a form wants in its place.
 fn fits(wanted: &[String], given: &[String]) -> bool {
     match (wanted, given) {
-        ([wants], [gives]) => match wants.as_str() {
-            "VX" | "VY" => is_register(gives),
-            "NIBBLE" | "BYTE" | "ADDR" | "VALUE" => !is_reserved(gives),
-            "NAME" => is_word(gives) && !is_reserved(gives),
-            _ => wants == gives,
-        },
-        ([wants], [_, ..]) => matches!(wants.as_str(), "NIBBLE" | "BYTE" | "ADDR" | "VALUE"),
+        ([wants], [gives]) => fits_token(wants, gives),
+        ([wants], [_, ..]) => is_one_of(wants, VALUES),
         _ => wanted == given,
+    }
+}
+
+/// Whether an operand of one token is what a form wants in its place.
+fn fits_token(wants: &str, gives: &str) -> bool {
+    match wants {
+        "VX" | "VY" => is_register(gives),
+        "NAME" => is_word(gives) && !is_reserved(gives),
+        _ if is_one_of(wants, VALUES) => !is_reserved(gives),
+        _ => wants == gives,
     }
 }

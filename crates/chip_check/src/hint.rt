@@ -1,6 +1,7 @@
 //! A line of help below the report of a fault.
 
 use std::alloc::{AllocError, Global};
+use std::fmt::Display;
 
 /// How a line of help begins.
 #[derive(Clone, Copy)]
@@ -19,20 +20,31 @@ pub(crate) struct Hint {
 }
 
 /// Adds a line that says what to write.
-pub(crate) fn push_help(hints: &mut Vec<Hint>, sentence: String) -> Result<(), AllocError> {
-    hints.push(Hint {
-        kind: HintKind::Help,
-        sentence: sentence.into_bytes(),
-    })?;
-    Ok(())
+pub(crate) fn push_help<S: Display + Drop>(
+    alloc: Global,
+    hints: &mut Vec<Hint>,
+    sentence: S,
+) -> Result<(), AllocError> {
+    push(alloc, hints, HintKind::Help, sentence)
 }
 
 /// Adds a line that says what else is known.
-pub(crate) fn push_note(hints: &mut Vec<Hint>, sentence: String) -> Result<(), AllocError> {
-    hints.push(Hint {
-        kind: HintKind::Note,
-        sentence: sentence.into_bytes(),
-    })?;
+pub(crate) fn push_note<S: Display + Drop>(
+    alloc: Global,
+    hints: &mut Vec<Hint>,
+    sentence: S,
+) -> Result<(), AllocError> {
+    push(alloc, hints, HintKind::Note, sentence)
+}
+
+fn push<S: Display + Drop>(
+    alloc: Global,
+    hints: &mut Vec<Hint>,
+    kind: HintKind,
+    sentence: S,
+) -> Result<(), AllocError> {
+    let sentence = format!(in alloc; "{sentence}")?.into_bytes();
+    hints.push(Hint { kind, sentence })?;
     Ok(())
 }
 
@@ -43,7 +55,7 @@ pub(crate) fn push_sentence(
     sentence: Option<&str>,
 ) -> Result<(), AllocError> {
     match sentence {
-        Some(sentence) => push_help(hints, String::from_str(alloc, sentence)?),
+        Some(sentence) => push_help(alloc, hints, sentence),
         None => Ok(()),
     }
 }

@@ -128,9 +128,10 @@ fn lost_names(alloc: Global, bytes: &[u8], source: &Source) -> Result<Vec<Lost>,
 /// The word that begins a line, or the one after DEFINE.
 fn front_name(alloc: Global, line: &[u8]) -> Result<Option<String>, AllocError> {
     let words = words_of(alloc, line)?;
-    match words.as_slice() {
-        [define, name, ..] if define.as_str() == "DEFINE" => Ok(Some(name.clone()?)),
-        [name, ..] if is_word(name) => Ok(Some(name.clone()?)),
-        _ => Ok(None),
-    }
+    let name = match words.as_slice() {
+        [define, name, ..] if define.as_str() == "DEFINE" => name,
+        [name, ..] if is_word(name) => name,
+        _ => return Ok(None),
+    };
+    Ok(Some(name.clone()?))
 }

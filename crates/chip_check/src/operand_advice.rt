@@ -3,11 +3,11 @@
 use crate::forms::{is_reserved, takes};
 use crate::hint::{Hint, push_help, push_sentence};
 use crate::known::Known;
-use crate::place::out_operand;
+use crate::place::{out_operand_of, read};
 use crate::words::{
-    has_twice, is_number, is_register, is_special, is_word, split_operand, statement_of,
+    has_twice, is_number, is_one_of, is_register, is_special, is_word, split_operand, statement_of,
 };
-use chip_lang::{Body, Expr, Line, Meter, Operand, Pattern, eval, read_line};
+use chip_lang::{Body, Expr, Line, Operand, Pattern, eval};
 use std::alloc::{AllocError, Global};
 
 /// Help with operands that fit no form: `words` are those of the line, `rest` those from the place
@@ -19,101 +19,142 @@ pub(crate) fn wrong_operands(
     rest: &[String],
 ) -> Result<(), AllocError> {
     let statement = statement_of(words);
-    let (heading, operands) = match statement {
-        [_, equ, operands @ ..] if equ.as_str() == "EQU" || equ.as_str() == "=" => (
-            "EQU", operands,
-        ),
-        [heading, operands @ ..] => (heading.as_str(), operands),
-        [] => ("", statement),
-    };
     if rest.len() == statement.len() {
         return wrong_front(alloc, hints, rest);
     }
+    let (heading, operands) = parts_of(statement);
     let sentence = sentence_for(heading, words, rest);
     push_sentence(alloc, hints, sentence)?;
-    let mut has_number = false;
     for operand in operands {
         if register_advice(alloc, hints, operand)? {
             return Ok(());
         }
-        has_number = has_number || is_number(operand);
     }
     if sentence.is_some() && !rest.is_empty() {
         return Ok(());
     }
-    if let Some(sentence) = takes(alloc, heading, operands)? {
-        push_help(hints, sentence)?;
+    forms_help(alloc, hints, heading, operands)
+}
+
+/// The instruction or the directive of a statement, and the words after it.
+fn parts_of(statement: &[String]) -> (&str, &[String]) {
+    match statement {
+        [_, equ, operands @ ..] if is_one_of(equ, &["EQU", "="]) => ("EQU", operands),
+        [heading, operands @ ..] => (heading, operands),
+        [] => ("", statement),
     }
-    if heading == "SUB" && has_number {
-        let sentence = "ADD subtracts a number, as in ADD V0, -5";
-        push_sentence(alloc, hints, Some(sentence))?;
+}
+
+/// Help by the forms of an instruction or a directive.
+fn forms_help(
+    alloc: Global,
+    hints: &mut Vec<Hint>,
+    heading: &str,
+    operands: &[String],
+) -> Result<(), AllocError> {
+    if let Some(sentence) = takes(alloc, heading, operands)? {
+        push_help(alloc, hints, sentence)?;
+    }
+    if heading == "SUB" && has_number(operands) {
+        push_help(alloc, hints, "ADD subtracts a number, as in ADD V0, -5")?;
     }
     Ok(())
 }
 
+/// Whether a number is among some words.
+fn has_number(words: &[String]) -> bool {
+    for word in words {
+        if is_number(word) {
+            return true;
+        }
+    }
+    false
+}
+
 /// Help with a statement whose first word is at fault.
 fn wrong_front(alloc: Global, hints: &mut Vec<Hint>, rest: &[String]) -> Result<(), AllocError> {
-    match rest {
-        [equ, ..] if equ.as_str() == "EQU" => {
-            push_sentence(
+    let first = match rest {
+        [first, ..] => first.as_str(),
+        [] => "",
+    };
+    let sentence = match first {
+        "EQU" => "a name stands before EQU, as in SIZE EQU 5",
+        ":" => "a colon stands after a label and not before it",
+        _ if is_word(first) => {
+            return push_help(
                 alloc,
                 hints,
-                Some("a name stands before EQU, as in SIZE EQU 5"),
-            )
+                format_args!("{first} takes no label; put the label on a line of its own"),
+            );
         }
-        [word, ..] if is_word(word) => push_help(
-            hints,
-            format!(in alloc; "{word} takes no label; put the label on a line of its own")?,
-        ),
-        [colon, ..] if colon.as_str() == ":" => push_sentence(
-            alloc,
-            hints,
-            Some("a colon stands after a label and not before it"),
-        ),
-        _ => push_sentence(
-            alloc,
-            hints,
-            Some("a line begins with a label, an instruction or a directive"),
-        ),
-    }
+        _ => "a line begins with a label, an instruction or a directive",
+    };
+    push_help(alloc, hints, sentence)
 }
+
+/// Directives whose operands are no expressions.
+const WITHOUT_EXPRESSION: &[&str] = &["ALIGN", "DA", "IFDEF", "IFUND", "ELSE", "ENDIF", "END"];
+
+/// Directives that take one expression.
+const OF_ONE_EXPRESSION: &[&str] = &["ORG", "DS", "EQU"];
 
 /// What helps with the operand at fault, which is the first of `rest`.
 fn sentence_for(heading: &str, words: &[String], rest: &[String]) -> Option<&'static str> {
     let (operand, _) = split_operand(rest);
+    if has_twice("<", words) || has_twice(">", words) {
+        Some("a shift is one sign, `<` or `>`")
+    } else if operand.is_empty() {
+        Some(sentence_for_missing(words, rest))
+    } else if heading == "DEFINE" {
+        Some("DEFINE gives 0; EQU gives another value, as in SIZE EQU 5")
+    } else if is_part(operand) || is_one_of(heading, WITHOUT_EXPRESSION) {
+        None
+    } else {
+        sentence_for_front(heading, operand).or(sentence_for_expression(operand))
+    }
+}
+
+/// What helps with an operand that is missing.
+fn sentence_for_missing(words: &[String], rest: &[String]) -> &'static str {
+    if !rest.is_empty() {
+        return "an operand is missing before this comma";
+    }
+    match words {
+        [.., last] if last.as_str() == "," => "an operand is missing after the last comma",
+        _ => "an operand is missing at the end",
+    }
+}
+
+/// Whether an operand is a register, another part of the machine or `[I]`.
+fn is_part(operand: &[String]) -> bool {
     match operand {
-        _ if has_twice("<", words) || has_twice(">", words) => {
-            Some("a shift is one sign, `<` or `>`")
-        }
-        [] if rest.is_empty() && matches!(words, [.., last] if last.as_str() == ",") => {
-            Some("an operand is missing after the last comma")
-        }
-        [] if rest.is_empty() => Some("an operand is missing at the end"),
-        [] => Some("an operand is missing before this comma"),
-        _ if heading == "DEFINE" => Some(
-            "DEFINE gives 0; EQU gives another value, as in SIZE EQU 5",
-        ),
-        [word] if is_register(word) || is_special(word) => None,
-        [open, index, _] if open.as_str() == "[" && index.as_str() == "I" => None,
-        _
-            if matches!(
-                heading,
-                "ALIGN" | "DA" | "IFDEF" | "IFUND" | "ELSE" | "ENDIF" | "END"
-            ) => { None }
-        [text, ..] if is_long_text(text) => {
+        [word] => is_register(word) || is_special(word),
+        [open, index, _] => open.as_str() == "[" && index.as_str() == "I",
+        _ => false,
+    }
+}
+
+/// What helps with an operand by the tokens that it begins with.
+fn sentence_for_front(heading: &str, operand: &[String]) -> Option<&'static str> {
+    match operand {
+        [first, ..] if is_long_text(first) => {
             Some("`DA` takes one text of any length; elsewhere a text has one byte")
         }
-        [first, equ, ..] if is_register(first) && equ.as_str() == "=" => {
-            Some("a comma stands between two operands")
-        }
-        [first, second, ..]
-            if is_atom(first) && is_atom(second) && !matches!(heading, "ORG" | "DS" | "EQU") => {
-            Some("a comma is missing between two operands")
-        }
-        [_, colon, ..] if colon.as_str() == ":" => {
-            Some("a colon stands only after a name that the line defines")
-        }
-        _ => sentence_for_expression(operand),
+        [first, second, ..] => sentence_for_pair(heading, first, second),
+        _ => None,
+    }
+}
+
+/// What helps with an operand that begins with two tokens.
+fn sentence_for_pair(heading: &str, first: &str, second: &str) -> Option<&'static str> {
+    if second == ":" {
+        Some("a colon stands only after a name that the line defines")
+    } else if second == "=" && is_register(first) {
+        Some("a comma stands between two operands")
+    } else if is_atom(first) && is_atom(second) && !is_one_of(heading, OF_ONE_EXPRESSION) {
+        Some("a comma is missing between two operands")
+    } else {
+        None
     }
 }
 
@@ -159,12 +200,17 @@ fn sentence_for_parentheses(operand: &[String]) -> Option<&'static str> {
 
 /// Whether a token is a text of another length than one byte.
 fn is_long_text(word: &str) -> bool {
-    matches!(word.as_bytes(), [b'\'' | b'"', ..]) && word.chars().count() != 3
+    is_text(word) && word.chars().count() != 3
+}
+
+/// Whether a token is a text.
+fn is_text(word: &str) -> bool {
+    matches!(word.as_bytes(), [b'\'' | b'"', ..])
 }
 
 /// Whether a token is a word, a number or a text.
 fn is_atom(word: &str) -> bool {
-    is_word(word) || is_number(word) || matches!(word.as_bytes(), [b'\'' | b'"', ..])
+    is_word(word) || is_number(word) || is_text(word)
 }
 
 /// Help with a name that looks like a register, and whether it does.
@@ -173,17 +219,19 @@ pub(crate) fn register_advice(
     hints: &mut Vec<Hint>,
     name: &str,
 ) -> Result<bool, AllocError> {
-    let register = match name.as_bytes() {
-        [b'R', b'0'..=b'9'] | [b'R' | b'V', b'1', b'0'..=b'9'] | [b'V', b'G'..=b'Z'] => true,
-        _ => false,
-    };
-    if register {
-        push_help(
-            hints,
-            format!(in alloc; "the registers are V0 to V9 and VA to VF")?,
-        )?;
+    if !is_like_register(name) {
+        return Ok(false);
     }
-    Ok(register)
+    push_help(alloc, hints, "the registers are V0 to V9 and VA to VF")?;
+    Ok(true)
+}
+
+/// Whether a name looks like a register of another machine, or like one too many.
+fn is_like_register(name: &str) -> bool {
+    matches!(
+        name.as_bytes(),
+        [b'R', b'0'..=b'9'] | [b'R' | b'V', b'1', b'0'..=b'9'] | [b'V', b'G'..=b'Z']
+    )
 }
 
 /// The values that stand in an operand's place: from `low` to `high`.
@@ -208,10 +256,10 @@ const WORD: Bounds = Bounds {
 const ADDRESS: Bounds = Bounds { low: 0, high: 4095 };
 
 /// The values of a place in a form.
-fn bounds_of(pattern: Pattern) -> Bounds {
+fn bounds_of(pattern: Option<&Pattern>) -> Bounds {
     match pattern {
-        Pattern::Nibble => NIBBLE,
-        Pattern::Address => ADDRESS,
+        Some(Pattern::Nibble) => NIBBLE,
+        Some(Pattern::Address) => ADDRESS,
         _ => BYTE,
     }
 }
@@ -223,22 +271,38 @@ pub(crate) fn out_of_range(
     known: &Known,
     line: &[u8],
 ) -> Result<(), AllocError> {
-    let index = out_operand(alloc, line, known)?;
-    let mut meter = Meter::new();
-    let Line::Read { body, .. } = read_line(alloc, &mut meter, line)? else {
+    let line = read(alloc, line)?;
+    push_out_of_range(alloc, hints, known, &*line)
+}
+
+/// Help with the first operand of a line whose value is out of range.
+fn push_out_of_range(
+    alloc: Global,
+    hints: &mut Vec<Hint>,
+    known: &Known,
+    line: &Line,
+) -> Result<(), AllocError> {
+    let Line::Read { body, .. } = line else {
         return Ok(());
     };
-    match &body {
+    let index = out_operand_of(line, known);
+    match body {
+        Body::Ds(_) => push_help(alloc, hints, "DS takes 0 or more"),
         Body::Db(values) => push_bounds(alloc, hints, known, values.get(index), BYTE),
         Body::Dw(values) => push_bounds(alloc, hints, known, values.get(index), WORD),
-        Body::Ds(_) => push_sentence(alloc, hints, Some("DS takes 0 or more")),
-        Body::Code(form, operands) => match (form.patterns.get(index), operands.get(index)) {
-            (Some(pattern), Some(Operand::Value(value))) => {
-                push_bounds(alloc, hints, known, Some(value), bounds_of(*pattern))
-            }
-            _ => Ok(()),
-        },
+        Body::Code(form, operands) => {
+            let bounds = bounds_of(form.patterns.get(index));
+            push_bounds(alloc, hints, known, value_of(operands.get(index)), bounds)
+        }
         _ => Ok(()),
+    }
+}
+
+/// The expression of an operand that is one.
+fn value_of(operand: Option<&Operand>) -> Option<&Expr> {
+    match operand {
+        Some(Operand::Value(value)) => Some(value),
+        _ => None,
     }
 }
 
@@ -258,7 +322,8 @@ fn push_bounds(
     };
     let Bounds { low, high } = bounds;
     push_help(
+        alloc,
         hints,
-        format!(in alloc; "the value is {value}, and has to lie from {low} to {high}")?,
+        format_args!("the value is {value}, and has to lie from {low} to {high}"),
     )
 }

@@ -66,17 +66,25 @@ fn out_of_range_place(
     }
 }
 
+/// A line as it is read.
+pub(crate) fn read(alloc: Global, line: &[u8]) -> Result<Box<Line>, AllocError>
+    ensures { IfOk result (λ reading. seen_line reading.value ≡ reading_of line.now) }
+{
+    let mut meter = Meter::new();
+    let reading = read_line(alloc, &mut meter, line)?;
+    Ok(Box::new(alloc, reading)?)
+}
+
 /// How many operands of a line stand before the first whose value is out of its place's range.
-pub(crate) fn out_operand(alloc: Global, line: &[u8], names: &Known) -> Result<usize, AllocError>
+fn out_operand(alloc: Global, line: &[u8], names: &Known) -> Result<usize, AllocError>
     ensures { IfOk result (λ index. index
         ≡ out_operand (reading_of line.now) (values_of names.now.symbols.items)) }
 {
-    let mut meter = Meter::new();
-    let line = read_line(alloc, &mut meter, line)?;
-    Ok(out_operand_of(&line, names))
+    let line = read(alloc, line)?;
+    Ok(out_operand_of(&*line, names))
 }
 
-fn out_operand_of(line: &Line, names: &Known) -> usize
+pub(crate) fn out_operand_of(line: &Line, names: &Known) -> usize
     ensures { result ≡ out_operand (seen_line line.now) (values_of names.now.symbols.items) }
 {
     let Line::Read { body, .. } = line else {
@@ -254,9 +262,8 @@ fn last_seen(alloc: Global, number: usize, count: usize, line: &[u8]) -> Result<
 fn sees_earlier(alloc: Global, line: &[u8]) -> Result<bool, AllocError>
     ensures { IfOk result (λ answer. answer ≡ sees_earlier (reading_of line.now)) }
 {
-    let mut meter = Meter::new();
-    let line = read_line(alloc, &mut meter, line)?;
-    Ok(is_of_value(&line))
+    let line = read(alloc, line)?;
+    Ok(is_of_value(&*line))
 }
 
 /// Whether a line is EQU, ORG or DS.

@@ -6,9 +6,9 @@ use std::alloc::{AllocError, Global};
 /// The tokens of a line as text, in upper case.
 pub(crate) fn words_of(alloc: Global, line: &[u8]) -> Result<Vec<String>, AllocError> {
     let mut words = Vec::new(alloc);
-    for token in tokens(alloc, line)? {
+    for token in &tokens(alloc, line)? {
         let text = line.get(token.start..token.end).unwrap_or(&[]);
-        words.push(text_of(alloc, text)?.to_ascii_uppercase(alloc)?)?;
+        words.push(upper_text_of(alloc, text)?)?;
     }
     Ok(words)
 }
@@ -20,6 +20,16 @@ pub(crate) fn text_of(alloc: Global, bytes: &[u8]) -> Result<String, AllocError>
         text.push(char::from(*byte))?;
     }
     Ok(text)
+}
+
+/// Bytes as text in upper case.
+fn upper_text_of(alloc: Global, bytes: &[u8]) -> Result<String, AllocError> {
+    text_of(alloc, bytes)?.to_ascii_uppercase(alloc)
+}
+
+/// Whether a word is one of some words.
+pub(crate) fn is_one_of(word: &str, words: &[&str]) -> bool {
+    words.contains(&word)
 }
 
 /// Whether the text of a token is a word.
@@ -39,7 +49,7 @@ pub(crate) fn is_register(word: &str) -> bool {
 
 /// Whether a word in upper case names another part of the machine.
 pub(crate) fn is_special(word: &str) -> bool {
-    matches!(word, "I" | "DT" | "ST" | "K" | "F" | "HF" | "B" | "R")
+    is_one_of(word, &["I", "DT", "ST", "K", "F", "HF", "B", "R"])
 }
 
 /// Whether a sign stands twice, one directly after the other.

@@ -6,17 +6,12 @@ pub returns : goal.returns
 unfolding head
 returns c =
     rw (
-      c.in_ok-extend_from_slice-7.ensures.items,
-      c.in_ok-extend_from_slice-6.ensures.items,
-      c.in_ok-extend_from_slice-5.ensures.items,
-      c.in_ok-push_decimal-3.ensures,
       c.in_ok-extend_from_slice-4.ensures.items,
-      c.in_ok-push_decimal-2.ensures,
       c.in_ok-extend_from_slice-3.ensures.items,
-      c.in_ok-push_decimal.ensures,
       c.in_ok-extend_from_slice-2.ensures.items,
       c.in_ok-extend_from_slice.ensures.items,
-      c.from.ensures,
-      c.number.ensures,
+      c.as_bytes.ensures.value,
+      c.in_ok-place.ensures.ok,
+      c.number-code.ensures,
     )
     (simp append_assoc)
