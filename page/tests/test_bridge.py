@@ -627,6 +627,18 @@ class KeyFiles(Running):
             self.assertEqual(self.good("keys", text=text)["refused"], refused, text)
 
 
+def what_is_open(running: "subprocess.Popen[str]") -> dict[str, Any]:
+    """What a bridge that was started says of the source that it opened."""
+    assert running.stdout is not None
+    address = running.stdout.readline().split()[1]
+    port, token = re.fullmatch(r"http://127\.0\.0\.1:(\d+)/([\w-]{32})/", address).groups()  # type: ignore[union-attr]
+    connection = http.client.HTTPConnection("127.0.0.1", int(port), timeout=10)
+    connection.request("POST", f"/{token}/about", b"{}", {"Origin": f"http://127.0.0.1:{port}"})
+    about = json.loads(connection.getresponse().read())
+    connection.close()
+    return about
+
+
 class TheScript(unittest.TestCase):
     """`chipbench-page`, as it is started and ended."""
 
@@ -646,13 +658,7 @@ class TheScript(unittest.TestCase):
         with subprocess.Popen(
             [str(TOP / "chipbench-page"), *words], stdout=subprocess.PIPE, stderr=subprocess.DEVNULL, text=True, env=environment
         ) as running:
-            assert running.stdout is not None
-            address = running.stdout.readline().split()[1]
-            port, token = re.fullmatch(r"http://127\.0\.0\.1:(\d+)/([\w-]{32})/", address).groups()  # type: ignore[union-attr]
-            connection = http.client.HTTPConnection("127.0.0.1", int(port), timeout=10)
-            connection.request("POST", f"/{token}/about", b"{}", {"Origin": f"http://127.0.0.1:{port}"})
-            about = json.loads(connection.getresponse().read())
-            connection.close()
+            about = what_is_open(running)
             self.assertEqual((about["name"], about["settings"]), ("game.asm", {"seed": "7"}))
             running.terminate()
             self.assertEqual(running.wait(10), 0)
@@ -666,13 +672,7 @@ class TheScript(unittest.TestCase):
         with subprocess.Popen(
             [str(TOP / "chipbench-page"), *words], stdout=subprocess.PIPE, stderr=subprocess.DEVNULL, text=True, cwd=self.folder / "images"
         ) as running:
-            assert running.stdout is not None
-            address = running.stdout.readline().split()[1]
-            port, token = re.fullmatch(r"http://127\.0\.0\.1:(\d+)/([\w-]{32})/", address).groups()  # type: ignore[union-attr]
-            connection = http.client.HTTPConnection("127.0.0.1", int(port), timeout=10)
-            connection.request("POST", f"/{token}/about", b"{}", {"Origin": f"http://127.0.0.1:{port}"})
-            about = json.loads(connection.getresponse().read())
-            connection.close()
+            about = what_is_open(running)
             self.assertEqual((about["name"], about["text"], about["folder"]), ("-game.ch8", "DW #1200\n", str(self.folder / "images")))
             running.terminate()
             self.assertEqual(running.wait(10), 0)
