@@ -78,8 +78,18 @@ asm = with_rule (with_rule (new_app (codes "asm")) needed_source) output
 unfoldable pub list : App
 list = with_rule (new_app (codes "list")) needed_source
 
+-- a JSON object a line
+unfoldable pub json : Rule
+json = record (new_rule (codes "json")) { long = Some (codes "json"); action = Some SetTrue }
+
+-- the warnings that are not printed
+unfoldable pub allow : Rule
+allow = record (new_rule (codes "allow")) { long = Some (codes "allow"); value_names = 1 }
+
 unfoldable pub check : App
-check = with_rule (new_app (codes "check")) needed_source
+check =
+    with_rule (with_rule (with_rule (with_rule (new_app (codes "check")) needed_source) json) allow)
+    profile
 
 unfoldable pub dis : App
 dis = with_rule (new_app (codes "dis")) image
@@ -137,7 +147,8 @@ run = with_steps (new_app (codes "run"))
 
 unfoldable pub trace : App
 trace =
-    with_rule (with_rule (with_rule (with_steps (new_app (codes "trace"))) from) hash) against
+    with_rule (with_rule (with_rule (with_rule (with_steps (new_app (codes "trace"))) from) hash) json)
+    against
 
 unfoldable pub picture : App
 picture =
@@ -174,11 +185,25 @@ allowed_keys = record (new_rule (codes "keys-allowed")) {
 unfoldable pub keys_to : Rule
 keys_to = record (new_rule (codes "keys-to")) { long = Some (codes "keys-to"); value_names = 1 }
 
+-- the place that a search looks for
+unfoldable pub reach : Rule
+reach = record (new_rule (codes "reach")) { long = Some (codes "reach"); value_names = 1 }
+
+-- the listing with marks
+unfoldable pub cover : Rule
+cover = record (new_rule (codes "cover")) { long = Some (codes "cover"); action = Some SetTrue }
+
+unfoldable pub progress : Rule
+progress = record (new_rule (codes "progress")) {
+  long = Some (codes "progress");
+  action = Some SetTrue;
+}
+
 -- the arguments that say which search it is
 unfoldable pub with_search : App → App
 with_search app =
-    with_rule (with_rule (with_rule (with_rule (with_rule (with_rule app needed_source) search_steps)
-    states) want) allowed_keys) keys_to
+    with_rule (with_rule (with_rule (with_rule (with_rule (with_rule (with_rule (with_rule (with_rule
+    app needed_source) search_steps) states) want) reach) allowed_keys) keys_to) cover) progress
 
 unfoldable pub explore : App
 explore = with_rule (with_settings (with_search (new_app (codes "explore")))) as_image

@@ -16,6 +16,7 @@ use Rattle.chip_arguments.specs.SettingWords.{default_words}
 use Rattle.chip_arguments.specs.declared.limits.TheConstants.{USUAL_STATES}
 use Rattle.chip_arguments.specs.declared.command_line.CommandLine.{CommandLine}
 use Rattle.chip_arguments.specs.declared.command_line.CommandLine.TheVariants as line
+use Rattle.chip_arguments.specs.declared.command_line.CheckWords.{CheckWords}
 use Rattle.chip_arguments.specs.declared.command_line.ExploreWords.{ExploreWords}
 use Rattle.chip_arguments.specs.declared.command_line.PictureWords.{PictureWords}
 use Rattle.chip_arguments.specs.declared.command_line.RunWords.{RunWords}
@@ -44,6 +45,19 @@ new_file_fault None = []
 new_file_fault (Some name) =
     if bytes_eq name (codes "-") then kind.InvalidValue ∷ [] else []
 
+-- a flag that is set beside an argument that it does not go with
+abbrev pub clash_fault : (flag other : Option (List ℕ)) → Kinds
+clash_fault (Some value) (Some text) =
+    if bytes_eq value (codes "true") then kind.ArgumentConflict ∷ [] else []
+clash_fault flag other = []
+
+-- the same of JSON and another trace, and of ASCII and a file for the picture
+abbrev pub clash_faults : List Row → Kinds
+clash_faults rows =
+    or_else (clash_fault (first_of (codes "json") rows) (first_of (codes "against") rows))
+    (or_else (clash_fault (first_of (codes "ascii") rows) (first_of (codes "pbm") rows))
+    (clash_fault (first_of (codes "ascii") rows) (first_of (codes "png") rows)))
+
 -- the name of a profile that there is not
 abbrev pub profile_fault : Option (List ℕ) → Kinds
 profile_fault None = []
@@ -60,7 +74,8 @@ abbrev pub value_faults : List Row → Kinds
 value_faults rows =
     or_else (first_fault number_fault numbers rows)
     (or_else (first_fault new_file_fault new_files rows)
-    (profile_fault (first_of (codes "profile") rows)))
+    (or_else (clash_faults rows)
+    (profile_fault (first_of (codes "profile") rows))))
 
 -- the same, of the words of a command
 abbrev pub faults_below : Option (List ℕ × List Row) → Kinds
@@ -120,11 +135,19 @@ pub record AsksRun (rows : List Row) (words : RunWords) : Type 0 where
   pub keys : option_copied words.keys ≡ first_of (codes "keys") rows
   pub settings : AsksSettings rows words.settings
 
+-- the check that they ask for
+pub record AsksCheck (rows : List Row) (words : CheckWords) : Type 0 where
+  pub source : words.source.now ≡ needed (codes "source") rows
+  pub is_json : AsksFlag (one_of (codes "json") rows) words.is_json
+  pub allowed : option_copied words.allowed ≡ first_of (codes "allow") rows
+  pub profile : IsProfile (first_of (codes "profile") rows) words.profile
+
 -- the trace that they ask for
 pub record AsksTrace (rows : List Row) (words : TraceWords) : Type 0 where
   pub run : AsksRun rows words.run
   pub from : ReadsOr 32 (first_of (codes "from") rows) 0 words.from
   pub sums : AsksFlag (one_of (codes "hash") rows) words.sums
+  pub is_json : AsksFlag (one_of (codes "json") rows) words.is_json
   pub against : option_copied words.against ≡ first_of (codes "against") rows
 
 -- the picture that they ask for
@@ -147,8 +170,11 @@ pub record AsksExplore (rows : List Row) (words : ExploreWords) : Type 0 where
   pub steps : ReadsNumber 32 (first_of (codes "steps") rows) words.steps
   pub states : ReadsOr 32 (first_of (codes "states") rows) USUAL_STATES words.states
   pub causes : option_copied words.causes ≡ first_of (codes "want") rows
+  pub place : option_copied words.place ≡ first_of (codes "reach") rows
   pub allowed_keys : option_copied words.allowed_keys ≡ first_of (codes "keys-allowed") rows
   pub keys_to : option_copied words.keys_to ≡ first_of (codes "keys-to") rows
+  pub is_covering : AsksFlag (one_of (codes "cover") rows) words.is_covering
+  pub is_progress_shown : AsksFlag (one_of (codes "progress") rows) words.is_progress_shown
   pub settings : AsksSettings rows words.settings
 
 -- What the values of a command of that name ask for.
@@ -158,8 +184,7 @@ Asks name rows (line.Asm source image) =
     × (image.now ≡ needed (codes "output") rows)
 Asks name rows (line.List source) =
     (name ≡ codes "list") × (source.now ≡ needed (codes "source") rows)
-Asks name rows (line.Check source) =
-    (name ≡ codes "check") × (source.now ≡ needed (codes "source") rows)
+Asks name rows (line.Check words) = (name ≡ codes "check") × AsksCheck rows words
 Asks name rows (line.Dis image) = (name ≡ codes "dis") × (image.now ≡ needed (codes "image") rows)
 Asks name rows (line.Run words) = (name ≡ codes "run") × AsksRun rows words
 Asks name rows (line.Trace words) = (name ≡ codes "trace") × AsksTrace rows words

@@ -47,6 +47,11 @@ pub(crate) enum Argument {
     Want,
     AllowedKeys,
     KeysTo,
+    Json,
+    Allow,
+    Reach,
+    Cover,
+    Progress,
 }
 
 impl Argument {
@@ -83,6 +88,11 @@ impl Argument {
             Argument::Want => want_argument(alloc),
             Argument::AllowedKeys => allowed_keys_argument(alloc),
             Argument::KeysTo => keys_to_argument(alloc),
+            Argument::Json => json_argument(alloc),
+            Argument::Allow => allow_argument(alloc),
+            Argument::Reach => reach_argument(alloc),
+            Argument::Cover => cover_argument(alloc),
+            Argument::Progress => progress_argument(alloc),
         }
     }
 }
@@ -231,7 +241,7 @@ fn code_argument<'a>(alloc: Global) -> Arg<'a>
         alloc,
         "code",
         "CODE",
-        "F1 to F17, N1 to N10, Q1 to Q4, C1, C2, E1 to E4, O1 to O3 or S1 to S7 [default: all, a line each]",
+        "F1 to F17, W1 to W7, N1 to N10, Q1 to Q4, C1, C2, E1 to E4, O1 to O3 or S1 to S7 [default: all, a line each]",
     )
 }
 
@@ -379,7 +389,7 @@ fn want_argument<'a>(alloc: Global) -> Arg<'a>
         alloc,
         "want",
         "CAUSES",
-        "The stop causes that are looked for, S1 to S7 with commas between them [default: S2,S3,S4,S5,S6,S7]",
+        "The stop causes that are looked for, S1 to S7 with commas between them [default: S2,S3,S4,S5,S6,S7, or none with --reach]",
     )
 }
 
@@ -406,6 +416,64 @@ fn keys_to_argument<'a>(alloc: Global) -> Arg<'a>
         "keys-to",
         "FILE",
         "Writes the key events of the script that was found to a file, as `run --keys` takes them",
+    )
+}
+
+#[tactic(auto, unfolding(crate::specs::CommandLine::json))]
+fn json_argument<'a>(alloc: Global) -> Arg<'a>
+    ensures rule { rule_of result ≡ line.json }
+    ensures local { result.global ≡ false }
+{
+    flag(alloc, "json", "Prints a JSON object a line")
+}
+
+#[tactic(auto, unfolding(crate::specs::CommandLine::allow))]
+fn allow_argument<'a>(alloc: Global) -> Arg<'a>
+    ensures rule { rule_of result ≡ line.allow }
+    ensures local { result.global ≡ false }
+{
+    option(
+        alloc,
+        "allow",
+        "CODES",
+        "The warnings that are not printed, W1 to W7 with commas between them [default: none]",
+    )
+}
+
+#[tactic(auto, unfolding(crate::specs::CommandLine::reach))]
+fn reach_argument<'a>(alloc: Global) -> Arg<'a>
+    ensures rule { rule_of result ≡ line.reach }
+    ensures local { result.global ≡ false }
+{
+    option(
+        alloc,
+        "reach",
+        "PLACE",
+        "Also looks for a step at this label of the source, or at an address such as #2A0",
+    )
+}
+
+#[tactic(auto, unfolding(crate::specs::CommandLine::cover))]
+fn cover_argument<'a>(alloc: Global) -> Arg<'a>
+    ensures rule { rule_of result ≡ line.cover }
+    ensures local { result.global ≡ false }
+{
+    flag(
+        alloc,
+        "cover",
+        "Also prints the listing, with a mark at each line that some key script executes",
+    )
+}
+
+#[tactic(auto, unfolding(crate::specs::CommandLine::progress))]
+fn progress_argument<'a>(alloc: Global) -> Arg<'a>
+    ensures rule { rule_of result ≡ line.progress }
+    ensures local { result.global ≡ false }
+{
+    flag(
+        alloc,
+        "progress",
+        "Says on standard error how far the search is",
     )
 }
 

@@ -5,7 +5,7 @@ ghost use Rattle.std.specs.List.{list_all};
 ghost use Rattle.clap.specs.Matches.{found_of};
 ghost use Rattle.clap.specs.Words.{FailsBy, first_of, kind_of, one_of, rows_of};
 ghost use Rattle.chip_arguments.specs.SettingWords.{default_words};
-ghost use Rattle.chip_arguments.specs.CommandWords.{Asks, AsksFor, AsksSettings, IsProfile, ReadsNumber, AsksExplore, AsksPicture, AsksRun, AsksTest, AsksTrace, first_fault, new_file_fault, new_files, number_fault, numbers, value_faults, word_faults, needed, profile_fault};
+ghost use Rattle.chip_arguments.specs.CommandWords.{Asks, AsksFor, AsksSettings, IsProfile, ReadsNumber, AsksCheck, AsksExplore, AsksPicture, AsksRun, AsksTest, AsksTrace, clash_fault, clash_faults, first_fault, new_file_fault, new_files, number_fault, numbers, value_faults, word_faults, needed, profile_fault};
 ghost use Rattle.chip_arguments.specs.inner.Built.{IsOneOf, command_names};
 
 use crate::commands::chipbench;
@@ -58,9 +58,7 @@ pub enum CommandLine<'a> {
         source: &'a str,
     },
     /// To print the faults of a source with their places.
-    Check {
-        source: &'a str,
-    },
+    Check(CheckWords<'a>),
     /// To print a source of an image.
     Dis {
         image: &'a str,
@@ -73,12 +71,24 @@ pub enum CommandLine<'a> {
     Picture(PictureWords<'a>),
     /// To compare the answers of sessions with those that files expect.
     Test(TestWords<'a>),
-    /// To search all key scripts for one that makes a source's image stop.
+    /// To search all key scripts for one that makes a source's image stop, or reach a place.
     Explore(ExploreWords<'a>),
     /// To print the page on a code, or the codes.
     Explain {
         code: Option<&'a str>,
     },
+}
+
+/// A check, as the words ask for it.
+#[derive(Clone, Copy)]
+pub struct CheckWords<'a> {
+    pub source: &'a str,
+    /// Whether JSON objects are printed, and not text.
+    pub is_json: bool,
+    /// The warnings that are not printed, with commas between them.
+    pub allowed: Option<&'a str>,
+    /// For which machine the source is written.
+    pub profile: Profile,
 }
 
 /// A run, as the words ask for it.
@@ -102,6 +112,8 @@ pub struct TraceWords<'a> {
     pub from: u32,
     /// Whether sums of the screen and of the memory are printed too.
     pub sums: bool,
+    /// Whether JSON objects are printed, and not fields.
+    pub is_json: bool,
     /// The file of the trace that it is compared with.
     pub against: Option<&'a str>,
 }
@@ -142,10 +154,16 @@ pub struct ExploreWords<'a> {
     pub states: u32,
     /// The stop causes that are looked for, with commas between them.
     pub causes: Option<&'a str>,
+    /// The place that is looked for: a name of the source, or an address after `#`.
+    pub place: Option<&'a str>,
     /// The keys that a player has, with commas between them.
     pub allowed_keys: Option<&'a str>,
     /// The file for the key events of the script that was found.
     pub keys_to: Option<&'a str>,
+    /// Whether the listing is printed with what is executed.
+    pub is_covering: bool,
+    /// Whether standard error says how far the search is.
+    pub is_progress_shown: bool,
     pub settings: SettingWords<'a>,
 }
 
@@ -222,9 +240,7 @@ fn command_asked<'a>(
         "list" => CommandLine::List {
             source: required_text(found, "source"),
         },
-        "check" => CommandLine::Check {
-            source: required_text(found, "source"),
-        },
+        "check" => CommandLine::Check(check_words(found, profile)),
         "dis" => CommandLine::Dis {
             image: required_text(found, "image"),
         },
@@ -252,6 +268,7 @@ fn judged(alloc: Global, found: &ArgMatches<'_>) -> Result<Profile, Error>
 {
     check_numbers(alloc, found, &NUMBERS)?;
     check_new_files(alloc, found, &NEW_FILES)?;
+    check_clashes(alloc, found)?;
     profile_asked(alloc, found.get_str("profile"))
 }
 
@@ -283,6 +300,35 @@ fn check_new_files(
         check_new_file(alloc, found.get_str(id), shown)?;
     }
     Ok(())
+}
+
+// A flag and an argument that do not go together.
+fn check_clashes(alloc: Global, found: &ArgMatches<'_>) -> Result<(), Error>
+    ensures { FailsBy (clash_faults (rows_of (found_of found.now))) result }
+{
+    let (json, ascii) = (found.get_str("json"), found.get_str("ascii"));
+    let message = "the argument '--json' cannot be used with '--against <FILE>'";
+    check_clash(alloc, json, found.get_str("against"), message)?;
+    let message = "the argument '--ascii' cannot be used with '--pbm <FILE>'";
+    check_clash(alloc, ascii, found.get_str("pbm"), message)?;
+    let message = "the argument '--ascii' cannot be used with '--png <FILE>'";
+    check_clash(alloc, ascii, found.get_str("png"), message)
+}
+
+fn check_clash(
+    alloc: Global,
+    flag: Option<&str>,
+    other: Option<&str>,
+    message: &str,
+) -> Result<(), Error>
+    ensures { FailsBy (clash_fault (option_copied flag.entry) (option_copied other.entry)) result }
+{
+    match (flag, other) {
+        (Some("true"), Some(_)) => {
+            Err(usage_error(alloc, ErrorKind::ArgumentConflict, message)?)
+        }
+        _ => Ok(()),
+    }
 }
 
 fn check_number(alloc: Global, text: Option<&str>, shown: &str) -> Result<(), Error>
@@ -412,6 +458,18 @@ fn run_words<'a>(found: &ArgMatches<'a>, profile: Profile) -> RunWords<'a>
     }
 }
 
+fn check_words<'a>(found: &ArgMatches<'a>, profile: Profile) -> CheckWords<'a>
+    ensures { IsProfile (first_of (codes "profile") (rows_of (found_of found.now))) profile
+        → AsksCheck (rows_of (found_of found.now)) result }
+{
+    CheckWords {
+        source: required_text(found, "source"),
+        is_json: found.get_flag("json"),
+        allowed: found.get_str("allow"),
+        profile,
+    }
+}
+
 fn trace_words<'a>(found: &ArgMatches<'a>, profile: Profile) -> TraceWords<'a>
     ensures { IsProfile (first_of (codes "profile") (rows_of (found_of found.now))) profile
         → AsksTrace (rows_of (found_of found.now)) result }
@@ -420,6 +478,7 @@ fn trace_words<'a>(found: &ArgMatches<'a>, profile: Profile) -> TraceWords<'a>
         run: run_words(found, profile),
         from: number(found.get_str("from")).unwrap_or(0),
         sums: found.get_flag("hash"),
+        is_json: found.get_flag("json"),
         against: found.get_str("against"),
     }
 }
@@ -456,8 +515,11 @@ fn explore_words<'a>(found: &ArgMatches<'a>, profile: Profile) -> ExploreWords<'
         steps: number(found.get_str("steps")),
         states: number(found.get_str("states")).unwrap_or(USUAL_STATES),
         causes: found.get_str("want"),
+        place: found.get_str("reach"),
         allowed_keys: found.get_str("keys-allowed"),
         keys_to: found.get_str("keys-to"),
+        is_covering: found.get_flag("cover"),
+        is_progress_shown: found.get_flag("progress"),
         settings: setting_words(found, profile),
     }
 }

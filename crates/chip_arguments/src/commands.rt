@@ -43,6 +43,7 @@ A file of cases, line by line:
   case NAME            begins a case; a file without it is one case
   source .. end        the source's lines, between these two
   source NAME          the source is a file, named from the test's folder
+  image NAME           the source is what `dis` prints of that file
   keys NAME            the key events, a file of lines `S K down` and `S K up`
   profile, rate, tape, seed, every     the settings, as `run` and `debug` take them
   > COMMAND            a command of `debug`; the lines below it are its answer
@@ -57,11 +58,15 @@ const EXPLORE_NOTES: &str = "\
 Answers `found`, `within` or `never`, each with what it rests on:
   Sk T                 some key script makes the machine stop for Sk at step T, and none does so earlier;
                        below it, `keys N`: how many key events that script has
-  within N             no key script makes it stop for a wanted cause at a step up to N
+  reached T            the same of the place that --reach names
+  within N             no key script makes it stop for a wanted cause, or reach the place, at a step up to N
   never                no key script does at any step below 2^64 - 1
 Then a line `Sj T` for each other cause that was met, with the least step that was, and `states N`.
+With --cover the listing follows, with `+ ` before each line at whose address some script makes a step:
+a line of code without it is executed under no key script, up to the step that is printed, or ever.
 A key script is any choice of the allowed keys at each step. Tape, rate and profile are fixed.
-Status: 0 for `within` and `never`, 1 for a script that was found or a source with faults, 4 where memory ran out.
+Status: 0 for `within` and `never`, 1 for a script that was found or a source with faults, 4 where memory
+ran out: what was covered until then is printed.
 
 Example: chipbench explore game.asm --keys-to crash.keys";
 
@@ -139,6 +144,7 @@ const COMMANDS: [CommandRow; 11] = [
             Argument::AsImage,
             Argument::From,
             Argument::Hash,
+            Argument::Json,
             Argument::Against,
         ],
     },
@@ -162,9 +168,14 @@ const COMMANDS: [CommandRow; 11] = [
     },
     CommandRow {
         name: "check",
-        about: "Prints each fault of a source with its place and a sentence",
-        notes: "Example: chipbench check game.asm",
-        arguments: &[Argument::NeededSource],
+        about: "Prints each fault of a source with its place and a sentence, and warnings",
+        notes: "Example: chipbench check game.asm --allow W2",
+        arguments: &[
+            Argument::NeededSource,
+            Argument::Json,
+            Argument::Allow,
+            Argument::Profile,
+        ],
     },
     CommandRow {
         name: "test",
@@ -181,8 +192,11 @@ const COMMANDS: [CommandRow; 11] = [
             Argument::SearchSteps,
             Argument::States,
             Argument::Want,
+            Argument::Reach,
             Argument::AllowedKeys,
             Argument::KeysTo,
+            Argument::Cover,
+            Argument::Progress,
             Argument::Rate,
             Argument::Tape,
             Argument::Seed,

@@ -53,6 +53,11 @@ rule_by argument.States = line.states
 rule_by argument.Want = line.want
 rule_by argument.AllowedKeys = line.allowed_keys
 rule_by argument.KeysTo = line.keys_to
+rule_by argument.Json = line.json
+rule_by argument.Allow = line.allow
+rule_by argument.Reach = line.reach
+rule_by argument.Cover = line.cover
+rule_by argument.Progress = line.progress
 
 -- these arguments, in order
 abbrev pub with_arguments : App → List Argument → App

@@ -17,7 +17,7 @@ returns-clause-asked c =
           rw w.result-is (named, w.required_text-in-list.ensures)
       | in-check w ↦
           let named : c.args.name.now ≡ codes "check" = search rules in
-          rw w.result-is (named, w.required_text-in-check.ensures)
+          rw w.result-is (named, w.check_words.ensures profile)
       | in-dis w ↦
           let named : c.args.name.now ≡ codes "dis" = search rules in
           rw w.result-is (named, w.required_text-in-dis.ensures)

@@ -10,7 +10,10 @@ returns c = λ named. record {
   steps = reads_first (found_of c.args.found.now) 32 (codes "steps") _ c.number.result c.get_str.ensures c.number.ensures;
   states = reads_or (found_of c.args.found.now) (codes "states") _ c.number-2.result _ _ c.get_str-2.ensures c.number-2.ensures c.unwrap_or.ensures;
   causes = first_is (found_of c.args.found.now) (codes "want") _ c.get_str-3.ensures;
-  allowed_keys = first_is (found_of c.args.found.now) (codes "keys-allowed") _ c.get_str-4.ensures;
-  keys_to = first_is (found_of c.args.found.now) (codes "keys-to") _ c.get_str-5.ensures;
+  place = first_is (found_of c.args.found.now) (codes "reach") _ c.get_str-4.ensures;
+  allowed_keys = first_is (found_of c.args.found.now) (codes "keys-allowed") _ c.get_str-5.ensures;
+  keys_to = first_is (found_of c.args.found.now) (codes "keys-to") _ c.get_str-6.ensures;
+  is_covering = flag_is (found_of c.args.found.now) (codes "cover") c.get_flag-2.result c.get_flag-2.ensures.value c.get_flag-2.ensures.other c.get_flag-2.ensures.none;
+  is_progress_shown = flag_is (found_of c.args.found.now) (codes "progress") c.get_flag-3.result c.get_flag-3.ensures.value c.get_flag-3.ensures.other c.get_flag-3.ensures.none;
   settings = c.setting_words.ensures named;
 }
