@@ -24,7 +24,8 @@ trace_refusal session shown =
     else (if is_past_last shown then Some StepPastLast else None)
 
 abbrev pub trace_of : Session → Shown → List ℕ
-trace_of session shown = trace_text shown.columns (machine_of session) shown.from shown.to
+trace_of session shown =
+    trace_text shown.form shown.columns (machine_of session) shown.from shown.to
 
 abbrev pub trace_unless : Option Refusal → Session → Shown → Printed
 trace_unless (Some why) session shown = unanswered why (printed_faults session.lines)
@@ -44,7 +45,8 @@ IsReport from (Some found) wanted =
 abbrev pub IsBeside : Session → Shown → (theirs : List (List ℕ)) → Printed → Type 0
 IsBeside session shown theirs wanted =
     (found : Option Difference)
-    × IsComparison (trace_lines shown.columns (machine_of session) shown.from shown.to) theirs found
+    × IsComparison (trace_lines shown.form shown.columns (machine_of session) shown.from shown.to)
+    theirs found
     × IsReport shown.from found wanted
 
 abbrev pub IsComparedUnless : Option Refusal → Session → Shown → (theirs : List (List ℕ)) → Printed

@@ -10,18 +10,19 @@ use crate::ending::{Ending, Failure};
 use crate::output::{KeyFile, print, print_why, refuse_source};
 use chip_replay::LAST_STEP;
 use chip_session::{Bench, Counted, Refusal, Settings, insert_keys};
-use chip_trace::{Columns, Trace, difference_text};
+use chip_trace::{Columns, Form, Trace, difference_text};
 use std::alloc::Global;
 use std::io::Write;
 
 // How many lines are written at once.
 const BLOCK_LINES: usize = 256;
 
-/// What a trace shows of a run: its columns, its first step, and the step at which it ends unless
-/// the machine stops before.
+/// What a trace shows of a run: its columns, the form of its lines, its first step, and the step at
+/// which it ends unless the machine stops before.
 #[derive(Drop)]
 pub(crate) struct Shown {
     pub(crate) columns: Columns,
+    pub(crate) form: Form,
     pub(crate) from: u32,
     pub(crate) to: u32,
 }
@@ -108,10 +109,9 @@ fn stream<'a, O: Write>(
     ensures { Streams O.contents output.old output.new
         (printed (trace_of bench.old.session shown.now) Done) result }
 {
-    let mut trace = Trace::new(alloc, &shown.columns, shown.from, shown.to);
+    let mut trace = Trace::new(alloc, &shown.columns, shown.form, shown.from, shown.to);
     let mut text = Vec::new(alloc);
-    shown.columns.push_header(&mut text)?;
-    text.extend_from_slice(b"\n")?;
+    shown.columns.push_header_lines(shown.form, &mut text)?;
     loop {
         let is_more = bench.push_trace(&mut trace, &mut text, BLOCK_LINES)?;
         print(&text, Ending::Done, output)?;
@@ -174,7 +174,7 @@ fn print_difference<'a, O: Write>(
     if let Some(why) = refusal_of(bench, shown) {
         return print_why(alloc, bench, why, output);
     }
-    let mut trace = Trace::new(alloc, &shown.columns, shown.from, shown.to);
+    let mut trace = Trace::new(alloc, &shown.columns, shown.form, shown.from, shown.to);
     match bench.first_difference(alloc, &mut trace, theirs) {
         Ok(None) => Ok(Ending::Done),
         Ok(Some(found)) => {

@@ -5,7 +5,9 @@
 --     Sums         FNV-1a sums, and the bytes of a screen
 --     Columns      the columns, their names, and the line that names them
 --     Header       why a line does not name columns
---     Line         the line of a step
+--     Line         the line of a step, as fields
+--     Json         the line of a step, as a JSON object
+--     Form         the lines of each form
 --     Lines        the lines of a trace
 --     Difference   where two traces differ first
 --     inner        codes of models; a reader may skip it
@@ -14,6 +16,8 @@ pub mod Sums
 pub mod Columns
 pub mod Header
 pub mod Line
+pub mod Json
+pub mod Form
 pub mod Lines
 pub mod Difference
 pub mod inner

@@ -5,9 +5,9 @@ use Rattle.chip_machine.specs.State.{State}
 use Rattle.chip_machine.specs.Step.{step_of}
 use Rattle.chip_replay.specs.History.{History, state_at}
 use Rattle.chip_replay.specs.Run.{first_below}
-use Rattle.chip_trace.specs.Columns.{header_line}
-use Rattle.chip_trace.specs.Line.{line_of}
+use Rattle.chip_trace.specs.Form.{header_lines, row_of}
 use Rattle.chip_trace.specs.declared.column.Column.{Column}
+use Rattle.chip_trace.specs.declared.form.Form.{Form}
 
 -- the first step from `from` on, below `to`, at which the machine has stopped, or else `to`, or
 -- `from` where `to` is not above it
@@ -17,20 +17,21 @@ trace_end state from to =
 
 -- the lines of the steps from `from` on below the end, and the last line, which shows the state at
 -- the end
-unfoldable pub trace_lines : List Column → (state : ℕ → State) (from to : ℕ) → List (List ℕ)
-trace_lines columns state from to =
+unfoldable pub trace_lines : Form → List Column → (state : ℕ → State) (from to : ℕ)
+    → List (List ℕ)
+trace_lines form columns state from to =
     let end = trace_end state from to in
-    map (λ step. line_of columns step (state step) false) (range_with_len from (end - from))
-    ++ line_of columns end (state end) true ∷ []
+    map (λ step. row_of form columns step (state step) false) (range_with_len from (end - from))
+    ++ row_of form columns end (state end) true ∷ []
 
 -- each line with a newline at its end
 abbrev pub newline_ended : List (List ℕ) → List ℕ
 newline_ended lines = flat_map (λ line. line ++ 10 ∷ []) lines
 
 -- a whole trace as text
-abbrev pub trace_text : List Column → (state : ℕ → State) (from to : ℕ) → List ℕ
-trace_text columns state from to =
-    newline_ended (header_line columns ∷ trace_lines columns state from to)
+abbrev pub trace_text : Form → List Column → (state : ℕ → State) (from to : ℕ) → List ℕ
+trace_text form columns state from to =
+    newline_ended (header_lines form columns ++ trace_lines form columns state from to)
 
 -- the state at each step of a run
 abbrev pub states_of : History State → ℕ → State
@@ -39,6 +40,7 @@ states_of history step = state_at step_of history step
 -- A trace of which some lines were taken: those from `next` on remain, or none where it is done.
 pub record Progress : Type 0 where
   pub columns : List Column
+  pub form : Form
   pub next : ℕ
   pub to : ℕ
   pub is_done : Bool
@@ -46,7 +48,8 @@ pub record Progress : Type 0 where
 -- the lines that remain, by the state at each step
 unfoldable pub remaining : (state : ℕ → State) → Progress → List (List ℕ)
 remaining state trace =
-    if trace.is_done then [] else trace_lines trace.columns state trace.next trace.to
+    if trace.is_done then []
+    else trace_lines trace.form trace.columns state trace.next trace.to
 
 -- a run has the same start state, rate, spacing of checkpoints and key events
 pub record SameRun (old new : History State) : Type 0 where
@@ -66,9 +69,9 @@ TakesLine (line ∷ lines) answer text text_after after =
 
 -- A line that was added to a text is that of a step, and says truly whether it is the last one of a
 -- trace that ends at the step `to`.
-pub record IsLineAt (columns : List Column) (state : ℕ → State) (step to : ℕ) (is_last : Bool)
-    (text text_after : List ℕ) : Type 0 where
-  pub added : text_after ≡ text ++ line_of columns step (state step) is_last
+pub record IsLineAt (form : Form) (columns : List Column) (state : ℕ → State) (step to : ℕ)
+    (is_last : Bool) (text text_after : List ℕ) : Type 0 where
+  pub added : text_after ≡ text ++ row_of form columns step (state step) is_last
   pub last : is_last ≡ (nat_le to step || is_some (state step).core.stopped)
 
 -- What taking up to so many lines does: each is added to the text with a newline, those after them

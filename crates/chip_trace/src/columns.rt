@@ -3,9 +3,12 @@
 ghost use Rattle.std.specs.Prelude.{◌≡◌, ◌++◌, ◌⊎◌, Some, None, IfOk, IfErr, OnOk};
 ghost use Rattle.std.specs.Str.{str_to_ascii_lowercase};
 ghost use Rattle.chip_trace.specs.Columns.{usual_columns, register_columns, header_line};
+ghost use Rattle.chip_trace.specs.Form.{header_lines};
 ghost use Rattle.chip_trace.specs.Header.{header_fault};
+ghost use Rattle.chip_trace.specs.Lines.{newline_ended};
 
 use crate::column::Column;
+use crate::form::Form;
 use crate::header::{HeaderError, read_header};
 use chip_lang::Reg;
 use std::alloc::{AllocError, Global};
@@ -100,6 +103,24 @@ impl Columns {
             text.extend_from_slice(column.name())?;
         }
         Ok(())
+    }
+
+    /// Adds the lines that stand above those of the steps in a form, each with a newline.
+    ///
+    /// # Errors
+    ///
+    /// Out of memory; a part of the lines may be added then.
+    pub fn push_header_lines(&self, form: Form, text: &mut Vec<u8>) -> Result<(), AllocError>
+        ensures { OnOk result (text.new.items
+            ≡ text.old.items ++ newline_ended (header_lines form self.now)) }
+    {
+        match form {
+            Form::Fields => {
+                self.push_header(text)?;
+                text.push(b'\n')
+            }
+            Form::Json => Ok(()),
+        }
     }
 }
 

@@ -31,7 +31,7 @@ impl Workspace {
     }
 }
 
-/// Adds the line of a step, by the state before it, without a newline.
+/// Adds the line of a step, by the state before it, as fields, without a newline.
 ///
 /// # Errors
 ///
@@ -61,7 +61,7 @@ pub(crate) fn push_line(
 }
 
 /// Adds what a column shows.
-fn push_field(
+pub(crate) fn push_field(
     text: &mut Vec<u8>,
     workspace: &mut Workspace,
     column: Column,
@@ -92,7 +92,7 @@ fn push_field(
 }
 
 /// The word at pc, with zeros past the end of the memory.
-fn word_of(machine: &Machine) -> u16
+pub(crate) fn word_of(machine: &Machine) -> u16
     ensures { result ≡ word_of machine.now }
 {
     let memory = machine.memory();

@@ -1,21 +1,25 @@
 //! The lines of a trace, one after another.
 
-ghost use Rattle.std.specs.Prelude.{◌≡◌, ◌<◌, ◌++◌, ◌↔◌, ℕ, false, IfOk, OnErr, Err};
+ghost use Rattle.std.specs.Prelude.{◌≡◌, ◌<◌, ◌++◌, ◌↔◌, ℕ, false, IfOk, OnErr, OnOk, Err};
 ghost use Rattle.chip_machine.specs.State.{State};
+ghost use Rattle.chip_trace.specs.Form.{row_of};
 ghost use Rattle.chip_trace.specs.Lines.{states_of, remaining, trace_lines, SameRun, TakesLine, TakesLines, IsLineAt};
 
 use crate::column::Column;
 use crate::columns::Columns;
+use crate::form::Form;
+use crate::json::push_object;
 use crate::line::{Workspace, push_line};
 use chip_machine::Machine;
 use chip_replay::{AtError, LAST_STEP, Replay};
-use std::alloc::Global;
+use std::alloc::{AllocError, Global};
 use std::marker::Model;
 
 /// The lines of a trace that remain to be taken.
 #[derive(Drop)]
 pub struct Trace<'a> {
     columns: &'a Columns,
+    form: Form,
     next: u32,
     to: u32,
     is_done: bool,
@@ -32,6 +36,7 @@ impl<'a> Model for Trace<'a> {
 
     ghost view = { λ t. record {
       columns = t.columns.now;
+      form = t.form;
       next = t.next;
       to = t.to;
       is_done = t.is_done;
@@ -41,18 +46,20 @@ impl<'a> Model for Trace<'a> {
 impl<'a> Trace<'a> {
     /// The trace of a run from a step on: it ends at the step `to`, or where the machine stopped.
     /// Each call takes the replay of the run.
-    pub fn new(alloc: Global, columns: &'a Columns, from: u32, to: u32) -> Trace<'a>
+    pub fn new(alloc: Global, columns: &'a Columns, form: Form, from: u32, to: u32) -> Trace<'a>
         ensures value { result ≡ record {
           columns = columns.now;
+          form = form;
           next = from;
           to = to;
           is_done = false;
         } }
         ensures lines { (state : ℕ → State)
-            → remaining state result ≡ trace_lines columns.now state from to }
+            → remaining state result ≡ trace_lines form columns.now state from to }
     {
         Trace {
             columns,
+            form,
             next: from,
             to,
             is_done: false,
@@ -84,6 +91,7 @@ impl<'a> Trace<'a> {
         let is_last = push_line_at(
             replay,
             &mut self.workspace,
+            self.form,
             self.columns.as_slice(),
             self.next,
             self.to,
@@ -128,12 +136,13 @@ impl<'a> Trace<'a> {
 fn push_line_at(
     replay: &mut Replay<Machine>,
     workspace: &mut Workspace,
+    form: Form,
     columns: &[Column],
     step: u32,
     to: u32,
     text: &mut Vec<u8>,
 ) -> Result<bool, AtError>
-    ensures line { IfOk result (λ is_last. IsLineAt columns.now (states_of replay.old)
+    ensures line { IfOk result (λ is_last. IsLineAt form columns.now (states_of replay.old)
         step to is_last text.old.items text.new.items) }
     ensures step_too_large { (result ≡ Err AtError.StepTooLarge) ↔ (LAST_STEP < step) }
     ensures run { SameRun replay.old replay.new }
@@ -141,11 +150,31 @@ fn push_line_at(
     match replay.at(step) {
         Ok(machine) => {
             let is_last = step >= to || machine.stopped().is_some();
-            match push_line(text, workspace, columns, machine, step, is_last) {
+            match push_row(text, workspace, form, columns, machine, step, is_last) {
                 Ok(()) => Ok(is_last),
                 Err(_) => Err(AtError::OutOfMemory),
             }
         }
         Err(error) => Err(error),
+    }
+}
+
+/// Adds the line of a step, by the state before it, as a form has it, without a newline.
+#[tactic(auto, unfolding(crate::specs::Form::row_of))]
+fn push_row(
+    text: &mut Vec<u8>,
+    workspace: &mut Workspace,
+    form: Form,
+    columns: &[Column],
+    machine: &Machine,
+    step: u32,
+    is_last: bool,
+) -> Result<(), AllocError>
+    ensures { OnOk result (text.new.items
+        ≡ text.old.items ++ row_of form columns.now step machine.now is_last) }
+{
+    match form {
+        Form::Fields => push_line(text, workspace, columns, machine, step, is_last),
+        Form::Json => push_object(text, workspace, columns, machine, step, is_last),
     }
 }

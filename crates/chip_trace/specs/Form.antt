@@ -1,0 +1,19 @@
+-- What the lines of a trace are in each form (own).
+use Rattle.std.specs.Prelude.{ℕ, Bool, List, [], ◌∷◌}
+use Rattle.chip_machine.specs.State.{State}
+use Rattle.chip_trace.specs.Columns.{header_line}
+use Rattle.chip_trace.specs.Json.{json_line_of}
+use Rattle.chip_trace.specs.Line.{line_of}
+use Rattle.chip_trace.specs.declared.column.Column.{Column}
+use Rattle.chip_trace.specs.declared.form.Form.{Form}
+use Rattle.chip_trace.specs.declared.form.Form.TheVariants.{Fields, Json}
+
+-- the line of a step, as a form has it
+unfoldable pub row_of : Form → List Column → (step : ℕ) → State → (is_last : Bool) → List ℕ
+row_of Fields columns step s is_last = line_of columns step s is_last
+row_of Json columns step s is_last = json_line_of columns step s is_last
+
+-- the lines above those of the steps: the one that names the columns, or none
+abbrev pub header_lines : Form → List Column → List (List ℕ)
+header_lines Fields columns = header_line columns ∷ []
+header_lines Json columns = []

@@ -1,0 +1,10 @@
+//! The forms of the lines of a trace.
+
+/// How a line of a trace shows its columns.
+#[derive(Clone, Copy, PartialEq, Eq)]
+pub enum Form {
+    /// Fields with spaces between them, below a line that names the columns.
+    Fields,
+    /// A JSON object a line, with a member for each column, by its name.
+    Json,
+}
