@@ -1,0 +1,22 @@
+-- The numbers of warnings, and where they stand in a source (own).
+use Rattle.std.specs.Prelude.{ℕ, ◌≤◌, ◌-◌, List, [], length, slice_index_or}
+use Rattle.chip_warnings.specs.declared.warning.Warning.{Warning}
+use Rattle.chip_warnings.specs.declared.warning.WarningCode.{WarningCode}
+use Rattle.chip_warnings.specs.declared.warning.WarningCode.TheVariants.{SplitRows, UnusedName, Unreachable, FallsIntoData, JumpsToData, OddAddress, NotInProfile}
+
+-- the number of a warning, W1 to W7
+abbrev pub number_of_warning : WarningCode → ℕ
+number_of_warning SplitRows = 1
+number_of_warning UnusedName = 2
+number_of_warning Unreachable = 3
+number_of_warning FallsIntoData = 4
+number_of_warning JumpsToData = 5
+number_of_warning OddAddress = 6
+number_of_warning NotInProfile = 7
+
+-- a warning stands on one of these lines, at bytes that lie in it
+pub record StandsIn (lines : List (List ℕ)) (w : Warning) : Type 0 where
+  pub from_one : 1 ≤ w.line
+  pub to_last : w.line ≤ length lines
+  pub rises : w.span.start ≤ w.span.end
+  pub inside : w.span.end ≤ length (slice_index_or lines (w.line - 1) [])

@@ -1,0 +1,57 @@
+//! A warning, and where it stands.
+
+ghost use Rattle.std.specs.Prelude.{◌≡◌};
+ghost use Rattle.chip_warnings.specs.Warnings.{number_of_warning};
+
+use chip_lang::Span;
+
+/// What a source says that it may not mean.
+#[derive(Clone, Copy)]
+pub enum WarningCode {
+    /// W1: a zero byte of ALIGN ON stands between two rows of data.
+    SplitRows,
+    /// W2: a name that no line uses.
+    UnusedName,
+    /// W3: an instruction that nothing reaches.
+    Unreachable,
+    /// W4: execution runs from an instruction into data.
+    FallsIntoData,
+    /// W5: CALL or JP to data.
+    JumpsToData,
+    /// W6: an instruction at an odd address.
+    OddAddress,
+    /// W7: an instruction that the profile doesn't have.
+    NotInProfile,
+}
+
+impl WarningCode {
+    /// The number that a warning has: 1 to 7.
+    pub fn number(self) -> u32
+        ensures { result ≡ number_of_warning self }
+    {
+        match self {
+            WarningCode::SplitRows => 1,
+            WarningCode::UnusedName => 2,
+            WarningCode::Unreachable => 3,
+            WarningCode::FallsIntoData => 4,
+            WarningCode::JumpsToData => 5,
+            WarningCode::OddAddress => 6,
+            WarningCode::NotInProfile => 7,
+        }
+    }
+}
+
+/// A warning, and where it stands.
+#[derive(Drop)]
+pub struct Warning {
+    /// The number of its line, from 1.
+    pub line: usize,
+    /// The bytes of the line at which it is.
+    pub span: Span,
+    /// Which warning it is.
+    pub code: WarningCode,
+    /// What it says, in one sentence without a newline.
+    pub sentence: Vec<u8>,
+    /// What to write, or nothing.
+    pub help: Vec<u8>,
+}
