@@ -17,7 +17,7 @@ use Rattle.std.specs.Borrow.{Bor}
 use Rattle.std.specs.Io.KnownBytes.{Keeps}
 use Rattle.std.specs.declared.io.Error.{Error as IoError}
 use Rattle.chip_asm.specs.Lines.{lines_of, open_fault}
-use Rattle.chip_asm.specs.Program.{image_of}
+use Rattle.chip_asm.specs.Program.{image_of, symbols_of}
 use Rattle.chip_asm.specs.declared.refusal.OpenError.{OpenError}
 use Rattle.chip_lang.specs.declared.limits.TheConstants.{IMAGE_BYTES}
 use Rattle.chip_views.specs.Dis.{source_of_image}
@@ -31,6 +31,8 @@ use Rattle.std.specs.Str.Lines.{lines}
 use Rattle.chip_trace.specs.Columns.{header_line, usual_columns}
 use Rattle.chip_trace.specs.Header.{header_fault}
 use Rattle.chip_trace.specs.declared.column.Column.{Column}
+use Rattle.chip_trace.specs.declared.form.Form.{Form}
+use Rattle.chip_trace.specs.declared.form.Form.TheVariants.{Fields, Json}
 use Rattle.chip_trace.specs.declared.header.HeaderError.{HeaderError}
 use Rattle.chip_bench.specs.Tracing.{IsCompared, header_of, lines_after, printed_trace}
 use Rattle.chip_bench.specs.declared.tracing.Shown.{Shown}
@@ -42,14 +44,15 @@ use Rattle.chip_bench.specs.SettingWords.{settings_asked}
 use Rattle.chip_session.specs.Settings.{SessionSettings}
 use Rattle.chip_session.specs.Tally.{Tally, failures_after_flush}
 use Rattle.chip_bench.specs.Testing.{Tests}
-use Rattle.chip_bench.specs.Exploring.{AsksSet, IsSearchPrinted, cause_named, key_named, usual_causes, usual_keys}
-use Rattle.chip_explore.specs.Answers.{Answers}
-use Rattle.chip_explore.specs.declared.question.Outcome.{Outcome as Answer}
+use Rattle.chip_bench.specs.Exploring.{AsksCauses, AsksKeys, AsksSet, IsSearchPrinted, target_asked, warning_named}
+use Rattle.chip_explore.specs.Answers.{Answers, AreExecuted}
+use Rattle.chip_explore.specs.declared.question.Explored.{Explored}
 use Rattle.chip_explore.specs.declared.target.Target.{Target}
 use Rattle.chip_machine.specs.Start.{start_of}
 use Rattle.chip_machine.specs.State.{State}
 use Rattle.chip_arguments.specs.declared.command_line.CommandLine.{CommandLine}
 use Rattle.chip_arguments.specs.declared.command_line.CommandLine.TheVariants as line
+use Rattle.chip_arguments.specs.declared.command_line.CheckWords.{CheckWords}
 use Rattle.chip_arguments.specs.declared.command_line.ExploreWords.{ExploreWords}
 use Rattle.chip_arguments.specs.declared.command_line.PictureWords.{PictureWords}
 use Rattle.chip_arguments.specs.declared.command_line.RunWords.{RunWords}
@@ -77,20 +80,21 @@ IsShort why = why ≡ failure.OutOfMemory
 abbrev pub IsUnsettled : Failure → Type 0
 IsUnsettled why = (why ≡ failure.BadTape) ⊎ (why ≡ failure.OutOfMemory)
 
--- a set of stop causes or of keys that there is not
+-- a set of stop causes, of keys or of warnings that there is not
 abbrev pub IsBadSet : Failure → Type 0
 IsBadSet why =
     ((text : Bor (List ℕ)) × (why ≡ failure.BadCauses text))
     ⊎ ((text : Bor (List ℕ)) × (why ≡ failure.BadPlayerKeys text))
+    ⊎ ((text : Bor (List ℕ)) × (why ≡ failure.BadWarnings text))
+
+-- a place that the source doesn't have
+abbrev pub IsBadPlace : Failure → Type 0
+IsBadPlace why = (text : Bor (List ℕ)) × (why ≡ failure.BadPlace text)
 
 -- what hinders writing a file of that name
 abbrev pub IsUnwritten : Bor (List ℕ) → Failure → Type 0
 IsUnwritten name why =
     (why ≡ failure.OutOfMemory) ⊎ ((because : IoError) × (why ≡ failure.CannotWrite name because))
-
--- what a search looks for: a stop for one of these causes, at any address
-abbrev pub stops_for : (causes : ℕ) → Target
-stops_for causes = record { causes = causes; address = None }
 
 -- what hinders writing the script that was found
 abbrev pub IsScriptUnwritten : Option (Bor (List ℕ)) → Failure → Type 0
@@ -130,9 +134,22 @@ module _ {R : Type 0} (in_old in_new : Tally R) where
       ((name.now ≡ standard_input) × IsInputUnread why)
       ⊎ ((name.now ≢ standard_input) × (in_new ≡ in_old) × IsUnread name why)
 
+-- how the lines of a trace show their columns
+abbrev pub form_of : (is_json : Bool) → Form
+form_of is_json = if is_json then Json else Fields
+
 -- the part of a run that a trace with these columns shows
 abbrev pub shown_by : TraceWords → List Column → Shown
-shown_by words columns = record { columns = columns; from = words.from; to = words.run.steps }
+shown_by words columns = record {
+  columns = columns;
+  form = form_of words.is_json;
+  from = words.from;
+  to = words.run.steps;
+}
+
+-- the same of a trace beside another, whose lines have fields
+abbrev pub shown_beside : TraceWords → List Column → Shown
+shown_beside words columns = record (shown_by words columns) { form = Fields }
 
 -- what hinders taking an image as the source that `dis` prints of it: it is too long, or there was no
 -- memory
@@ -195,18 +212,21 @@ module _ {R : Type 0} (remaining : R → Option (List ℕ)) (in_old in_new : Tal
       (λ settings. FromKeys words.keys
       (λ keys. FromGiven words.is_image words.source (Did settings keys))) ended
 
+  -- with the set that an argument asks for
+  abbrev pub IfSet : Option ℕ → (ℕ → Outcome → Type 0) → Outcome → Type 0
+  IfSet (Some set) Did ended = Did set ended
+  IfSet None Did ended = Declined IsBadSet ended
+
   -- with the sets that an argument for stop causes and one for keys ask for
   abbrev pub IfSets : (causes keys : Option ℕ) → (ℕ → ℕ → Outcome → Type 0) → Outcome → Type 0
   IfSets (Some causes) (Some keys) Did ended = Did causes keys ended
   IfSets (Some causes) None Did ended = Declined IsBadSet ended
   IfSets None keys Did ended = Declined IsBadSet ended
 
-  abbrev pub WithSets : (causes keys : Option (List ℕ)) → (ℕ → ℕ → Outcome → Type 0) → Outcome
-      → Type 0
-  WithSets causes keys Did ended =
-      (causes_asked : Option ℕ) × AsksSet cause_named usual_causes causes causes_asked
-      × (keys_asked : Option ℕ) × AsksSet key_named usual_keys keys keys_asked
-      × IfSets causes_asked keys_asked Did ended
+  abbrev pub WithSets : ExploreWords → (ℕ → ℕ → Outcome → Type 0) → Outcome → Type 0
+  WithSets words Did ended =
+      (causes : Option ℕ) × AsksCauses words causes × (keys : Option ℕ) × AsksKeys words keys
+      × IfSets causes keys Did ended
 
 -- What is written.
 module _ {W : Type 0} (contents : W → Option (List ℕ)) (out_old out_new : Tally W) where
@@ -241,7 +261,7 @@ module _ {W : Type 0} (contents : W → Option (List ℕ)) (out_old out_new : Ta
   -- its place is printed
   abbrev pub WritesBy : Ending → Printed → Bor (List ℕ) → Outcome → Type 0
   WritesBy Done wanted name ended = IsFileWritten name ended × (out_new ≡ out_old)
-  WritesBy Faulty wanted name ended = Prints contents out_old out_new wanted ended
+  WritesBy ending wanted name ended = Prints contents out_old out_new wanted ended
 
   abbrev pub WritesUnless : Option (ℕ × List ℕ) → Printed → Bor (List ℕ) → Outcome → Type 0
   WritesUnless None wanted name ended = WritesBy wanted.ending wanted name ended
@@ -282,7 +302,7 @@ module _ {W : Type 0} (contents : W → Option (List ℕ)) (out_old out_new : Ta
   TracesBeside words settings keys source name theirs ended =
       ((columns : List Column) × (header_line columns ≡ str_to_ascii_lowercase (header_of theirs))
       × PrintsSuchUnder contents out_old out_new settings source keys
-      (λ session. IsCompared session (shown_by words columns) (lines_after theirs)) ended)
+      (λ session. IsCompared session (shown_beside words columns) (lines_after theirs)) ended)
       ⊎ ((fault : HeaderError) × (header_fault (header_of theirs) ≡ Some fault)
       × Fails (λ why. why ≡ failure.BadTrace name fault) ended)
       ⊎ Fails IsShort ended
@@ -295,20 +315,32 @@ module _ {W : Type 0} (contents : W → Option (List ℕ)) (out_old out_new : Ta
       ((bytes : List ℕ) × TracesBeside words settings keys source name (lines bytes) ended)
       ⊎ Fails (IsUnread name) ended
 
-  -- what a search over all key scripts of a machine answers is printed
-  abbrev pub SearchesFrom : ExploreWords → (rate keys : ℕ) → Target → State → Outcome → Type 0
-  SearchesFrom words rate keys target start ended =
-      ((answer : Answer) × Answers rate keys target start answer
-      × PrintsSuch contents out_old out_new (IsSearchPrinted answer) ended)
+  -- what a search over all key scripts of a machine answers is printed, and where it is asked for
+  -- the listing of these lines with what is executed
+  abbrev pub SearchesFrom : ExploreWords → (lines : List (List ℕ)) → (rate keys : ℕ) → Target
+      → State → Outcome → Type 0
+  SearchesFrom words lines rate keys target start ended =
+      ((explored : Explored) × Answers rate keys target start explored.outcome
+      × AreExecuted rate keys explored.executed start explored.outcome
+      × PrintsSuch contents out_old out_new (IsSearchPrinted words.is_covering lines explored) ended)
       ⊎ Fails (IsScriptUnwritten words.keys_to) ended
 
-  -- `explore`: where the source has an image, that of its machine; else the faults
-  abbrev pub Searches : ExploreWords → SessionSettings → (keys : ℕ) → Target → Option (List ℕ)
-      → (source : List ℕ) → Outcome → Type 0
-  Searches words settings keys target (Some image) source ended =
-      SearchesFrom words settings.rate keys target
+  -- if the source has the place that is looked for
+  abbrev pub SearchesFor : ExploreWords → SessionSettings → (keys : ℕ) → Option Target
+      → (image source : List ℕ) → Outcome → Type 0
+  SearchesFor words settings keys (Some target) image source ended =
+      SearchesFrom words (lines_of source) settings.rate keys target
       (start_of image settings.tape settings.profile) ended
-  Searches words settings keys target None source ended =
+  SearchesFor words settings keys None image source ended = Fails IsBadPlace ended
+
+  -- `explore`: where the source has an image, that of its machine; else the faults
+  abbrev pub Searches : ExploreWords → SessionSettings → (causes keys : ℕ) → Option (List ℕ)
+      → (source : List ℕ) → Outcome → Type 0
+  Searches words settings causes keys (Some image) source ended =
+      SearchesFor words settings keys
+      (target_asked causes (option_copied words.place) (symbols_of (lines_of source))) image source
+      ended ⊎ Fails IsShort ended
+  Searches words settings causes keys None source ended =
       Prints contents out_old out_new
       (printed_of (open_fault source) (printed_faults (lines_of source))) ended
 
@@ -360,12 +392,14 @@ module _ {R W : Type 0} (remaining : R → Option (List ℕ)) (contents : W → 
       Prints contents out_old out_new
       (printed_of (open_fault bytes) (printed_listing (lines_of bytes)))) ended
 
-  -- `check`
-  abbrev pub Checks : Bor (List ℕ) → Outcome → Type 0
-  Checks source ended =
-      FromSource remaining in_old in_new (out_new ≡ out_old) source (λ bytes.
-      PrintsSuch contents out_old out_new
-      (IsPrintedOf (open_fault bytes) (IsPrintedCheck source.now (lines_of bytes)))) ended
+  -- `check`: no contract speaks of the warnings, but of which ones the argument names
+  abbrev pub Checks : CheckWords → Outcome → Type 0
+  Checks words ended =
+      (allowed : Option ℕ) × AsksSet warning_named 0 (option_copied words.allowed) allowed
+      × IfSet remaining in_old in_new (out_new ≡ out_old) allowed (λ set.
+      FromSource remaining in_old in_new (out_new ≡ out_old) words.source (λ bytes.
+      PrintsSuch contents out_old out_new (IsPrintedOf (open_fault bytes)
+      (IsPrintedCheck words.is_json words.source.now (lines_of bytes))))) ended
 
   abbrev pub Disassembles : Bor (List ℕ) → Outcome → Type 0
   Disassembles image ended =
@@ -396,18 +430,16 @@ module _ {R W : Type 0} (remaining : R → Option (List ℕ)) (contents : W → 
   abbrev pub Explores : ExploreWords → Outcome → Type 0
   Explores words ended =
       IfSettled remaining in_old in_new (out_new ≡ out_old) (settings_asked words.settings)
-      (λ settings. WithSets remaining in_old in_new (out_new ≡ out_old)
-      (option_copied words.causes) (option_copied words.allowed_keys) (λ causes keys.
+      (λ settings. WithSets remaining in_old in_new (out_new ≡ out_old) words (λ causes keys.
       FromGiven remaining in_old in_new (out_new ≡ out_old) words.is_image words.source (λ source.
-      Searches contents out_old out_new words settings keys (stops_for causes) (image_in source)
-      source))) ended
+      Searches contents out_old out_new words settings causes keys (image_in source) source))) ended
 
   -- what the program did for what it was asked
   abbrev pub Does : CommandLine → Outcome → Type 0
   Does (line.Debug source is_image words) ended = Debugs source is_image words ended
   Does (line.Asm source image) ended = Assembles source image ended
   Does (line.List source) ended = Lists source ended
-  Does (line.Check source) ended = Checks source ended
+  Does (line.Check words) ended = Checks words ended
   Does (line.Dis image) ended = Disassembles image ended
   Does (line.Run words) ended = Runs words ended
   Does (line.Trace words) ended = Traces words ended

@@ -1,23 +1,33 @@
 -- What `explore` is asked, and what it prints (own).
 --     IsFirstPart, AreParts   the parts of a text between its commas
 --     IsSet                   the set of numbers that such parts are
---     cause_named, key_named  the number of a stop cause and of a key
---     AsksSet                 the set that an argument asks for
+--     cause_named, key_named, warning_named  the number of a stop cause, of a key and of a warning
+--     AsksSet, AsksCauses, AsksKeys          the set that an argument asks for
+--     address_of, target_asked               the address of a place, and what a search looks for
 --     first_lines             what is printed first of what a search found
 --     IsSearchPrinted         the same, with more below it, and how the program ends
-use Rattle.std.specs.Prelude.{◌≡◌, ℕ, ◌+◌, ◌-◌, ◌^◌, ◌&&◌, List, [], ◌∷◌, ◌++◌, codes, fold, length, nat_le, bit_or, Option, Some, None, option_map, if◌then◌else◌}
+use Rattle.std.specs.Prelude.{◌≡◌, ℕ, ℤ, pos, neg, ◌+◌, ◌-◌, ◌^◌, ◌&&◌, Bool, List, [], ◌∷◌, ◌++◌, codes, fold, length, map, nat_le, nat_lt, bit_or, Option, Some, None, option_copied, option_map, if◌then◌else◌}
 use Rattle.std.specs.Fmt.{decimal}
 use Rattle.memchr.specs.Find.{Nowhere, Passes, is_byte}
+use Rattle.chip_arguments.specs.declared.command_line.ExploreWords.{ExploreWords}
+use Rattle.chip_asm.specs.Listing.{listing_of}
+use Rattle.chip_asm.specs.Names.{Name, lookup_name}
+use Rattle.chip_asm.specs.declared.table.Symbol.{Symbol}
+use Rattle.chip_cover.specs.Marks.{marked_listing}
+use Rattle.chip_lang.specs.Line.{upper}
+use Rattle.chip_machine.specs.Limits.{MEMORY_BYTES}
 use Rattle.chip_machine.specs.Numbers.{stop_number}
 use Rattle.chip_machine.specs.declared.stop.Stop.{Stop}
 use Rattle.chip_explore.specs.declared.question.Outcome.{Outcome}
-use Rattle.chip_explore.specs.declared.question.Outcome.TheVariants.{Found, Within, Never, OutOfMemory}
+use Rattle.chip_explore.specs.declared.question.Outcome.TheVariants.{Found, Within, Never}
+use Rattle.chip_explore.specs.declared.question.Explored.{Explored}
+use Rattle.chip_explore.specs.declared.target.Target.{Target}
 use Rattle.chip_explore.specs.declared.target.Met.{Met}
 use Rattle.chip_explore.specs.declared.target.Met.TheVariants.{Cause, Address}
-use Rattle.chip_session.specs.Serving.{BeginsWith}
+use Rattle.chip_session.specs.Commands.{number_spelled}
 use Rattle.chip_bench.specs.Printing.{Printed}
 use Rattle.chip_bench.specs.declared.ending.Ending.{Ending}
-use Rattle.chip_bench.specs.declared.ending.Ending.TheVariants.{Done, Faulty}
+use Rattle.chip_bench.specs.declared.ending.Ending.TheVariants.{Done, Faulty, Short}
 
 abbrev pub comma : ℕ
 comma = 44
@@ -57,6 +67,12 @@ cause_named (s ∷ digit ∷ []) =
     if nat_le 83 s && nat_le s 83 && nat_le 49 digit then digit_to 7 digit else None
 cause_named _ = None
 
+-- W and a digit, 1 to 7
+abbrev pub warning_named : List ℕ → Option ℕ
+warning_named (w ∷ digit ∷ []) =
+    if nat_le 87 w && nat_le w 87 && nat_le 49 digit then digit_to 7 digit else None
+warning_named _ = None
+
 -- a number in decimal, 0 to 15
 abbrev pub key_named : List ℕ → Option ℕ
 key_named (digit ∷ []) = digit_to 9 digit
@@ -77,6 +93,48 @@ usual_causes = 252
 abbrev pub usual_keys : ℕ
 usual_keys = 65535
 
+-- where a place is looked for, no stop is unless the words name some
+abbrev pub causes_beside : (place : Option (List ℕ)) → ℕ
+causes_beside None = usual_causes
+causes_beside (Some place) = 0
+
+-- the stop causes that a search looks for
+abbrev pub AsksCauses : ExploreWords → Option ℕ → Type 0
+AsksCauses words causes =
+    AsksSet cause_named (causes_beside (option_copied words.place)) (option_copied words.causes)
+    causes
+
+-- the keys that a player has
+abbrev pub AsksKeys : ExploreWords → Option ℕ → Type 0
+AsksKeys words keys = AsksSet key_named usual_keys (option_copied words.allowed_keys) keys
+
+-- a number that is an address, if it is below 4096
+abbrev pub in_memory : ℤ → Option ℕ
+in_memory (pos number) = if nat_lt number MEMORY_BYTES then Some number else None
+in_memory (neg number) = None
+
+-- the value of a name, if it is an address
+abbrev pub value_in_memory : Option Symbol → Option ℕ
+value_in_memory None = None
+value_in_memory (Some symbol) = in_memory symbol.value
+
+-- the address of a place: the number that it spells, or else the value of the name
+abbrev pub address_by : (spelled : Option ℕ) → Option Symbol → Option ℕ
+address_by (Some number) symbol = in_memory (pos number)
+address_by None symbol = value_in_memory symbol
+
+abbrev pub address_of : List (Name × Symbol) → (place : List ℕ) → Option ℕ
+address_of names place =
+    address_by (number_spelled place) (lookup_name names (map upper place))
+
+-- what a search looks for: a stop for one of these causes, and a step at the place, if one is named
+abbrev pub target_asked : (causes : ℕ) → (place : Option (List ℕ)) → List (Name × Symbol)
+    → Option Target
+target_asked causes None names = Some (record { causes = causes; address = None })
+target_asked causes (Some place) names =
+    option_map (λ address. record { causes = causes; address = Some address })
+    (address_of names place)
+
 -- a word, a number and the end of the line
 abbrev pub number_line : List ℕ → ℕ → List ℕ
 number_line word number = word ++ decimal number ++ 10 ∷ []
@@ -90,24 +148,29 @@ met_word (Cause cause) = cause_word cause
 met_word Address = codes "reached "
 
 -- what is printed first of what a search found: the cause with its step and how many key events lead
--- there; up to which step it avoids the wanted causes; or that it does ever. Nothing where memory
--- ran out.
-abbrev pub first_lines : Outcome → Option (List ℕ)
+-- there; up to which step it avoids the target; or that it does ever
+abbrev pub first_lines : Outcome → List ℕ
 first_lines (Found events step met) =
-    Some (number_line (met_word met) step ++ number_line (codes "keys ") (length events.items))
-first_lines (Within step) = Some (number_line (codes "within ") step)
-first_lines Never = Some (codes "never\n")
-first_lines OutOfMemory = None
+    number_line (met_word met) step ++ number_line (codes "keys ") (length events.items)
+first_lines (Within step) = number_line (codes "within ") step
+first_lines Never = codes "never\n"
 
--- a script that was found is a fault of the source
-abbrev pub search_ending : Outcome → Ending
-search_ending (Found events step met) = Faulty
-search_ending _ = Done
+-- a script that was found ends the program as a fault of the source does
+abbrev pub search_ending : Outcome → (is_short : Bool) → Ending
+search_ending (Found events step met) is_short = Faulty
+search_ending outcome is_short = if is_short then Short else Done
 
--- What is printed of what a search found: those lines, and below them what no contract speaks of,
--- the other causes that it met and how many states it kept.
-pub record IsSearchPrinted (outcome : Outcome) (wanted : Printed) : Type 0 where
-  pub lines : List ℕ
-  pub first : first_lines outcome ≡ Some lines
-  pub begins : BeginsWith wanted.text lines
-  pub ending : wanted.ending ≡ search_ending outcome
+-- the listing of the lines with a mark at each that is executed, where it is asked for
+abbrev pub covering_text : (is_covering : Bool) → (executed : List Bool) → List (List ℕ) → List ℕ
+covering_text is_covering executed lines =
+    if is_covering then marked_listing executed (listing_of lines) else []
+
+-- What is printed of what a search found: those lines, others of which no contract speaks (the other
+-- causes that it met, and how many states it kept), and the listing.
+pub record IsSearchPrinted (is_covering : Bool) (lines : List (List ℕ)) (explored : Explored)
+    (wanted : Printed) : Type 0 where
+  pub others : List ℕ
+  pub text : wanted.text
+      ≡ first_lines explored.outcome ++ others
+      ++ covering_text is_covering explored.executed lines
+  pub ending : wanted.ending ≡ search_ending explored.outcome explored.is_short

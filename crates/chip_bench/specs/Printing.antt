@@ -1,12 +1,13 @@
 -- What the commands of the program print of a source, and how they end (own).
-use Rattle.std.specs.Prelude.{◌≡◌, ◌⊎◌, ℕ, List, [], ◌++◌, codes, Option, Some, None, Result, Ok, Err}
+use Rattle.std.specs.Prelude.{◌≡◌, ◌⊎◌, ℕ, Bool, true, false, List, [], ◌++◌, codes, Option, Some, None, Result, Ok, Err}
 use Rattle.std.specs.Io.KnownBytes.{Appends}
 use Rattle.chip_asm.specs.Lines.{open_fault}
 use Rattle.chip_asm.specs.Program.{image_of, faults_of}
 use Rattle.chip_asm.specs.Listing.{listing_of}
 use Rattle.chip_asm.specs.declared.refusal.OpenError.{OpenError}
 use Rattle.chip_asm.specs.declared.refusal.OpenError.TheVariants as unopened
-use Rattle.chip_check.specs.Check.{IsCheck}
+use Rattle.chip_check.specs.Check.{IsChecked}
+use Rattle.chip_check.specs.Json.{IsCheckJson}
 use Rattle.chip_session.specs.Answers.{answer_to, faults_text, listing_text}
 use Rattle.std.specs.Borrow.{Bor}
 use Rattle.chip_session.specs.KeyFile.{key_fault, session_under}
@@ -64,9 +65,16 @@ ending_with None = Faulty
 abbrev pub printed_listing : List (List ℕ) → Printed
 printed_listing lines = printed (listing_text (listing_of lines)) (ending_with (image_of lines))
 
--- `check`: the reports of the faults, with lines of help among them
-pub record IsPrintedCheck (name : List ℕ) (lines : List (List ℕ)) (wanted : Printed) : Type 0 where
-  pub text : IsCheck name lines wanted.text
+-- what `check` prints: text or JSON objects
+abbrev pub IsCheckText : (is_json : Bool) → (name : List ℕ) (lines : List (List ℕ))
+    → (text : List ℕ) → Type 0
+IsCheckText false name lines text = IsChecked name lines text
+IsCheckText true name lines text = IsCheckJson name lines text
+
+-- `check`: the reports of the faults, with lines of help among them, and then warnings
+pub record IsPrintedCheck (is_json : Bool) (name : List ℕ) (lines : List (List ℕ))
+    (wanted : Printed) : Type 0 where
+  pub text : IsCheckText is_json name lines wanted.text
   pub ending : wanted.ending ≡ ending_with (image_of lines)
 
 -- a question that isn't answered: the faults where there is no image, else the refusal's code

@@ -18,7 +18,7 @@ use Rattle.chip_session.specs.Serving.{Served, Exchanges, Opens, reader_failures
 use Rattle.chip_bench.specs.Printing.{Refuses}
 use Rattle.chip_session.specs.Tally.{Tally, failures_after_flush}
 use Rattle.chip_bench.specs.declared.ending.Ending.{Ending}
-use Rattle.chip_bench.specs.declared.ending.Ending.TheVariants.{Done, Faulty}
+use Rattle.chip_bench.specs.declared.ending.Ending.TheVariants.{Done, Faulty, Short}
 use Rattle.chip_bench.specs.declared.ending.Failure.{Failure}
 use Rattle.chip_bench.specs.declared.ending.Failure.TheVariants as failure
 use Rattle.chip_session.specs.declared.server.ServeError.{ServeError}
@@ -125,12 +125,15 @@ IsWithoutWords _ status = (status ≡ 2) ⊎ (status ≡ 4)
 abbrev pub ending_status : Ending → ℕ
 ending_status Done = 0
 ending_status Faulty = 1
+ending_status Short = 4
 
 abbrev pub failure_status : Failure → ℕ
 failure_status (failure.Usage error) = 2
 failure_status failure.BadTape = 2
 failure_status (failure.BadCauses text) = 2
 failure_status (failure.BadPlayerKeys text) = 2
+failure_status (failure.BadWarnings text) = 2
+failure_status (failure.BadPlace text) = 2
 failure_status (failure.BadKeys name number code) = 2
 failure_status (failure.BadTrace name fault) = 2
 failure_status (failure.NoPage code) = 2

@@ -17,6 +17,8 @@ pub(crate) enum Ending {
     Done,
     /// The source's faults, or why it doesn't open, are printed.
     Faulty,
+    /// Memory ran out, and what was found until then is printed.
+    Short,
 }
 
 /// The code of a refusal.
@@ -57,6 +59,12 @@ pub(crate) enum Failure<'a> {
     /// These are no keys.
     #[error("chipbench: --keys-allowed takes 0 to 15 with commas between them, not {0}\n")]
     BadPlayerKeys(&'a str),
+    /// These are no warnings.
+    #[error("chipbench: --allow takes W1 to W7 with commas between them, not {0}\n")]
+    BadWarnings(&'a str),
+    /// The source has no such place.
+    #[error("chipbench: --reach takes a label of the source or an address such as #2A0, not {0}\n")]
+    BadPlace(&'a str),
     /// The line of that number of a key file is refused.
     #[error("chipbench: keys {0} line {1}: {2}\n")]
     BadKeys(&'a str, usize, Code),
@@ -92,6 +100,7 @@ impl Ending {
         match self {
             Ending::Done => 0,
             Ending::Faulty => 1,
+            Ending::Short => 4,
         }
     }
 }
@@ -105,6 +114,8 @@ impl<'a> Failure<'a> {
             | Failure::BadTape
             | Failure::BadCauses(_)
             | Failure::BadPlayerKeys(_)
+            | Failure::BadWarnings(_)
+            | Failure::BadPlace(_)
             | Failure::BadKeys(_, _, _)
             | Failure::BadTrace(_, _)
             | Failure::NoPage(_) => 2,

@@ -24,13 +24,14 @@ use crate::reading::{
     Asked, MOST_SOURCE, as_source, file_name, read_asked, read_bounded, read_file, read_source,
     settings_of,
 };
+use crate::sets::warnings_of;
 use crate::testing::test_files;
 use crate::tracing::{Shown, compare_source, trace_source};
-use chip_arguments::{CommandLine, RunWords, SettingWords, TraceWords, not_text, parse_words};
+use chip_arguments::{CheckWords, CommandLine, RunWords, SettingWords, TraceWords, not_text, parse_words};
 use chip_files::{first_line, write_file};
 use chip_machine::limits::IMAGE_BYTES;
 use chip_session::Counted;
-use chip_trace::{Columns, HeaderError};
+use chip_trace::{Columns, Form, HeaderError};
 use clap::error::ErrorKind;
 use std::alloc::Global;
 use std::convert::AsStr;
@@ -103,6 +104,7 @@ fn finish<E: Write>(ended: Result<Ending, Failure<'_>>, is_flushed: bool, errors
     ensures { result ≡ status_of ended.entry is_flushed }
 {
     match ended {
+        Ok(Ending::Short) if is_flushed => report(Failure::OutOfMemory, errors),
         Ok(ending) if is_flushed => ending.status(),
         Ok(_) => report(Failure::Output, errors),
         Err(failure) => report(failure, errors),
@@ -166,7 +168,7 @@ fn perform<'a, F: Files, I: Read, O: Write>(
         }
         CommandLine::Asm { source, image } => asm(alloc, files, source, image, input, output),
         CommandLine::List { source } => list(alloc, files, source, input, output),
-        CommandLine::Check { source } => check(alloc, files, source, input, output),
+        CommandLine::Check(words) => check(alloc, files, &words, input, output),
         CommandLine::Dis { image } => dis(alloc, files, image, input, output),
         CommandLine::Run(words) => run(alloc, files, &words, input, output),
         CommandLine::Trace(words) => trace(alloc, files, &words, input, output),
@@ -264,15 +266,16 @@ fn list<'a, F: Files, I: Read, O: Write>(
 fn check<'a, F: Files, I: Read, O: Write>(
     alloc: Global,
     files: &F,
-    source: &'a str,
+    words: &CheckWords<'a>,
     input: &mut Counted<I>,
     output: &mut Counted<O>,
 ) -> Result<Ending, Failure<'a>>
     ensures { Checks I.remaining O.contents input.old input.new output.old output.new
-        source.entry result }
+        words.entry.now result }
 {
-    let bytes = read_source(alloc, files, source, input)?;
-    check_source(alloc, source, &bytes, output)
+    let allowed = warnings_of(words.allowed)?;
+    let bytes = read_source(alloc, files, words.source, input)?;
+    check_source(alloc, words, allowed, &bytes, output)
 }
 
 // Writes a file whole, or leaves what was there. A file of the names that are taken stays.
@@ -365,6 +368,11 @@ fn trace_alone<'a, O: Write>(
 {
     let shown = Shown {
         columns: Columns::usual(alloc, words.sums)?,
+        form: if words.is_json {
+            Form::Json
+        } else {
+            Form::Fields
+        },
         from: words.from,
         to: words.run.steps,
     };
@@ -400,6 +408,7 @@ fn trace_beside<'a, O: Write>(
     };
     let shown = Shown {
         columns,
+        form: Form::Fields,
         from: words.from,
         to: words.run.steps,
     };

@@ -1,118 +1,28 @@
 //! `explore`: what a search over all key scripts answers of a source's image.
-ghost use Rattle.std.specs.Prelude.{◌≡◌, ◌<◌, ◌++◌, Some, None, IfOk, IfErr, OnOk, IfSome, option_copied, option_map};
+ghost use Rattle.std.specs.Prelude.{◌≡◌, ◌<◌, ◌++◌, ℕ, List, IfOk, IfErr, OnOk, option_copied};
 ghost use Rattle.std.specs.Fmt.{decimal};
-ghost use Rattle.chip_bench.specs.Doing.{Explores, IsBadSet, IsScriptUnwritten, Searches, SearchesFrom, image_in};
-ghost use Rattle.chip_bench.specs.Exploring.{AsksSet, IsFirstPart, IsSearchPrinted, IsSet, cause_named, cause_word, first_lines, key_named, met_word, number_line, search_ending, usual_causes, usual_keys, with_number};
-ghost use Rattle.chip_bench.specs.Printing.{PrintsSuch};
-ghost use Rattle.chip_bench.specs.inner.Sets.{IsNoQuestion, IsQuestion, number_by};
+ghost use Rattle.chip_asm.specs.Program.{symbols_of};
+ghost use Rattle.chip_bench.specs.Doing.{Explores, IsScriptUnwritten, Searches, SearchesFrom, image_in};
+ghost use Rattle.chip_bench.specs.Exploring.{address_of, cause_word, covering_text, first_lines, in_memory, met_word, number_line, search_ending, target_asked};
 
 use crate::ending::{Ending, Failure};
 use crate::entry::write_image;
-use crate::output::{image_or_faults, print};
+use crate::output::{print, print_faults, refuse_source};
 use crate::reading::{file_name, read_given, settings_of};
+use crate::sets::{Sets, sets_of};
 use chip_arguments::ExploreWords;
+use chip_asm::Source;
+use chip_cover::marked_listing;
 use chip_explore::{
     Bounds, Causes, END, Explored, KeyEvent, Met, Outcome, Question, STOPS, Target,
 };
+use chip_machine::limits::MEMORY_BYTES;
 use chip_machine::{Machine, Stop};
-use chip_session::{Counted, Settings};
+use chip_session::{Counted, Settings, number_of};
 use itoa::Buffer;
-use memchr::memchr;
 use std::alloc::{AllocError, Global};
 use std::io::{Read, Write};
 use std::rt::Files;
-
-const ALL_KEYS: u16 = 0xffff;
-
-// What the parts of a list stand for.
-#[derive(Clone, Copy)]
-enum Item {
-    Cause,
-    Key,
-}
-
-impl Item {
-    // The number of a stop cause, Sk, or of a key.
-    fn number(self, part: &[u8]) -> Option<u32>
-        ensures { result ≡ number_by self part.now }
-    {
-        match (self, part) {
-            (Item::Cause, [b'S', digit @ b'1'..=b'7']) => Some(u32::from(*digit - b'0')),
-            (Item::Key, [digit @ b'0'..=b'9']) => Some(u32::from(*digit - b'0')),
-            (Item::Key, [b'1', digit @ b'0'..=b'5']) => Some(10 + u32::from(*digit - b'0')),
-            _ => None,
-        }
-    }
-}
-
-// The part before the first comma, and what follows the comma.
-fn first_part(text: &[u8]) -> (&[u8], Option<&[u8]>)
-    ensures { IsFirstPart text.now result.0.now (option_copied result.1) }
-{
-    match memchr(b',', text) {
-        Some(place) => (&text[..place], Some(&text[place + 1..])),
-        None => (text, None),
-    }
-}
-
-// A set with one number more, where both are there.
-fn with_number(set: Option<u16>, number: Option<u32>) -> Option<u16>
-    requires { IfSome number (λ k. k < 16) }
-    ensures { result ≡ with_number set number }
-{
-    match (set, number) {
-        (Some(set), Some(number)) => Some(set | 1 << number),
-        _ => None,
-    }
-}
-
-// The set of the numbers of a text's parts, each k at bit k.
-fn set_of(item: Item, text: &[u8]) -> Option<u16>
-    ensures { IsSet (number_by item) text.now result }
-{
-    let mut set = Some(0);
-    let mut rest = text;
-    loop {
-        let (part, more) = first_part(rest);
-        set = with_number(set, item.number(part));
-        match more {
-            Some(next) => rest = next,
-            None => return set,
-        }
-    }
-}
-
-// The stop causes that are looked for.
-fn causes_of<'a>(text: Option<&'a str>) -> Result<Causes, Failure<'a>>
-    ensures ok { IfOk result (λ causes. AsksSet cause_named usual_causes (option_copied text.entry)
-        (Some causes)) }
-    ensures err { IfErr result (λ why. IsBadSet why
-        × AsksSet cause_named usual_causes (option_copied text.entry) None) }
-{
-    let Some(text) = text else {
-        return Ok(Causes::faults());
-    };
-    match set_of(Item::Cause, text.as_bytes()) {
-        Some(set) => Ok(Causes::of_mask(set)),
-        None => Err(Failure::BadCauses(text)),
-    }
-}
-
-// The keys that a player has.
-fn keys_of<'a>(text: Option<&'a str>) -> Result<u16, Failure<'a>>
-    ensures ok { IfOk result (λ keys. AsksSet key_named usual_keys (option_copied text.entry)
-        (Some keys)) }
-    ensures err { IfErr result (λ why. IsBadSet why
-        × AsksSet key_named usual_keys (option_copied text.entry) None) }
-{
-    let Some(text) = text else {
-        return Ok(ALL_KEYS);
-    };
-    match set_of(Item::Key, text.as_bytes()) {
-        Some(set) => Ok(set),
-        None => Err(Failure::BadPlayerKeys(text)),
-    }
-}
 
 /// `explore`: what a search over all key scripts answers of a source's image, or the faults where
 /// there is no image. Settings and sets are judged before the source is read.
@@ -127,28 +37,9 @@ pub(crate) fn explore<'a, F: Files, I: Read, O: Write>(
         words.entry.now result }
 {
     let settings = settings_of(alloc, &words.settings)?;
-    let question = question_of(words, &settings)?;
+    let sets = sets_of(words)?;
     let source = read_given(alloc, files, words.source, words.is_image, input)?;
-    search_source(alloc, files, words, source, &settings, &question, output)
-}
-
-// What is asked of all key scripts.
-fn question_of<'a>(words: &ExploreWords<'a>, settings: &Settings) -> Result<Question, Failure<'a>>
-    ensures ok { IfOk result (IsQuestion words.entry.now settings.now) }
-    ensures err { IfErr result (IsNoQuestion words.entry.now) }
-{
-    match (causes_of(words.causes), keys_of(words.allowed_keys)) {
-        (Ok(causes), Ok(allowed)) => Ok(Question {
-            rate: settings.rate(),
-            allowed,
-            target: Target {
-                causes,
-                address: None,
-            },
-        }),
-        (Err(why), _) => Err(why),
-        (Ok(_), Err(why)) => Err(why),
-    }
+    search_source(alloc, files, words, source, &settings, sets, output)
 }
 
 fn search_source<'a, F: Files, O: Write>(
@@ -157,38 +48,81 @@ fn search_source<'a, F: Files, O: Write>(
     words: &ExploreWords<'a>,
     source: Vec<u8>,
     settings: &Settings,
-    question: &Question,
+    sets: Sets,
     output: &mut Counted<O>,
 ) -> Result<Ending, Failure<'a>>
-    requires rate { question.now.rate ≡ settings.now.rate }
-    requires positive { 0 < question.now.rate }
-    ensures { Searches O.contents output.old output.new words.entry.now settings.now
-        question.now.allowed question.now.target (image_in source.items)
-        source.items result }
+    ensures { Searches O.contents output.old output.new words.entry.now settings.now sets.causes
+        sets.keys (image_in source.items) source.items result }
 {
-    let Some(image) = image_or_faults(alloc, source, output)? else {
-        return Ok(Ending::Faulty);
+    let opened = match Source::open_bytes(alloc, source) {
+        Ok(opened) => opened,
+        Err(error) => return refuse_source(error, output),
+    };
+    let Some(image) = opened.image() else {
+        return print_faults(alloc, &opened, output);
+    };
+    let Some(target) = target_of(words, sets.causes, &opened) else {
+        return Err(Failure::BadPlace(words.place.unwrap_or("")));
     };
     // The image and the tape are within their bounds, so memory alone can be missing.
-    let start = match Machine::start(alloc, &image, settings.tape(), settings.profile()) {
+    let start = match Machine::start(alloc, image, settings.tape(), settings.profile()) {
         Ok(start) => start,
         Err(_) => return Err(Failure::OutOfMemory),
     };
-    search(alloc, files, words, &start, question, output)
+    let question = Question {
+        rate: settings.rate(),
+        allowed: sets.keys,
+        target,
+    };
+    search(alloc, files, words, &opened, &start, &question, output)
+}
+
+// What a search looks for, if the source has the place.
+fn target_of(words: &ExploreWords<'_>, causes: Causes, source: &Source) -> Option<Target>
+    ensures { result ≡ target_asked causes (option_copied words.now.place)
+        (symbols_of source.now.lines) }
+{
+    let address = match words.place {
+        Some(place) => Some(address_of(place.as_bytes(), source)?),
+        None => None,
+    };
+    Some(Target { causes, address })
+}
+
+// The address of a place: the number that it spells, or else the value of the name.
+fn address_of(place: &[u8], source: &Source) -> Option<u16>
+    ensures { result ≡ address_of (symbols_of source.now.lines) place.now }
+{
+    match number_of(place) {
+        Some(number) => in_memory(i64::from(number)),
+        None => in_memory(i64::from(source.symbol(place)?.value)),
+    }
+}
+
+// A number that is an address, if it is below 4096.
+fn in_memory(number: i64) -> Option<u16>
+    ensures { result ≡ in_memory number }
+{
+    if 0 <= number && number < MEMORY_BYTES as i64 {
+        Some(number as u16)
+    } else {
+        None
+    }
 }
 
 fn search<'a, F: Files, O: Write>(
     alloc: Global,
     files: &F,
     words: &ExploreWords<'a>,
+    source: &Source,
     start: &Machine,
     question: &Question,
     output: &mut Counted<O>,
 ) -> Result<Ending, Failure<'a>>
     requires rate { 0 < question.now.rate }
     requires fresh { start.now.core.draws ≡ 0 }
-    ensures { SearchesFrom O.contents output.old output.new words.entry.now question.now.rate
-        question.now.allowed question.now.target start.now result }
+    ensures { SearchesFrom O.contents output.old output.new words.entry.now source.now.lines
+        question.now.rate question.now.allowed question.now.target start.now result }
 {
     let bounds = Bounds {
         steps: match words.steps {
@@ -198,8 +132,9 @@ fn search<'a, F: Files, O: Write>(
         states: words.states as usize,
     };
     let explored = chip_explore::explore(alloc, start, question, &bounds);
+    let text = search_text(alloc, words.is_covering, source, &explored)?;
     write_script(alloc, files, words, &explored.outcome)?;
-    print_search(alloc, &explored, output)
+    print(&text, search_ending(&explored), output)
 }
 
 // Writes the key events of the script that was found, where there is a file for them.
@@ -232,42 +167,49 @@ fn script_text(alloc: Global, events: &[KeyEvent]) -> Result<Vec<u8>, AllocError
     Ok(text)
 }
 
-fn print_search<'a, O: Write>(
+// What is printed of what a search found.
+fn search_text(
     alloc: Global,
+    is_covering: bool,
+    source: &Source,
     explored: &Explored,
-    output: &mut Counted<O>,
-) -> Result<Ending, Failure<'a>>
-    ensures { PrintsSuch O.contents output.old output.new
-        (IsSearchPrinted explored.now.outcome) result }
+) -> Result<Vec<u8>, AllocError>
+    ensures { IfOk result (λ text. (others : List ℕ) × (text.items
+        ≡ first_lines explored.now.outcome ++ others
+        ++ covering_text is_covering explored.now.executed source.now.lines)) }
 {
     let mut text = Vec::new(alloc);
-    let ending = push_first_lines(&mut text, &explored.outcome)?;
+    push_first_lines(&mut text, &explored.outcome)?;
     text.extend_from_slice(&lines_below(alloc, explored)?)?;
-    print(&text, ending, output)
+    if is_covering {
+        let listing = source.listing(alloc)?;
+        text.extend_from_slice(&marked_listing(alloc, &listing, &explored.executed)?)?;
+    }
+    Ok(text)
+}
+
+// How the program ends after a search.
+fn search_ending(explored: &Explored) -> Ending
+    ensures { result ≡ search_ending explored.now.outcome explored.now.is_short }
+{
+    match explored.outcome {
+        Outcome::Found { .. } => Ending::Faulty,
+        Outcome::Within(_) | Outcome::Never if explored.is_short => Ending::Short,
+        Outcome::Within(_) | Outcome::Never => Ending::Done,
+    }
 }
 
 // What is printed first of what a search found.
-fn push_first_lines<'a>(text: &mut Vec<u8>, outcome: &Outcome) -> Result<Ending, Failure<'a>>
-    ensures ok { IfOk result (λ ending. (ending ≡ search_ending outcome.now)
-        × (option_map (λ lines. text.old.items ++ lines) (first_lines outcome.now)
-        ≡ Some text.new.items)) }
-    ensures err { IfErr result (λ why. why ≡ Failure.OutOfMemory) }
+fn push_first_lines(text: &mut Vec<u8>, outcome: &Outcome) -> Result<(), AllocError>
+    ensures { OnOk result (text.new.items ≡ text.old.items ++ first_lines outcome.now) }
 {
     match outcome {
         Outcome::Found { events, step, met } => {
             push_met(text, *met, u64::from(*step))?;
-            push_line(text, b"keys ", events.len() as u64)?;
-            Ok(Ending::Faulty)
+            push_line(text, b"keys ", events.len() as u64)
         }
-        Outcome::Within(step) => {
-            push_line(text, b"within ", *step)?;
-            Ok(Ending::Done)
-        }
-        Outcome::Never => {
-            text.extend_from_slice(b"never\n")?;
-            Ok(Ending::Done)
-        }
-        Outcome::OutOfMemory => Err(Failure::OutOfMemory),
+        Outcome::Within(step) => push_line(text, b"within ", *step),
+        Outcome::Never => text.extend_from_slice(b"never\n"),
     }
 }
 

@@ -12,6 +12,7 @@ pub mod limits;
 mod output;
 mod picturing;
 mod reading;
+mod sets;
 mod testing;
 mod tracing;
 

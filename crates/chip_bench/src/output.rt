@@ -12,9 +12,9 @@ ghost use Rattle.chip_bench.specs.inner.Reads.{IsImageHindered, IsImageOrFaults}
 ghost use Rattle.chip_arguments.specs.Version.{version_text};
 
 use crate::ending::{Code, Ending, Failure};
-use chip_arguments::VERSION;
+use chip_arguments::{CheckWords, VERSION};
 use chip_asm::{OpenError, Source};
-use chip_check::check_text;
+use chip_check::{check_json, check_text};
 use chip_machine::limits::IMAGE_BYTES;
 use chip_pages::{contents, page_text};
 use chip_session::{
@@ -22,6 +22,7 @@ use chip_session::{
     faults_answer, insert_keys, listing_answer, refuse, serve, write_all,
 };
 use chip_views::source_of_image;
+use chip_warnings::warnings;
 use std::alloc::Global;
 use std::io::{Read, Write};
 use std::mem;
@@ -100,18 +101,20 @@ pub(crate) fn list_source<'a, O: Write>(
     }
 }
 
-/// `check`: the faults of a source with their places.
+/// `check`: the faults of a source with their places, and its warnings but for the allowed ones, Wk at
+/// bit k.
 pub(crate) fn check_source<'a, O: Write>(
     alloc: Global,
-    name: &str,
+    words: &CheckWords<'_>,
+    allowed: u16,
     source: &[u8],
     output: &mut Counted<O>,
 ) -> Result<Ending, Failure<'a>>
     ensures { PrintsSuch O.contents output.old output.new (IsPrintedOf (open_fault source.now)
-        (IsPrintedCheck name.now (lines_of source.now))) result }
+        (IsPrintedCheck words.now.is_json words.now.source.now (lines_of source.now))) result }
 {
     match Source::open(alloc, source) {
-        Ok(opened) => print_check(alloc, name, source, &opened, output),
+        Ok(opened) => print_check(alloc, words, allowed, source, &opened, output),
         Err(error) => refuse_source(error, output),
     }
 }
@@ -338,23 +341,30 @@ fn print_listing<'a, O: Write>(
 
 fn print_check<'a, O: Write>(
     alloc: Global,
-    name: &str,
+    words: &CheckWords<'_>,
+    allowed: u16,
     bytes: &[u8],
     source: &Source,
     output: &mut Counted<O>,
 ) -> Result<Ending, Failure<'a>>
     requires { source.now.lines ≡ lines_of bytes.now }
     ensures { PrintsSuch O.contents output.old output.new
-        (IsPrintedCheck name.now source.now.lines) result }
+        (IsPrintedCheck words.now.is_json words.now.source.now source.now.lines) result }
 {
-    let text = check_text(alloc, name.as_bytes(), bytes, source)?;
+    let warnings = warnings(alloc, bytes, source, words.profile, allowed)?;
+    let name = words.source.as_bytes();
+    let text = if words.is_json {
+        check_json(alloc, name, bytes, source, &warnings)?
+    } else {
+        check_text(alloc, name, bytes, source, &warnings)?
+    };
     match source.image() {
         Some(_) => print(&text, Ending::Done, output),
         None => print(&text, Ending::Faulty, output),
     }
 }
 
-fn print_faults<'a, O: Write>(
+pub(crate) fn print_faults<'a, O: Write>(
     alloc: Global,
     source: &Source,
     output: &mut Counted<O>,

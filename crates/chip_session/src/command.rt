@@ -312,7 +312,8 @@ fn skip_spaces(text: &[u8]) -> &[u8]
     rest
 }
 
-fn number_of(word: &[u8]) -> Option<u32>
+/// The number that a word spells: 1 to 9 decimal digits, or `#` and 1 to 7 hexadecimal ones.
+pub fn number_of(word: &[u8]) -> Option<u32>
     ensures { result ≡ number_spelled word.now }
 {
     match word {

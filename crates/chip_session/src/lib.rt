@@ -23,7 +23,7 @@ pub use bench::Bench;
 pub use change::Change;
 pub use chip_asm::OpenError;
 pub use chip_views::Letters;
-pub use command::{Command, CommandFault, read_command};
+pub use command::{Command, CommandFault, number_of, read_command};
 pub use counted::Counted;
 pub use key_file::{KeyFileError, insert_keys};
 pub use question::{PictureForm, Question, StateQuestion};

@@ -3,7 +3,7 @@ use Rattle.std.specs.Prelude.{option_copied}
 use Rattle.chip_bench.specs.Exploring.{IsFirstPart, with_number}
 use Rattle.chip_bench.specs.inner.Sets.{number_by}
 use Rattle.chip_bench.proofs.SetLemmas.{ends, goes_on, shorter}
-use Rattle.chip_bench.proofs.exploring.set_of.Goals as goal
+use Rattle.chip_bench.proofs.sets.set_of.Goals as goal
 
 pub loop-next-preserved : goal.loop-next-preserved
 loop-next-preserved c =

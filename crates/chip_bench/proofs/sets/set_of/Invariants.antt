@@ -1,7 +1,7 @@
 use Rattle.std.proofs.Common.{length}
 use Rattle.chip_bench.specs.inner.Sets.{number_by}
 use Rattle.chip_bench.proofs.SetLemmas.{Completes}
-use Rattle.chip_bench.proofs.exploring.set_of.Given as goal
+use Rattle.chip_bench.proofs.sets.set_of.Given as goal
 
 abbrev pub invariant-loop-next : goal.invariant-loop-next
 invariant-loop-next l = Completes (number_by l.fn.item) l.fn.text l.rest l.set
