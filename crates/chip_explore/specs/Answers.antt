@@ -5,18 +5,22 @@
 --                     target at an earlier step
 --     Answers         found; within n: avoided up to step n; never: avoided up to each step below
 --                     the end
-use Rattle.std.specs.Prelude.{◌≡◌, ℕ, ◌<◌, Some, List}
+--     AreExecuted     what is said of the addresses that a search saw executed: under no key script
+--                     does the machine make a step at another one, before the step at which the
+--                     target was found; up to step n; at any step below the end
+use Rattle.std.specs.Prelude.{◌≡◌, ℕ, ◌<◌, Some, Bool, List}
 use Rattle.chip_machine.specs.Choices.{IsWithin}
 use Rattle.chip_machine.specs.State.{State}
 use Rattle.chip_machine.specs.Step.{step_of}
 use Rattle.chip_replay.specs.Keys.{held}
 use Rattle.chip_replay.specs.Run.{run}
+use Rattle.chip_explore.specs.Executed.{StaysAmong}
 use Rattle.chip_explore.specs.Scripts.{Avoids, keys_of}
 use Rattle.chip_explore.specs.Target.{met_in}
 use Rattle.chip_explore.specs.declared.limits.TheConstants.{END}
 use Rattle.chip_explore.specs.declared.script.KeyEvent.{KeyEvent}
 use Rattle.chip_explore.specs.declared.question.Outcome.{Outcome}
-use Rattle.chip_explore.specs.declared.question.Outcome.TheVariants.{Found, Within, Never, OutOfMemory}
+use Rattle.chip_explore.specs.declared.question.Outcome.TheVariants.{Found, Within, Never}
 use Rattle.chip_explore.specs.declared.target.Met.{Met}
 use Rattle.chip_explore.specs.declared.target.Target.{Target}
 
@@ -30,4 +34,10 @@ Answers rate allowed target start (Found events step met) =
     IsFound rate allowed target start events.items step met
 Answers rate allowed target start (Within n) = Avoids rate allowed target start n
 Answers rate allowed target start Never = (n : ℕ) → n < END → Avoids rate allowed target start n
-Answers rate allowed target start OutOfMemory = Unit {0}
+
+abbrev pub AreExecuted : (rate allowed : ℕ) → (addresses : List Bool) → State → Outcome → Type 0
+AreExecuted rate allowed addresses start (Found events step met) =
+    (n : ℕ) → n < step → StaysAmong rate allowed addresses start n
+AreExecuted rate allowed addresses start (Within n) = StaysAmong rate allowed addresses start n
+AreExecuted rate allowed addresses start Never =
+    (n : ℕ) → n < END → StaysAmong rate allowed addresses start n

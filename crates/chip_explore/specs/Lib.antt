@@ -3,10 +3,12 @@
 --     Causes       sets of stop causes
 --     Target       which states a search looks for
 --     Scripts      key scripts, and what none of them reaches
+--     Executed     at which addresses a machine makes steps
 --     Answers      what each answer says
 --     inner        what the search keeps, and why it says what none reaches; a reader may skip it
 pub mod Causes
 pub mod Target
 pub mod Scripts
+pub mod Executed
 pub mod Answers
 pub mod inner

@@ -5,6 +5,7 @@
 mod backdrop;
 mod causes;
 mod confirm;
+mod executed;
 mod finder;
 mod kept;
 mod keys;
@@ -18,10 +19,9 @@ mod seen;
 mod setting;
 mod sum;
 mod target;
-#[cfg(test)]
-mod tests;
 
 pub use causes::Causes;
+pub use executed::Executed;
 pub use limits::END;
 pub use question::{Bounds, Explored, Outcome, Question, explore};
 pub use script::KeyEvent;

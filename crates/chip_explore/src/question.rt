@@ -1,7 +1,7 @@
 //! A question about all key scripts, and its answer.
 
 ghost use Rattle.std.specs.Prelude.{◌≡◌, ◌<◌, None, IfOk, IfSome};
-ghost use Rattle.chip_explore.specs.Answers.{Answers};
+ghost use Rattle.chip_explore.specs.Answers.{Answers, AreExecuted};
 ghost use Rattle.chip_explore.specs.inner.Cover.{view_of, Confirms, Holds, Safe};
 ghost use Rattle.chip_explore.specs.Scripts.{Avoids};
 ghost use Rattle.chip_explore.specs.Scripts as spec;
@@ -9,6 +9,7 @@ ghost use Rattle.chip_explore.specs.Target.{met_in};
 
 use crate::backdrop::Backdrops;
 use crate::confirm::{keys_of, met_under};
+use crate::executed::Executed;
 use crate::finder::{Finder, Origin};
 use crate::kept::Base;
 use crate::leg::Runner;
@@ -57,65 +58,57 @@ pub enum Outcome {
     Within(u64),
     /// With no key script does it at any step below `END`.
     Never,
-    /// Memory ran out, and nothing is said.
-    OutOfMemory,
 }
 
-/// What a search found, which causes it met beside the wanted ones, and how many states it kept.
+/// What a search found, and what it saw on the way.
 #[derive(Drop)]
 pub struct Explored {
     pub outcome: Outcome,
+    /// The causes that it met beside the wanted ones.
     pub seen: Seen,
+    /// How many states it kept.
     pub states: usize,
+    /// The addresses at which it saw steps made: those of all steps, under any key script, that the
+    /// outcome speaks of, and maybe of later ones.
+    pub executed: Executed,
+    /// Whether memory ran out before the search was done, so that the outcome may say less.
+    pub is_short: bool,
 }
 
 impl Explored {
     /// What a search says that kept no state.
-    fn at_once(outcome: Outcome) -> Explored
-        ensures { result.outcome ≡ outcome }
+    fn at_once(outcome: Outcome, executed: Executed, is_short: bool) -> Explored
+        ensures outcome { result.outcome ≡ outcome }
+        ensures executed { result.executed ≡ executed }
     {
         Explored {
             outcome,
             seen: Seen::none(),
             states: 0,
+            executed,
+            is_short,
         }
     }
 }
 
 /// Whether under some key script, of the allowed keys alone, a machine that has drawn no random
-/// byte yet meets the target.
+/// byte yet meets the target. The timers are free first, and a step that sets the delay timer makes
+/// the search begin anew.
 pub fn explore(alloc: Global, start: &Machine, question: &Question, bounds: &Bounds) -> Explored
     requires rate { 0 < question.now.rate }
     requires fresh { start.now.core.draws ≡ 0 }
-    ensures { Answers question.now.rate question.now.allowed question.now.target start.now
+    ensures answers { Answers question.now.rate question.now.allowed question.now.target start.now
+        result.outcome }
+    ensures executed { AreExecuted question.now.rate question.now.allowed result.executed start.now
         result.outcome }
 {
-    match explore_both(alloc, start, question, bounds) {
-        Ok(explored) => explored,
-        Err(_) => Explored::at_once(Outcome::OutOfMemory),
-    }
-}
-
-/// With the timers free first, and anew where a step set the delay timer.
-fn explore_both(
-    alloc: Global,
-    start: &Machine,
-    question: &Question,
-    bounds: &Bounds,
-) -> Result<Explored, AllocError>
-    requires rate { 0 < question.now.rate }
-    requires fresh { start.now.core.draws ≡ 0 }
-    ensures { IfOk result (λ explored. Answers question.now.rate question.now.allowed
-        question.now.target start.now explored.outcome) }
-{
     if let Some(met) = question.target.met_in(start) {
-        let events = Vec::new(alloc);
         let outcome = Outcome::Found {
-            events,
+            events: Vec::new(alloc),
             step: 0,
             met,
         };
-        return Ok(Explored::at_once(outcome));
+        return Explored::at_once(outcome, Executed::none(), false);
     }
     let mut setting = Setting {
         rate: question.rate,
@@ -123,13 +116,20 @@ fn explore_both(
         target: question.target,
         free: true,
     };
-    let first = search_once(alloc, start, &setting, bounds)?;
+    let Ok(first) = search_once(alloc, start, &setting, bounds) else {
+        return Explored::at_once(Outcome::Within(0), Executed::at(start), true);
+    };
     if !first.is_timer_set {
-        return Ok(first.explored);
+        return first.explored;
     }
     setting.free = false;
-    let second = search_once(alloc, start, &setting, bounds)?;
-    Ok(second.explored)
+    match search_once(alloc, start, &setting, bounds) {
+        Ok(second) => second.explored,
+        Err(_) => Explored {
+            is_short: true,
+            ..first.explored
+        },
+    }
 }
 
 /// What one search found.

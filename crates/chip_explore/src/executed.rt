@@ -1,0 +1,65 @@
+//! At which addresses a search saw steps made.
+
+ghost use Rattle.std.specs.Prelude.{◌≡◌, true};
+ghost use Rattle.chip_explore.specs.Executed.{is_among, is_at_one};
+ghost use Rattle.chip_explore.specs.inner.Cover.{Grows};
+
+use chip_machine::Machine;
+use chip_machine::limits::MEMORY_BYTES;
+use std::marker::Model;
+
+/// The addresses at which a search saw a step made, with some of the allowed keys down.
+#[derive(Clone, Copy)]
+pub struct Executed {
+    /// Whether a step was made at an address, one for each byte of the memory.
+    addresses: [bool; MEMORY_BYTES],
+}
+
+impl Model for Executed {
+    ghost use Rattle.std.specs.Prelude.{Bool, List};
+
+    ghost Value = { List Bool };
+
+    ghost view = { λ e. e.addresses };
+}
+
+impl Executed {
+    /// No address.
+    pub(crate) fn none() -> Executed {
+        Executed {
+            addresses: [false; MEMORY_BYTES],
+        }
+    }
+
+    /// That of a machine's next step, unless it has stopped.
+    pub(crate) fn at(machine: &Machine) -> Executed
+        ensures { is_at_one result machine.now ≡ true }
+    {
+        let mut executed = Executed::none();
+        if machine.stopped().is_none() {
+            executed.note(machine.pc());
+        }
+        executed
+    }
+
+    /// Notes an address at which a step is made.
+    pub(crate) fn note(&mut self, address: u16)
+        ensures grows { Grows self.old self.new }
+        ensures noted { is_among self.new address ≡ true }
+    {
+        if (address as usize) < MEMORY_BYTES {
+            self.addresses[address as usize] = true;
+        }
+    }
+
+    /// Whether a step was made at an address. One past the memory, where each step stops the
+    /// machine, counts as such.
+    pub fn contains(&self, address: u16) -> bool
+        ensures { result ≡ is_among self.now address }
+    {
+        match self.addresses.get(address as usize) {
+            Some(is_executed) => *is_executed,
+            None => true,
+        }
+    }
+}
