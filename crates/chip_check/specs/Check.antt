@@ -40,12 +40,15 @@ unfoldable pub sentence_with : Fault → Option (List ℕ) → List ℕ
 sentence_with WrongOperands (Some mnemonic) = codes "the operands fit no form of " ++ mnemonic
 sentence_with fault mnemonic = sentence_of fault
 
--- file, line and column, each counted from 1, the column in bytes; the fault's code, and its
--- sentence
-unfoldable pub head : (name : List ℕ) (number : ℕ) → Span → Fault → (sentence : List ℕ) → List ℕ
-head name number span fault sentence =
-    name ++ codes ":" ++ decimal number ++ codes ":" ++ decimal (span.start + 1) ++ codes ": F"
-    ++ decimal (number_of_fault fault) ++ codes ": " ++ sentence ++ codes "\n"
+-- the code of a fault, as in listings
+abbrev pub code_of : Fault → List ℕ
+code_of fault = codes "F" ++ decimal (number_of_fault fault)
+
+-- file, line and column, each counted from 1, the column in bytes; the code, and the sentence
+unfoldable pub head : (name : List ℕ) (number : ℕ) → Span → (code sentence : List ℕ) → List ℕ
+head name number span code sentence =
+    name ++ codes ":" ++ decimal number ++ codes ":" ++ decimal (span.start + 1) ++ codes ": "
+    ++ code ++ codes ": " ++ sentence ++ codes "\n"
 
 -- what stands below a byte of the line: a tab stays, and the further bytes of a character in UTF-8
 -- take no place
@@ -58,12 +61,6 @@ marks line span =
     flat_map blank_of (take span.start line) ++ codes "^"
     ++ replicate (span.end - span.start - 1) 126 ++ codes "\n"
 
--- what is printed of a fault that lies at a span of its line, without help
-unfoldable pub report_at : (name : List ℕ) (number : ℕ) (line : List ℕ) → Fault → Span → List ℕ
-report_at name number line fault span =
-    head name number span fault (sentence_with fault (mnemonic_of line)) ++ line ++ codes "\n"
-    ++ marks line span
-
 -- how a line of help begins
 abbrev pub beginning : HintKind → List ℕ
 beginning Help = codes "help: "
@@ -75,24 +72,46 @@ hint_line hint =
     beginning hint.kind
     ++ take (position_or_len is_newline hint.sentence.items) hint.sentence.items ++ codes "\n"
 
--- what is printed of a line: the report of its fault, and some lines of help; nothing where it has
--- no fault
-abbrev pub report_of : (name : List ℕ) (all : List (List ℕ)) (number : ℕ) (line : List ℕ)
+-- How a place of a line is printed: from the line's number and text, the place, the code, the
+-- sentence, and lines of help.
+abbrev pub Print : Type 0
+Print = (number : ℕ) (line : List ℕ) → Span → (code sentence : List ℕ) → List Hint → List ℕ
+
+-- as text: the head, the line, the marks below the place, and the lines of help
+unfoldable pub report : (name : List ℕ) → Print
+report name number line span code sentence hints =
+    head name number span code sentence ++ line ++ codes "\n" ++ marks line span
+    ++ flat_map hint_line hints
+
+-- what is printed of a line: its fault, with some lines of help; nothing where it has no fault
+abbrev pub report_of : Print → (all : List (List ℕ)) (number : ℕ) (line : List ℕ)
     → Option Fault → (hints : List Hint) → List ℕ
-report_of name all number line None hints = []
-report_of name all number line (Some fault) hints =
-    report_at name number line fault (place_in fault all number line) ++ flat_map hint_line hints
+report_of print all number line None hints = []
+report_of print all number line (Some fault) hints =
+    print number line (place_in fault all number line) (code_of fault)
+    (sentence_with fault (mnemonic_of line)) hints
 
 -- a text is what is printed of the lines from a number on: of the first one, with some lines of
 -- help, and then of the others
-abbrev pub AreReports : (name : List ℕ) (all : List (List ℕ)) (number : ℕ)
-    → (lines : List (List ℕ)) → (text : List ℕ) → Type 0
-AreReports name all number [] text = text ≡ []
-AreReports name all number (line ∷ lines) text =
+abbrev pub AreReports : Print → (all : List (List ℕ)) (number : ℕ) → (lines : List (List ℕ))
+    → (text : List ℕ) → Type 0
+AreReports print all number [] text = text ≡ []
+AreReports print all number (line ∷ lines) text =
     (hints : List Hint) × (others : List ℕ)
-    × (text ≡ report_of name all number line (fault_at all number) hints ++ others)
-    × AreReports name all (number + 1) lines others
+    × (text ≡ report_of print all number line (fault_at all number) hints ++ others)
+    × AreReports print all (number + 1) lines others
 
--- a text is what is printed of a source's lines, in their order
+-- a text begins with what is printed of the faults of a source's lines, and ends with anything else,
+-- as the warnings are
+abbrev pub IsCheckedIn : Print → (lines : List (List ℕ)) (text : List ℕ) → Type 0
+IsCheckedIn print lines text =
+    (reports : List ℕ) × (others : List ℕ) × AreReports print lines 1 lines reports
+    × (text ≡ reports ++ others)
+
+-- a text is the reports of a source's faults, in the order of the lines
 abbrev pub IsCheck : (name : List ℕ) (lines : List (List ℕ)) (text : List ℕ) → Type 0
-IsCheck name lines text = AreReports name lines 1 lines text
+IsCheck name lines text = AreReports (report name) lines 1 lines text
+
+-- a text begins with those reports
+abbrev pub IsChecked : (name : List ℕ) (lines : List (List ℕ)) (text : List ℕ) → Type 0
+IsChecked name lines text = IsCheckedIn (report name) lines text

@@ -1,5 +1,9 @@
 -- What is printed of faulty lines (own).
 --     Check     the faults of a source as compilers print them
+--     Json      the same as JSON
 --     Place     the place of a fault in a source
+--     inner     which of the two is printed; no public clause cites it, and a reader may skip it
 pub mod Check
+pub mod Json
 pub mod Place
+pub mod inner

@@ -1,15 +1,20 @@
-//! The faults of a source as compilers print them: place, sentence, the line, and help.
+//! The faults of a source, and its warnings, as compilers print them (place, sentence, the line, and
+//! help) and as JSON.
 #![tactic(auto)]
 
 mod advice;
 mod check;
+mod finding;
 mod forms;
 mod hint;
+mod json;
 mod known;
 mod near;
 mod operand_advice;
 mod other_assemblers;
 mod place;
+mod printing;
+mod report;
 mod words;
 
-pub use check::check_text;
+pub use check::{check_json, check_text};

@@ -1,7 +1,7 @@
 use Rattle.std.proofs.Common.{◌≡◌, ◌++◌, take}
 use Rattle.std.specs.List.{flat_map}
 use Rattle.chip_check.specs.Check.{blank_of}
-use Rattle.chip_check.proofs.check.push_blanks.Given as goal
+use Rattle.chip_check.proofs.report.push_blanks.Given as goal
 
 abbrev pub invariant-loop-byte : goal.invariant-loop-byte
 invariant-loop-byte l = l.text.items ≡ l.initial.text.items ++ flat_map blank_of (take l.byte-index l.bytes)

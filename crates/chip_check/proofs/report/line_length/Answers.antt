@@ -2,7 +2,7 @@ use Rattle.std.proofs.Common.{◌==◌, length, get_or, sym, arith}
 use Rattle.std.proofs.lemmas.Bool.{false_from_ne_true}
 use Rattle.std.proofs.lemmas.List.Sums.{position_or_len_is}
 use Rattle.chip_asm.specs.Lines.{is_newline}
-use Rattle.chip_check.proofs.check.line_length.Goals as goal
+use Rattle.chip_check.proofs.report.line_length.Goals as goal
 
 pub returns-in-Some-clause-length : goal.returns-in-Some-clause-length
 returns-in-Some-clause-length c =

@@ -1,0 +1,56 @@
+-- The faults of a source as JSON, an object on a line of its own for each faulty line (own).
+use Rattle.std.specs.Prelude.{ℕ, ◌+◌, ◌==◌, ◌||◌, nat_lt, List, [], ◌∷◌, ◌++◌, if◌then◌else◌, codes}
+use Rattle.std.specs.Fmt.{decimal}
+use Rattle.std.specs.List.{flat_map}
+use Rattle.std.specs.Str.Lossy.{utf8_lossy}
+use Rattle.chip_lang.specs.declared.fault_place.Span.{Span}
+use Rattle.chip_lang.specs.Show.{hex_byte}
+use Rattle.chip_check.specs.declared.hint.Hint.{Hint}
+use Rattle.chip_check.specs.declared.hint.HintKind.{HintKind}
+use Rattle.chip_check.specs.declared.hint.HintKind.TheVariants.{Help, Note}
+use Rattle.chip_check.specs.Check.{Print, AreReports, IsCheckedIn}
+
+-- a byte inside a string: a backslash stands before a quote and a backslash, and a control byte is
+-- written by its number
+abbrev pub escaped : ℕ → List ℕ
+escaped b =
+    if (b == 34) || (b == 92) then 92 ∷ b ∷ []
+    else (if nat_lt b 32 then codes "\\u00" ++ hex_byte b else b ∷ [])
+
+-- a string: bytes that are not UTF-8 become U+FFFD
+unfoldable pub quoted : List ℕ → List ℕ
+quoted bytes = codes "\"" ++ flat_map escaped (utf8_lossy bytes) ++ codes "\""
+
+-- what stands before the sentence of a line of help
+abbrev pub hint_prefix : HintKind → List ℕ
+hint_prefix Help = []
+hint_prefix Note = codes "note: "
+
+-- a line of help as a string, and the same after a comma
+abbrev pub hint_string : Hint → List ℕ
+hint_string hint = quoted (hint_prefix hint.kind ++ hint.sentence.items)
+
+abbrev pub further_hint : Hint → List ℕ
+further_hint hint = codes "," ++ hint_string hint
+
+-- strings with a comma between each two
+abbrev pub hint_strings : List Hint → List ℕ
+hint_strings [] = []
+hint_strings (hint ∷ hints) = hint_string hint ++ flat_map further_hint hints
+
+-- The object of a place, and a newline. The column and the end count from 1, in bytes, and the end
+-- is one past the last byte; a code has no byte that is written otherwise in a string.
+unfoldable pub object : (name : List ℕ) → Print
+object name number line span code sentence hints =
+    codes "{\"line\":" ++ decimal number ++ codes ",\"column\":" ++ decimal (span.start + 1)
+    ++ codes ",\"end\":" ++ decimal (span.end + 1) ++ codes ",\"code\":\"" ++ code
+    ++ codes "\",\"message\":" ++ quoted sentence ++ codes ",\"help\":[" ++ hint_strings hints
+    ++ codes "],\"file\":" ++ quoted name ++ codes "}\n"
+
+-- a text is the objects of the faults of a source's lines, in their order
+abbrev pub AreObjects : (name : List ℕ) (lines : List (List ℕ)) (text : List ℕ) → Type 0
+AreObjects name lines text = AreReports (object name) lines 1 lines text
+
+-- a text begins with those objects, and ends with anything else, as the objects of warnings are
+abbrev pub IsCheckJson : (name : List ℕ) (lines : List (List ℕ)) (text : List ℕ) → Type 0
+IsCheckJson name lines text = IsCheckedIn (object name) lines text

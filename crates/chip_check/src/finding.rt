@@ -1,0 +1,131 @@
+//! What is found in a line: a fault or a warning.
+
+ghost use Rattle.std.specs.Prelude.{◌≡◌, ◌≤◌, IfOk, length};
+ghost use Rattle.chip_lang.specs.FaultPlace.{mnemonic_of};
+ghost use Rattle.chip_asm.specs.Program.{symbols_of};
+ghost use Rattle.chip_check.specs.Check.{code_of, sentence_of, sentence_with};
+ghost use Rattle.chip_check.specs.Place.{place_in};
+
+use crate::advice::push_advice;
+use crate::hint::{Hint, HintKind};
+use crate::known::Known;
+use crate::place::place_in;
+use chip_asm::Source;
+use chip_lang::{Bytes, Fault, Span, mnemonic_of};
+use chip_warnings::Warning;
+use std::alloc::{AllocError, Global};
+
+/// What is found in a line.
+#[derive(Drop)]
+pub(crate) struct Finding {
+    /// The bytes of the line at which it is.
+    pub(crate) span: Span,
+    /// A letter and a number, as in F9.
+    pub(crate) code: Vec<u8>,
+    pub(crate) sentence: Vec<u8>,
+    /// Lines of help.
+    pub(crate) hints: Vec<Hint>,
+}
+
+impl Finding {
+    /// What is said of the fault of the line of a number.
+    pub(crate) fn of_fault(
+        alloc: Global,
+        source: &Source,
+        known: &Known,
+        number: usize,
+        line: &[u8],
+        fault: Fault,
+    ) -> Result<Finding, AllocError>
+        requires { known.now.symbols.items ≡ symbols_of source.now.lines }
+        ensures span { IfOk result (λ finding.
+            finding.span ≡ place_in fault source.now.lines number line.now) }
+        ensures code { IfOk result (λ finding. finding.code.items ≡ code_of fault) }
+        ensures sentence { IfOk result (λ finding.
+            finding.sentence.items ≡ sentence_with fault (mnemonic_of line.now)) }
+        ensures rises { IfOk result (λ finding. finding.span.start ≤ finding.span.end) }
+        ensures inside { IfOk result (λ finding. finding.span.end ≤ length line.now) }
+    {
+        let span = place_in(alloc, source, known, number, line, fault)?;
+        let mut hints = Vec::new(alloc);
+        push_advice(alloc, &mut hints, known, number, line, fault, span.start)?;
+        let mnemonic = mnemonic_of(alloc, line)?;
+        let sentence = sentence_with(alloc, fault, mnemonic)?;
+        let fault_number = fault.number();
+        let code = format!(in alloc; "F{fault_number}")?.into_bytes();
+        Ok(Finding {
+            span,
+            code,
+            sentence,
+            hints,
+        })
+    }
+
+    /// What a warning says.
+    pub(crate) fn of_warning(alloc: Global, warning: &Warning) -> Result<Finding, AllocError>
+        ensures { IfOk result (λ finding. finding.span ≡ warning.now.span) }
+    {
+        let mut hints = Vec::new(alloc);
+        if !warning.help.is_empty() {
+            let sentence = Vec::from_slice(alloc, &warning.help)?;
+            hints.push(Hint {
+                kind: HintKind::Help,
+                sentence,
+            })?;
+        }
+        let sentence = Vec::from_slice(alloc, &warning.sentence)?;
+        let warning_number = warning.code.number();
+        let code = format!(in alloc; "W{warning_number}")?.into_bytes();
+        Ok(Finding {
+            span: warning.span,
+            code,
+            sentence,
+            hints,
+        })
+    }
+}
+
+/// The sentence of a fault.
+#[tactic(auto, unfolding(crate::specs::Check::sentence_with))]
+fn sentence_with(
+    alloc: Global,
+    fault: Fault,
+    mnemonic: Option<Bytes>,
+) -> Result<Vec<u8>, AllocError>
+    ensures { IfOk result (λ sentence. sentence.items ≡ sentence_with fault mnemonic) }
+{
+    match (fault, mnemonic) {
+        (Fault::WrongOperands, Some(mnemonic)) => {
+            let mut sentence = Vec::from_slice(alloc, b"the operands fit no form of ")?;
+            sentence.extend_from_slice(mnemonic.get())?;
+            Ok(sentence)
+        }
+        _ => Vec::from_slice(alloc, sentence_of(fault)),
+    }
+}
+
+/// The sentence of a fault, without the instruction.
+#[tactic(auto, unfolding(crate::specs::Check::sentence_of))]
+pub(crate) fn sentence_of(fault: Fault) -> &'static [u8]
+    ensures { result.now ≡ sentence_of fault }
+{
+    match fault {
+        Fault::BadCharacter => b"bad character",
+        Fault::UnfinishedString => b"unfinished string",
+        Fault::UnknownWord => b"unknown word",
+        Fault::WrongOperands => b"operands don't fit",
+        Fault::NumberTooLarge => b"number above 2147483647",
+        Fault::TooDeep => b"parentheses deeper than 16",
+        Fault::BadName => b"name reserved or over 64 bytes",
+        Fault::DefinedTwice => b"name defined on an earlier line",
+        Fault::UndefinedName => b"undefined name",
+        Fault::OutOfRange => b"value out of range",
+        Fault::DivisionByZero => b"division by zero",
+        Fault::Overflow => b"overflow, or a shift outside 0 to 31",
+        Fault::OrgBelowHere => b"ORG below the line's address",
+        Fault::PastMemory => b"past address 4096",
+        Fault::StrayBranch => b"stray ELSE or ENDIF",
+        Fault::UnclosedIf => b"IF without ENDIF",
+        Fault::NotInProfile => b"not in this profile",
+    }
+}

@@ -1,0 +1,46 @@
+//! The two ways to print what is found in a source.
+
+ghost use Rattle.std.specs.Prelude.{◌≡◌, ◌≤◌, ◌++◌, OnOk, length};
+ghost use Rattle.chip_check.specs.inner.Printing.{print_in};
+
+use crate::finding::Finding;
+use crate::json::push_object;
+use crate::report::push_report;
+use std::alloc::{AllocError, Global};
+
+/// How what is found is printed.
+#[derive(Clone, Copy)]
+pub(crate) enum Form {
+    /// With the line and marks below it.
+    Text,
+    /// As an object on a line of its own.
+    Json,
+}
+
+/// How what is found is printed, and the name of the file that it is found in.
+#[derive(Clone, Copy)]
+pub(crate) struct Style<'a> {
+    pub(crate) form: Form,
+    pub(crate) name: &'a [u8],
+}
+
+/// Adds what is printed of a finding, which lies in this line of a number.
+pub(crate) fn push_finding(
+    alloc: Global,
+    text: &mut Vec<u8>,
+    style: Style,
+    number: usize,
+    line: &[u8],
+    finding: &Finding,
+) -> Result<(), AllocError>
+    requires rises { finding.now.span.start ≤ finding.now.span.end }
+    requires inside { finding.now.span.end ≤ length line.now }
+    ensures { OnOk result (text.new.items ≡ text.old.items
+        ++ print_in style.form style.name.now number line.now finding.now.span
+        finding.now.code.items finding.now.sentence.items finding.now.hints.items) }
+{
+    match style.form {
+        Form::Text => push_report(alloc, text, style.name, number, line, finding),
+        Form::Json => push_object(alloc, text, style.name, number, line, finding),
+    }
+}

@@ -1,0 +1,148 @@
+//! A finding as compilers print it: place, sentence, line and marks, and lines of help.
+
+ghost use Rattle.std.specs.Prelude.{◌≡◌, ◌≤◌, ◌+◌, ◌-◌, ◌++◌, List, OnOk, length, take, replicate};
+ghost use Rattle.std.specs.Fmt.{decimal};
+ghost use Rattle.std.specs.List.{flat_map, position_or_len};
+ghost use Rattle.chip_asm.specs.Lines.{is_newline};
+ghost use Rattle.chip_check.specs.Check.{head, blank_of, marks, beginning, hint_line, report};
+
+use crate::finding::Finding;
+use crate::hint::{Hint, HintKind};
+use chip_lang::Span;
+use memchr::memchr;
+use std::alloc::{AllocError, Global};
+
+/// Adds the report of a finding, which lies in this line of a number.
+#[tactic(auto, unfolding(crate::specs::Check::report))]
+pub(crate) fn push_report(
+    alloc: Global,
+    text: &mut Vec<u8>,
+    name: &[u8],
+    number: usize,
+    line: &[u8],
+    finding: &Finding,
+) -> Result<(), AllocError>
+    requires rises { finding.now.span.start ≤ finding.now.span.end }
+    requires inside { finding.now.span.end ≤ length line.now }
+    ensures { OnOk result (text.new.items ≡ text.old.items
+        ++ report name.now number line.now finding.now.span finding.now.code.items
+        finding.now.sentence.items finding.now.hints.items) }
+{
+    push_head(alloc, text, name, number, finding)?;
+    text.extend_from_slice(line)?;
+    text.extend_from_slice(b"\n")?;
+    push_marks(text, line, finding.span)?;
+    push_hints(text, &finding.hints)
+}
+
+/// Adds the file, the place, the code and the sentence of a finding.
+#[tactic(auto, unfolding(crate::specs::Check::head))]
+fn push_head(
+    alloc: Global,
+    text: &mut Vec<u8>,
+    name: &[u8],
+    number: usize,
+    finding: &Finding,
+) -> Result<(), AllocError>
+    requires { finding.now.span.start + 1 ≤ usize.MAX }
+    ensures { OnOk result (text.new.items ≡ text.old.items
+        ++ head name.now number finding.now.span finding.now.code.items
+        finding.now.sentence.items) }
+{
+    let column = finding.span.start + 1;
+    let place = format!(in alloc; ":{number}:{column}: ")?;
+    text.extend_from_slice(name)?;
+    text.extend_from_slice(place.as_bytes())?;
+    text.extend_from_slice(&finding.code)?;
+    text.extend_from_slice(b": ")?;
+    text.extend_from_slice(&finding.sentence)?;
+    text.extend_from_slice(b"\n")?;
+    Ok(())
+}
+
+/// Adds the marks below a line.
+#[tactic(auto, unfolding(crate::specs::Check::marks))]
+fn push_marks(text: &mut Vec<u8>, line: &[u8], span: Span) -> Result<(), AllocError>
+    requires rises { span.start ≤ span.end }
+    requires inside { span.end ≤ length line.now }
+    ensures { OnOk result (text.new.items ≡ text.old.items ++ marks line.now span) }
+{
+    push_blanks(text, &line[..span.start])?;
+    text.extend_from_slice(b"^")?;
+    push_tildes(text, (span.end - span.start).saturating_sub(1))?;
+    text.extend_from_slice(b"\n")?;
+    Ok(())
+}
+
+/// Adds what stands below some bytes.
+fn push_blanks(text: &mut Vec<u8>, bytes: &[u8]) -> Result<(), AllocError>
+    ensures { OnOk result (text.new.items ≡ text.old.items ++ flat_map blank_of bytes.now) }
+{
+    for byte in bytes {
+        text.extend_from_slice(blank_of(*byte))?;
+    }
+    Ok(())
+}
+
+/// What stands below a byte of a line.
+fn blank_of(byte: u8) -> &'static [u8]
+    ensures { result.now ≡ blank_of byte }
+{
+    if byte == b'\t' {
+        b"\t"
+    } else if 128 <= byte && byte <= 191 {
+        b""
+    } else {
+        b" "
+    }
+}
+
+fn push_tildes(text: &mut Vec<u8>, count: usize) -> Result<(), AllocError>
+    ensures { OnOk result (text.new.items ≡ text.old.items ++ replicate count 126) }
+{
+    for _index in 0..count {
+        text.push(b'~')?;
+    }
+    Ok(())
+}
+
+/// Adds lines of help.
+fn push_hints(text: &mut Vec<u8>, hints: &[Hint]) -> Result<(), AllocError>
+    ensures { OnOk result (text.new.items ≡ text.old.items ++ flat_map hint_line hints.now) }
+{
+    for hint in hints {
+        push_hint(text, hint)?;
+    }
+    Ok(())
+}
+
+/// Adds a line of help. A newline in its sentence would end it.
+fn push_hint(text: &mut Vec<u8>, hint: &Hint) -> Result<(), AllocError>
+    ensures { OnOk result (text.new.items ≡ text.old.items ++ hint_line hint.now) }
+{
+    text.extend_from_slice(beginning(hint.kind))?;
+    text.extend_from_slice(&hint.sentence[..line_length(&hint.sentence)])?;
+    text.extend_from_slice(b"\n")?;
+    Ok(())
+}
+
+/// How many bytes stand before the first newline, or how many there are.
+fn line_length(bytes: &[u8]) -> usize
+    ensures length { result ≡ position_or_len is_newline bytes.now }
+    ensures bound { result ≤ length bytes.now }
+{
+    match memchr(b'\n', bytes) {
+        Some(index) => index,
+        None => bytes.len(),
+    }
+}
+
+/// How a line of help begins.
+fn beginning(kind: HintKind) -> &'static [u8]
+    ensures { result.now ≡ beginning kind }
+{
+    match kind {
+        HintKind::Help => b"help: ",
+        HintKind::Note => b"note: ",
+    }
+}
