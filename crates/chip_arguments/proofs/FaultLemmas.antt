@@ -43,5 +43,13 @@ pub fails_last : {T : Type 0} (first second last : Kinds) (result : Result T Err
     FailsBy (or_else first (or_else second last)) result
 fails_last first second last result none_first none_second fails = rw (none_first, none_second) fails
 
+pub fails_fourth : {T : Type 0} (first second third last : Kinds) (result : Result T Error) → first ≡ [] → second ≡ [] → third ≡ [] → FailsBy last result →
+    FailsBy (or_else first (or_else second (or_else third last))) result
+fails_fourth first second third last result none_first none_second none_third fails = rw (none_first, none_second, none_third) fails
+
+pub fails_third : (first second third last : Kinds) (e : Error) → first ≡ [] → second ≡ [] → HasKind third e →
+    HasKind (or_else first (or_else second (or_else third last))) e
+fails_third first second third last e none_first none_second has = rw (none_first, none_second) (still_fails third last e has)
+
 pub fails_second : (first second last : Kinds) (e : Error) → first ≡ [] → HasKind second e → HasKind (or_else first (or_else second last)) e
 fails_second first second last e none has = rw none (still_fails second last e has)

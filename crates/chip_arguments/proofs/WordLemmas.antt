@@ -17,7 +17,7 @@ use Rattle.chip_machine.specs.Profile.{profile_name}
 use Rattle.chip_machine.specs.declared.profile.Profile.{Profile}
 use Rattle.chip_machine.specs.declared.profile.Profile.TheVariants as profile
 use Rattle.chip_arguments.specs.CommandLine.{chipbench}
-use Rattle.chip_arguments.specs.CommandWords.{Asks, AsksBy, AsksFlag, AsksFor, ReadsNumber, ReadsOr, faults_below, value_faults, word_faults, needed, profile_fault}
+use Rattle.chip_arguments.specs.CommandWords.{Asks, AsksBy, AsksFlag, AsksFor, ReadsNumber, ReadsOr, clash_fault, faults_below, value_faults, word_faults, needed, profile_fault}
 use Rattle.chip_arguments.specs.SettingWords.{default_words}
 use Rattle.chip_arguments.specs.declared.command_line.CommandLine.{CommandLine}
 use Rattle.chip_arguments.specs.declared.command_line.CommandLine.TheVariants as line
@@ -27,6 +27,11 @@ needed_is found id text e = e ∙ ap (λ (t : Option (List ℕ)). unwrap_or t []
 
 pub first_is : (found : Found) (id : List ℕ) (text : Option (List ℕ)) → text ≡ first_value found id → text ≡ first_of id (rows_of found)
 first_is found id text e = e ∙ first_value-rows found id
+
+-- a flag and an argument that are read
+pub clash_is : (found : Found) (flag other : List ℕ) (set given : Option (List ℕ)) → set ≡ first_value found flag → given ≡ first_value found other →
+    clash_fault set given ≡ clash_fault (first_of flag (rows_of found)) (first_of other (rows_of found))
+clash_is found flag other set given is_set is_given = ap₂ clash_fault (first_is found flag set is_set) (first_is found other given is_given)
 
 -- a number that is read, or one in its place
 pub reads_first : (found : Found) (bits : ℕ) (id : List ℕ) (text : Option (List ℕ)) (read : Option ℕ) → text ≡ first_value found id →

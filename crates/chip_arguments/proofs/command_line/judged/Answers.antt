@@ -1,8 +1,8 @@
 use Rattle.std.proofs.Common.{ℕ, List, Option, IfOk, codes, subst}
 use Rattle.std.proofs.lemmas.Result.{err_from_is_err_and}
 use Rattle.clap.specs.Words.{FailsBy, first_of, found_of, rows_of}
-use Rattle.chip_arguments.specs.CommandWords.{IsProfile, first_fault, new_file_fault, new_files, number_fault, numbers, profile_fault}
-use Rattle.chip_arguments.proofs.FaultLemmas.{fails_last, fails_second}
+use Rattle.chip_arguments.specs.CommandWords.{IsProfile, clash_faults, first_fault, new_file_fault, new_files, number_fault, numbers, profile_fault}
+use Rattle.chip_arguments.proofs.FaultLemmas.{fails_fourth, fails_second, fails_third}
 use Rattle.chip_arguments.proofs.WordLemmas.{first_is, still_fails}
 use Rattle.chip_arguments.proofs.command_line.judged.Goals as goal
 
@@ -20,6 +20,14 @@ returns-in_err-check_new_files-clause-fault c =
     (fails_second (first_fault number_fault numbers rows) (first_fault new_file_fault new_files rows) _ c.in_err-check_new_files.field-0.0
     c.in_ok-check_numbers.ensures c.in_err-check_new_files.ensures)
 
+pub returns-in_err-check_clashes-clause-fault : goal.returns-in_err-check_clashes-clause-fault
+returns-in_err-check_clashes-clause-fault c =
+    let given = err_from_is_err_and c.from_residual-in_err-check_clashes.result c.from_residual-in_err-check_clashes.ensures.1 in
+    let rows = rows_of (found_of c.args.found.now) in
+    rw (given.1, given.2)
+    (fails_third (first_fault number_fault numbers rows) (first_fault new_file_fault new_files rows) (clash_faults rows) _ c.in_err-check_clashes.field-0.0
+    c.in_ok-check_numbers.ensures c.in_ok-check_new_files.ensures c.in_err-check_clashes.ensures)
+
 pub returns-clause-profile : goal.returns-clause-profile
 returns-clause-profile c =
     let name = first_is (found_of c.args.found.now) (codes "profile") _ c.get_str.ensures in
@@ -29,6 +37,7 @@ pub returns-clause-fault : goal.returns-clause-fault
 returns-clause-fault c =
     let rows = rows_of (found_of c.args.found.now) in
     let name = first_is (found_of c.args.found.now) (codes "profile") _ c.get_str.ensures in
-    fails_last (first_fault number_fault numbers rows) (first_fault new_file_fault new_files rows) (profile_fault (first_of (codes "profile") rows))
-    c.profile_asked.result c.in_ok-check_numbers.ensures c.in_ok-check_new_files.ensures
+    fails_fourth (first_fault number_fault numbers rows) (first_fault new_file_fault new_files rows) (clash_faults rows)
+    (profile_fault (first_of (codes "profile") rows))
+    c.profile_asked.result c.in_ok-check_numbers.ensures c.in_ok-check_new_files.ensures c.in_ok-check_clashes.ensures
     (subst (λ (text : Option (List ℕ)). FailsBy (profile_fault text) c.profile_asked.result) name c.profile_asked.ensures.fault)
