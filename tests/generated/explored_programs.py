@@ -2,7 +2,7 @@
 
 The programs store into their own code, call, skip and stop. The answers are computed with the machine of
 tests/trace/emulator.py: a state for each way that the keys can go, and equal states at the same step taken as one. Each
-script that is found is replayed by it.
+script that is found is replayed by it. What `--cover` marks is compared with the addresses at which those states make steps.
 """
 import importlib.util
 import pathlib
@@ -18,6 +18,8 @@ RATE = 10
 TAPE = "3b5a91c7042fe866"
 # a program with more states at one step is left out
 MOST_STATES = 300
+# how far steps that read no keys are followed after the last one
+QUIET_STEPS = 200
 
 
 def emulator():
@@ -95,24 +97,43 @@ def shown(machine):
     )
 
 
-def first_stops(code):
-    """The first step up to STEPS at which some keys stop the program, by the cause's number; None for too many states."""
-    states, first = [EMULATED.Machine(code, False, bytes.fromhex(TAPE), None)], {}
-    for step in range(1, STEPS + 1):
+def searched(code):
+    """What keys can do up to STEPS: the first step at which some stop the program, by the cause's number; the first step that is made
+    at an address, by the address; and the addresses at which steps are made after STEPS, up to the next that reads keys, or None where
+    there are many. None for too many states."""
+    states, first, made = [EMULATED.Machine(code, False, bytes.fromhex(TAPE), None)], {}, {}
+    for step in range(1, STEPS + 2):
         later = {}
         for state in states:
+            made.setdefault(state.pc, step - 1)
             choices = masks(state)
             for keys in choices:
                 after = state if len(choices) == 1 else copied(state)
                 after.step(keys, step % RATE == 0)
-                if after.stopped:
-                    first.setdefault(cause(after), step)
-                else:
+                if not after.stopped:
                     later[shown(after)] = after
+                elif step <= STEPS:
+                    first.setdefault(cause(after), step)
         states = list(later.values())
         if len(states) > MOST_STATES:
             return None
-    return first
+    return first, made, made_after(states)
+
+
+def made_after(states):
+    """The addresses at which these states, after STEPS + 1, make steps up to the next that reads keys; None where that takes long."""
+    addresses = set()
+    for state in states:
+        for step in range(STEPS + 2, STEPS + 2 + QUIET_STEPS):
+            if state.stopped:
+                break
+            addresses.add(state.pc)
+            if len(masks(state)) > 1:
+                break
+            state.step(0, step % RATE == 0)
+        else:
+            return None
+    return addresses
 
 
 def replayed(code, lines, step):
@@ -127,14 +148,16 @@ def replayed(code, lines, step):
 
 
 def asked(program, code, folder):
-    """The lines of the answer, and those of the file of keys."""
+    """The lines of the answer, those of the listing below it, and those of the file of keys."""
     file, keys = pathlib.Path(folder, "image"), pathlib.Path(folder, "keys")
     file.write_bytes(bytes(code))
     keys.unlink(missing_ok=True)
     settings = ["--rate", str(RATE), "--tape", TAPE, "--keys-allowed", ",".join(map(str, KEYS))]
-    ran = program.run(["explore", "--image", "image", "--steps", str(STEPS), *settings, "--keys-to", "keys"], b"", folder)
+    ran = program.run(["explore", "--image", "image", "--steps", str(STEPS), *settings, "--keys-to", "keys", "--cover"], b"", folder)
     lines = [line for line in keys.read_text().splitlines() if line[:1].isdigit()] if keys.exists() else []
-    return ran.stdout.decode().splitlines(), lines
+    answer = ran.stdout.decode().splitlines()
+    below = next((place + 1 for place, line in enumerate(answer) if line.startswith("states ")), len(answer))
+    return answer[:below], answer[below:], lines
 
 
 def wrong_answer(answer, keys, code, first):
@@ -158,15 +181,32 @@ def wrong_answer(answer, keys, code, first):
     return "" if stop == int(head[0][1]) else f"{answer}, but its keys lead to {stop}"
 
 
+def wrong_marks(listing, answer, made, after):
+    """What is wrong with the marks of a listing, where steps are made at these addresses."""
+    rows = [(int(line[7:11], 16), line.startswith("+ ")) for line in listing if line[7:11] != "----" and line[12:13] not in ("", " ", "=")]
+    marked = {address for address, is_marked in rows if is_marked}
+    unmarked = {address for address, is_marked in rows if not is_marked}
+    head = answer[0].split()
+    last = int(head[1]) - 1 if head[0][0] == "S" else STEPS
+    left_out = sorted(address for address in unmarked if made.get(address, STEPS + 1) <= last)
+    if left_out:
+        return f"{left_out} are executed, and have no mark"
+    if after is not None and not marked <= made.keys() | after:
+        return f"{sorted(marked - made.keys() - after)} are marked, and not executed"
+    return "" if marked else "no line is marked"
+
+
 def wrong_group(program, numbers):
     """What is wrong with the answers for some programs."""
     with tempfile.TemporaryDirectory() as folder:
         for number in numbers:
             code = image(number)
-            first = first_stops(code)
-            if first is None:
+            found = searched(code)
+            if found is None:
                 continue
-            wrong = wrong_answer(*asked(program, code, folder), code, first)
+            first, made, after = found
+            answer, listing, keys = asked(program, code, folder)
+            wrong = wrong_answer(answer, keys, code, first) or wrong_marks(listing, answer, made, after)
             if wrong:
                 return f"program {number} ({code.hex()}): {wrong}"
     return ""
