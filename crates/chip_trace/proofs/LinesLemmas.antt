@@ -4,7 +4,7 @@ use Rattle.std.specs.Prelude.{◌↔◌}
 use Rattle.std.specs.List.{flat_map, range_with_len}
 use Rattle.std.proofs.lemmas.List.{drop_all, flat_map_more}
 use Rattle.chip_machine.specs.State.{State}
-use Rattle.chip_trace.specs.Line.{line_of}
+use Rattle.chip_trace.specs.Form.{row_of}
 use Rattle.chip_trace.specs.Lines.{newline_ended, TakesLine, Progress, remaining, trace_end, trace_lines}
 use Rattle.chip_trace.proofs.Comparing.{take_one_more}
 use Rattle.chip_trace.proofs.TraceLemmas.{done_remains, open_remains}
@@ -53,7 +53,7 @@ module _ (state : ℕ → State) where
       omega (
         arith,
         ap length (open_remains state t more),
-        length-append (map (λ step. line_of t.columns step (state step) false) (range_with_len t.next (end - t.next))) (line_of t.columns end (state end) true ∷ []),
+        length-append (map (λ step. row_of t.form t.columns step (state step) false) (range_with_len t.next (end - t.next))) (row_of t.form t.columns end (state end) true ∷ []),
       )
 
   -- whether more lines remain

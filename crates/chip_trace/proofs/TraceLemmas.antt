@@ -6,9 +6,10 @@ use Rattle.std.proofs.lemmas.Bool.{le-leb, leb-true, leb-false}
 use Rattle.chip_machine.specs.State.{State}
 use Rattle.chip_replay.specs.History.{History}
 use Rattle.chip_replay.specs.Run.{first_below}
-use Rattle.chip_trace.specs.Line.{line_of}
+use Rattle.chip_trace.specs.Form.{row_of}
 use Rattle.chip_trace.specs.Lines.{trace_end, trace_lines, Progress, states_of, remaining, SameRun, TakesLine, IsLineAt}
 use Rattle.chip_trace.specs.declared.column.Column.{Column}
+use Rattle.chip_trace.specs.declared.form.Form.{Form}
 
 -- a test of numbers, seen from one further
 later : (p q : ℕ → Bool) (a b n : ℕ) → ((k : ℕ) → p (a + k) ≡ q (b + k)) → prefix_len p (range_with_len a n) ≡ prefix_len q (range_with_len b n)
@@ -45,7 +46,7 @@ neither : (a b : Bool) → (a || b) ≡ false → (a ≡ false) × (b ≡ false)
 neither true b e = absurd (cc)
 neither false b e = (refl, e)
 
-module _ (columns : List Column) (state : ℕ → State) (from to : ℕ) where
+module _ (form : Form) (columns : List Column) (state : ℕ → State) (from to : ℕ) where
   here : is_some (state from).core.stopped ≡ stopped_after state from 0
   here = ap (λ n. is_some (state n).core.stopped) (sym (add-zero from))
 
@@ -77,24 +78,24 @@ module _ (columns : List Column) (state : ℕ → State) (from to : ℕ) where
   after_start = omega arith
 
   abbrev lines_to : ℕ → ℕ → ℕ → List (List ℕ)
-  lines_to start count end = map (λ step. line_of columns step (state step) false) (range_with_len start count) ++ line_of columns end (state end) true ∷ []
+  lines_to start count end = map (λ step. row_of form columns step (state step) false) (range_with_len start count) ++ row_of form columns end (state end) true ∷ []
 
   -- the last line
-  pub lines_last : (nat_le to from || is_some (state from).core.stopped) ≡ true → trace_lines columns state from to ≡ line_of columns from (state from) true ∷ []
+  pub lines_last : (nat_le to from || is_some (state from).core.stopped) ≡ true → trace_lines form columns state from to ≡ row_of form columns from (state from) true ∷ []
   unfolding trace_lines
   lines_last last =
       let none : from - from ≡ 0 = omega arith in
       ap (λ end. lines_to from (end - from) end) (end_here last) ∙ ap (λ n. lines_to from n from) none
 
 -- a line before the last one
-pub lines_more : (columns : List Column) (state : ℕ → State) (from to : ℕ) → (nat_le to from || is_some (state from).core.stopped) ≡ false →
-    trace_lines columns state from to ≡ line_of columns from (state from) false ∷ trace_lines columns state (from + 1) to
+pub lines_more : (form : Form) (columns : List Column) (state : ℕ → State) (from to : ℕ) → (nat_le to from || is_some (state from).core.stopped) ≡ false →
+    trace_lines form columns state from to ≡ row_of form columns from (state from) false ∷ trace_lines form columns state (from + 1) to
 unfolding trace_lines
-lines_more columns state from to more =
+lines_more form columns state from to more =
     let end : ℕ = trace_end state (from + 1) to in
-    let one : end - from ≡ suc (end - (from + 1)) = omega (arith, after_start columns state (from + 1) to) in
-    ap (λ last. lines_to columns state from to from (last - from) last) (end_later columns state from to more)
-    ∙ ap (λ n. lines_to columns state from to from n end) one
+    let one : end - from ≡ suc (end - (from + 1)) = omega (arith, after_start form columns state (from + 1) to) in
+    ap (λ last. lines_to form columns state from to from (last - from) last) (end_later form columns state from to more)
+    ∙ ap (λ n. lines_to form columns state from to from n end) one
 
 -- the states of a run that is the same
 pub same_states : (a b : History State) → SameRun a b → states_of b ≡ states_of a
@@ -105,7 +106,7 @@ module _ (state : ℕ → State) where
   unfolding remaining
   done_remains t done = rw done refl
 
-  pub open_remains : (t : Progress) → t.is_done ≡ false → remaining state t ≡ trace_lines t.columns state t.next t.to
+  pub open_remains : (t : Progress) → t.is_done ≡ false → remaining state t ≡ trace_lines t.form t.columns state t.next t.to
   unfolding remaining
   open_remains t more = rw more refl
 
@@ -114,14 +115,14 @@ module _ (state : ℕ → State) where
   takes_none t text done = rw (done_remains t done) (refl, refl, refl)
 
   -- the last line is taken
-  pub takes_last : (t u : Progress) (text text_after : List ℕ) → t.is_done ≡ false → IsLineAt t.columns state t.next t.to true text text_after
+  pub takes_last : (t u : Progress) (text text_after : List ℕ) → t.is_done ≡ false → IsLineAt t.form t.columns state t.next t.to true text text_after
       → u.is_done ≡ true → TakesLine (remaining state t) true text text_after (remaining state u)
   takes_last t u text text_after more line done =
-      rw (open_remains t more, lines_last t.columns state t.next t.to (sym line.last), done_remains u done) (refl, line.added, refl)
+      rw (open_remains t more, lines_last t.form t.columns state t.next t.to (sym line.last), done_remains u done) (refl, line.added, refl)
 
   -- another line is taken
-  pub takes_more : (t u : Progress) (text text_after : List ℕ) → t.is_done ≡ false → IsLineAt t.columns state t.next t.to false text text_after
-      → u.columns ≡ t.columns → u.next ≡ t.next + 1 → u.to ≡ t.to → u.is_done ≡ false
+  pub takes_more : (t u : Progress) (text text_after : List ℕ) → t.is_done ≡ false → IsLineAt t.form t.columns state t.next t.to false text text_after
+      → u.form ≡ t.form → u.columns ≡ t.columns → u.next ≡ t.next + 1 → u.to ≡ t.to → u.is_done ≡ false
       → TakesLine (remaining state t) true text text_after (remaining state u)
-  takes_more t u text text_after more line columns next to open_still =
-      rw (open_remains t more, lines_more t.columns state t.next t.to (sym line.last), open_remains u open_still, columns, next, to) (refl, line.added, refl)
+  takes_more t u text text_after more line form columns next to open_still =
+      rw (open_remains t more, lines_more t.form t.columns state t.next t.to (sym line.last), open_remains u open_still, form, columns, next, to) (refl, line.added, refl)

@@ -117,10 +117,11 @@ impl Columns {
         match form {
             Form::Fields => {
                 self.push_header(text)?;
-                text.push(b'\n')
+                text.push(b'\n')?;
             }
-            Form::Json => Ok(()),
+            Form::Json => {}
         }
+        Ok(())
     }
 }
 

@@ -39,7 +39,8 @@ pub(crate) fn push_object(
         text.push(b',')?;
         push_member(text, workspace, *column, machine, step, is_last)?;
     }
-    text.push(b'}')
+    text.push(b'}')?;
+    Ok(())
 }
 
 /// Adds a member: the name of a column in quotes, a colon, and what the column shows.
@@ -57,20 +58,21 @@ fn push_member(
     text.push(b'"')?;
     text.extend_from_slice(column.name())?;
     text.extend_from_slice(b"\":")?;
-    match column {
+    match &column {
         Column::Step | Column::Depth | Column::Draws => {
             push_field(text, workspace, column, machine, step, is_last)
         }
         Column::Pc => push_decimal(text, u64::from(machine.pc())),
         Column::Word => push_decimal(text, u64::from(word_of(machine))),
-        Column::Register(register) => push_decimal(text, u64::from(machine.reg(register))),
+        Column::Register(register) => push_decimal(text, u64::from(machine.reg(*register))),
         Column::Index => push_decimal(text, u64::from(machine.index())),
         Column::Delay => push_decimal(text, u64::from(machine.delay())),
         Column::Sound => push_decimal(text, u64::from(machine.sound())),
         Column::Screen | Column::Memory | Column::Text => {
             text.push(b'"')?;
             push_field(text, workspace, column, machine, step, is_last)?;
-            text.push(b'"')
+            text.push(b'"')?;
+            Ok(())
         }
     }
 }
