@@ -1,5 +1,5 @@
--- What is safe from the start on, and from each state that was taken up, no key script meets the
--- target in.
+-- What is safe from the start on, and from each state that was taken up: no key script meets the
+-- target in it, or makes a step at an address that isn't noted.
 use Rattle.std.proofs.Common.{◌≡◌, ℕ, zero, suc, ◌+◌, ◌-◌, ◌*◌, ◌/◌, ◌%◌, ◌^◌, ◌<◌, ◌≤◌, ◌==◌, ◌⊎◌, Bool, true, false, None, length, slice_index, is_some, refl, sym, ap, subst, ◌∙◌, inl, inr, ⊎_elim, if◌then◌else◌, arith, add-one}
 use Rattle.std.proofs.Math.Nat.{mod-add-div', add-mul-mod_self_right}
 use Rattle.std.proofs.lemmas.Nat.Bits.{bit_at-zero}
@@ -9,6 +9,7 @@ use Rattle.chip_machine.specs.Relevant.{relevant, AlikeSteps, DrawsGrow, QuietTi
 use Rattle.chip_machine.specs.State.{State}
 use Rattle.chip_machine.specs.Step.{effect_at, is_down, perform, settle, step_of}
 use Rattle.chip_replay.specs.Run.{run}
+use Rattle.chip_explore.specs.Executed.{StaysAmong, is_at_one}
 use Rattle.chip_explore.specs.Scripts.{Avoids, IsScript}
 use Rattle.chip_explore.specs.Target.{met_in}
 use Rattle.chip_explore.specs.declared.setting.Setting.{Setting}
@@ -67,9 +68,9 @@ module _ (alike : AlikeSteps) (grow : DrawsGrow) (quiet : QuietTick) where
       ∙ ap (λ (rest : ℕ). relevant (step_of a keys (rest == 0))) (sym (rest_more rate u t phased))
 
   module _ (p : Setting) (v : View) where
-    fine_of : (moves : ℕ) (a : State) (u : ℕ) → SafeFor p v moves a u → u < v.limit → IsFine p a
+    fine_of : (moves : ℕ) (a : State) (u : ℕ) → SafeFor p v moves a u → u < v.limit → IsFine p v.executed a
     fine_of zero a u safe below =
-        ⊎_elim (λ (past : v.limit ≤ u). absurd (omega arith)) (λ (kept : IsFine p a × ((is_some a.core.stopped ≡ true) ⊎ Joins p v a u)). kept.0) safe
+        ⊎_elim (λ (past : v.limit ≤ u). absurd (omega arith)) (λ (kept : IsFine p v.executed a × ((is_some a.core.stopped ≡ true) ⊎ Joins p v a u)). kept.0) safe
     fine_of (suc k) a u safe below = safe.0.fine
 
     -- a state of a run is like one from which all is safe
@@ -102,7 +103,7 @@ module _ (alike : AlikeSteps) (grow : DrawsGrow) (quiet : QuietTick) where
         next_by zero a u early phased same safe =
             ⊎_elim
             (λ (past : v.limit ≤ u). absurd (omega arith))
-            (λ (kept : IsFine p a × ((is_some a.core.stopped ≡ true) ⊎ Joins p v a u)).
+            (λ (kept : IsFine p v.executed a × ((is_some a.core.stopped ≡ true) ⊎ Joins p v a u)).
             ⊎_elim
             (λ (halted : is_some a.core.stopped ≡ true).
             let stopped = ap (λ (r : State). is_some r.core.stopped) same ∙ halted in
@@ -153,5 +154,16 @@ module _ (alike : AlikeSteps) (grow : DrawsGrow) (quiet : QuietTick) where
             ap (met_in p.target) near.same
             ∙ (fine_of near.moves near.state near.at near.safe (omega arith)).avoided
 
-      pub covered : (start : State) → start.core.draws ≡ 0 → Safe p v start 0 → n < 2 ^ 64 - 1 → Avoids p.rate p.allowed p.target start n
-      covered start fresh begun below_end held script t within_n = avoided start fresh begun below_end held script t within_n
+        noted : (t : ℕ) → t ≤ n → is_at_one v.executed (run step_of p.rate held start t) ≡ true
+        noted t within_n =
+            let near = near_run t within_n in
+            let early = near.early in
+            ap (is_at_one v.executed) near.same
+            ∙ (fine_of near.moves near.state near.at near.safe (omega arith)).noted
+
+      module _ (start : State) (fresh : start.core.draws ≡ 0) (begun : Safe p v start 0) (below_end : n < 2 ^ 64 - 1) where
+        pub covered : Avoids p.rate p.allowed p.target start n
+        covered held script t within_n = avoided start fresh begun below_end held script t within_n
+
+        pub among : StaysAmong p.rate p.allowed v.executed start n
+        among held script t within_n = noted start fresh begun below_end held script t within_n

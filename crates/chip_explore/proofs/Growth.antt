@@ -1,5 +1,5 @@
 -- What the changes of the kept states keep.
-use Rattle.std.proofs.Common.{◌≡◌, ℕ, zero, suc, ◌+◌, ◌-◌, ◌^◌, ◌<◌, ◌≤◌, ◌⊎◌, Bool, true, false, List, length, slice_index, is_some, refl, sym, ap, subst, ◌∙◌, inl, inr, ⊎_elim, arith}
+use Rattle.std.proofs.Common.{◌≡◌, ℕ, zero, suc, ◌+◌, ◌-◌, ◌^◌, ◌<◌, ◌≤◌, ◌⊎◌, Bool, true, false, List, length, slice_index, is_some, ◌||◌, refl, sym, ap, subst, ◌∙◌, inl, inr, ⊎_elim, arith}
 use Rattle.std.proofs.Common.{◌≢◌, get_or, set, [], ◌∷◌, ◌++◌}
 use Rattle.std.proofs.lemmas.Bool.{cases_eq, cases_lt}
 use Rattle.std.proofs.lemmas.List.{get_or_past, get_or-set_same, get_or-set_other, get_or_append_left, length-append}
@@ -10,9 +10,30 @@ use Rattle.chip_machine.specs.Choices.{IsChoice}
 use Rattle.chip_machine.specs.Relevant.{relevant}
 use Rattle.chip_machine.specs.State.{State}
 use Rattle.chip_machine.specs.Step.{is_down, step_of}
+use Rattle.chip_explore.specs.declared.kept.Base.{Base}
+use Rattle.chip_explore.specs.declared.kept.Kept.{Kept}
 use Rattle.chip_explore.specs.declared.members.Members.{Members}
 use Rattle.chip_explore.specs.declared.setting.Setting.{Setting}
-use Rattle.chip_explore.specs.inner.Cover.{phase, tick_at, View, IsFine, Moves, Joins, SafeFor, Safe, IsTaken, Extends, GoesOn, HasChoices, Holds, Goes, view_of}
+use Rattle.chip_explore.specs.Executed.{is_among, is_at_one}
+use Rattle.chip_explore.specs.inner.Kept.{state_at}
+use Rattle.chip_explore.specs.inner.Cover.{phase, tick_at, View, Grows, IsFine, Moves, Joins, SafeFor, Safe, IsTaken, Extends, GoesOn, HasChoices, Holds, Goes, view_of}
+
+-- what is fine stays so where more addresses are noted
+or_more : (stopped early late : Bool) → (early ≡ true → late ≡ true) → (stopped || early) ≡ true → (stopped || late) ≡ true
+or_more true early late more h = refl
+or_more false early late more h = more h
+
+pub still_noted : (early late : List Bool) → Grows early late → (s : State) → is_at_one early s ≡ true → is_at_one late s ≡ true
+still_noted early late more s noted =
+    or_more (is_some s.core.stopped) (is_among early s.core.pc) (is_among late s.core.pc) (more s.core.pc) noted
+
+module _ (p : Setting) (early late : List Bool) (more : Grows early late) (s : State) where
+  pub still_fine : IsFine p early s → IsFine p late s
+  still_fine fine =
+      record { avoided = fine.avoided; calm = fine.calm; noted = still_noted early late more s fine.noted }
+
+  pub still_moves : Moves p early s → Moves p late s
+  still_moves moves = record { fine = still_fine moves.fine; same = moves.same; drawn = moves.drawn }
 
 module _ (p : Setting) (v w : View) (more : Extends p v w) where
   still_joins : (s : State) (t : ℕ) → Joins p v s t → Joins p w s t
@@ -34,19 +55,19 @@ module _ (p : Setting) (v w : View) (more : Extends p v w) where
       let lower = more.limit in
       ⊎_elim
       (λ (past : v.limit ≤ t). inl (omega arith))
-      (λ (kept : IsFine p s × ((is_some s.core.stopped ≡ true) ⊎ Joins p v s t)).
-      inr (kept.0, ⊎_elim (λ (halted : is_some s.core.stopped ≡ true). inl halted) (λ (joins : Joins p v s t). inr (still_joins s t joins)) kept.1))
+      (λ (kept : IsFine p v.executed s × ((is_some s.core.stopped ≡ true) ⊎ Joins p v s t)).
+      inr (still_fine p v.executed w.executed more.executed s kept.0, ⊎_elim (λ (halted : is_some s.core.stopped ≡ true). inl halted) (λ (joins : Joins p v s t). inr (still_joins s t joins)) kept.1))
       safe
-  still_safe_for (suc k) s t safe = (safe.0, still_safe_for k (step_of s 0 (tick_at p t)) (t + 1) safe.1)
+  still_safe_for (suc k) s t safe = (still_moves p v.executed w.executed more.executed s safe.0, still_safe_for k (step_of s 0 (tick_at p t)) (t + 1) safe.1)
 
   pub still_safe : (s : State) (t : ℕ) → Safe p v s t → Safe p w s t
   still_safe s t safe = record { moves = safe.moves; path = still_safe_for safe.moves s t safe.path }
 
-pub one_move : (p : Setting) (v : View) (s : State) (t : ℕ) → Moves p s → Safe p v (step_of s 0 (tick_at p t)) (t + 1) → Safe p v s t
+pub one_move : (p : Setting) (v : View) (s : State) (t : ℕ) → Moves p v.executed s → Safe p v (step_of s 0 (tick_at p t)) (t + 1) → Safe p v s t
 one_move p v s t move safe = record { moves = suc safe.moves; path = (move, safe.path) }
 
 pub extends_same : (p : Setting) (v : View) → Extends p v v
-extends_same p v = record { limit = omega arith; count = omega arith; member = λ j l. refl; early = λ j l. omega arith; phased = λ j l. refl }
+extends_same p v = record { limit = omega arith; count = omega arith; member = λ j l. refl; early = λ j l. omega arith; phased = λ j l. refl; executed = λ pc h. h }
 
 pub extends_more : (p : Setting) (u v w : View) → Extends p u v → Extends p v w → Extends p u w
 extends_more p u v w a b =
@@ -60,6 +81,7 @@ extends_more p u v w a b =
       member = λ j l. b.member j (omega arith) ∙ a.member j l;
       early = λ j l. let one = a.early j l in let two = b.early j (omega arith) in omega arith;
       phased = λ j l. b.phased j (omega arith) ∙ a.phased j l;
+      executed = λ pc h. b.executed pc (a.executed pc h);
     }
 
 -- a place that was closed stays so where its step stays
@@ -154,6 +176,30 @@ goes p m n holds start more states closed same =
 
 pub goes_same : (p : Setting) (m : Members) → Holds p m → Goes p m m
 goes_same p m holds = record { start = refl; extends = extends_same p (view_of m); holds = holds }
+
+-- the same states with the same steps, and no fewer addresses
+pub goes_alike : (p : Setting) (m n : Members) → Holds p m → n.start ≡ m.start → n.base ≡ m.base → n.limit ≡ m.limit → Grows m.executed n.executed
+    → n.states.items ≡ m.states.items → n.steps.items ≡ m.steps.items → n.closed.items ≡ m.closed.items → Goes p m n
+goes_alike p m n holds start base limit grows states steps closed =
+    let same : (j : ℕ) → slice_index n.steps.items j ≡ slice_index m.steps.items j = λ j. ap (λ (xs : List ℕ). slice_index xs j) steps in
+    let count = ap (λ (xs : List ℕ). length xs) steps in
+    goes p m n holds start
+    (record {
+      limit = omega arith;
+      count = omega arith;
+      member = λ j l. ap (λ (b : Base). state_at b n.states.items j) base ∙ ap (λ (xs : List Kept). state_at m.base xs j) states;
+      early = λ j l. let is = same j in omega arith;
+      phased = λ j l. ap (phase p) (same j);
+      executed = grows;
+    })
+    (ap (λ (xs : List Kept). length xs) states ∙ holds.states ∙ sym count)
+    (ap (λ (xs : List Bool). length xs) closed ∙ holds.closed ∙ sym count)
+    (λ j h. inr (ap (λ (xs : List Bool). get_or xs j false) (sym closed) ∙ h, same j))
+
+-- a fine state that a kept one is like
+pub safe_joined : (p : Setting) (m n : Members) → Goes p m n → (s : State) (t : ℕ) → IsFine p m.executed s → Joins p (view_of n) s t → Safe p (view_of n) s t
+safe_joined p m n more s t fine joins =
+    record { moves = 0; path = inr (still_fine p m.executed n.executed more.extends.executed s fine, inr joins) }
 
 pub goes_more : (p : Setting) (l m n : Members) → Goes p l m → Goes p m n → Goes p l n
 goes_more p l m n one two = record { start = two.start ∙ one.start; extends = extends_more p (view_of l) (view_of m) (view_of n) one.extends two.extends; holds = two.holds }

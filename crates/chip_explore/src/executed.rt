@@ -21,6 +21,8 @@ impl Model for Executed {
     ghost Value = { List Bool };
 
     ghost view = { λ e. e.addresses };
+
+    ghost inverse = { λ addresses. record { addresses = addresses } };
 }
 
 impl Executed {

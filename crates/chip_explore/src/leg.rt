@@ -1,8 +1,9 @@
 //! Some steps in a row that don't tell keys apart.
 
 ghost use Rattle.std.specs.Prelude.{◌≡◌, ◌<◌, ◌≤◌, ◌-◌, ◌^◌, IfOk, IfSome, IsNone};
-ghost use Rattle.chip_explore.specs.inner.Cover.{IsEnd, Moves, Safe, View};
+ghost use Rattle.chip_explore.specs.inner.Cover.{Grows, IsEnd, Moves, Safe, View};
 
+use crate::executed::Executed;
 use crate::limits::MOST_QUIET_STEPS;
 use crate::setting::Setting;
 use chip_machine::{Machine, Touch};
@@ -53,17 +54,25 @@ impl Runner {
     }
 
     /// Makes steps from a step on up to the limit, to a stop, or to a state whose next step can
-    /// tell keys apart.
-    pub(crate) fn run(&mut self, setting: &Setting, limit: u64, from: u64) -> Leg
+    /// tell keys apart, and notes the addresses of these steps and of that next one.
+    pub(crate) fn run(
+        &mut self,
+        setting: &Setting,
+        limit: u64,
+        from: u64,
+        executed: &mut Executed,
+    ) -> Leg
         requires rate { 0 < setting.now.rate }
-        ensures path { (v : View) → Safe setting.now v self.new.machine result.step
+        ensures grows { Grows executed.old executed.new }
+        ensures path { (v : View) → Grows executed.new v.executed
+            → Safe setting.now v self.new.machine result.step
             → Safe setting.now v self.old.machine from }
-        ensures end { IsEnd setting.now limit self.new.machine result.step result.end }
+        ensures end { IsEnd setting.now executed.new limit self.new.machine result.step result.end }
     {
         let mut step = from;
         let mut left = MOST_QUIET_STEPS;
         loop {
-            match self.end(setting, limit, step, left) {
+            match self.end(setting, limit, step, left, executed) {
                 Some(end) => return Leg { step, end },
                 None => {
                     self.machine.step(0, setting.tick_at(step), &mut self.touch);
@@ -74,11 +83,21 @@ impl Runner {
         }
     }
 
-    /// Why the steps in a row end at a step, if they do.
-    fn end(&mut self, setting: &Setting, limit: u64, step: u64, left: u32) -> Option<End>
+    /// Why the steps in a row end at a step, if they do. Where the machine makes a step, its address
+    /// is noted.
+    fn end(
+        &mut self,
+        setting: &Setting,
+        limit: u64,
+        step: u64,
+        left: u32,
+        executed: &mut Executed,
+    ) -> Option<End>
         ensures same { self.new.machine ≡ self.old.machine }
-        ensures some { IfSome result (λ end. IsEnd setting.now limit self.old.machine step end) }
-        ensures moves { IsNone result → Moves setting.now self.old.machine }
+        ensures grows { Grows executed.old executed.new }
+        ensures some { IfSome result (λ end. IsEnd setting.now executed.new limit
+            self.old.machine step end) }
+        ensures moves { IsNone result → Moves setting.now executed.new self.old.machine }
         ensures below { IsNone result → step < limit }
         ensures left { IsNone result → 0 < left }
     {
@@ -94,6 +113,7 @@ impl Runner {
         if self.machine.stopped().is_some() {
             return Some(End::Halted);
         }
+        executed.note(self.machine.pc());
         if left == 0 || self.machine.draws() == u64::MAX {
             return Some(End::Joined);
         }

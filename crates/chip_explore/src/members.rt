@@ -1,9 +1,11 @@
 //! The states that a search keeps.
 
-ghost use Rattle.std.specs.Prelude.{◌≡◌, ◌<◌, ◌≤◌, ◌+◌, ◌-◌, ◌^◌, [], ℕ, length, slice_index, slice_index_or, OnOk, IfOk, IsTrue, true, false, is_some};
+ghost use Rattle.std.specs.Prelude.{◌≡◌, ◌<◌, ◌≤◌, ◌+◌, ◌-◌, ◌^◌, [], ℕ, length, slice_index, slice_index_or, IfOk, IsTrue, true, false, is_some};
+ghost use Rattle.chip_explore.specs.Executed.{is_at_one};
 ghost use Rattle.chip_explore.specs.inner.Kept.{state_at};
 ghost use Rattle.chip_explore.specs.inner.Cover.{phase, view_of, Holds, Goes, IsAt, IsTaken, Joins};
 
+use crate::executed::Executed;
 use crate::kept::{Base, Kept};
 use crate::setting::Setting;
 use chip_machine::Machine;
@@ -21,6 +23,8 @@ pub(crate) struct Members {
     pub(crate) closed: Vec<bool>,
     /// The step below which the search speaks of.
     pub(crate) limit: u64,
+    /// At which addresses the search saw steps made.
+    pub(crate) executed: Executed,
 }
 
 impl Members {
@@ -31,7 +35,9 @@ impl Members {
         ensures empty { IfOk result (λ members. members.steps.items ≡ []) }
         ensures none_closed { IfOk result (λ members. members.closed.items ≡ []) }
         ensures no_states { IfOk result (λ members. members.states.items ≡ []) }
+        ensures noted { IfOk result (λ members. is_at_one members.executed start.now ≡ true) }
     {
+        let executed = Executed::at(start);
         let start = start.copy_of()?;
         Ok(Members {
             start,
@@ -40,6 +46,7 @@ impl Members {
             steps: Vec::new(alloc),
             closed: Vec::new(alloc),
             limit: u64::MAX,
+            executed,
         })
     }
 
@@ -101,7 +108,7 @@ impl Members {
     }
 
     /// Keeps the state of a machine, which was reached at a step: the answer is whether what is to
-    /// be kept is that state. The probe is room for it.
+    /// be kept is that state. The probe is room for it. All room is taken before the first change.
     pub(crate) fn add(
         &mut self,
         setting: &Setting,
@@ -111,7 +118,7 @@ impl Members {
         probe: &mut Base,
     ) -> Result<bool, AllocError>
         requires { Holds setting.now self.old }
-        ensures goes { OnOk result (Goes setting.now self.old self.new) }
+        ensures goes { Goes setting.now self.old self.new }
         ensures joins { IfOk result (λ answer. IsTrue answer
             → Joins setting.now (view_of self.new) machine.now step) }
     {
@@ -119,9 +126,12 @@ impl Members {
         if !is_same {
             return Ok(false);
         }
-        self.states.push(kept)?;
-        self.closed.push(false)?;
-        self.steps.push(step)?;
+        self.states.reserve(1)?;
+        self.closed.reserve(1)?;
+        self.steps.reserve(1)?;
+        let _ = self.states.push(kept);
+        let _ = self.closed.push(false);
+        let _ = self.steps.push(step);
         Ok(true)
     }
 

@@ -1,8 +1,9 @@
 //! A question about all key scripts, and its answer.
 
-ghost use Rattle.std.specs.Prelude.{◌≡◌, ◌<◌, None, IfOk, IfSome};
+ghost use Rattle.std.specs.Prelude.{◌≡◌, ◌<◌, None, IfOk, IfSome, true};
 ghost use Rattle.chip_explore.specs.Answers.{Answers, AreExecuted};
-ghost use Rattle.chip_explore.specs.inner.Cover.{view_of, Confirms, Holds, Safe};
+ghost use Rattle.chip_explore.specs.Executed.{StaysAmong, is_at_one};
+ghost use Rattle.chip_explore.specs.inner.Cover.{view_of, Confirms, Goes, Holds, Safe};
 ghost use Rattle.chip_explore.specs.Scripts.{Avoids};
 ghost use Rattle.chip_explore.specs.Scripts as spec;
 ghost use Rattle.chip_explore.specs.Target.{met_in};
@@ -145,11 +146,11 @@ fn base_for(alloc: Global, start: &Machine, setting: &Setting) -> Result<Base, A
     requires { 0 < setting.now.rate }
 {
     let mut runner = Runner::new(alloc, start)?;
-    let _leg = runner.run(setting, u64::MAX, 0);
+    let _leg = runner.run(setting, u64::MAX, 0, &mut Executed::none());
     Base::of(alloc, &runner.machine)
 }
 
-/// One search.
+/// One search: an error where there was no memory to begin it.
 fn search_once(
     alloc: Global,
     start: &Machine,
@@ -159,8 +160,10 @@ fn search_once(
     requires rate { 0 < setting.now.rate }
     requires fresh { start.now.core.draws ≡ 0 }
     requires going { met_in setting.now.target start.now ≡ None }
-    ensures { IfOk result (λ attempt. Answers setting.now.rate setting.now.allowed
+    ensures answers { IfOk result (λ attempt. Answers setting.now.rate setting.now.allowed
         setting.now.target start.now attempt.explored.outcome) }
+    ensures executed { IfOk result (λ attempt. AreExecuted setting.now.rate setting.now.allowed
+        attempt.explored.executed start.now attempt.explored.outcome) }
 {
     let mut search = Search {
         members: Members::new(alloc, start, base_for(alloc, start, setting)?)?,
@@ -169,17 +172,30 @@ fn search_once(
         backdrops: Backdrops::new(alloc),
         probe: Base::of(alloc, start)?,
     };
-    search.run_on(setting, 0, Origin::START)?;
-    search.run(setting, bounds.steps, bounds.states)?;
+    let is_done = search_all(&mut search, setting, bounds).is_ok();
+    let (outcome, is_whole) = outcome_of(alloc, setting, &search.members, &search.finder);
     let explored = Explored {
-        outcome: outcome_of(alloc, setting, &search.members, &search.finder)?,
+        is_short: !(is_done && is_whole) && matches!(outcome, Outcome::Within(_)),
+        outcome,
         seen: search.finder.seen,
         states: search.members.steps.len(),
+        executed: search.members.executed,
     };
     Ok(Attempt {
         explored,
         is_timer_set: search.finder.is_timer_set,
     })
+}
+
+/// Keeps the first state, and takes up states from it on.
+fn search_all(search: &mut Search, setting: &Setting, bounds: &Bounds) -> Result<(), AllocError>
+    requires rate { 0 < setting.now.rate }
+    requires holds { Holds setting.now search.old.members }
+    ensures goes { Goes setting.now search.old.members search.new.members }
+    ensures begun { Safe setting.now (view_of search.new.members) search.old.runner.machine 0 }
+{
+    search.run_on(setting, 0, Origin::START)?;
+    search.run(setting, bounds.steps, bounds.states)
 }
 
 /// A step up to which no key script makes the machine meet the target.
@@ -191,33 +207,64 @@ fn covered_by(setting: &Setting, members: &Members) -> u64
     ensures below { result < members.now.limit }
     ensures avoids { Avoids setting.now.rate setting.now.allowed setting.now.target
         members.now.start result }
+    ensures stays { StaysAmong setting.now.rate setting.now.allowed members.now.executed
+        members.now.start result }
 {
     relevant_steps();
     members.covered()
 }
 
-/// What the states that were kept say.
+/// What the states that were kept say, and whether there was memory for all of it.
 fn outcome_of(
     alloc: Global,
     setting: &Setting,
     members: &Members,
     finder: &Finder,
-) -> Result<Outcome, AllocError>
+) -> (Outcome, bool)
     requires rate { 0 < setting.now.rate }
     requires fresh { members.now.start.core.draws ≡ 0 }
     requires going { met_in setting.now.target members.now.start ≡ None }
+    requires noted { is_at_one members.now.executed members.now.start ≡ true }
     requires holds { Holds setting.now members.now }
     requires begun { Safe setting.now (view_of members.now) members.now.start 0 }
-    ensures { IfOk result (λ outcome. Answers setting.now.rate setting.now.allowed
-        setting.now.target members.now.start outcome) }
+    ensures answers { Answers setting.now.rate setting.now.allowed setting.now.target
+        members.now.start result.0 }
+    ensures executed { AreExecuted setting.now.rate setting.now.allowed members.now.executed
+        members.now.start result.0 }
 {
     if members.limit == 0 {
-        return Ok(Outcome::Within(0));
+        return (Outcome::Within(0), true);
     }
     let covered = covered_by(setting, members);
     if covered + 1 == END {
-        return Ok(Outcome::Never);
+        return (Outcome::Never, true);
     }
+    match found_after(alloc, setting, members, finder, covered) {
+        Ok(Some(outcome)) => (outcome, true),
+        Ok(None) => (Outcome::Within(covered), true),
+        Err(_) => (Outcome::Within(covered), false),
+    }
+}
+
+/// What the search found at the step after those that are covered, if it did.
+fn found_after(
+    alloc: Global,
+    setting: &Setting,
+    members: &Members,
+    finder: &Finder,
+    covered: u64,
+) -> Result<Option<Outcome>, AllocError>
+    requires rate { 0 < setting.now.rate }
+    requires below { covered < members.now.limit }
+    requires avoids { Avoids setting.now.rate setting.now.allowed setting.now.target
+        members.now.start covered }
+    requires stays { StaysAmong setting.now.rate setting.now.allowed members.now.executed
+        members.now.start covered }
+    ensures answers { IfOk result (λ answer. IfSome answer (λ outcome. Answers setting.now.rate
+        setting.now.allowed setting.now.target members.now.start outcome)) }
+    ensures executed { IfOk result (λ answer. IfSome answer (λ outcome. AreExecuted
+        setting.now.rate setting.now.allowed members.now.executed members.now.start outcome)) }
+{
     if let Some(origin) = finder.hit
         && covered + 1 == members.limit
         && members.limit <= u64::from(LAST_STEP)
@@ -225,10 +272,10 @@ fn outcome_of(
         let step = members.limit as u32;
         let events = script_to(alloc, members, finder, origin)?;
         if let Some(met) = met_by(alloc, setting, members, &events, step)? {
-            return Ok(Outcome::Found { events, step, met });
+            return Ok(Some(Outcome::Found { events, step, met }));
         }
     }
-    Ok(Outcome::Within(covered))
+    Ok(None)
 }
 
 /// What the machine meets of the target at a step with these events, if anything.

@@ -31,8 +31,8 @@ impl Search {
     fn join(&mut self, setting: &Setting, step: u64, origin: Origin) -> Result<(), AllocError>
         requires rate { 0 < setting.now.rate }
         requires holds { Holds setting.now self.old.members }
-        requires fine { IsFine setting.now self.old.runner.machine }
-        ensures goes { OnOk result (Goes setting.now self.old.members self.new.members) }
+        requires fine { IsFine setting.now self.old.members.executed self.old.runner.machine }
+        ensures goes { Goes setting.now self.old.members self.new.members }
         ensures safe { OnOk result (Safe setting.now (view_of self.new.members)
             self.old.runner.machine step) }
     {
@@ -62,7 +62,8 @@ impl Search {
         self.finder.note(sum, Turn { step, place }, origin)
     }
 
-    /// Lets the runner make steps from a step on, and keeps the state in which they end.
+    /// Lets the runner make steps from a step on, and keeps the state in which they end. Where there
+    /// is no memory to keep it, the search speaks of the steps below it alone.
     pub(crate) fn run_on(
         &mut self,
         setting: &Setting,
@@ -71,11 +72,13 @@ impl Search {
     ) -> Result<(), AllocError>
         requires rate { 0 < setting.now.rate }
         requires holds { Holds setting.now self.old.members }
-        ensures goes { OnOk result (Goes setting.now self.old.members self.new.members) }
-        ensures safe { OnOk result (Safe setting.now (view_of self.new.members)
-            self.old.runner.machine from) }
+        ensures goes { Goes setting.now self.old.members self.new.members }
+        ensures safe { Safe setting.now (view_of self.new.members) self.old.runner.machine from }
     {
-        let leg = self.runner.run(setting, self.members.limit, from);
+        let members = &mut self.members;
+        let leg = self
+            .runner
+            .run(setting, members.limit, from, &mut members.executed);
         match leg.end {
             End::Past => {}
             End::Wanted => {
@@ -91,7 +94,13 @@ impl Search {
                     self.finder.seen.note(cause, leg.step);
                 }
             }
-            End::Joined => self.join(setting, leg.step, origin)?,
+            End::Joined => {
+                let joined = self.join(setting, leg.step, origin);
+                if joined.is_err() {
+                    self.members.lower_limit(setting, leg.step);
+                }
+                return joined;
+            }
         }
         Ok(())
     }
@@ -108,7 +117,7 @@ impl Search {
         requires holds { Holds setting.now self.old.members }
         requires kept { place < length self.old.members.steps.items }
         requires in_range { step < 2 ^ 64 - 1 }
-        ensures goes { OnOk result (Goes setting.now self.old.members self.new.members) }
+        ensures goes { Goes setting.now self.old.members self.new.members }
         ensures safe { OnOk result (Safe setting.now (view_of self.new.members)
             (step_of ((view_of self.old.members).member place) keys (tick_at setting.now step))
             (step + 1)) }
@@ -139,7 +148,7 @@ impl Search {
         requires holds { Holds setting.now self.old.members }
         requires kept { place < length self.old.members.steps.items }
         requires in_range { step < 2 ^ 64 - 1 }
-        ensures goes { OnOk result (Goes setting.now self.old.members self.new.members) }
+        ensures goes { Goes setting.now self.old.members self.new.members }
         ensures safe { OnOk result ((key : ℕ) → key < 16 → spec.is_down choices key ≡ true
             → Safe setting.now (view_of self.new.members)
             (step_of ((view_of self.old.members).member place) (2 ^ key)
@@ -179,7 +188,7 @@ impl Search {
         requires rate { 0 < setting.now.rate }
         requires holds { Holds setting.now self.old.members }
         requires kept { place < length self.old.members.steps.items }
-        ensures { OnOk result (Goes setting.now self.old.members self.new.members) }
+        ensures { Goes setting.now self.old.members self.new.members }
     {
         let step = self.members.step(place);
         if step >= self.members.limit {
@@ -206,7 +215,7 @@ impl Search {
     ) -> Result<(), AllocError>
         requires rate { 0 < setting.now.rate }
         requires holds { Holds setting.now self.old.members }
-        ensures { OnOk result (Goes setting.now self.old.members self.new.members) }
+        ensures { Goes setting.now self.old.members self.new.members }
     {
         for _turn in 0..u64::MAX {
             let Some(turn) = self.finder.next() else {

@@ -4,11 +4,14 @@
 --     tick_at         whether the timers tick in a step of the search: where the timers are free,
 --                     as the delay timer stays at 0, they never do
 --     View            the states that are kept, each with the least step at which it was reached,
---                     and the step below which the search speaks of
---     IsFine          a state that doesn't meet the target
+--                     the step below which the search speaks of, and the addresses at which it saw
+--                     steps made
+--     Grows           addresses stay noted
+--     IsFine          a state that doesn't meet the target, and has stopped or is at an address that
+--                     is noted
 --     Safe            from a state at a step on, steps that don't tell keys apart lead to the
---                     limit, to a stop, or to a state that is kept, and past no state that meets
---                     the target
+--                     limit, to a stop, or to a state that is kept, past no state that meets the
+--                     target, and at no address that isn't noted
 --     IsTaken         so does each step from a state that is kept
 --     Extends         a view knows more than another
 --     Holds           all is safe from each state that is closed on
@@ -21,6 +24,7 @@ use Rattle.chip_machine.specs.State.{State}
 use Rattle.chip_machine.specs.Step.{step_of}
 use Rattle.chip_replay.specs.Keys.{Events, held}
 use Rattle.chip_replay.specs.Run.{run}
+use Rattle.chip_explore.specs.Executed.{is_among, is_at_one}
 use Rattle.chip_explore.specs.Target.{met_in}
 use Rattle.chip_explore.specs.declared.leg.End.{End}
 use Rattle.chip_explore.specs.declared.leg.End.TheVariants.{Past, Wanted, TimerSet, Halted, Joined}
@@ -39,14 +43,19 @@ pub record View : Type 0 where
   pub member : ℕ → State
   pub steps : List ℕ
   pub limit : ℕ
+  pub executed : List Bool
 
-pub record IsFine (p : Setting) (s : State) : Type 0 where
+abbrev pub Grows : List Bool → List Bool → Type 0
+Grows early late = (pc : ℕ) → is_among early pc ≡ true → is_among late pc ≡ true
+
+pub record IsFine (p : Setting) (executed : List Bool) (s : State) : Type 0 where
   pub avoided : met_in p.target s ≡ None
   pub calm : p.free ≡ true → s.core.delay ≡ 0
+  pub noted : is_at_one executed s ≡ true
 
 -- the next step is the same whatever allowed keys are down
-pub record Moves (p : Setting) (s : State) : Type 0 where
-  pub fine : IsFine p s
+pub record Moves (p : Setting) (executed : List Bool) (s : State) : Type 0 where
+  pub fine : IsFine p executed s
   pub same : Represents p.allowed 0 s
   pub drawn : s.core.draws < 2 ^ 64 - 1
 
@@ -58,11 +67,11 @@ pub record Joins (p : Setting) (v : View) (s : State) (t : ℕ) : Type 0 where
   pub alike : relevant (v.member place) ≡ relevant s
 
 abbrev pub Ends : Setting → View → State → ℕ → Type 0
-Ends p v s t = (v.limit ≤ t) ⊎ (IsFine p s × ((is_some s.core.stopped ≡ true) ⊎ Joins p v s t))
+Ends p v s t = (v.limit ≤ t) ⊎ (IsFine p v.executed s × ((is_some s.core.stopped ≡ true) ⊎ Joins p v s t))
 
 abbrev pub SafeFor : Setting → View → ℕ → State → ℕ → Type 0
 SafeFor p v zero s t = Ends p v s t
-SafeFor p v (suc k) s t = Moves p s × SafeFor p v k (step_of s 0 (tick_at p t)) (t + 1)
+SafeFor p v (suc k) s t = Moves p v.executed s × SafeFor p v k (step_of s 0 (tick_at p t)) (t + 1)
 
 pub record Safe (p : Setting) (v : View) (s : State) (t : ℕ) : Type 0 where
   pub moves : ℕ
@@ -84,6 +93,7 @@ pub record Extends (p : Setting) (v w : View) : Type 0 where
   pub early : (j : ℕ) → j < length v.steps → slice_index w.steps j ≤ slice_index v.steps j
   pub phased : (j : ℕ) → j < length v.steps
       → phase p (slice_index w.steps j) ≡ phase p (slice_index v.steps j)
+  pub executed : Grows v.executed w.executed
 
 -- what the code keeps
 abbrev pub view_of : Members → View
@@ -92,6 +102,7 @@ view_of m =
       member = state_at m.base m.states.items;
       steps = m.steps.items;
       limit = m.limit;
+      executed = m.executed;
     }
 
 pub record Holds (p : Setting) (m : Members) : Type 0 where
@@ -118,12 +129,12 @@ pub record IsAt (p : Setting) (m : Members) (place : ℕ) (s : State) (t : ℕ) 
   pub alike : relevant ((view_of m).member place) ≡ relevant s
 
 -- why some steps in a row ended at a state
-abbrev pub IsEnd : Setting → ℕ → State → ℕ → End → Type 0
-IsEnd p limit s t Past = limit ≤ t
-IsEnd p limit s t Wanted = Unit {0}
-IsEnd p limit s t TimerSet = Unit {0}
-IsEnd p limit s t Halted = IsFine p s × (is_some s.core.stopped ≡ true)
-IsEnd p limit s t Joined = IsFine p s
+abbrev pub IsEnd : Setting → List Bool → ℕ → State → ℕ → End → Type 0
+IsEnd p executed limit s t Past = limit ≤ t
+IsEnd p executed limit s t Wanted = Unit {0}
+IsEnd p executed limit s t TimerSet = Unit {0}
+IsEnd p executed limit s t Halted = IsFine p executed s × (is_some s.core.stopped ≡ true)
+IsEnd p executed limit s t Joined = IsFine p executed s
 
 -- what a run under some events shows
 pub record Confirms (p : Setting) (start : State) (keys : Events) (step : ℕ) (met : Met) : Type 0 where

@@ -1,9 +1,12 @@
-use Rattle.chip_explore.specs.inner.Cover.{Safe, View}
+use Rattle.chip_explore.specs.inner.Cover.{Grows, Safe, View}
 use Rattle.chip_explore.proofs.leg.Runner.run.Given as goal
 
 abbrev pub invariant-loop-end : goal.invariant-loop-end
 invariant-loop-end l =
-    (v : View) → Safe l.setting v l.self.machine l.step → Safe l.setting v l.fn.self.machine l.from
+    record {
+      grows : Grows l.fn.executed l.executed;
+      path : (v : View) → Grows l.executed v.executed → Safe l.setting v l.self.machine l.step → Safe l.setting v l.fn.self.machine l.from;
+    }
 
 abbrev pub decreases-loop-end : goal.decreases-loop-end
 decreases-loop-end l = l.left

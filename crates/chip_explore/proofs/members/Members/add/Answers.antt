@@ -1,4 +1,4 @@
-use Rattle.std.proofs.Common.{rules, ◌≡◌, ◌<◌, ℕ, List, Bool, [], ◌∷◌, ◌++◌, false, true, refl, sym, ap, inr, arith, ◌∙◌, length, get_or}
+use Rattle.std.proofs.Common.{rules, ◌≡◌, ◌<◌, ℕ, List, Bool, cond, [], ◌∷◌, ◌++◌, false, true, refl, sym, ap, inr, arith, ◌∙◌, length, get_or}
 use Rattle.std.proofs.lemmas.List.{get_or_append_left, length-append}
 use Rattle.std.proofs.Math.Seq.{get_or-append_seam}
 use Rattle.chip_machine.specs.Relevant.{relevant}
@@ -9,6 +9,11 @@ use Rattle.chip_explore.proofs.Places.{state_before, state_last}
 use Rattle.chip_explore.proofs.Growth.{closed_inside, closed_pushed, goes}
 use Rattle.chip_explore.proofs.members.Members.add.Goals as goal
 
+-- what a push into room that was taken adds
+pushed : {A : Type 0} (done : Bool) (now room was : List A) (x : A) → now ≡ cond done (room ++ x ∷ []) room → done ≡ true → room ≡ was → now ≡ was ++ x ∷ []
+pushed done now room was x items succeeds same =
+    items ∙ ap (λ b. cond b (room ++ x ∷ []) room) succeeds ∙ ap (λ xs. xs ++ x ∷ []) same
+
 inside : (closed : List Bool) (j : ℕ) → get_or closed j false ≡ true → {n : ℕ} → length closed ≡ n → j < n
 inside closed j up e = let within = closed_inside closed j up in omega arith
 
@@ -16,10 +21,13 @@ pub returns-clause-goes : goal.returns-clause-goes
 returns-clause-goes c =
     let m = c.args.self.now in
     let p = c.args.setting.now in
-    let states = c.in_ok-push.ensures.items in
     let kept = c.args.kept in
-    let closed = c.in_ok-push-2.ensures.items in
-    let steps = c.in_ok-push-3.ensures.items in
+    let states : c.push.new.self.items ≡ m.states.items ++ kept ∷ [] =
+    pushed _ _ _ _ _ c.push.ensures.items (c.push.ensures.succeeds (omega (arith, c.in_ok-reserve.ensures.ok))) c.reserve.ensures.items in
+    let closed : c.push-2.new.self.items ≡ m.closed.items ++ false ∷ [] =
+    pushed _ _ _ _ _ c.push-2.ensures.items (c.push-2.ensures.succeeds (omega (arith, c.in_ok-reserve-2.ensures.ok))) c.reserve-2.ensures.items in
+    let steps : c.push-3.new.self.items ≡ m.steps.items ++ c.args.step ∷ [] =
+    pushed _ _ _ _ _ c.push-3.ensures.items (c.push-3.ensures.succeeds (omega (arith, c.in_ok-reserve-3.ensures.ok))) c.reserve-3.ensures.items in
     let more_states = ap (length {A = Kept}) states ∙ length-append m.states.items (kept ∷ []) in
     let more_closed = ap (length {A = Bool}) closed ∙ length-append m.closed.items (false ∷ []) in
     let more_steps = ap (length {A = ℕ}) steps ∙ length-append m.steps.items (c.args.step ∷ []) in
@@ -34,6 +42,7 @@ returns-clause-goes c =
       member = λ j l. ap (λ (xs : List Kept). state_at m.base xs j) states ∙ state_before m.base m.states.items (kept ∷ []) j (omega arith);
       early = λ j l. let is = same j l in omega arith;
       phased = λ j l. ap (phase p) (same j l);
+      executed = λ pc h. h;
     })
     (omega arith)
     (omega arith)
@@ -45,9 +54,11 @@ pub returns-clause-joins : goal.returns-clause-joins
 returns-clause-joins c =
     let m = c.args.self.now in
     let p = c.args.setting.now in
-    let states = c.in_ok-push.ensures.items in
     let kept = c.args.kept in
-    let steps = c.in_ok-push-3.ensures.items in
+    let states : c.push.new.self.items ≡ m.states.items ++ kept ∷ [] =
+    pushed _ _ _ _ _ c.push.ensures.items (c.push.ensures.succeeds (omega (arith, c.in_ok-reserve.ensures.ok))) c.reserve.ensures.items in
+    let steps : c.push-3.new.self.items ≡ m.steps.items ++ c.args.step ∷ [] =
+    pushed _ _ _ _ _ c.push-3.ensures.items (c.push-3.ensures.succeeds (omega (arith, c.in_ok-reserve-3.ensures.ok))) c.reserve-3.ensures.items in
     let count = c.requires.states in
     let more_steps = ap (length {A = ℕ}) steps ∙ length-append m.steps.items (c.args.step ∷ []) in
     let last : get_or c.push-3.new.self.items (length m.steps.items) 0 ≡ c.args.step =

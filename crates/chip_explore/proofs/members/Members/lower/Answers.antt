@@ -19,6 +19,7 @@ returns-clause-goes c =
       member = λ j l. refl;
       early = λ j l. set_early m.steps.items place step j kept c.requires.early;
       phased = λ j l. set_phased p m.steps.items place step j kept c.requires.phased;
+      executed = λ pc h. h;
     })
     (c.requires.holds.states ∙ omega (arith, length-set m.steps.items place step))
     (length-set m.closed.items place false ∙ count ∙ omega (arith, length-set m.steps.items place step))
