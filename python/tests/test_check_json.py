@@ -103,7 +103,7 @@ class CheckAsJson(NeedsWords):
 
     def test_each_source_of_the_tests(self) -> None:
         counts = [self.compare(source, "-") for source in sources()]
-        self.assertGreater(sum(counts), 100)
+        self.assertGreater(sum(counts), 60)
 
     def test_the_place_of_each_object_has_its_bytes(self) -> None:
         source = b'; \xc3\xa9\n\tLD V0, none ; \xc3\xa9\nDA "\xc3\xa9\xc3\xa9", 1\nJP\n'
