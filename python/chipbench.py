@@ -16,6 +16,7 @@ from __future__ import annotations
 
 import contextlib
 import functools
+import json
 import os
 import re
 import select
@@ -26,7 +27,7 @@ import time
 from collections.abc import Iterable, Iterator, Sequence
 from dataclasses import dataclass, field
 from pathlib import Path
-from typing import NamedTuple
+from typing import Any, NamedTuple
 
 ANSWER_SECONDS = 60.0
 ONCE_SECONDS = 20.0
@@ -296,7 +297,8 @@ def join_lines(lines: Iterable[bytes]) -> bytes:
 
 @dataclass(frozen=True)
 class Fault:
-    """A fault of a line. `start` and `end` are byte positions in the line, which only `check` reports."""
+    """A fault of a line, or a warning, whose code begins with W. `start` and `end` are byte positions in the line, which
+    only `check` reports, as it does warnings."""
 
     line: int
     code: str
@@ -304,6 +306,10 @@ class Fault:
     start: int | None = None
     end: int | None = None
     help: str = ""
+
+    @property
+    def is_warning(self) -> bool:
+        return self.code.startswith("W")
 
     def __str__(self) -> str:
         return f"line {self.line}: {self.code}" + (f": {self.sentence}" if self.sentence else "")
@@ -339,7 +345,6 @@ class Word(NamedTuple):
 
 
 LISTING_LINE = re.compile(rb" *([0-9]+) ([0-9a-f]{4}|----) (.{12})([+ ]) (.*)", re.DOTALL)
-FAULT_HEAD = re.compile(rb"^.*:([0-9]+):([0-9]+): ([A-Z][0-9]+): (.*)$")
 
 
 def read_listing_line(line: bytes) -> ListingLine:
@@ -360,45 +365,31 @@ def read_listing_line(line: bytes) -> ListingLine:
     )
 
 
-def check(source: str | bytes, program: str | None = None) -> list[Fault]:
-    """The faults of a source with their places, by the program's `check`.
+def check(source: str | bytes, program: str | None = None, profile: str | None = None) -> list[Fault]:
+    """The faults of a source with their places, and then its warnings under a profile, by the program's `check`.
 
     >>> [(fault.line, fault.code, fault.start, fault.end) for fault in check("LD V0, COLUMN")]
     [(1, 'F9', 7, 13)]
     """
     content, program = to_bytes(source), program or find_program()
-    status, output, errors = run_once([program, "check", "-"], content)
+    options = ["--profile", profile] if profile else []
+    status, output, errors = run_once([program, "check", "--json", *options, "-"], content)
     if output.startswith(NOT_OPENED):
         raise refusal(program, output[3:].strip().decode())
     if status not in (0, 1):
         raise Ended(status, errors.strip(), [])
-    return read_check(output, split_lines(content))
+    return read_check(output)
 
 
-def read_check(output: bytes, lines: Sequence[bytes]) -> list[Fault]:
-    """The faults that `check` prints: a head, the line, the marks below it, and sometimes help."""
-    faults: list[Fault] = []
-    printed = output.split(b"\n")
-    at = 0
-    while at < len(printed):
-        found = FAULT_HEAD.match(printed[at])
-        at += 1
-        if found is None:
-            continue
-        number, start = int(found[1]), int(found[2]) - 1
-        length = 0
-        if at + 1 < len(printed):
-            marks = printed[at + 1].lstrip()
-            length = len(marks) if not marks.strip(b"^~") else 0
-            at += 2
-        help_lines = []
-        while at < len(printed) and (printed[at].startswith(b"help: ") or printed[at].startswith(b"note: ")):
-            help_lines.append(to_text(printed[at]))
-            at += 1
-        size = len(lines[number - 1]) if 0 < number <= len(lines) else 0
-        end = min(start + length, max(size, start))
-        faults.append(Fault(number, found[3].decode(), to_text(found[4]), start, end, "\n".join(help_lines)))
-    return faults
+def read_check(output: bytes) -> list[Fault]:
+    """The faults and warnings that `check --json` prints, an object on each line."""
+    return [read_object(json.loads(line)) for line in output.decode().split("\n")[:-1]]
+
+
+def read_object(found: dict[str, Any]) -> Fault:
+    help_lines = [text if text.startswith("note: ") else f"help: {text}" for text in found["help"]]
+    start, end = found["column"] - 1, found["end"] - 1
+    return Fault(found["line"], found["code"], found["message"], start, end, "\n".join(help_lines))
 
 
 def disassemble(image: bytes, program: str | None = None) -> str:

@@ -1,4 +1,5 @@
-"""Faults as diagnostics. They come from the session as a line and a code; places and help come from `check`, after a pause."""
+"""Faults and warnings as diagnostics. Faults come from the session as a line and a code; their places and help, and the
+warnings, come from `check`, after a pause."""
 
 from __future__ import annotations
 
@@ -11,22 +12,43 @@ from .language import read_line
 from .positions import byte_to_place
 from .tables import FAULTS
 
-ERROR = 1
+ERROR, WARNING = 1, 2
 MOST_SHOWN = 1000
 SOURCE = "chipbench"
 
 
 class Places:
-    """What `check` said last of each line's text and code, so that it stands while other lines are typed."""
+    """What `check` said last of each line's text and code, so that it stands while other lines are typed; and the
+    warnings, with the lines that they are of."""
 
     def __init__(self) -> None:
         self._known: dict[tuple[str, str], Fault] = {}
+        self._lines: list[str] = []
+        self._warnings: list[Fault] = []
 
     def learn(self, lines: list[str], faults: list[Fault]) -> None:
-        self._known = {(lines[fault.line - 1], fault.code): fault for fault in faults if fault.line <= len(lines)}
+        inside = [fault for fault in faults if fault.line <= len(lines)]
+        self._known = {(lines[fault.line - 1], fault.code): fault for fault in inside if not fault.is_warning}
+        self._lines = lines
+        self._warnings = [fault for fault in inside if fault.is_warning]
 
     def of(self, line: str, code: str) -> Fault | None:
         return self._known.get((line, code))
+
+    def warnings(self, lines: list[str]) -> list[tuple[int, Fault]]:
+        """The warnings of the lines that stand as they were, each with its line's index now: of the lines before the
+        first changed one, and of those after the last."""
+        if not self._warnings:
+            return []
+        shared = min(len(lines), len(self._lines))
+        same = (number for number in range(shared) if lines[number] != self._lines[number])
+        before = next(same, shared)
+        rest = range(1, shared - before + 1)
+        after = next((back - 1 for back in rest if lines[-back] != self._lines[-back]), len(rest))
+        moved, first = len(lines) - len(self._lines), len(self._lines) - after
+        numbers = ((warning.line - 1, warning) for warning in self._warnings)
+        return [(number + moved if number >= first else number, warning) for number, warning in numbers
+                if number < before or number >= first]
 
 
 def whole_line(line: str) -> tuple[int, int]:
@@ -40,11 +62,13 @@ def sentence_of(program: str | None, code: str) -> str:
     return known.get(code, "") or FAULTS.get(code, code)
 
 
-def diagnostic(document: Document, number: int, span: tuple[int, int], code: str, text: str) -> dict[str, Any]:
+def diagnostic(
+    document: Document, number: int, span: tuple[int, int], code: str, text: str, severity: int = ERROR,
+) -> dict[str, Any]:
     line = document.line(number)
     return {
         "range": document.columns.range(number, line, *span),
-        "severity": ERROR,
+        "severity": severity,
         "code": code,
         "source": SOURCE,
         "message": text,
@@ -54,16 +78,23 @@ def diagnostic(document: Document, number: int, span: tuple[int, int], code: str
 def fault_diagnostic(document: Document, places: Places, program: str | None, number: int, code: str) -> dict[str, Any]:
     line = document.line(number)
     known = places.of(line, code)
-    if known is None or known.start is None or known.end is None:
+    if known is None:
         return diagnostic(document, number, whole_line(line), code, sentence_of(program, code))
+    return placed_diagnostic(document, number, known, ERROR)
+
+
+def placed_diagnostic(document: Document, number: int, found: Fault, severity: int) -> dict[str, Any]:
+    """A fault or a warning with its place, and its help below its sentence."""
+    line = document.line(number)
     content = to_bytes(line)
-    span = byte_to_place(line, content, known.start), byte_to_place(line, content, known.end)
-    text = "\n".join(part for part in (known.sentence, known.help) if part)
-    return diagnostic(document, number, span, code, text)
+    span = byte_to_place(line, content, found.start or 0), byte_to_place(line, content, found.end or 0)
+    text = "\n".join(part for part in (found.sentence, found.help) if part)
+    return diagnostic(document, number, span, found.code, text, severity)
 
 
 def diagnostics(document: Document, places: Places, program: str | None) -> list[dict[str, Any]]:
-    """The diagnostics of a document: its faults, the limits that it passes, or that the program has ended."""
+    """The diagnostics of a document: its faults, else its warnings; the limits that it passes, or that the program has
+    ended."""
     try:
         faults = document.faults
     except OverLimits as over:
@@ -72,6 +103,9 @@ def diagnostics(document: Document, places: Places, program: str | None) -> list
     except ChipbenchError as error:
         text = f"the faults are unknown: {error}"
         return [diagnostic(document, 0, (0, len(document.line(0))), "program", text)]
+    if not faults:
+        warnings = places.warnings(document.lines)[:MOST_SHOWN]
+        return [placed_diagnostic(document, number, warning, WARNING) for number, warning in warnings]
     found = [fault_diagnostic(document, places, program, number, code) for number, code in faults[:MOST_SHOWN]]
     if len(faults) > MOST_SHOWN:
         number = faults[MOST_SHOWN][0]

@@ -363,14 +363,15 @@ class Server:
         document = self.documents[due]
         shown = self._shown.get(due)
         program = self.program
-        if not shown or not self._has_check or program is None or shown[0]["code"] in ("O1", "O2", "program"):
+        if not self._has_check or program is None or (shown and shown[0]["code"] in ("O1", "O2", "program")):
             return
         uri, edition, lines, source = due, document.edition, document.lines, document.source
+        profile = self.options.get("profile")
 
         def work() -> None:
             faults = []
             with contextlib.suppress(Exception):
-                faults = chipbench.check(chipbench.join_lines(source), program)
+                faults = chipbench.check(chipbench.join_lines(source), program, profile)
             self._queue.put(Checked(uri, edition, lines, faults))
 
         self._is_checking = True
@@ -382,7 +383,7 @@ class Server:
         if document is None:
             return
         self.places[checked.uri].learn(checked.lines, checked.faults)
-        if document.edition == checked.edition:
+        if document.edition == checked.edition and (checked.faults or self._shown.get(checked.uri)):
             self._show(checked.uri)
 
     # -- run to here

@@ -251,6 +251,10 @@ class Words(NeedsWords):
     def test_no_fault(self) -> None:
         self.assertEqual(chipbench.check(COUNTER, self.program), [])
 
+    def test_a_warning(self) -> None:
+        warnings = chipbench.check("CLS\nHERE: JP HERE\nUNUSED EQU 5\n", self.program)
+        self.assertEqual([(warning.line, warning.code, warning.is_warning) for warning in warnings], [(3, "W2", True)])
+
     def test_a_check_of_what_does_not_open(self) -> None:
         with self.assertRaises(Refused):
             chipbench.check("\n" * 4001, self.program)
@@ -295,11 +299,14 @@ class AnswerEnds(unittest.TestCase):
 
 class WithoutProgram(unittest.TestCase):
     def test_what_check_prints(self) -> None:
-        printed = b"-:1:1: F3: unknown word\n-:2:1: F9: a line that looks so\n^\nhelp: did you mean CLS\n-:2:4: F4: operands\nDB \n   ^\n"
-        lines = [b"-:2:1: F9: a line that looks so", b"DB "]
-        faults = chipbench.read_check(printed, lines)
-        self.assertEqual([(fault.line, fault.start, fault.end, fault.help) for fault in faults],
-                         [(1, 0, 1, "help: did you mean CLS"), (2, 3, 3, "")])
+        printed = (
+            b'{"line":1,"column":1,"end":4,"code":"F3","message":"unknown word","help":["did you mean CLS?"],"file":"-"}\n'
+            b'{"line":2,"column":4,"end":4,"code":"F4","message":"operands","help":[],"file":"-"}\n'
+            b'{"line":9,"column":2,"end":3,"code":"W2","message":"A is never used","help":["a","note: b"],"file":"-"}\n'
+        )
+        faults = chipbench.read_check(printed)
+        self.assertEqual([(fault.line, fault.start, fault.end, fault.help, fault.is_warning) for fault in faults],
+                         [(1, 0, 3, "help: did you mean CLS?", False), (2, 3, 3, "", False), (9, 1, 2, "help: a\nnote: b", True)])
 
     def test_the_screen(self) -> None:
         screen = Screen(True, {0: 1, 63: 1 << 127})

@@ -21,8 +21,8 @@ sys.path.insert(0, str(Path(__file__).resolve().parent))
 from client import URI, Client, span  # noqa: E402
 from programs import EXAMPLES, TOP, NeedsProgram, NeedsWords  # noqa: E402
 
-from chipbench import Bench  # noqa: E402
-from chipbench_lsp import completion, document, fixes, language, layout, positions  # noqa: E402
+from chipbench import Bench, Fault  # noqa: E402
+from chipbench_lsp import completion, diagnostics, document, fixes, language, layout, positions  # noqa: E402
 
 GAME = """; A game in few lines.
 STEP    EQU 3
@@ -147,7 +147,8 @@ class Diagnostics(Served):
             found = client.edit(position(text, start), position(text, end), piece)
             text = text[:start] + piece + text[end:]
             with Bench(text, program=self.program) as bench:
-                self.assertEqual(faults_of(found), [(fault.line, fault.code) for fault in bench.faults], text)
+                faults = [fault for fault in found if fault["severity"] == diagnostics.ERROR]
+                self.assertEqual(faults_of(faults), [(fault.line, fault.code) for fault in bench.faults], text)
 
 
 def position(text: str, place: int) -> tuple[int, int]:
@@ -355,6 +356,32 @@ class Places(NeedsWords):
         self.assertEqual(client.shown()[0]["range"], span((0, 15), (0, 19)))
         # what was learnt stays while another line is typed
         self.assertEqual(client.edit((1, 0), (1, 0), "CLS")[0]["range"], span((0, 15), (0, 19)))
+
+
+    def test_warnings_come_after_a_pause(self) -> None:
+        """They stay on their lines while other lines are typed, and are of another severity than faults."""
+        client = Client(self.program)
+        self.addCleanup(client.kill)
+        self.assertEqual(client.open("CLS\nHERE: JP HERE\nUNUSED EQU 5\n"), [])
+        found = client.shown()
+        self.assertEqual([(faults_of([warning]), warning["severity"]) for warning in found], [([(3, "W2")], 2)])
+        self.assertEqual(faults_of(client.edit((0, 0), (0, 0), "CLS\n")), [(4, "W2")])
+        self.assertEqual(client.edit((3, 0), (3, 0), "X"), [])
+        self.assertEqual(faults_of(client.shown()), [(4, "W2")])
+        self.assertEqual(faults_of(client.edit((0, 0), (0, 3), "FOO")), [(1, "F3")])
+
+
+class WarningsMove(unittest.TestCase):
+    def test_which_warnings_stay(self) -> None:
+        """Those of the lines before the first changed one and after the last, each by its line's place now."""
+        rows = (
+            (["a", "b", "c"], [0, 1, 2]), (["a", "x", "b", "c"], [0, 2, 3]), (["b", "c"], [0, 1]), (["a", "x", "c"], [0, 2]),
+            (["a"], [0]), ([], []), (["x", "y", "z"], []), (["a", "b", "c", "b", "c"], [0, 1, 2]),
+        )
+        places = diagnostics.Places()
+        places.learn(["a", "b", "c"], [Fault(number, "W2") for number in (1, 2, 3)])
+        for lines, wanted in rows:
+            self.assertEqual([number for number, _ in places.warnings(lines)], wanted, lines)
 
 
 class Protocol(Served):

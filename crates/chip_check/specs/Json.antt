@@ -40,17 +40,22 @@ hint_strings (hint ∷ hints) = hint_string hint ++ flat_map further_hint hints
 
 -- The object of a place, and a newline. The column and the end count from 1, in bytes, and the end
 -- is one past the last byte; a code has no byte that is written otherwise in a string.
-unfoldable pub object : (name : List ℕ) → Print
-object name number line span code sentence hints =
+unfoldable pub object : (name : List ℕ) (number : ℕ) → Span → (code sentence : List ℕ) → List Hint
+    → List ℕ
+object name number span code sentence hints =
     codes "{\"line\":" ++ decimal number ++ codes ",\"column\":" ++ decimal (span.start + 1)
     ++ codes ",\"end\":" ++ decimal (span.end + 1) ++ codes ",\"code\":\"" ++ code
     ++ codes "\",\"message\":" ++ quoted sentence ++ codes ",\"help\":[" ++ hint_strings hints
     ++ codes "],\"file\":" ++ quoted name ++ codes "}\n"
 
+-- how a place is printed as JSON: the text of the line is left out
+abbrev pub as_object : (name : List ℕ) → Print
+as_object name number line span code sentence hints = object name number span code sentence hints
+
 -- a text is the objects of the faults of a source's lines, in their order
 abbrev pub AreObjects : (name : List ℕ) (lines : List (List ℕ)) (text : List ℕ) → Type 0
-AreObjects name lines text = AreReports (object name) lines 1 lines text
+AreObjects name lines text = AreReports (as_object name) lines 1 lines text
 
 -- a text begins with those objects, and ends with anything else, as the objects of warnings are
 abbrev pub IsCheckJson : (name : List ℕ) (lines : List (List ℕ)) (text : List ℕ) → Type 0
-IsCheckJson name lines text = IsCheckedIn (object name) lines text
+IsCheckJson name lines text = IsCheckedIn (as_object name) lines text

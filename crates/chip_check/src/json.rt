@@ -1,6 +1,6 @@
 //! A finding as a JSON object on a line of its own.
 
-ghost use Rattle.std.specs.Prelude.{◌≡◌, ◌≤◌, ◌+◌, ◌++◌, OnOk, length};
+ghost use Rattle.std.specs.Prelude.{◌≡◌, ◌≤◌, ◌+◌, ◌++◌, OnOk};
 ghost use Rattle.std.specs.List.{flat_map};
 ghost use Rattle.chip_lang.specs.Show.{hex_digit};
 ghost use Rattle.chip_check.specs.Json.{escaped, quoted, hint_prefix, hint_string, hint_strings, further_hint, object};
@@ -9,20 +9,19 @@ use crate::finding::Finding;
 use crate::hint::{Hint, HintKind};
 use std::alloc::{AllocError, Global};
 
-/// Adds the object of a finding, which lies in this line of a number.
+/// Adds the object of a finding in the line of a number.
 #[tactic(auto, unfolding(crate::specs::Json::object))]
 pub(crate) fn push_object(
     alloc: Global,
     text: &mut Vec<u8>,
     name: &[u8],
     number: usize,
-    line: &[u8],
     finding: &Finding,
 ) -> Result<(), AllocError>
-    requires rises { finding.now.span.start ≤ finding.now.span.end }
-    requires inside { finding.now.span.end ≤ length line.now }
+    requires start { finding.now.span.start + 1 ≤ usize.MAX }
+    requires end { finding.now.span.end + 1 ≤ usize.MAX }
     ensures { OnOk result (text.new.items ≡ text.old.items
-        ++ object name.now number line.now finding.now.span finding.now.code.items
+        ++ object name.now number finding.now.span finding.now.code.items
         finding.now.sentence.items finding.now.hints.items) }
 {
     let (column, end) = (finding.span.start + 1, finding.span.end + 1);

@@ -41,6 +41,6 @@ pub(crate) fn push_finding(
 {
     match style.form {
         Form::Text => push_report(alloc, text, style.name, number, line, finding),
-        Form::Json => push_object(alloc, text, style.name, number, line, finding),
+        Form::Json => push_object(alloc, text, style.name, number, finding),
     }
 }

@@ -3,9 +3,9 @@ use Rattle.std.specs.Prelude.{ℕ, List}
 use Rattle.chip_check.specs.declared.printing.Form.{Form}
 use Rattle.chip_check.specs.declared.printing.Form.TheVariants.{Text, Json}
 use Rattle.chip_check.specs.Check.{Print, report}
-use Rattle.chip_check.specs.Json.{object}
+use Rattle.chip_check.specs.Json.{as_object}
 
 -- how a form prints a place of a line
 abbrev pub print_in : Form → (name : List ℕ) → Print
 print_in Text name = report name
-print_in Json name = object name
+print_in Json name = as_object name
