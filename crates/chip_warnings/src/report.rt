@@ -81,6 +81,7 @@ impl<'a> Judge<'a> {
     {
         let seen = self.survey.line(number);
         for code in CODES {
+            let code = *code;
             if !code.is_among(self.allowed) && self.flow.has(code, self.survey, &seen, self.profile)
             {
                 let span = fault_span(alloc, line, fault_there(code))?;
