@@ -6,9 +6,10 @@ ghost use Rattle.chip_asm.specs.Program.{image_of};
 ghost use Rattle.chip_warnings.specs.Warnings.{StandsAt, StandsIn, Adds};
 
 use crate::flow::Flow;
+use crate::seen::Seen;
 use crate::survey::Survey;
 use crate::text::{fault_there, help, sentence};
-use crate::warning::{CODES, Warning};
+use crate::warning::{CODES, Warning, WarningCode};
 use chip_asm::Source;
 use chip_files::first_line;
 use chip_lang::fault_span;
@@ -81,19 +82,39 @@ impl<'a> Judge<'a> {
     {
         let seen = self.survey.line(number);
         for code in CODES {
-            if !code.is_among(self.allowed) && self.flow.has(code, self.survey, &seen, self.profile)
-            {
-                let span = fault_span(alloc, line, fault_there(code))?;
-                let marks = &self.survey.marks;
-                warnings.push(Warning {
-                    line: number,
-                    span,
-                    code,
-                    sentence: sentence(alloc, code, line, span, &seen, self.flow, marks)?,
-                    help: Vec::from_slice(alloc, help(code))?,
-                })?;
+            if self.has(*code, &seen) {
+                let warning = self.warning(alloc, *code, number, line, &seen)?;
+                warnings.push(warning)?;
             }
         }
         Ok(())
+    }
+
+    /// Whether a line has a warning of a kind that isn't switched off.
+    fn has(&self, code: WarningCode, seen: &Seen) -> bool {
+        !code.is_among(self.allowed) && self.flow.has(code, self.survey, seen, self.profile)
+    }
+
+    /// The warning of a kind of the line of a number.
+    fn warning(
+        &self,
+        alloc: Global,
+        code: WarningCode,
+        number: usize,
+        line: &[u8],
+        seen: &Seen,
+    ) -> Result<Warning, AllocError>
+        ensures { IfOk result (StandsAt number line.now) }
+    {
+        let span = fault_span(alloc, line, fault_there(code))?;
+        let sentence = sentence(alloc, code, line, span, seen, self.flow, &self.survey.marks)?;
+        let help = Vec::from_slice(alloc, help(code))?;
+        Ok(Warning {
+            line: number,
+            span,
+            code,
+            sentence,
+            help,
+        })
     }
 }

@@ -48,7 +48,7 @@ impl WarningCode {
 }
 
 /// All kinds, in the order of their numbers.
-pub(crate) const CODES: [WarningCode; 7] = [
+pub(crate) const CODES: &[WarningCode] = &[
     WarningCode::SplitRows,
     WarningCode::UnusedName,
     WarningCode::Unreachable,
