@@ -81,7 +81,7 @@ pub fn program<F: Files, S: AsStr, I: Read, O: Write, E: Write>(
         ShowsVersion I.remaining O.contents input.old input.new output.old written ended)
         output.new result }
 {
-    let ended = carry_out(alloc, files, name_seed, words, input, output);
+    let ended = carry_out(alloc, files, name_seed, words, input, output, errors);
     let flushed = output.flush();
     finish(ended, flushed.is_ok(), errors)
 }
@@ -119,13 +119,14 @@ fn report<E: Write>(failure: Failure<'_>, errors: &mut E) -> u8
     failure.status()
 }
 
-fn carry_out<'a, F: Files, S: AsStr, I: Read, O: Write>(
+fn carry_out<'a, F: Files, S: AsStr, I: Read, O: Write, E: Write>(
     alloc: Global,
     files: &F,
     name_seed: u64,
     words: &'a [S],
     input: &mut Counted<I>,
     output: &mut Counted<O>,
+    errors: &mut E,
 ) -> Result<Ending, Failure<'a>>
     ensures session { words.entry.now ≡ []
         → AnswersScript I.remaining O.contents default_settings []
@@ -140,19 +141,20 @@ fn carry_out<'a, F: Files, S: AsStr, I: Read, O: Write>(
         → ShowsVersion I.remaining O.contents input.old input.new output.old output.new result }
 {
     match parse_words(alloc, words) {
-        Ok(line) => perform(alloc, files, name_seed, line, input, output),
+        Ok(line) => perform(alloc, files, name_seed, line, input, output, errors),
         Err(help) if !help.use_stderr() => show_help(alloc, &help, output),
         Err(fault) => Err(Failure::from(fault)),
     }
 }
 
-fn perform<'a, F: Files, I: Read, O: Write>(
+fn perform<'a, F: Files, I: Read, O: Write, E: Write>(
     alloc: Global,
     files: &F,
     name_seed: u64,
     line: CommandLine<'a>,
     input: &mut Counted<I>,
     output: &mut Counted<O>,
+    errors: &mut E,
 ) -> Result<Ending, Failure<'a>>
     ensures { Does I.remaining O.contents input.old input.new output.old output.new
         line.entry result }
@@ -174,7 +176,7 @@ fn perform<'a, F: Files, I: Read, O: Write>(
         CommandLine::Trace(words) => trace(alloc, files, &words, input, output),
         CommandLine::Picture(words) => picture(alloc, files, &words, input, output),
         CommandLine::Test(words) => test_files(alloc, files, &words, output),
-        CommandLine::Explore(words) => explore(alloc, files, &words, input, output),
+        CommandLine::Explore(words) => explore(alloc, files, &words, input, output, errors),
         CommandLine::Explain { code } => explain(alloc, code, output),
     }
 }

@@ -14,7 +14,7 @@ use chip_arguments::ExploreWords;
 use chip_asm::Source;
 use chip_cover::marked_listing;
 use chip_explore::{
-    Bounds, Causes, END, Explored, KeyEvent, Met, Outcome, Question, STOPS, Target,
+    Bounds, Causes, END, Explored, KeyEvent, Met, Outcome, Question, STOPS, Target, Watcher,
 };
 use chip_machine::limits::MEMORY_BYTES;
 use chip_machine::{Machine, Stop};
@@ -26,12 +26,13 @@ use std::rt::Files;
 
 /// `explore`: what a search over all key scripts answers of a source's image, or the faults where
 /// there is no image. Settings and sets are judged before the source is read.
-pub(crate) fn explore<'a, F: Files, I: Read, O: Write>(
+pub(crate) fn explore<'a, F: Files, I: Read, O: Write, E: Write>(
     alloc: Global,
     files: &F,
     words: &ExploreWords<'a>,
     input: &mut Counted<I>,
     output: &mut Counted<O>,
+    errors: &mut E,
 ) -> Result<Ending, Failure<'a>>
     ensures { Explores I.remaining O.contents input.old input.new output.old output.new
         words.entry.now result }
@@ -39,10 +40,10 @@ pub(crate) fn explore<'a, F: Files, I: Read, O: Write>(
     let settings = settings_of(alloc, &words.settings)?;
     let sets = sets_of(words)?;
     let source = read_given(alloc, files, words.source, words.is_image, input)?;
-    search_source(alloc, files, words, source, &settings, sets, output)
+    search_source(alloc, files, words, source, &settings, sets, output, errors)
 }
 
-fn search_source<'a, F: Files, O: Write>(
+fn search_source<'a, F: Files, O: Write, E: Write>(
     alloc: Global,
     files: &F,
     words: &ExploreWords<'a>,
@@ -50,6 +51,7 @@ fn search_source<'a, F: Files, O: Write>(
     settings: &Settings,
     sets: Sets,
     output: &mut Counted<O>,
+    errors: &mut E,
 ) -> Result<Ending, Failure<'a>>
     ensures { Searches O.contents output.old output.new words.entry.now settings.now sets.causes
         sets.keys (image_in source.items) source.items result }
@@ -74,7 +76,7 @@ fn search_source<'a, F: Files, O: Write>(
         allowed: sets.keys,
         target,
     };
-    search(alloc, files, words, &opened, &start, &question, output)
+    search(alloc, files, words, &opened, &start, &question, output, errors)
 }
 
 // What a search looks for, if the source has the place.
@@ -110,7 +112,7 @@ fn in_memory(number: i64) -> Option<u16>
     }
 }
 
-fn search<'a, F: Files, O: Write>(
+fn search<'a, F: Files, O: Write, E: Write>(
     alloc: Global,
     files: &F,
     words: &ExploreWords<'a>,
@@ -118,6 +120,7 @@ fn search<'a, F: Files, O: Write>(
     start: &Machine,
     question: &Question,
     output: &mut Counted<O>,
+    errors: &mut E,
 ) -> Result<Ending, Failure<'a>>
     requires rate { 0 < question.now.rate }
     requires fresh { start.now.core.draws ≡ 0 }
@@ -131,7 +134,11 @@ fn search<'a, F: Files, O: Write>(
         },
         states: words.states as usize,
     };
-    let explored = chip_explore::explore(alloc, start, question, &bounds);
+    let mut progress = Progress {
+        errors,
+        is_shown: words.is_progress_shown,
+    };
+    let explored = chip_explore::explore(alloc, start, question, &bounds, &mut progress);
     let text = search_text(alloc, words.is_covering, source, &explored)?;
     write_script(alloc, files, words, &explored.outcome)?;
     print(&text, search_ending(&explored), output)
@@ -165,6 +172,20 @@ fn script_text(alloc: Global, events: &[KeyEvent]) -> Result<Vec<u8>, AllocError
         text.extend_from_slice(if event.down { b" down\n" } else { b" up\n" })?;
     }
     Ok(text)
+}
+
+// How far a search is, said on standard error. Where that fails there is nobody to tell.
+struct Progress<'e, E> {
+    errors: &'e mut E,
+    is_shown: bool,
+}
+
+impl<'e, E: Write> Watcher for Progress<'e, E> {
+    fn note(&mut self, step: u64, states: usize) {
+        if self.is_shown {
+            let _ = writeln!(self.errors, "chipbench: step {step}, {states} states");
+        }
+    }
 }
 
 // What is printed of what a search found.

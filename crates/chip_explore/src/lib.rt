@@ -19,6 +19,7 @@ mod seen;
 mod setting;
 mod sum;
 mod target;
+mod watcher;
 
 pub use causes::Causes;
 pub use executed::Executed;
@@ -27,3 +28,4 @@ pub use question::{Bounds, Explored, Outcome, Question, explore};
 pub use script::KeyEvent;
 pub use seen::{STOPS, Seen};
 pub use target::{Met, Target};
+pub use watcher::Watcher;

@@ -5,3 +5,6 @@ pub const END: u64 = u64::MAX;
 
 /// How many steps that don't tell keys apart are made in a row before their state is kept.
 pub(crate) const MOST_QUIET_STEPS: u32 = 1_000;
+
+/// A watcher is told of each turn whose number is a multiple of it.
+pub(crate) const TURNS_TOLD: u64 = 250_000;

@@ -21,6 +21,7 @@ use crate::search::Search;
 use crate::seen::Seen;
 use crate::setting::Setting;
 use crate::target::{Met, Target};
+use crate::watcher::Watcher;
 use chip_machine::Machine;
 use chip_machine::laws::relevant_steps;
 use chip_replay::{KeyFault, LAST_STEP};
@@ -95,7 +96,13 @@ impl Explored {
 /// Whether under some key script, of the allowed keys alone, a machine that has drawn no random
 /// byte yet meets the target. The timers are free first, and a step that sets the delay timer makes
 /// the search begin anew.
-pub fn explore(alloc: Global, start: &Machine, question: &Question, bounds: &Bounds) -> Explored
+pub fn explore<W: Watcher>(
+    alloc: Global,
+    start: &Machine,
+    question: &Question,
+    bounds: &Bounds,
+    watcher: &mut W,
+) -> Explored
     requires rate { 0 < question.now.rate }
     requires fresh { start.now.core.draws ≡ 0 }
     ensures answers { Answers question.now.rate question.now.allowed question.now.target start.now
@@ -117,14 +124,14 @@ pub fn explore(alloc: Global, start: &Machine, question: &Question, bounds: &Bou
         target: question.target,
         free: true,
     };
-    let Ok(first) = search_once(alloc, start, &setting, bounds) else {
+    let Ok(first) = search_once(alloc, start, &setting, bounds, watcher) else {
         return Explored::at_once(Outcome::Within(0), Executed::at(start), true);
     };
     if !first.is_timer_set {
         return first.explored;
     }
     setting.free = false;
-    match search_once(alloc, start, &setting, bounds) {
+    match search_once(alloc, start, &setting, bounds, watcher) {
         Ok(second) => second.explored,
         Err(_) => Explored {
             is_short: true,
@@ -151,11 +158,12 @@ fn base_for(alloc: Global, start: &Machine, setting: &Setting) -> Result<Base, A
 }
 
 /// One search: an error where there was no memory to begin it.
-fn search_once(
+fn search_once<W: Watcher>(
     alloc: Global,
     start: &Machine,
     setting: &Setting,
     bounds: &Bounds,
+    watcher: &mut W,
 ) -> Result<Attempt, AllocError>
     requires rate { 0 < setting.now.rate }
     requires fresh { start.now.core.draws ≡ 0 }
@@ -172,7 +180,7 @@ fn search_once(
         backdrops: Backdrops::new(alloc),
         probe: Base::of(alloc, start)?,
     };
-    let is_done = search_all(&mut search, setting, bounds).is_ok();
+    let is_done = search_all(&mut search, setting, bounds, watcher).is_ok();
     let (outcome, is_whole) = outcome_of(alloc, setting, &search.members, &search.finder);
     let explored = Explored {
         is_short: !(is_done && is_whole) && matches!(outcome, Outcome::Within(_)),
@@ -188,14 +196,19 @@ fn search_once(
 }
 
 /// Keeps the first state, and takes up states from it on.
-fn search_all(search: &mut Search, setting: &Setting, bounds: &Bounds) -> Result<(), AllocError>
+fn search_all<W: Watcher>(
+    search: &mut Search,
+    setting: &Setting,
+    bounds: &Bounds,
+    watcher: &mut W,
+) -> Result<(), AllocError>
     requires rate { 0 < setting.now.rate }
     requires holds { Holds setting.now search.old.members }
     ensures goes { Goes setting.now search.old.members search.new.members }
     ensures begun { Safe setting.now (view_of search.new.members) search.old.runner.machine 0 }
 {
     search.run_on(setting, 0, Origin::START)?;
-    search.run(setting, bounds.steps, bounds.states)
+    search.run(setting, bounds.steps, bounds.states, watcher)
 }
 
 /// A step up to which no key script makes the machine meet the target.

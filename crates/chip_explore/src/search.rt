@@ -10,9 +10,11 @@ use crate::finder::{Finder, Origin, Turn};
 use crate::kept::{Base, Kept};
 use crate::keys::{alone, is_down};
 use crate::leg::{End, Runner};
+use crate::limits::TURNS_TOLD;
 use crate::members::Members;
 use crate::setting::Setting;
 use crate::sum::{backdrop_sum, sum_of};
+use crate::watcher::Watcher;
 use std::alloc::AllocError;
 
 /// A search under way.
@@ -207,17 +209,18 @@ impl Search {
     }
 
     /// Takes up states, by the least step, until none is left, or the limits are met.
-    pub(crate) fn run(
+    pub(crate) fn run<W: Watcher>(
         &mut self,
         setting: &Setting,
         most_steps: u64,
         most_states: usize,
+        watcher: &mut W,
     ) -> Result<(), AllocError>
         requires rate { 0 < setting.now.rate }
         requires holds { Holds setting.now self.old.members }
         ensures { Goes setting.now self.old.members self.new.members }
     {
-        for _turn in 0..u64::MAX {
+        for turns in 0..u64::MAX {
             let Some(turn) = self.finder.next() else {
                 return Ok(());
             };
@@ -227,6 +230,9 @@ impl Search {
             }
             if turn.step >= self.members.limit || turn.step >= most_steps {
                 return Ok(());
+            }
+            if turns % TURNS_TOLD == 0 {
+                watcher.note(turn.step, self.members.states.len());
             }
             if self.members.is_open(place, turn.step) {
                 self.take_up(setting, place)?;
