@@ -78,9 +78,9 @@ fn check_in(
 ) -> Result<Vec<u8>, AllocError>
     requires { source.now.lines ≡ lines_of bytes.now }
     ensures checked { IfOk result (λ text.
-        IsCheckedIn (print_in style.form style.name.now) source.now.lines text.items) }
+        IsCheckedIn (print_in style.entry.form style.entry.name.now) source.now.lines text.items) }
     ensures alone { warnings.now ≡ [] → IfOk result (λ text.
-        AreReports (print_in style.form style.name.now) source.now.lines 1
+        AreReports (print_in style.entry.form style.entry.name.now) source.now.lines 1
         source.now.lines text.items) }
 {
     let mut text = reports(alloc, style, bytes, source)?;
@@ -96,7 +96,7 @@ fn reports(
     source: &Source,
 ) -> Result<Vec<u8>, AllocError>
     requires { source.now.lines ≡ lines_of bytes.now }
-    ensures { IfOk result (λ text. AreReports (print_in style.form style.name.now)
+    ensures { IfOk result (λ text. AreReports (print_in style.entry.form style.entry.name.now)
         source.now.lines 1 source.now.lines text.items) }
 {
     let known = Known::of(alloc, bytes, source)?;
@@ -124,7 +124,7 @@ fn push_fault(
 ) -> Result<(), AllocError>
     requires { known.now.symbols.items ≡ symbols_of source.now.lines }
     ensures { OnOk result ((hints : List Hint) × (text.new.items ≡ text.old.items
-        ++ report_of (print_in style.form style.name.now) source.now.lines number line.now
+        ++ report_of (print_in style.entry.form style.entry.name.now) source.now.lines number line.now
         (fault_at source.now.lines number) hints)) }
 {
     let Some(fault) = source.fault(number) else {

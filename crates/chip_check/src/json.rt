@@ -109,7 +109,7 @@ fn push_escaped_byte(text: &mut Vec<u8>, byte: u8) -> Result<(), AllocError>
         let (high, low) = (hex_digit(byte / 16 % 16), hex_digit(byte % 16));
         text.extend_from_slice(&[b'\\', b'u', b'0', b'0', high, low])
     } else {
-        text.push(byte)
+        text.extend_from_slice(&[byte])
     }
 }
 

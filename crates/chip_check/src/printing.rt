@@ -36,7 +36,7 @@ pub(crate) fn push_finding(
     requires rises { finding.now.span.start ≤ finding.now.span.end }
     requires inside { finding.now.span.end ≤ length line.now }
     ensures { OnOk result (text.new.items ≡ text.old.items
-        ++ print_in style.form style.name.now number line.now finding.now.span
+        ++ print_in style.entry.form style.entry.name.now number line.now finding.now.span
         finding.now.code.items finding.now.sentence.items finding.now.hints.items) }
 {
     match style.form {

@@ -8,8 +8,10 @@ returns c =
     rw (
       c.in_ok-extend_from_slice-6.ensures.items,
       c.in_ok-extend_from_slice-5.ensures.items,
+      c.deref-2.ensures.value,
       c.in_ok-extend_from_slice-4.ensures.items,
       c.in_ok-extend_from_slice-3.ensures.items,
+      c.deref.ensures.value,
       c.in_ok-extend_from_slice-2.ensures.items,
       c.in_ok-extend_from_slice.ensures.items,
       c.as_bytes.ensures.value,
