@@ -207,18 +207,14 @@ static LINE_PAGES: [Page; 24] = [
         code: "W5",
         title: "jump to data",
         meaning: "A JP or a CALL leads to a line of DB, DA, DW or DS. Nothing is said of DW with the word of an instruction, or where the program may write there.",
-        example: Example::Source(
-            "JP START\nBALL: DB $.1111...\nSTART: LD I, BALL\nCALL BALL",
-        ),
+        example: Example::Source("JP START\nBALL: DB $.1111...\nSTART: LD I, BALL\nCALL BALL"),
         fix: "Use the label of an instruction.",
     },
     Page {
         code: "W6",
         title: "instruction at an odd address",
         meaning: "Instructions belong at even addresses. This one stands at an odd one, after data of an odd number of bytes under ALIGN OFF, or after an ORG. Of several in a row the first has the warning.",
-        example: Example::Source(
-            "JP START\nALIGN OFF\nBALL: DB $.1111...\nSTART: LD I, BALL",
-        ),
+        example: Example::Source("JP START\nALIGN OFF\nBALL: DB $.1111...\nSTART: LD I, BALL"),
         fix: "Write ALIGN ON before the data, or one byte more after it.",
     },
     Page {

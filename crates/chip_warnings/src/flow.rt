@@ -88,10 +88,7 @@ impl Flow {
         };
         // SE, SNE, SKP, SKNP
         self.last.is_code_before(address)
-            && matches!(
-                base,
-                0x3000 | 0x4000 | 0x5000 | 0x9000 | 0xE09E | 0xE0A1
-            )
+            && matches!(base, 0x3000 | 0x4000 | 0x5000 | 0x9000 | 0xE09E | 0xE0A1)
     }
 
     /// Whether a line, at which it has arrived, has a warning of a kind.
