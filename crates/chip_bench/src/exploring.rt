@@ -175,6 +175,7 @@ fn script_text(alloc: Global, events: &[KeyEvent]) -> Result<Vec<u8>, AllocError
 }
 
 // How far a search is, said on standard error. Where that fails there is nobody to tell.
+#[derive(Drop)]
 struct Progress<'e, E> {
     errors: &'e mut E,
     is_shown: bool,

@@ -104,7 +104,7 @@ impl<'a> Shot<'a> {
                 let taken = [source, self.words.run.keys, bitmap];
                 write_image(alloc, files, &taken, name, picture.get())
             }
-            Ok(Ending::Faulty) => print(picture.get(), Ending::Faulty, output),
+            Ok(ending) => print(picture.get(), ending, output),
             // A write to memory fails for want of it.
             Err(Failure::Output) => Err(Failure::OutOfMemory),
             Err(failure) => Err(failure),
