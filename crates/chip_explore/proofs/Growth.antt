@@ -16,7 +16,7 @@ use Rattle.chip_explore.specs.declared.members.Members.{Members}
 use Rattle.chip_explore.specs.declared.setting.Setting.{Setting}
 use Rattle.chip_explore.specs.Executed.{is_among, is_at_one}
 use Rattle.chip_explore.specs.inner.Kept.{state_at}
-use Rattle.chip_explore.specs.inner.Cover.{phase, tick_at, View, Grows, IsFine, Moves, Joins, SafeFor, Safe, IsTaken, Extends, GoesOn, HasChoices, Holds, Goes, view_of}
+use Rattle.chip_explore.specs.inner.Cover.{phase, tick_at, View, Grows, IsFine, Moves, Joins, SafeFor, Safe, IsTaken, Extends, GoesOn, HasChoices, Holds, IsAt, Goes, view_of}
 
 -- what is fine stays so where more addresses are noted
 or_more : (stopped early late : Bool) → (early ≡ true → late ≡ true) → (stopped || early) ≡ true → (stopped || late) ≡ true
@@ -196,10 +196,26 @@ goes_alike p m n holds start base limit grows states steps closed =
     (ap (λ (xs : List Bool). length xs) closed ∙ holds.closed ∙ sym count)
     (λ j h. inr (ap (λ (xs : List Bool). get_or xs j false) (sym closed) ∙ h, same j))
 
+pub goes_noted : (p : Setting) (m : Members) → Holds p m → (executed : List Bool) → Grows m.executed executed → Goes p m (record m { executed = executed })
+goes_noted p m holds executed grows = goes_alike p m (record m { executed = executed }) holds refl refl refl grows refl refl refl
+
 -- a fine state that a kept one is like
 pub safe_joined : (p : Setting) (m n : Members) → Goes p m n → (s : State) (t : ℕ) → IsFine p m.executed s → Joins p (view_of n) s t → Safe p (view_of n) s t
 safe_joined p m n more s t fine joins =
     record { moves = 0; path = inr (still_fine p m.executed n.executed more.extends.executed s fine, inr joins) }
+
+pub safe_lowered : (p : Setting) (m n : Members) → Goes p m n → (place : ℕ) (s : State) (t : ℕ) → IsFine p m.executed s → IsAt p m place s t → slice_index n.steps.items place ≡ t → Safe p (view_of n) s t
+safe_lowered p m n more place s t fine at lowered =
+    let kept = at.kept in
+    let count = more.extends.count in
+    safe_joined p m n more s t fine
+    (record {
+      place = place;
+      kept = omega arith;
+      early = omega arith;
+      phased = ap (phase p) lowered;
+      alike = ap relevant (more.extends.member place kept) ∙ at.alike;
+    })
 
 pub goes_more : (p : Setting) (l m n : Members) → Goes p l m → Goes p m n → Goes p l n
 goes_more p l m n one two = record { start = two.start ∙ one.start; extends = extends_more p (view_of l) (view_of m) (view_of n) one.extends two.extends; holds = two.holds }

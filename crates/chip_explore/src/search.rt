@@ -48,7 +48,7 @@ impl Search {
         {
             if step < self.members.step(place) {
                 self.members.lower(setting, place, step);
-                self.finder.note_earlier(Turn { step, place }, origin)?;
+                return self.finder.note_earlier(Turn { step, place }, origin);
             }
             return Ok(());
         }

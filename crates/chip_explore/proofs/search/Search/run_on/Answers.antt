@@ -1,0 +1,35 @@
+use Rattle.std.proofs.Common.{inl}
+use Rattle.chip_explore.specs.inner.Cover.{view_of}
+use Rattle.chip_explore.proofs.Growth.{goes_noted}
+use Rattle.chip_explore.proofs.search.Search.run_on.Goals as goal
+
+pub lower_limit-requires : goal.lower_limit-requires
+lower_limit-requires c =
+    let noted = goes_noted c.args.setting.now c.args.self.now.members c.requires.holds c.run-leg.new.executed c.run-leg.ensures.grows in
+    record { holds = noted.holds }
+
+pub lower_limit-requires-in-TimerSet : goal.lower_limit-requires-in-TimerSet
+lower_limit-requires-in-TimerSet c =
+    let noted = goes_noted c.args.setting.now c.args.self.now.members c.requires.holds c.run-leg.new.executed c.run-leg.ensures.grows in
+    record { holds = noted.holds }
+
+pub join-joined-requires-clause-holds : goal.join-joined-requires-clause-holds
+join-joined-requires-clause-holds c =
+    let noted = goes_noted c.args.setting.now c.args.self.now.members c.requires.holds c.run-leg.new.executed c.run-leg.ensures.grows in
+    noted.holds
+
+pub returns-in-Past-clause-goes : goal.returns-in-Past-clause-goes
+returns-in-Past-clause-goes c =
+    goes_noted c.args.setting.now c.args.self.now.members c.requires.holds c.run-leg.new.executed c.run-leg.ensures.grows
+
+pub returns-in-Some-clause-goes : goal.returns-in-Some-clause-goes
+returns-in-Some-clause-goes c =
+    goes_noted c.args.setting.now c.args.self.now.members c.requires.holds c.run-leg.new.executed c.run-leg.ensures.grows
+
+pub returns-then-is_err-clause-safe : goal.returns-then-is_err-clause-safe
+returns-then-is_err-clause-safe c =
+    let joined = c.join-joined.ensures.goes in
+    let lowered = c.lower_limit-then-is_err.ensures.goes in
+    c.run-leg.ensures.path (view_of c.lower_limit-then-is_err.new.self)
+    (λ pc h. lowered.extends.executed pc (joined.extends.executed pc h))
+    (record { moves = 0; path = inl c.lower_limit-then-is_err.ensures.limit })
