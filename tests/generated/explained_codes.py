@@ -1,10 +1,11 @@
 """The pages of `explain`: each example that can be written out has its code."""
 import pathlib
+import re
 import tempfile
 
 CODES = [
     f"{letter}{number}"
-    for letter, last in (("F", 17), ("N", 10), ("Q", 4), ("C", 2), ("E", 4), ("O", 3), ("S", 7))
+    for letter, last in (("F", 17), ("W", 7), ("N", 10), ("Q", 4), ("C", 2), ("E", 4), ("O", 3), ("S", 7))
     for number in range(1, last + 1)
 ]
 # The codes whose example is too large to write out, or depends on the system.
@@ -28,6 +29,13 @@ def answers(program, source, script):
         return program.run(["debug", "source"], script.encode(), folder).stdout.decode()
 
 
+def warnings(program, source):
+    """What `check` prints of a source for the profile vip."""
+    with tempfile.TemporaryDirectory() as folder:
+        pathlib.Path(folder, "source").write_text(source)
+        return program.run(["check", "source", "--profile", "vip"], b"", folder).stdout.decode()
+
+
 def wrong_page(program, code):
     """What is wrong with the page on a code."""
     ran = program.run(["explain", code])
@@ -40,6 +48,10 @@ def wrong_page(program, code):
     if len(blocks) == 2:
         found = answers(program, *blocks)
         is_so = found.endswith(f"no {code}\n")
+    elif code.startswith("W"):
+        found = warnings(program, blocks[0])
+        last = blocks[0].count("\n")
+        is_so = re.search(rf"^source:{last}:[0-9]+: {code}: ", found, re.MULTILINE)
     elif code.startswith("S"):
         found = answers(program, blocks[0], "regs 100\n")
         is_so = f" {code}\nflags " in found

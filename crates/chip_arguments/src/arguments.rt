@@ -231,7 +231,7 @@ fn code_argument<'a>(alloc: Global) -> Arg<'a>
         alloc,
         "code",
         "CODE",
-        "F1 to F17, N1 to N10, Q1 to Q4, C1, C2, E1 to E4, O1 to O3 or S1 to S7 [default: all, a line each]",
+        "F1 to F17, W1 to W7, N1 to N10, Q1 to Q4, C1, C2, E1 to E4, O1 to O3 or S1 to S7 [default: all, a line each]",
     )
 }
 

@@ -6,7 +6,7 @@ use Rattle.std.proofs.lemmas.Grind.{flat_map-append}
 use Rattle.std.specs.Option.{option_or}
 use Rattle.std.specs.Borrow.{Bor}
 use Rattle.std.specs.List.{find}
-use Rattle.chip_pages.specs.Pages.{AreAllPages, codes_of, command_codes, contents_text, end_codes, example_text, fault_codes, has_code, page_of, page_text, title_line}
+use Rattle.chip_pages.specs.Pages.{AreAllPages, codes_of, command_codes, contents_text, end_codes, example_text, line_codes, has_code, page_of, page_text, title_line}
 use Rattle.chip_pages.specs.declared.pages.Page.{Page}
 
 module _ {E : Type 0} (result : Result Unit E) where
@@ -50,7 +50,7 @@ pub copied_or : (x y : Option (Bor Page)) → option_copied (option_or x y) ≡ 
 copied_or None y = refl
 copied_or (Some p) y = refl
 
-pub all_codes : (a b c : List Page) → codes_of a ≡ fault_codes → codes_of b ≡ command_codes → codes_of c ≡ end_codes → AreAllPages (a ++ (b ++ c))
+pub all_codes : (a b c : List Page) → codes_of a ≡ line_codes → codes_of b ≡ command_codes → codes_of c ≡ end_codes → AreAllPages (a ++ (b ++ c))
 all_codes a b c on_a on_b on_c =
     map-append (λ (page : Page). page.code.now) a (b ++ c) ∙ ap (λ t. codes_of a ++ t) (map-append (λ (page : Page). page.code.now) b c)
     ∙ rw (on_a, on_b, on_c) refl

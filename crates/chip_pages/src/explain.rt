@@ -2,7 +2,7 @@
 ghost use Rattle.std.specs.Prelude.{◌≡◌, ◌++◌, IfOk, OnOk, option_copied, option_map, flat_map};
 ghost use Rattle.chip_pages.specs.Pages.{IsExplained, IsContents, IsPageOn, contents_text, example_text, indented, page_of, page_text};
 
-use crate::pages::{Example, Page, command_pages, end_pages, fault_pages};
+use crate::pages::{Example, Page, command_pages, end_pages, line_pages};
 use std::alloc::{AllocError, Global};
 
 /// The page on a code, in either case, as text; nothing where there is no such code.
@@ -19,7 +19,7 @@ pub fn page_text(alloc: Global, code: &str) -> Result<Option<Vec<u8>>, AllocErro
 pub fn page_on(code: &str) -> Option<&'static Page>
     ensures { IsPageOn code.now (option_copied result) }
 {
-    page_among(fault_pages(), code)
+    page_among(line_pages(), code)
         .or(page_among(command_pages(), code))
         .or(page_among(end_pages(), code))
 }
@@ -38,7 +38,7 @@ pub fn contents(alloc: Global) -> Result<Vec<u8>, AllocError>
     ensures { IfOk result (λ text. IsContents text.items) }
 {
     let mut text = Vec::new(alloc);
-    push_titles(&mut text, fault_pages())?;
+    push_titles(&mut text, line_pages())?;
     push_titles(&mut text, command_pages())?;
     push_titles(&mut text, end_pages())?;
     Ok(text)

@@ -1,11 +1,11 @@
 //! A page on each code that the workbench prints.
 ghost use Rattle.std.specs.Prelude.{◌≡◌};
-ghost use Rattle.chip_pages.specs.Pages.{codes_of, command_codes, end_codes, fault_codes};
+ghost use Rattle.chip_pages.specs.Pages.{codes_of, command_codes, end_codes, line_codes};
 
 /// What has a code, so that it can be seen.
 #[derive(Clone, Copy)]
 pub enum Example {
-    /// A source: its last line has the fault.
+    /// A source: its last line has the fault or the warning.
     Source(&'static str),
     /// A source, and a script on it: its last line is refused.
     Script {
@@ -31,11 +31,11 @@ pub struct Page {
 // Each table is read by one function alone, since the proof of a function reads the whole of each
 // static that it names.
 
-/// The pages on the faults of a source's lines.
-pub(crate) fn fault_pages() -> &'static [Page]
-    ensures { codes_of result.now ≡ fault_codes }
+/// The pages on the faults and the warnings of a source's lines.
+pub(crate) fn line_pages() -> &'static [Page]
+    ensures { codes_of result.now ≡ line_codes }
 {
-    &FAULT_PAGES
+    &LINE_PAGES
 }
 
 /// The pages on the refusals of commands.
@@ -52,8 +52,8 @@ pub(crate) fn end_pages() -> &'static [Page]
     &END_PAGES
 }
 
-// The faults of a source's lines.
-static FAULT_PAGES: [Page; 17] = [
+// The faults and the warnings of a source's lines.
+static LINE_PAGES: [Page; 24] = [
     Page {
         code: "F1",
         title: "bad character",
@@ -172,6 +172,57 @@ static FAULT_PAGES: [Page; 17] = [
         meaning: "A directive of the Chipper assembler that this one doesn't have: INCLUDE, UNDEF, or OPTION with another word.",
         example: Example::Source("INCLUDE 'x'"),
         fix: "Replace each INCLUDE by the lines of its file.",
+    },
+    Page {
+        code: "W1",
+        title: "rows apart by a zero byte",
+        meaning: "Two lines of DB without a label between them have an odd number of bytes each. Under ALIGN ON, as at the start, a zero byte follows each of them, so a sprite of these rows has a dark row between.",
+        example: Example::Source(
+            "LD I, BALL\nDRW V0, V1, 2\nSTOP: JP STOP\nBALL: DB $.1111...\nDB $.1111...",
+        ),
+        fix: "Write the rows in one DB, or ALIGN OFF before them and ALIGN ON after them.",
+    },
+    Page {
+        code: "W2",
+        title: "name never used",
+        meaning: "No expression, IFDEF or IFUND has a name that a label, EQU or DEFINE gives. A label where the program begins may be there for its reader, and so may a name that begins with `_`: neither has this warning.",
+        example: Example::Source("STOP: JP STOP\nWIDTH EQU 64"),
+        fix: "Delete the name, correct the spelling where it was meant, or begin it with `_`.",
+    },
+    Page {
+        code: "W3",
+        title: "instruction never reached",
+        meaning: "An instruction stands directly after JP, RET or EXIT, has no label, and no JP or CALL names its address. Nothing is said where a skip stands before the JP, after JP V0, or in a program that writes over its instructions.",
+        example: Example::Source("STOP: JP STOP\nCLS"),
+        fix: "Delete the instruction, or put a label before it and jump there.",
+    },
+    Page {
+        code: "W4",
+        title: "execution runs into data",
+        meaning: "A line of DB, DA, DW or DS stands directly after an instruction that goes on there. The machine would take its bytes for instructions. DW with the word of an instruction is no such line.",
+        example: Example::Source("LD I, BALL\nDRW V0, V1, 1\nBALL: DB $.1111..."),
+        fix: "Put a JP, a RET or an EXIT before the data.",
+    },
+    Page {
+        code: "W5",
+        title: "jump to data",
+        meaning: "A JP or a CALL leads to a line of DB, DA, DW or DS. Nothing is said of DW with the word of an instruction, or where the program may write there.",
+        example: Example::Source("JP START\nBALL: DB $.1111...\nSTART: LD I, BALL\nCALL BALL"),
+        fix: "Use the label of an instruction.",
+    },
+    Page {
+        code: "W6",
+        title: "instruction at an odd address",
+        meaning: "Instructions belong at even addresses. This one stands at an odd one, after data of an odd number of bytes under ALIGN OFF, or after an ORG. Of several in a row the first has the warning.",
+        example: Example::Source("JP START\nALIGN OFF\nBALL: DB $.1111...\nSTART: LD I, BALL"),
+        fix: "Write ALIGN ON before the data, or one byte more after it.",
+    },
+    Page {
+        code: "W7",
+        title: "instruction that the profile lacks",
+        meaning: "The profile is vip, and the instruction is one of SUPER-CHIP alone: SCD, SCR, SCL, EXIT, LOW, HIGH, LD HF, Vx, LD R, Vx or LD Vx, R. The machine stops there with S2.",
+        example: Example::Source("HIGH"),
+        fix: "Do without the instruction, or take the profile schip.",
     },
 ];
 

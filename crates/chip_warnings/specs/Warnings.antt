@@ -1,5 +1,5 @@
 -- The numbers of warnings, and where they stand in a source (own).
-use Rattle.std.specs.Prelude.{ℕ, ◌≤◌, ◌-◌, List, [], length, slice_index_or}
+use Rattle.std.specs.Prelude.{ℕ, ◌≡◌, ◌≤◌, ◌-◌, ◌++◌, List, [], All, length, slice_index_or}
 use Rattle.chip_warnings.specs.declared.warning.Warning.{Warning}
 use Rattle.chip_warnings.specs.declared.warning.WarningCode.{WarningCode}
 use Rattle.chip_warnings.specs.declared.warning.WarningCode.TheVariants.{SplitRows, UnusedName, Unreachable, FallsIntoData, JumpsToData, OddAddress, NotInProfile}
@@ -20,3 +20,17 @@ pub record StandsIn (lines : List (List ℕ)) (w : Warning) : Type 0 where
   pub to_last : w.line ≤ length lines
   pub rises : w.span.start ≤ w.span.end
   pub inside : w.span.end ≤ length (slice_index_or lines (w.line - 1) [])
+
+-- What the functions inside say:
+
+-- a warning stands on the line of a number, at bytes that lie in it
+pub record StandsAt (number : ℕ) (line : List ℕ) (w : Warning) : Type 0 where
+  pub there : w.line ≡ number
+  pub rises : w.span.start ≤ w.span.end
+  pub inside : w.span.end ≤ length line
+
+-- the new warnings are the old ones, and after them some of each of which the fact holds
+pub record Adds (P : Warning → Type 0) (old new : List Warning) : Type 0 where
+  pub more : List Warning
+  pub are : new ≡ old ++ more
+  pub each : All P more

@@ -1,8 +1,13 @@
 //! Warnings: what a source says that it may not mean.
 #![tactic(auto)]
 
+mod flow;
+mod marks;
+mod report;
+mod seen;
+mod survey;
+mod text;
 mod warning;
-mod warnings;
 
+pub use report::warnings;
 pub use warning::{Warning, WarningCode};
-pub use warnings::warnings;

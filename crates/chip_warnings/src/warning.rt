@@ -1,6 +1,6 @@
 //! A warning, and where it stands.
 
-ghost use Rattle.std.specs.Prelude.{◌≡◌};
+ghost use Rattle.std.specs.Prelude.{◌≡◌, ◌≤◌};
 ghost use Rattle.chip_warnings.specs.Warnings.{number_of_warning};
 
 use chip_lang::Span;
@@ -27,7 +27,8 @@ pub enum WarningCode {
 impl WarningCode {
     /// The number that a warning has: 1 to 7.
     pub fn number(self) -> u32
-        ensures { result ≡ number_of_warning self }
+        ensures value { result ≡ number_of_warning self }
+        ensures bound { result ≤ 7 }
     {
         match self {
             WarningCode::SplitRows => 1,
@@ -39,7 +40,23 @@ impl WarningCode {
             WarningCode::NotInProfile => 7,
         }
     }
+
+    /// Whether its bit is set.
+    pub(crate) fn is_among(self, bits: u16) -> bool {
+        bits >> self.number() & 1 == 1
+    }
 }
+
+/// All kinds, in the order of their numbers.
+pub(crate) const CODES: &[WarningCode] = &[
+    WarningCode::SplitRows,
+    WarningCode::UnusedName,
+    WarningCode::Unreachable,
+    WarningCode::FallsIntoData,
+    WarningCode::JumpsToData,
+    WarningCode::OddAddress,
+    WarningCode::NotInProfile,
+];
 
 /// A warning, and where it stands.
 #[derive(Drop)]

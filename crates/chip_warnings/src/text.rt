@@ -1,0 +1,95 @@
+//! The sentences of warnings, and their help.
+
+ghost use Rattle.std.specs.Prelude.{◌≤◌, length};
+
+use crate::flow::{Flow, data_line};
+use crate::marks::Marks;
+use crate::seen::{Says, Seen};
+use crate::warning::WarningCode;
+use chip_lang::{Fault, Span, show};
+use std::alloc::{AllocError, Global};
+
+/// A fault that has the place of a warning: the name that the line defines, its operands, or the
+/// first word of its statement.
+pub(crate) fn fault_there(code: WarningCode) -> Fault {
+    match code {
+        WarningCode::UnusedName => Fault::DefinedTwice,
+        WarningCode::JumpsToData => Fault::UndefinedName,
+        _ => Fault::UnknownWord,
+    }
+}
+
+/// The sentence of a warning of a line that was seen so, after the lines above it.
+pub(crate) fn sentence(
+    alloc: Global,
+    code: WarningCode,
+    line: &[u8],
+    span: Span,
+    seen: &Seen,
+    flow: &Flow,
+    marks: &Marks,
+) -> Result<Vec<u8>, AllocError>
+    requires rises { span.start ≤ span.end }
+    requires inside { span.end ≤ length line.now }
+{
+    let above = flow.number;
+    let text = match code {
+        WarningCode::UnusedName => {
+            let mut text = Vec::from_slice(alloc, &line[span.start..span.end])?;
+            text.extend_from_slice(b" is never used")?;
+            return Ok(text);
+        }
+        WarningCode::SplitRows => {
+            format!(in alloc; "ALIGN puts a zero byte between line {above} and this one")?
+        }
+        WarningCode::Unreachable => format!(in alloc; "nothing reaches this instruction")?,
+        WarningCode::FallsIntoData => {
+            format!(in alloc; "execution runs from line {above} into this data")?
+        }
+        WarningCode::JumpsToData => jump_sentence(alloc, seen, marks)?,
+        WarningCode::OddAddress => odd_sentence(alloc, seen)?,
+        WarningCode::NotInProfile => missing_sentence(alloc, seen)?,
+    };
+    Ok(text.into_bytes())
+}
+
+/// Says where a JP or CALL leads.
+fn jump_sentence(alloc: Global, seen: &Seen, marks: &Marks) -> Result<String, AllocError> {
+    let name = match seen.says {
+        Says::Code { base: 0x1000, .. } => "JP",
+        _ => "CALL",
+    };
+    let target = data_line(marks, seen).unwrap_or(0);
+    format!(in alloc; "{name} leads to data on line {target}")
+}
+
+/// Says at which address an instruction stands.
+fn odd_sentence(alloc: Global, seen: &Seen) -> Result<String, AllocError> {
+    let address = seen.address;
+    format!(in alloc; "an instruction at the odd address 0x{address:X}")
+}
+
+/// Says which instruction the profile doesn't have.
+fn missing_sentence(alloc: Global, seen: &Seen) -> Result<String, AllocError> {
+    let word = match seen.says {
+        Says::Code { word, .. } => word,
+        _ => 0,
+    };
+    let instruction = show(alloc, word)?;
+    format!(in alloc; "the profile vip has no instruction {instruction}")
+}
+
+/// What helps with a warning.
+pub(crate) fn help(code: WarningCode) -> &'static [u8] {
+    match code {
+        WarningCode::SplitRows => {
+            b"write these rows in one DB, or put ALIGN OFF before them and ALIGN ON after them"
+        }
+        WarningCode::UnusedName => b"delete the name, or begin it with _ if it is meant to stay",
+        WarningCode::Unreachable => b"delete it, or put a label before it and jump there",
+        WarningCode::FallsIntoData => b"put JP or RET before it",
+        WarningCode::JumpsToData => b"",
+        WarningCode::OddAddress => b"put ALIGN ON before the data above it, or DB 0 after that",
+        WarningCode::NotInProfile => b"schip has it",
+    }
+}
