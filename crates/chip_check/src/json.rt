@@ -41,11 +41,7 @@ pub(crate) fn push_object(
 }
 
 /// Adds lines of help as strings, with a comma between each two.
-fn push_hint_strings(
-    alloc: Global,
-    text: &mut Vec<u8>,
-    hints: &[Hint],
-) -> Result<(), AllocError>
+fn push_hint_strings(alloc: Global, text: &mut Vec<u8>, hints: &[Hint]) -> Result<(), AllocError>
     ensures { OnOk result (text.new.items ≡ text.old.items ++ hint_strings hints.now) }
 {
     let Some((first, others)) = hints.split_first() else {
