@@ -91,6 +91,20 @@ impl Explored {
             is_short,
         }
     }
+
+    /// What a search says that came to its end.
+    fn after(search: &Search, outcome: Outcome, is_short: bool) -> Explored
+        ensures outcome { result.outcome ≡ outcome }
+        ensures executed { result.executed ≡ search.now.members.executed }
+    {
+        Explored {
+            outcome,
+            seen: search.finder.seen,
+            states: search.members.steps.len(),
+            executed: search.members.executed,
+            is_short,
+        }
+    }
 }
 
 /// Whether under some key script, of the allowed keys alone, a machine that has drawn no random
@@ -180,17 +194,9 @@ fn search_once<W: Watcher>(
         backdrops: Backdrops::new(alloc),
         probe: Base::of(alloc, start)?,
     };
-    let is_done = search_all(&mut search, setting, bounds, watcher).is_ok();
-    let (outcome, is_whole) = outcome_of(alloc, setting, &search.members, &search.finder);
-    let explored = Explored {
-        is_short: !(is_done && is_whole) && matches!(outcome, Outcome::Within(_)),
-        outcome,
-        seen: search.finder.seen,
-        states: search.members.steps.len(),
-        executed: search.members.executed,
-    };
+    let is_short = search_all(&mut search, setting, bounds, watcher).is_err();
     Ok(Attempt {
-        explored,
+        explored: explored_by(alloc, setting, &search, is_short),
         is_timer_set: search.finder.is_timer_set,
     })
 }
@@ -227,35 +233,31 @@ fn covered_by(setting: &Setting, members: &Members) -> u64
     members.covered()
 }
 
-/// What the states that were kept say, and whether there was memory for all of it.
-fn outcome_of(
-    alloc: Global,
-    setting: &Setting,
-    members: &Members,
-    finder: &Finder,
-) -> (Outcome, bool)
+/// What the states that were kept say.
+fn explored_by(alloc: Global, setting: &Setting, search: &Search, is_short: bool) -> Explored
     requires rate { 0 < setting.now.rate }
-    requires fresh { members.now.start.core.draws ≡ 0 }
-    requires going { met_in setting.now.target members.now.start ≡ None }
-    requires noted { is_at_one members.now.executed members.now.start ≡ true }
-    requires holds { Holds setting.now members.now }
-    requires begun { Safe setting.now (view_of members.now) members.now.start 0 }
+    requires fresh { search.now.members.start.core.draws ≡ 0 }
+    requires going { met_in setting.now.target search.now.members.start ≡ None }
+    requires noted { is_at_one search.now.members.executed search.now.members.start ≡ true }
+    requires holds { Holds setting.now search.now.members }
+    requires begun { Safe setting.now (view_of search.now.members) search.now.members.start 0 }
     ensures answers { Answers setting.now.rate setting.now.allowed setting.now.target
-        members.now.start result.0 }
-    ensures executed { AreExecuted setting.now.rate setting.now.allowed members.now.executed
-        members.now.start result.0 }
+        search.now.members.start result.outcome }
+    ensures executed { AreExecuted setting.now.rate setting.now.allowed result.executed
+        search.now.members.start result.outcome }
 {
+    let members = &search.members;
     if members.limit == 0 {
-        return (Outcome::Within(0), true);
+        return Explored::after(search, Outcome::Within(0), is_short);
     }
     let covered = covered_by(setting, members);
     if covered + 1 == END {
-        return (Outcome::Never, true);
+        return Explored::after(search, Outcome::Never, false);
     }
-    match found_after(alloc, setting, members, finder, covered) {
-        Ok(Some(outcome)) => (outcome, true),
-        Ok(None) => (Outcome::Within(covered), true),
-        Err(_) => (Outcome::Within(covered), false),
+    match found_after(alloc, setting, members, &search.finder, covered) {
+        Ok(Some(outcome)) => Explored::after(search, outcome, false),
+        Ok(None) => Explored::after(search, Outcome::Within(covered), is_short),
+        Err(_) => Explored::after(search, Outcome::Within(covered), true),
     }
 }
 
@@ -279,8 +281,8 @@ fn found_after(
         setting.now.rate setting.now.allowed members.now.executed members.now.start outcome)) }
 {
     if let Some(origin) = finder.hit
-        && covered + 1 == members.limit
         && members.limit <= u64::from(LAST_STEP)
+        && covered + 1 == members.limit
     {
         let step = members.limit as u32;
         let events = script_to(alloc, members, finder, origin)?;
