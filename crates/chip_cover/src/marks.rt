@@ -1,7 +1,7 @@
 //! The listing of a source with a mark at each line that is executed.
 
-ghost use Rattle.std.specs.Prelude.{◌≡◌, ◌++◌, None, Some, IfOk, take, drop};
-ghost use Rattle.chip_cover.specs.Marks.{address_by, address_in, is_marked, mark_of, marked_line, marked_listing};
+ghost use Rattle.std.specs.Prelude.{◌≡◌, IfOk};
+ghost use Rattle.chip_cover.specs.Marks.{address_in, is_marked, marked_listing};
 
 use chip_explore::Executed;
 use chip_files::first_line;
@@ -14,6 +14,7 @@ use std::alloc::{AllocError, Global};
 /// # Errors
 ///
 /// Out of memory.
+#[tactic(auto, unfolding(crate::specs::Marks::marked_listing))]
 pub fn marked_listing(
     alloc: Global,
     listing: &[u8],
