@@ -1,5 +1,4 @@
 use Rattle.std.proofs.Common.{rules, Result, Ok, Err, OnOk}
-use Rattle.chip_explore.specs.inner.Cover.{Safe, view_of}
 use Rattle.chip_explore.proofs.Growth.{safe_lowered}
 use Rattle.chip_explore.proofs.search.Search.join.Goals as goal
 
