@@ -7,7 +7,7 @@ from typing import Any
 
 from chipbench import ChipbenchError, Fault, sentences, to_bytes
 
-from .document import Document, OverLimits
+from .document import Document, OverLimits, same_ends
 from .language import read_line
 from .positions import byte_to_place
 from .tables import FAULTS
@@ -38,17 +38,16 @@ class Places:
     def warnings(self, lines: list[str]) -> list[tuple[int, Fault]]:
         """The warnings of the lines that stand as they were, each with its line's index now: of the lines before the
         first changed one, and of those after the last."""
-        if not self._warnings:
-            return []
-        shared = min(len(lines), len(self._lines))
-        same = (number for number in range(shared) if lines[number] != self._lines[number])
-        before = next(same, shared)
-        rest = range(1, shared - before + 1)
-        after = next((back - 1 for back in rest if lines[-back] != self._lines[-back]), len(rest))
-        moved, first = len(lines) - len(self._lines), len(self._lines) - after
-        numbers = ((warning.line - 1, warning) for warning in self._warnings)
-        return [(number + moved if number >= first else number, warning) for number, warning in numbers
-                if number < before or number >= first]
+        first, last = same_ends(self._lines, lines)
+        last_from, moved = len(self._lines) - last, len(lines) - len(self._lines)
+        found = []
+        for warning in self._warnings:
+            number = warning.line - 1
+            if number < first:
+                found.append((number, warning))
+            elif number >= last_from:
+                found.append((number + moved, warning))
+        return found
 
 
 def whole_line(line: str) -> tuple[int, int]:

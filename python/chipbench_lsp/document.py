@@ -3,7 +3,7 @@
 from __future__ import annotations
 
 from collections.abc import Callable, Sequence
-from typing import Any
+from typing import Any, AnyStr
 
 from chipbench import Bench, ChipbenchError, ListingLine, Symbol, join_lines, read_listing_line, to_bytes
 
@@ -38,13 +38,13 @@ def over_limits(lines: Sequence[bytes]) -> list[tuple[int, str, str]]:
     return found
 
 
-def line_edits(old: Sequence[bytes], new: Sequence[bytes]) -> list[bytes]:
-    """Commands that make the new lines of the old ones: what is equal at both ends stays.
+def same_ends(old: Sequence[AnyStr], new: Sequence[AnyStr]) -> tuple[int, int]:
+    """How many lines are equal at the beginning, and how many of the others at the end.
 
-    >>> line_edits([b"A", b"B", b"C"], [b"A", b"X", b"Y", b"C"])
-    [b'rep 2 X', b'ins 3 Y']
-    >>> line_edits([b"A", b"B", b"C"], [b"C"])
-    [b'del 2', b'del 1']
+    >>> same_ends("abcd", "abxyd")
+    (2, 1)
+    >>> same_ends("aa", "aaa")
+    (2, 0)
     """
     least = min(len(old), len(new))
     first = 0
@@ -53,6 +53,18 @@ def line_edits(old: Sequence[bytes], new: Sequence[bytes]) -> list[bytes]:
     last = 0
     while last < least - first and old[-1 - last] == new[-1 - last]:
         last += 1
+    return first, last
+
+
+def line_edits(old: Sequence[bytes], new: Sequence[bytes]) -> list[bytes]:
+    """Commands that make the new lines of the old ones: what is equal at both ends stays.
+
+    >>> line_edits([b"A", b"B", b"C"], [b"A", b"X", b"Y", b"C"])
+    [b'rep 2 X', b'ins 3 Y']
+    >>> line_edits([b"A", b"B", b"C"], [b"C"])
+    [b'del 2', b'del 1']
+    """
+    first, last = same_ends(old, new)
     old_end, new_end = len(old) - last, len(new) - last
     both = min(old_end, new_end)
     edits = [b"rep %d %s" % (place + 1, new[place]) for place in range(first, both) if old[place] != new[place]]
