@@ -6,7 +6,7 @@
 --     address_of, target_asked               the address of a place, and what a search looks for
 --     first_lines             what is printed first of what a search found
 --     IsSearchPrinted         the same, with more below it, and how the program ends
-use Rattle.std.specs.Prelude.{◌≡◌, ℕ, ℤ, pos, neg, ◌+◌, ◌-◌, ◌^◌, ◌&&◌, Bool, List, [], ◌∷◌, ◌++◌, codes, fold, length, map, nat_le, nat_lt, bit_or, Option, Some, None, option_copied, option_map, if◌then◌else◌}
+use Rattle.std.specs.Prelude.{◌≡◌, ℕ, ℤ, pos, ◌+◌, ◌-◌, ◌^◌, ◌&&◌, Bool, List, [], ◌∷◌, ◌++◌, codes, fold, length, map, nat_le, nat_lt, bit_or, Option, Some, None, option_copied, option_map, if◌then◌else◌}
 use Rattle.std.specs.Fmt.{decimal}
 use Rattle.memchr.specs.Find.{Nowhere, Passes, is_byte}
 use Rattle.chip_arguments.specs.declared.command_line.ExploreWords.{ExploreWords}
@@ -111,7 +111,7 @@ AsksKeys words keys = AsksSet key_named usual_keys (option_copied words.allowed_
 -- a number that is an address, if it is below 4096
 abbrev pub in_memory : ℤ → Option ℕ
 in_memory (pos number) = if nat_lt number MEMORY_BYTES then Some number else None
-in_memory (neg number) = None
+in_memory number = None
 
 -- the value of a name, if it is an address
 abbrev pub value_in_memory : Option Symbol → Option ℕ
