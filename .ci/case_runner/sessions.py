@@ -30,6 +30,7 @@ class Session:
     line: int
     name: str
     source: bytes = b""
+    is_image: bool = False
     settings: dict = field(default_factory=dict)
     keys: bytes = b""
     commands: list = field(default_factory=list)
@@ -39,7 +40,8 @@ class Session:
         (folder / "source").write_bytes(self.source)
         each = (self.settings["every"],) if "every" in self.settings else EACH_EVERY
         for every in each:
-            words = ["debug", "source"] if self.source else ["debug"]
+            words = ["debug", "source"] if self.source or self.is_image else ["debug"]
+            words += ["--image"] if self.is_image else []
             for name, value in {**self.settings, "every": every}.items():
                 words += [f"--{name}", value]
             failure = self._failure(program, words, folder)
@@ -138,9 +140,9 @@ class _Reader:
         if line.word == "case":
             self._begin(line)
         elif line.text == "source":
-            case.source = bytes_of(self.text.take_block(line), "")
-        elif line.word == "source":
-            case.source = self._file(line)
+            case.source, case.is_image = bytes_of(self.text.take_block(line), ""), False
+        elif line.word in ("source", "image"):
+            case.source, case.is_image = self._file(line), line.word == "image"
         elif line.word == "keys":
             case.keys = self._file(line)
         elif line.word in SETTINGS and line.rest:

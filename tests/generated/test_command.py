@@ -26,7 +26,14 @@ keys game.keys
 > regs 6
 v 0a 00 00 00 00 00 00 00 00 00 00 00 00 00 00 00
 ...
+
+case an image
+image game.ch8
+> image
+f00a
 """
+# what its cases name
+NAMED = {"game.asm": b"LD V0, K\n", "game.keys": b"5 10 down\n", "game.ch8": b"\xf0\x0a"}
 # a file that can't be taken is named with its line, and so is an answer that isn't as expected
 PLACE = (b"chipbench: game.test:", b"game.test:")
 
@@ -35,7 +42,7 @@ def run(program, text, *options):
     """How `test` ends on a file of cases, and whether it and the files that it names are as they were."""
     with tempfile.TemporaryDirectory() as name:
         folder = pathlib.Path(name)
-        files = {"game.test": text, "game.asm": b"LD V0, K\n", "game.keys": b"5 10 down\n"}
+        files = {"game.test": text, **NAMED}
         for file, content in files.items():
             (folder / file).write_bytes(content)
         ran = program.run(["test", *options, "game.test"], folder=folder)
@@ -59,9 +66,8 @@ def wrong_update(program, text):
     """An update makes a file whose cases pass, or leaves one that can't be taken as it was."""
     with tempfile.TemporaryDirectory() as name:
         folder = pathlib.Path(name)
-        (folder / "game.test").write_bytes(text)
-        (folder / "game.asm").write_bytes(b"LD V0, K\n")
-        (folder / "game.keys").write_bytes(b"5 10 down\n")
+        for file, content in {"game.test": text, **NAMED}.items():
+            (folder / file).write_bytes(content)
         first = program.run(["test", "--update", "game.test"], folder=folder)
         second = program.run(["test", "game.test"], folder=folder)
         updated = (folder / "game.test").read_bytes()

@@ -40,7 +40,8 @@ module _ {W : Type 0} (contents : W → Option (List ℕ)) (old new : Tally W) w
   streams_prints wanted (Err failure.OutOfMemory) p = nothing_written wanted.text p
   streams_prints wanted (Err _) p = absurd p
 
-  short : (wanted : Printed) (result : Result Ending Failure) → result ≡ Err failure.OutOfMemory → new ≡ old → Streams contents old new wanted result
+  -- memory ran out before anything was printed
+  pub short : (wanted : Printed) (result : Result Ending Failure) → result ≡ Err failure.OutOfMemory → new ≡ old → Streams contents old new wanted result
   short wanted result e same = rw e (nothing_written wanted.text same)
 
   refused_source : (e : OpenError) (result : Result Ending Failure) → Refuses contents old new e result → Streams contents old new (printed (unopened_text e) Faulty) result
@@ -153,8 +154,13 @@ module _ {W : Type 0} (contents : W → Option (List ℕ)) (old now : Tally W) (
     pub whole_is : whole ≡ written ++ (text ++ newline_ended rest)
 
 module _ {W : Type 0} (contents : W → Option (List ℕ)) where
-  pub stream_starts : (old : Tally W) (header : List ℕ) (rest : List (List ℕ)) → Streamed contents old old (newline_ended (header ∷ rest)) (header ++ 10 ∷ []) rest
-  stream_starts old header rest = record { written = []; appended = Appends-nil (contents old.inner); failures = refl; whole_is = refl }
+  pub stream_starts : (old : Tally W) (headers rest : List (List ℕ)) → Streamed contents old old (newline_ended (headers ++ rest)) (newline_ended headers) rest
+  stream_starts old headers rest = record {
+    written = [];
+    appended = Appends-nil (contents old.inner);
+    failures = refl;
+    whole_is = flat_map-append (λ (line : List ℕ). line ++ 10 ∷ []) headers rest;
+  }
 
   -- some lines were added to the text
   pub stream_adds : (old now : Tally W) (whole text text_after : List ℕ) (rest after : List (List ℕ)) (most : ℕ) → Streamed contents old now whole text rest

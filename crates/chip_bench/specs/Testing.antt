@@ -3,7 +3,7 @@
 --     SetBy, IsCaseSource, IsCaseKeys     what the lines of a case ask for
 --     Judges                 a case, the cases of a file and those of all files, and whether all pass
 --     Tests                  how the program ends
-use Rattle.std.specs.Prelude.{◌≡◌, ◌⊎◌, ℕ, ◌==◌, ◌&&◌, Bool, true, false, IsTrue, ◌↔◌, List, [], ◌∷◌, length, map, Option, Some, None, option_copied, Result, Ok, Err, if◌then◌else◌}
+use Rattle.std.specs.Prelude.{◌≡◌, ◌⊎◌, ℕ, ◌≤◌, ◌==◌, ◌&&◌, Bool, true, false, IsTrue, ◌↔◌, List, [], ◌∷◌, length, map, Option, Some, None, option_copied, Result, Ok, Err, if◌then◌else◌}
 use Rattle.std.specs.Borrow.{Bor}
 use Rattle.chip_arguments.specs.CommandWords.{IsProfile, ReadsNumber, ReadsOr}
 use Rattle.chip_arguments.specs.declared.command_line.SettingWords.{SettingWords}
@@ -17,6 +17,7 @@ use Rattle.chip_cases.specs.declared.case.Placed.{Placed}
 use Rattle.chip_cases.specs.declared.case.Setup.{Setup}
 use Rattle.chip_cases.specs.declared.case.SourceWords.{SourceWords}
 use Rattle.chip_cases.specs.declared.case.SourceWords.TheVariants as words
+use Rattle.chip_lang.specs.declared.limits.TheConstants.{IMAGE_BYTES}
 use Rattle.chip_replay.specs.declared.limits.TheConstants.{LEAST_SPACING}
 use Rattle.chip_session.specs.KeyFile.{key_fault, session_under}
 use Rattle.chip_bench.specs.Running.{failure_status}
@@ -24,6 +25,7 @@ use Rattle.chip_session.specs.Session.{Session, session_of}
 use Rattle.chip_bench.specs.SettingWords.{settings_asked}
 use Rattle.chip_session.specs.Settings.{SessionSettings}
 use Rattle.chip_session.specs.Transcript.{after, reply}
+use Rattle.chip_views.specs.Dis.{source_of_image}
 use Rattle.chip_bench.specs.declared.case_run.Verdict.{Verdict}
 use Rattle.chip_bench.specs.declared.case_run.Verdict.TheVariants as verdict
 use Rattle.chip_bench.specs.declared.ending.Ending.{Ending}
@@ -68,11 +70,18 @@ pub record SetBy (setup : Setup) (words : SettingWords) : Type 0 where
   pub profile : IsProfile (text_of setup.profile) words.profile
   pub spacing : ReadsOr 32 (text_of setup.every) LEAST_SPACING words.spacing
 
--- the source of a case: nothing, its lines, or the bytes of a file, of which no contract speaks
+-- what `dis` prints of some image, of whose bytes no contract speaks
+abbrev pub IsSourceOfImage : List ℕ → Type 0
+IsSourceOfImage source =
+    (image : List ℕ) × ((length image ≤ IMAGE_BYTES) × (source ≡ source_of_image image))
+
+-- the source of a case: nothing, its lines, the bytes of a file, of which no contract speaks, or what
+-- `dis` prints of an image
 abbrev pub IsCaseSource : SourceWords → List ℕ → Type 0
 IsCaseSource words.Empty source = source ≡ []
 IsCaseSource (words.Lines lines) source = source ≡ lines.now
 IsCaseSource (words.File name) source = Unit {0}
+IsCaseSource (words.Image name) source = IsSourceOfImage source
 
 -- its key events: none, or those of a file
 abbrev pub IsCaseKeys : Option Placed → List ℕ → Type 0

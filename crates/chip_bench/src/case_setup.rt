@@ -2,16 +2,17 @@
 ghost use Rattle.std.specs.Prelude.{◌≡◌, IfOk, IfErr, Some, option_copied};
 ghost use Rattle.chip_arguments.specs.CommandWords.{IsProfile, ReadsNumber, ReadsOr};
 ghost use Rattle.chip_bench.specs.SettingWords.{settings_asked};
-ghost use Rattle.chip_bench.specs.Testing.{IsCaseKeys, IsCaseSource, IsHindrance, SetBy, text_of};
+ghost use Rattle.chip_bench.specs.Testing.{IsCaseKeys, IsCaseSource, IsHindrance, IsSourceOfImage, SetBy, text_of};
 
 use crate::ending::{Failure, TestFault};
 use crate::limits::KEY_FILE_BYTES;
-use crate::reading::{MOST_SOURCE, settings_of};
+use crate::reading::{MOST_SOURCE, settings_of, source_of};
 use chip_arguments::limits::MOST_RATE;
 use chip_arguments::{SettingWords, number, seed};
 use chip_cases::{Placed, Setup, SourceWords};
 use chip_files::read_file;
 use chip_machine::Profile;
+use chip_machine::limits::IMAGE_BYTES;
 use chip_replay::{LEAST_SPACING, MOST_SPACING};
 use chip_session::Settings;
 use std::alloc::Global;
@@ -143,6 +144,27 @@ pub(crate) fn case_source<'a, F: Files>(
         SourceWords::Empty => Ok(Vec::new(alloc)),
         SourceWords::Lines(lines) => Ok(Vec::from_slice(alloc, lines)?),
         SourceWords::File(placed) => read_named(alloc, files, name, placed, MOST_SOURCE),
+        SourceWords::Image(placed) => read_image(alloc, files, name, placed),
+    }
+}
+
+// What `dis` prints of the image in a file, unless it is too long.
+fn read_image<'a, F: Files>(
+    alloc: Global,
+    files: &F,
+    name: &'a str,
+    placed: Placed<'_>,
+) -> Result<Vec<u8>, Failure<'a>>
+    ensures ok { IfOk result (λ source. IsSourceOfImage source.items) }
+    ensures err { IfErr result IsHindrance }
+{
+    let image = read_named(alloc, files, name, placed, IMAGE_BYTES as u32 + 1)?;
+    match source_of(alloc, name, &image) {
+        Ok(source) => Ok(source),
+        Err(Failure::CannotRead(_, error)) => {
+            Err(Failure::UnreadInTest(name, placed.line, error))
+        }
+        Err(failure) => Err(failure),
     }
 }
 

@@ -16,6 +16,8 @@ pub enum SourceWords<'a> {
     Lines(&'a [u8]),
     /// The file of a name.
     File(Placed<'a>),
+    /// What `dis` prints of the image in the file of a name.
+    Image(Placed<'a>),
 }
 
 /// The source, the key events and the settings of a case, as its lines give them. What no line gives

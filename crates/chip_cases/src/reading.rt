@@ -145,6 +145,8 @@ fn with_line<'a>(setup: Setup<'a>, text: &'a [u8], line: usize) -> Result<Setup<
     let mut with = setup;
     if word == b"source".as_slice() {
         with.source = SourceWords::File(Placed { line, text: value });
+    } else if word == b"image".as_slice() {
+        with.source = SourceWords::Image(Placed { line, text: value });
     } else if word == b"keys".as_slice() {
         with.keys = given;
     } else if word == b"profile".as_slice() {

@@ -1,22 +1,28 @@
 use Rattle.std.proofs.Common.{rules, ◌≡◌, ◌∙◌, ◌++◌, ◌∷◌, [], ap, subst, refl, Err, ℕ, List, arith}
 use Rattle.std.proofs.lemmas.Result.{err_from_is_err_and}
-use Rattle.chip_trace.specs.Columns.{header_line}
-use Rattle.chip_trace.specs.Lines.{trace_lines}
+use Rattle.chip_trace.specs.Form.{header_lines}
+use Rattle.chip_trace.specs.Lines.{newline_ended, trace_lines}
 use Rattle.chip_bench.specs.Printing.{Prints, printed}
 use Rattle.chip_session.specs.Answers.{machine_of}
 use Rattle.chip_bench.specs.Tracing.{trace_of}
 use Rattle.chip_bench.specs.declared.ending.Ending.TheVariants.{Done}
-use Rattle.chip_bench.proofs.TraceLemmas.{fewer_left, none_left, stream_adds, stream_ends, stream_fails, stream_starts, stream_writes}
+use Rattle.chip_bench.specs.declared.ending.Failure.TheVariants as failure
+use Rattle.chip_bench.proofs.TraceLemmas.{fewer_left, none_left, short, stream_adds, stream_ends, stream_fails, stream_starts, stream_writes}
 use Rattle.chip_bench.proofs.tracing.stream.Goals as goal
+
+pub returns-in_err-push_header_lines : goal.returns-in_err-push_header_lines
+returns-in_err-push_header_lines g c =
+    let is_short : c.from_residual.result ≡ Err failure.OutOfMemory = search rules in
+    short g.O.Write.contents c.args.output.now c.args.output.now _ c.from_residual.result is_short refl
 
 pub loop-text-init : goal.loop-text-init
 loop-text-init g c =
     let shown = c.args.shown.now in
-    let items : c.extend_from_slice.new.self.items ≡ header_line shown.columns ++ 10 ∷ [] = search rules in
+    let items : c.push_header_lines.new.text.items ≡ newline_ended (header_lines shown.form shown.columns) = search rules in
     let lines = c.new-trace.ensures.lines (machine_of c.args.bench.now.session) in
     record {
       session = refl;
-      streamed = rw (items, lines) (stream_starts g.O.Write.contents c.args.output.now (header_line shown.columns) (trace_lines shown.columns (machine_of c.args.bench.now.session) shown.from shown.to));
+      streamed = rw (items, lines) (stream_starts g.O.Write.contents c.args.output.now (header_lines shown.form shown.columns) (trace_lines shown.form shown.columns (machine_of c.args.bench.now.session) shown.from shown.to));
     }
 
 pub returns-in_err-print : goal.returns-in_err-print
