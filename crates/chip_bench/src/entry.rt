@@ -7,7 +7,7 @@ ghost use Rattle.chip_bench.specs.Printing.{Prints, printed};
 ghost use Rattle.chip_session.specs.Settings.{default_settings};
 ghost use Rattle.chip_bench.specs.Running.{AnswersScript, RunsSession, status_of, failure_status, AreFaulty, IsWithoutWords};
 ghost use Rattle.chip_bench.specs.inner.Reads.{IsUsage};
-ghost use Rattle.chip_bench.specs.Doing.{Assembles, Checks, Debugs, Disassembles, Does, Ends, IsFileWritten, Lists, Performs, PrintsText, Runs, ShowsHelp, ShowsVersion, Traces, TracesAlone, TracesBeside};
+ghost use Rattle.chip_bench.specs.Doing.{Assembles, Checks, Debugs, Disassembles, Does, Ends, IsFileWritten, Lists, Performs, PrintsText, Runs, ShowsHelp, ShowsVersion, Traces, TracesAlone, TracesBeside, form_of};
 ghost use Rattle.chip_arguments.specs.CommandWords.{word_faults};
 ghost use Rattle.std.specs.Io.KnownBytes.{Keeps};
 ghost use Rattle.std.specs.IoError.{error_kind};
@@ -370,11 +370,7 @@ fn trace_alone<'a, O: Write>(
 {
     let shown = Shown {
         columns: Columns::usual(alloc, words.sums)?,
-        form: if words.is_json {
-            Form::Json
-        } else {
-            Form::Fields
-        },
+        form: form_of(words.is_json),
         from: words.from,
         to: words.run.steps,
     };
@@ -384,6 +380,13 @@ fn trace_alone<'a, O: Write>(
         settings,
     } = asked;
     trace_source(alloc, &source, &keys, &shown, settings, output)
+}
+
+// How the lines of a trace show their columns.
+fn form_of(is_json: bool) -> Form
+    ensures { result ≡ form_of is_json }
+{
+    if is_json { Form::Json } else { Form::Fields }
 }
 
 // The first line of a trace names its columns.

@@ -7,11 +7,11 @@ use Rattle.chip_bench.proofs.output.check_source.Goals as goal
 pub returns-in-Ok : goal.returns-in-Ok
 returns-in-Ok g c =
     such_opened g.O.Write.contents c.args.output.now c.print_check.new.output (open_fault c.args.source.now)
-    (IsPrintedCheck c.args.name.now (lines_of c.args.source.now)) c.print_check.result c.in-Ok.ensures.ok.0
-    (subst (λ (lines : List (List ℕ)). PrintsSuch g.O.Write.contents c.args.output.now c.print_check.new.output (IsPrintedCheck c.args.name.now lines) c.print_check.result)
+    (IsPrintedCheck c.args.words.now.is_json c.args.words.now.source.now (lines_of c.args.source.now)) c.print_check.result c.in-Ok.ensures.ok.0
+    (subst (λ (lines : List (List ℕ)). PrintsSuch g.O.Write.contents c.args.output.now c.print_check.new.output (IsPrintedCheck c.args.words.now.is_json c.args.words.now.source.now lines) c.print_check.result)
     c.in-Ok.ensures.ok.1 c.print_check.ensures)
 
 pub returns-in-Err : goal.returns-in-Err
 returns-in-Err g c =
     such_not_opened g.O.Write.contents c.args.output.now c.refuse_source.new.output (open_fault c.args.source.now)
-    (IsPrintedCheck c.args.name.now (lines_of c.args.source.now)) _ c.refuse_source.result c.in-Err.ensures.err c.refuse_source.ensures
+    (IsPrintedCheck c.args.words.now.is_json c.args.words.now.source.now (lines_of c.args.source.now)) _ c.refuse_source.result c.in-Err.ensures.err c.refuse_source.ensures
