@@ -192,7 +192,11 @@ pub(crate) fn as_source<'a>(
 }
 
 // The source that `dis` prints of an image.
-pub(crate) fn source_of<'a>(alloc: Global, name: &'a str, image: &[u8]) -> Result<Vec<u8>, Failure<'a>>
+pub(crate) fn source_of<'a>(
+    alloc: Global,
+    name: &'a str,
+    image: &[u8],
+) -> Result<Vec<u8>, Failure<'a>>
     ensures ok { IfOk result (λ source. (length image.now ≤ IMAGE_BYTES)
         × (source.items ≡ source_of_image image.now)) }
     ensures err { IfErr result (IsImageRefused name.entry image.now) }
