@@ -293,10 +293,13 @@ module _ {R W : Type 0} (remaining : R → Option (List ℕ)) (contents : W → 
 
   pub checks_not : (words : CheckWords) (set : ℕ) (ended : Outcome) (why : Failure) → AsksSet warning_named 0 (option_copied words.allowed) (Some set) →
       ended ≡ Err why → IsSourceUnread in_old in_new words.source why → Checks remaining contents in_old in_new output output words ended
-  checks_not words set ended why asks e w =
-      (Some set, asks, source_unread remaining in_old in_new (output ≡ output) refl words.source
-      (λ bytes. PrintsSuch contents output output
-      (IsPrintedOf (open_fault bytes) (IsPrintedCheck words.is_json words.source.now (lines_of bytes)))) ended why e w)
+  checks_not words set ended why asks e w = (
+    Some set,
+    asks,
+    source_unread remaining in_old in_new (output ≡ output) refl words.source
+        (λ bytes. PrintsSuch contents output output
+        (IsPrintedOf (open_fault bytes) (IsPrintedCheck words.is_json words.source.now (lines_of bytes)))) ended why e w,
+  )
 
   pub disassembles_not : (image : Bor (List ℕ)) (ended : Outcome) (why : Failure) → ended ≡ Err why → IsSourceUnread in_old in_new image why →
       Disassembles remaining contents in_old in_new output output image ended
@@ -334,9 +337,16 @@ module _ {R W : Type 0} (remaining : R → Option (List ℕ)) (contents : W → 
       text ≡ bytes → GivesSource remaining in_old in_new words.source.now bytes →
       PrintsSuch contents old new (IsPrintedOf (open_fault text) (IsPrintedCheck words.is_json words.source.now (lines_of text))) ended →
       Checks remaining contents in_old in_new old new words ended
-  checks words set bytes text ended asks same gives did =
-      (Some set, asks, inl (bytes, gives, subst (λ (t : List ℕ). PrintsSuch contents old new
-      (IsPrintedOf (open_fault t) (IsPrintedCheck words.is_json words.source.now (lines_of t))) ended) same did))
+  checks words set bytes text ended asks same gives did = (
+    Some set,
+    asks,
+    inl (
+      bytes,
+      gives,
+      subst (λ (t : List ℕ). PrintsSuch contents old new
+          (IsPrintedOf (open_fault t) (IsPrintedCheck words.is_json words.source.now (lines_of t))) ended) same did,
+    ),
+  )
 
   pub disassembles : (image : Bor (List ℕ)) (bytes text : List ℕ) (ended : Outcome) → text ≡ bytes → length bytes ≤ IMAGE_BYTES →
       GivesSource remaining in_old in_new image.now bytes → Prints contents old new (printed (source_of_image text) Done) ended →

@@ -27,7 +27,9 @@ use crate::reading::{
 use crate::sets::warnings_of;
 use crate::testing::test_files;
 use crate::tracing::{Shown, compare_source, trace_source};
-use chip_arguments::{CheckWords, CommandLine, RunWords, SettingWords, TraceWords, not_text, parse_words};
+use chip_arguments::{
+    CheckWords, CommandLine, RunWords, SettingWords, TraceWords, not_text, parse_words,
+};
 use chip_files::{first_line, write_file};
 use chip_machine::limits::IMAGE_BYTES;
 use chip_session::Counted;

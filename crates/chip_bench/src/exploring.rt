@@ -76,7 +76,9 @@ fn search_source<'a, F: Files, O: Write, E: Write>(
         allowed: sets.keys,
         target,
     };
-    search(alloc, files, words, &opened, &start, &question, output, errors)
+    search(
+        alloc, files, words, &opened, &start, &question, output, errors,
+    )
 }
 
 // What a search looks for, if the source has the place.

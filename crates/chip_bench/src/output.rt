@@ -4,7 +4,7 @@ ghost use Rattle.chip_asm.specs.Lines.{lines_of, open_fault};
 ghost use Rattle.chip_asm.specs.Program.{image_of};
 ghost use Rattle.chip_views.specs.Dis.{source_of_image};
 ghost use Rattle.chip_session.specs.Transcript.{refused};
-ghost use Rattle.chip_bench.specs.Printing.{IsPrintedCheck, IsPrintedOf, Prints, PrintsSuch, Refuses, printed, printed_of, printed_faults, printed_listing, printed_run, printed_picture, unanswered, keys_failure, PrintsUnder, PrintsUnless};
+ghost use Rattle.chip_bench.specs.Printing.{IsCheckText, IsPrintedCheck, IsPrintedOf, Prints, PrintsSuch, Refuses, printed, printed_of, printed_faults, printed_listing, printed_run, printed_picture, unanswered, keys_failure, PrintsUnder, PrintsUnless};
 ghost use Rattle.chip_session.specs.KeyFile.{key_fault, session_under};
 ghost use Rattle.chip_bench.specs.Running.{AnswersScript};
 ghost use Rattle.chip_bench.specs.Doing.{Explains};
@@ -22,8 +22,8 @@ use chip_session::{
     faults_answer, insert_keys, listing_answer, refuse, serve, write_all,
 };
 use chip_views::source_of_image;
-use chip_warnings::warnings;
-use std::alloc::Global;
+use chip_warnings::{Warning, warnings};
+use std::alloc::{AllocError, Global};
 use std::io::{Read, Write};
 use std::mem;
 
@@ -352,15 +352,30 @@ fn print_check<'a, O: Write>(
         (IsPrintedCheck words.now.is_json words.now.source.now source.now.lines) result }
 {
     let warnings = warnings(alloc, bytes, source, words.profile, allowed)?;
-    let name = words.source.as_bytes();
-    let text = if words.is_json {
-        check_json(alloc, name, bytes, source, &warnings)?
-    } else {
-        check_text(alloc, name, bytes, source, &warnings)?
-    };
+    let text = check_of(alloc, words, bytes, source, &warnings)?;
     match source.image() {
         Some(_) => print(&text, Ending::Done, output),
         None => print(&text, Ending::Faulty, output),
+    }
+}
+
+// What `check` prints of a source and its warnings, as text or as JSON.
+fn check_of(
+    alloc: Global,
+    words: &CheckWords<'_>,
+    bytes: &[u8],
+    source: &Source,
+    warnings: &[Warning],
+) -> Result<Vec<u8>, AllocError>
+    requires { source.now.lines ≡ lines_of bytes.now }
+    ensures { IfOk result (λ text. IsCheckText words.now.is_json words.now.source.now
+        source.now.lines text.items) }
+{
+    let name = words.source.as_bytes();
+    if words.is_json {
+        check_json(alloc, name, bytes, source, warnings)
+    } else {
+        check_text(alloc, name, bytes, source, warnings)
     }
 }
 
