@@ -187,7 +187,7 @@ def wrong_marks(listing, answer, made, after):
     marked = {address for address, is_marked in rows if is_marked}
     unmarked = {address for address, is_marked in rows if not is_marked}
     head = answer[0].split()
-    last = int(head[1]) - 1 if head[0][0] == "S" else STEPS
+    last = min(int(head[1]) - 1, STEPS) if head[0][0] == "S" else STEPS
     left_out = sorted(address for address in unmarked if made.get(address, STEPS + 1) <= last)
     if left_out:
         return f"{left_out} are executed, and have no mark"

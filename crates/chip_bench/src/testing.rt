@@ -68,12 +68,13 @@ fn test_file<'a, F: Files>(
             return Err(Failure::BadTest(name, line, TestFault::Line(why)));
         }
     };
-    if !is_update && let Some((line, why)) = misplaced_refusal(&cases) {
+    let misplaced = misplaced_refusal(&cases);
+    if !is_update && let Some((line, why)) = misplaced {
         return Err(Failure::BadTest(name, line, TestFault::Line(why)));
     }
     let mut others = Vec::new(alloc);
     let passes = test_cases(alloc, files, name, &cases, report, &mut others)?;
-    if is_update && !others.is_empty() {
+    if is_update && (!others.is_empty() || misplaced.is_some()) {
         let updated = updated_text(alloc, &text, &others)?;
         write_image(alloc, files, &[], name, &updated)?;
     }

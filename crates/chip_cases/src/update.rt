@@ -1,6 +1,6 @@
 //! A file of cases with other answers.
 
-use crate::line::{begins_part, is_skipped};
+use crate::line::{begins_part, is_command, is_skipped};
 use crate::place::Place;
 use std::alloc::{AllocError, Global};
 
@@ -15,8 +15,8 @@ pub struct Given {
 }
 
 /// The text of a file of cases with these answers in the place of what is expected of their
-/// commands, which stand in the order of their lines. Comments and all other lines stay, in their
-/// order.
+/// commands, which stand in the order of their lines. Each command gets the mark that its answer asks
+/// for. Comments and all other lines stay, in their order.
 ///
 /// # Errors
 ///
@@ -41,6 +41,10 @@ pub fn updated_text(alloc: Global, text: &[u8], given: &[Given]) -> Result<Vec<u
         if begins_part(line) {
             is_replaced = false;
         }
+        if is_command(line) {
+            push_marked(&mut updated, whole, expects_refusal(next))?;
+            continue;
+        }
         if !is_replaced || is_skipped(line) {
             updated.extend_from_slice(whole)?;
         }
@@ -48,12 +52,37 @@ pub fn updated_text(alloc: Global, text: &[u8], given: &[Given]) -> Result<Vec<u
     Ok(updated)
 }
 
-// Adds a command's line with the mark that its answer asks for, and the answer without empty lines.
-fn push_answered(updated: &mut Vec<u8>, whole: &[u8], given: &Given) -> Result<(), AllocError> {
-    updated.push(if given.is_refused { b'!' } else { b'>' })?;
+// Whether the lines below a command expect a refusal: one line, which is one.
+fn expects_refusal(below: Place<'_>) -> bool {
+    let mut count = 0;
+    let mut is_refusal = false;
+    let mut place = below;
+    while !place.rest.is_empty() {
+        let (line, next) = place.next_line();
+        if begins_part(line) {
+            break;
+        }
+        if !is_skipped(line) {
+            is_refusal = count == 0 && line.starts_with(b"no ");
+            count = 1;
+        }
+        place = next;
+    }
+    is_refusal
+}
+
+// Adds a command's line, with `!` where its answer is a refusal and else with `>`.
+fn push_marked(updated: &mut Vec<u8>, whole: &[u8], is_refused: bool) -> Result<(), AllocError> {
+    updated.push(if is_refused { b'!' } else { b'>' })?;
     if let [_, rest @ ..] = whole {
         updated.extend_from_slice(rest)?;
     }
+    Ok(())
+}
+
+// Adds a command's line with the mark that its answer asks for, and the answer without empty lines.
+fn push_answered(updated: &mut Vec<u8>, whole: &[u8], given: &Given) -> Result<(), AllocError> {
+    push_marked(updated, whole, given.is_refused)?;
     push_newline(updated)?;
     let mut place = Place::start(&given.answer);
     while !place.rest.is_empty() {
