@@ -7,7 +7,7 @@ _chipbench() {
     fi
     case $before in
         --profile) COMPREPLY=($(compgen -W "schip vip" -- "$word")); return ;;
-        --rate | --tape | --seed | --every | --steps | --from | --states | --want | --keys-allowed) return ;;
+        --rate | --tape | --seed | --every | --steps | --from | --allow | --states | --want | --reach | --keys-allowed) return ;;
         explain) COMPREPLY=($(compgen -W "$(chipbench explain 2>/dev/null | cut -d ' ' -f 1)" -- "$word")); return ;;
     esac
     case ${COMP_WORDS[1]} in
@@ -16,11 +16,11 @@ _chipbench() {
         list) options=" --help" ;;
         dis) options=" --help" ;;
         run) options="--steps --rate --tape --seed --profile --keys --image --help" ;;
-        trace) options="--steps --rate --tape --seed --profile --keys --image --from --hash --against --help" ;;
+        trace) options="--steps --rate --tape --seed --profile --keys --image --from --hash --json --against --help" ;;
         picture) options="--steps --rate --tape --seed --profile --keys --image --ascii --pbm --png --help" ;;
-        check) options=" --help" ;;
+        check) options="--json --allow --profile --help" ;;
         test) options="--update --tap --help" ;;
-        explore) options="--steps --states --want --keys-allowed --keys-to --rate --tape --seed --profile --image --help" ;;
+        explore) options="--steps --states --want --reach --keys-allowed --keys-to --cover --progress --rate --tape --seed --profile --image --help" ;;
         explain) options=" --help" ;;
     esac
     case $word in
