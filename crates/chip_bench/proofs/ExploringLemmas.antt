@@ -1,5 +1,5 @@
 -- What `explore` did, from what its steps did.
-use Rattle.std.proofs.Common.{◌≡◌, ◌⊎◌, ◌∙◌, inl, inr, ℕ, List, ◌++◌, Option, Some, None, Result, Ok, Err, refl, sym, ap, subst}
+use Rattle.std.proofs.Common.{◌≡◌, ◌⊎◌, ◌∙◌, inl, inr, ℕ, List, ◌++◌, Option, Some, None, Ok, Err, refl, sym, ap, subst}
 use Rattle.std.specs.Prelude.{option_copied}
 use Rattle.chip_arguments.specs.declared.command_line.ExploreWords.{ExploreWords}
 use Rattle.chip_asm.specs.Lines.{lines_of, open_fault}
@@ -15,7 +15,7 @@ use Rattle.chip_machine.specs.declared.profile.Profile.{Profile}
 use Rattle.chip_session.specs.Settings.{SessionSettings}
 use Rattle.chip_session.specs.Tally.{Tally}
 use Rattle.chip_bench.specs.Doing.{Declined, Explores, FromGiven, IfSets, IfSettled, IsBadPlace, IsBadSet, IsShort, Outcome, Searches, SearchesFrom, WithSets, image_if_opened, image_in}
-use Rattle.chip_bench.specs.Exploring.{AsksCauses, AsksKeys, IsSearchPrinted, covering_text, first_lines, search_ending, target_asked}
+use Rattle.chip_bench.specs.Exploring.{AsksCauses, AsksKeys, covering_text, first_lines, search_ending, target_asked}
 use Rattle.chip_bench.specs.Printing.{Prints, Refuses, printed, printed_faults, unopened_text}
 use Rattle.chip_bench.specs.SettingWords.{settings_asked}
 use Rattle.chip_bench.specs.declared.ending.Ending.{Ending}

@@ -1,6 +1,5 @@
 -- The parts of a text between its commas, and the set of their numbers.
-use Rattle.std.proofs.Common.{◌≡◌, ◌≢◌, ◌∙◌, ℕ, ◌+◌, ◌<◌, ◌≤◌, ◌==◌, Bool, true, List, [], ◌∷◌, ◌++◌, length, take, drop, Option, Some, None, fold, refl, sym, ap, subst, arith}
-use Rattle.memchr.specs.Find.{IsFirstByte, Nowhere, Passes, is_byte}
+use Rattle.std.proofs.Common.{◌≡◌, ◌∙◌, ℕ, ◌<◌, List, [], ◌∷◌, ◌++◌, length, Option, Some, None, fold, refl, sym, ap, arith}
 use Rattle.chip_bench.specs.Exploring.{AreParts, IsFirstPart, IsSet, comma, with_number}
 
 -- what the parts of the rest of a text make of a set so far is what all parts make of the empty set

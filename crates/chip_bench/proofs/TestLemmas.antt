@@ -1,5 +1,5 @@
 -- The cases of files: the answers of a case, and whether all pass.
-use Rattle.std.proofs.Common.{◌≡◌, ◌≢◌, ◌⊎◌, inl, inr, ℕ, zero, suc, ◌+◌, ◌<◌, ◌≤◌, ◌==◌, ◌&&◌, Bool, true, false, List, [], ◌∷◌, drop, length, map, get_or, Option, Some, None, Result, Ok, Err, IfOk, refl, sym, ap, ◌∙◌, subst, arith, add-one, drop-cons, eqb-true}
+use Rattle.std.proofs.Common.{◌≡◌, ◌≢◌, ◌⊎◌, inl, inr, ℕ, zero, suc, ◌+◌, ◌<◌, ◌≤◌, ◌==◌, ◌&&◌, Bool, true, false, List, [], ◌∷◌, drop, length, map, get_or, Some, None, Result, Ok, Err, IfOk, refl, sym, ap, ◌∙◌, subst, arith, add-one, drop-cons, eqb-true}
 use Rattle.std.specs.Prelude.{◌↔◌, IsTrue}
 use Rattle.std.proofs.lemmas.List.{drop_all, get_or-map, length-map}
 use Rattle.chip_asm.specs.Lines.{open_fault}
@@ -9,7 +9,7 @@ use Rattle.chip_cases.specs.Matching.{IsAnswered}
 use Rattle.chip_cases.specs.Steps.{Expectation, expectation_of}
 use Rattle.chip_cases.specs.declared.case.Step.{Step}
 use Rattle.chip_cases.specs.declared.update.Given.{Given}
-use Rattle.chip_session.specs.KeyFile.{IsKeyFault, key_fault, session_under}
+use Rattle.chip_session.specs.KeyFile.{key_fault, session_under}
 use Rattle.chip_session.specs.Session.{Session, session_of}
 use Rattle.chip_session.specs.Settings.{SessionSettings}
 use Rattle.chip_bench.specs.Testing.{CasePasses, JudgesAll, Passes, PassesUnder, has_passed}

@@ -59,7 +59,7 @@ use Rattle.chip_arguments.specs.declared.command_line.RunWords.{RunWords}
 use Rattle.chip_arguments.specs.declared.command_line.SettingWords.{SettingWords}
 use Rattle.chip_arguments.specs.declared.command_line.TraceWords.{TraceWords}
 use Rattle.chip_bench.specs.declared.ending.Ending.{Ending}
-use Rattle.chip_bench.specs.declared.ending.Ending.TheVariants.{Done, Faulty}
+use Rattle.chip_bench.specs.declared.ending.Ending.TheVariants.{Done}
 use Rattle.chip_bench.specs.declared.ending.Failure.{Failure}
 use Rattle.chip_bench.specs.declared.ending.Failure.TheVariants as failure
 use Rattle.chip_session.specs.declared.question.PictureForm.{PictureForm}

@@ -1,4 +1,4 @@
-use Rattle.std.proofs.Common.{◌≡◌, ◌∙◌, [], subst, sym}
+use Rattle.std.proofs.Common.{subst, sym}
 use Rattle.chip_bench.proofs.TestLemmas.{PassesSoFar, passes_all, passes_more, passes_none}
 use Rattle.chip_bench.proofs.case_run.other_answers.Goals as goal
 

@@ -1,8 +1,7 @@
-use Rattle.std.proofs.Common.{◌≡◌, ◌∙◌, ap, ℕ, List, Option, Some, None, subst}
-use Rattle.std.specs.Prelude.{option_copied}
+use Rattle.std.proofs.Common.{◌∙◌, ap, ℕ, List, Some, None}
 use Rattle.chip_bench.specs.Exploring.{IsFirstPart, with_number}
 use Rattle.chip_bench.specs.inner.Sets.{number_by}
-use Rattle.chip_bench.proofs.SetLemmas.{ends, goes_on, shorter}
+use Rattle.chip_bench.proofs.SetLemmas.{ends, goes_on}
 use Rattle.chip_bench.proofs.sets.set_of.Goals as goal
 
 pub loop-next-preserved : goal.loop-next-preserved
