@@ -168,15 +168,17 @@ fn perform<'a, F: Files, I: Read, O: Write, E: Write>(
             settings,
         } => {
             let given = Given { source, is_image };
-            debug(alloc, files, name_seed, given, &settings, input, output)
+            debug(
+                alloc, files, name_seed, given, &settings, input, output, errors,
+            )
         }
         CommandLine::Asm { source, image } => asm(alloc, files, source, image, input, output),
         CommandLine::List { source } => list(alloc, files, source, input, output),
         CommandLine::Check(words) => check(alloc, files, &words, input, output),
         CommandLine::Dis { image } => dis(alloc, files, image, input, output),
-        CommandLine::Run(words) => run(alloc, files, &words, input, output),
-        CommandLine::Trace(words) => trace(alloc, files, &words, input, output),
-        CommandLine::Picture(words) => picture(alloc, files, &words, input, output),
+        CommandLine::Run(words) => run(alloc, files, &words, input, output, errors),
+        CommandLine::Trace(words) => trace(alloc, files, &words, input, output, errors),
+        CommandLine::Picture(words) => picture(alloc, files, &words, input, output, errors),
         CommandLine::Test(words) => test_files(alloc, files, &words, output),
         CommandLine::Explore(words) => explore(alloc, files, &words, input, output, errors),
         CommandLine::Explain { code } => explain(alloc, code, output),
@@ -211,7 +213,7 @@ struct Given<'a> {
 }
 
 // The settings are judged before SOURCE is read.
-fn debug<'a, F: Files, I: Read, O: Write>(
+fn debug<'a, F: Files, I: Read, O: Write, E: Write>(
     alloc: Global,
     files: &F,
     name_seed: u64,
@@ -219,6 +221,7 @@ fn debug<'a, F: Files, I: Read, O: Write>(
     words: &SettingWords<'_>,
     input: &mut Counted<I>,
     output: &mut Counted<O>,
+    errors: &mut E,
 ) -> Result<Ending, Failure<'a>>
     ensures { Debugs I.remaining O.contents input.old input.new output.old output.new
         given.entry.source given.entry.is_image words.now result }
@@ -228,7 +231,7 @@ fn debug<'a, F: Files, I: Read, O: Write>(
     match given.source {
         Some(name) => {
             let bytes = read_file(alloc, files, name, MOST_SOURCE)?;
-            let source = as_source(alloc, name, given.is_image, bytes)?;
+            let source = as_source(alloc, name, given.is_image, bytes, errors)?;
             answer_script(alloc, &source, seeded, input, output)
         }
         None => answer_script(alloc, b"", seeded, input, output),
@@ -317,12 +320,13 @@ fn dis<'a, F: Files, I: Read, O: Write>(
     print_source(alloc, &bytes, output)
 }
 
-fn run<'a, F: Files, I: Read, O: Write>(
+fn run<'a, F: Files, I: Read, O: Write, E: Write>(
     alloc: Global,
     files: &F,
     words: &RunWords<'a>,
     input: &mut Counted<I>,
     output: &mut Counted<O>,
+    errors: &mut E,
 ) -> Result<Ending, Failure<'a>>
     ensures { Runs I.remaining O.contents input.old input.new output.old output.new
         words.entry.now result }
@@ -331,21 +335,22 @@ fn run<'a, F: Files, I: Read, O: Write>(
         source,
         keys,
         settings,
-    } = read_asked(alloc, files, words, input)?;
+    } = read_asked(alloc, files, words, input, errors)?;
     run_source(alloc, &source, &keys, words.steps, settings, output)
 }
 
-fn trace<'a, F: Files, I: Read, O: Write>(
+fn trace<'a, F: Files, I: Read, O: Write, E: Write>(
     alloc: Global,
     files: &F,
     words: &TraceWords<'a>,
     input: &mut Counted<I>,
     output: &mut Counted<O>,
+    errors: &mut E,
 ) -> Result<Ending, Failure<'a>>
     ensures { Traces I.remaining O.contents input.old input.new output.old output.new
         words.entry.now result }
 {
-    let asked = read_asked(alloc, files, &words.run, input)?;
+    let asked = read_asked(alloc, files, &words.run, input, errors)?;
     match words.against {
         None => trace_alone(alloc, words, asked, output),
         Some(name) => {

@@ -15,17 +15,18 @@ use std::io::{Read, Write};
 use std::rt::Files;
 
 // Without a file for it, the picture is printed.
-pub(crate) fn picture<'a, F: Files, I: Read, O: Write>(
+pub(crate) fn picture<'a, F: Files, I: Read, O: Write, E: Write>(
     alloc: Global,
     files: &F,
     words: &PictureWords<'a>,
     input: &mut Counted<I>,
     output: &mut Counted<O>,
+    errors: &mut E,
 ) -> Result<Ending, Failure<'a>>
     ensures { Pictures I.remaining O.contents input.old input.new output.old output.new
         words.now result }
 {
-    let asked = read_asked(alloc, files, &words.run, input)?;
+    let asked = read_asked(alloc, files, &words.run, input, errors)?;
     let shot = Shot {
         words: *words,
         asked,

@@ -20,11 +20,14 @@ use chip_views::source_of_image;
 use hex::FromHexError;
 use std::alloc::Global;
 use std::io;
-use std::io::Read;
+use std::io::{Read, Write};
 use std::rt::Files;
 
 // The name of a source that is read from the standard input.
 const INPUT: &str = "-";
+
+// How many bytes of a source are looked at to see that it is an image.
+const FIRST_BYTES: usize = 64;
 
 // A source of this length or more doesn't open.
 pub(crate) const MOST_SOURCE: u32 = SOURCE_BYTES as u32 + 1;
@@ -83,11 +86,12 @@ pub(crate) struct Asked<'a> {
 }
 
 // The settings are judged before a file is read, and the key events are read before the source.
-pub(crate) fn read_asked<'a, F: Files, I: Read>(
+pub(crate) fn read_asked<'a, F: Files, I: Read, E: Write>(
     alloc: Global,
     files: &F,
     words: &RunWords<'a>,
     input: &mut Counted<I>,
+    errors: &mut E,
 ) -> Result<Asked<'a>, Failure<'a>>
     ensures ok { IfOk result (λ asked. IsAsked I.remaining input.old input.new words.entry.now
         asked) }
@@ -96,7 +100,7 @@ pub(crate) fn read_asked<'a, F: Files, I: Read>(
 {
     let settings = settings_of(alloc, &words.settings)?;
     let keys = read_keys(alloc, files, words.keys)?;
-    let source = read_given(alloc, files, words.source, words.is_image, input)?;
+    let source = read_given(alloc, files, words.source, words.is_image, input, errors)?;
     Ok(Asked {
         source,
         keys,
@@ -159,36 +163,52 @@ pub(crate) fn read_bounded<'a, F: Files>(
 }
 
 // The source of that name, or where an image has the name, what `dis` prints of it.
-pub(crate) fn read_given<'a, F: Files, I: Read>(
+pub(crate) fn read_given<'a, F: Files, I: Read, E: Write>(
     alloc: Global,
     files: &F,
     name: &'a str,
     is_image: bool,
     input: &mut Counted<I>,
+    errors: &mut E,
 ) -> Result<Vec<u8>, Failure<'a>>
     ensures ok { IfOk result (λ source. IsGiven I.remaining input.old input.new is_image name.entry
         source.items) }
     ensures err { IfErr result (IsNotGiven I.remaining input.old input.new is_image name.entry) }
 {
     let bytes = read_source(alloc, files, name, input)?;
-    as_source(alloc, name, is_image, bytes)
+    as_source(alloc, name, is_image, bytes, errors)
 }
 
-// The bytes themselves, or the source that `dis` prints of them.
-pub(crate) fn as_source<'a>(
+// The bytes themselves, or the source that `dis` prints of them. Where an image was given as a
+// source, a hint says so on the standard error.
+pub(crate) fn as_source<'a, E: Write>(
     alloc: Global,
     name: &'a str,
     is_image: bool,
     bytes: Vec<u8>,
+    errors: &mut E,
 ) -> Result<Vec<u8>, Failure<'a>>
     ensures ok { IfOk result (λ source. IsTaken is_image name.entry bytes.items source.items) }
     ensures err { IfErr result (IsNotTaken is_image name.entry bytes.items) }
 {
     if is_image {
-        source_of(alloc, name, &bytes)
-    } else {
-        Ok(bytes)
+        return source_of(alloc, name, &bytes);
     }
+    if looks_like_image(&bytes) {
+        let _ = write!(
+            errors,
+            "chipbench: {name} looks like an image; --image runs it as it is\n"
+        );
+    }
+    Ok(bytes)
+}
+
+// Whether one of the first bytes is a control byte that no text has.
+fn looks_like_image(bytes: &[u8]) -> bool {
+    bytes
+        .iter()
+        .take(FIRST_BYTES)
+        .any(|byte| *byte < b' ' && !matches!(*byte, b'\t' | b'\n' | b'\r' | 0x0c | 0x1b))
 }
 
 // The source that `dis` prints of an image.
