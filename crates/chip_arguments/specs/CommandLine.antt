@@ -2,8 +2,8 @@
 -- themselves in clauses: what they are is unfolded where it is used.
 use Rattle.std.specs.Prelude.{List, [], ◌∷◌, Some, codes, true, pos}
 use Rattle.clap.specs.Words.{App, Rule, new_app, new_rule, with_rule, with_subcommand}
-use Rattle.chip_replay.specs.declared.limits.TheConstants.{LAST_STEP, LEAST_SPACING, MOST_SPACING}
-use Rattle.chip_arguments.specs.declared.limits.TheConstants.{MOST_RATE, MOST_STATES}
+use Rattle.chip_replay.specs.declared.limits.TheConstants.{LAST_STEP, LEAST_SPACING, MOST_RATE, MOST_SPACING}
+use Rattle.chip_arguments.specs.declared.limits.TheConstants.{MOST_STATES}
 use Rattle.clap.specs.declared.builder.action.ArgAction.TheVariants.{Append, Set, SetTrue}
 use Rattle.clap.specs.declared.builder.value_parser.ValueParser.TheVariants as vp
 

@@ -4,8 +4,8 @@ ghost use Rattle.clap.specs.Words.{new_rule, rule_of};
 ghost use Rattle.chip_arguments.specs.CommandLine as line;
 ghost use Rattle.chip_arguments.specs.inner.Built.{rule_by};
 
-use crate::limits::{MOST_RATE, MOST_STATES};
-use chip_replay::{LAST_STEP, LEAST_SPACING, MOST_SPACING};
+use crate::limits::MOST_STATES;
+use chip_replay::{LAST_STEP, LEAST_SPACING, MOST_RATE, MOST_SPACING};
 use clap::{Arg, ArgAction, value_parser};
 use std::alloc::Global;
 

@@ -1,8 +1,5 @@
 //! The limits of arguments that stand in no crate below.
 
-/// The most steps that may lie between two ticks of the timers.
-pub const MOST_RATE: u32 = 1000;
-
 /// How many states a search may keep where the words don't say.
 pub const USUAL_STATES: u32 = 1_000_000;
 

@@ -7,13 +7,12 @@ ghost use Rattle.chip_bench.specs.Testing.{IsCaseKeys, IsCaseSource, IsHindrance
 use crate::ending::{Failure, TestFault};
 use crate::limits::KEY_FILE_BYTES;
 use crate::reading::{MOST_SOURCE, settings_of, source_of};
-use chip_arguments::limits::MOST_RATE;
 use chip_arguments::{SettingWords, number, seed};
 use chip_cases::{Placed, Setup, SourceWords};
 use chip_files::read_file;
 use chip_machine::Profile;
 use chip_machine::limits::IMAGE_BYTES;
-use chip_replay::{LEAST_SPACING, MOST_SPACING};
+use chip_replay::{LEAST_SPACING, MOST_RATE, MOST_SPACING};
 use chip_session::Settings;
 use std::alloc::Global;
 use std::path::Path;

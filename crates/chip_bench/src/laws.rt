@@ -4,8 +4,7 @@ ghost use Rattle.std.specs.Prelude.{◌≡◌};
 ghost use Rattle.chip_lang.specs.declared.limits.TheConstants.{IMAGE_BYTES, IMAGE_START, MEMORY_BYTES, NAME_BYTES, OPEN_PARENTHESES};
 ghost use Rattle.chip_asm.specs.declared.limits.TheConstants.{LINE_BYTES, MOST_LINES};
 ghost use Rattle.chip_machine.specs.declared.limits.TheConstants.{FLAGS, FRAMES, TAPE_BYTES};
-ghost use Rattle.chip_replay.specs.declared.limits.TheConstants.{LAST_STEP, LEAST_SPACING, MOST_EVENTS, MOST_SPACING};
-ghost use Rattle.chip_arguments.specs.declared.limits.TheConstants.{MOST_RATE};
+ghost use Rattle.chip_replay.specs.declared.limits.TheConstants.{LAST_STEP, LEAST_SPACING, MOST_EVENTS, MOST_RATE, MOST_SPACING};
 ghost use Rattle.chip_session.specs.declared.limits.TheConstants.{COMMAND_BYTES, SCRIPT_BYTES, SCRIPT_LINES};
 ghost use Rattle.chip_bench.specs.declared.limits.TheConstants.{KEY_FILE_BYTES, TEST_FILE_BYTES, TRACE_FILE_BYTES};
 

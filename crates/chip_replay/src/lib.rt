@@ -12,6 +12,6 @@ mod traced;
 
 pub use keys::{KeyFault, Keys, Moment};
 pub use law::patched_checkpoint;
-pub use limits::{KEYS, LAST_STEP, LEAST_SPACING, MOST_EVENTS, MOST_SPACING};
+pub use limits::{KEYS, LAST_STEP, LEAST_SPACING, MOST_EVENTS, MOST_RATE, MOST_SPACING};
 pub use replay::{AtError, Replay};
 pub use traced::Traced;

@@ -8,6 +8,9 @@ pub const LAST_STEP: u32 = 1_000_000;
 /// The most events.
 pub const MOST_EVENTS: usize = 10_000;
 
+/// The most steps that may lie between two ticks of the timers.
+pub const MOST_RATE: u32 = 1_000;
+
 /// The fewest steps from one checkpoint to the next.
 pub const LEAST_SPACING: u32 = 1_000;
 

@@ -3,8 +3,7 @@ use Rattle.std.specs.Prelude.{ℕ, ◌<◌, ◌≤◌, ◌||◌, List, [], ◌�
 use Rattle.chip_machine.specs.declared.limits.TheConstants.{TAPE_BYTES}
 use Rattle.chip_machine.specs.declared.profile.Profile.{Profile}
 use Rattle.chip_machine.specs.declared.profile.Profile.TheVariants.{Schip}
-use Rattle.chip_replay.specs.declared.limits.TheConstants.{LEAST_SPACING, MOST_SPACING}
-use Rattle.chip_arguments.specs.declared.limits.TheConstants.{MOST_RATE}
+use Rattle.chip_replay.specs.declared.limits.TheConstants.{LEAST_SPACING, MOST_RATE, MOST_SPACING}
 use Rattle.chip_session.specs.declared.settings.SetError.{SetError}
 use Rattle.chip_session.specs.declared.settings.SetError.TheVariants.{RateOutOfRange, TapeLength, SpacingOutOfRange}
 

@@ -4,11 +4,10 @@ ghost use Rattle.chip_replay.specs.Limits.{IsSpacing};
 ghost use Rattle.chip_session.specs.Settings.{settings_of, settings_fault, spacing_fault};
 ghost use Rattle.chip_session.specs.declared.settings.SetError.TheVariants.{OutOfMemory};
 
-use chip_arguments::limits::MOST_RATE;
 use chip_asm::NameHasher;
 use chip_machine::Profile;
 use chip_machine::limits::TAPE_BYTES;
-use chip_replay::{LEAST_SPACING, MOST_SPACING};
+use chip_replay::{LEAST_SPACING, MOST_RATE, MOST_SPACING};
 use std::alloc::{AllocError, Global};
 use std::marker::Model;
 use thiserror::Error;
