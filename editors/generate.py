@@ -5,7 +5,8 @@
     editors/generate.py --check   writes nothing; the status is 1 where a file isn't what the tables give
 
 The words of the language come from crates/chip_lang/src (form.rt, keyword.rt, statement.rt), those of the
-command line from crates/chip_arguments/src (arguments.rt, commands.rt).
+command line from crates/chip_arguments/src (arguments.rt, commands.rt), the names of the profiles from
+crates/chip_machine/src (profile.rt).
 """
 import json
 import pathlib
@@ -24,6 +25,14 @@ def read(path):
 
 def in_order(words):
     return list(dict.fromkeys(words))
+
+
+def profiles():
+    """The names of the profiles, with a space between them."""
+    text = read("chip_machine/src/profile.rt")
+    names = dict(re.findall(r'const (\w+): &str = "(\w+)";', text))
+    listed = re.search(r"const PROFILES: .*?= \[(.*?)\];", text, re.S).group(1)
+    return " ".join(names[word] for word in re.findall(r"\w+", listed))
 
 
 class Language:
@@ -101,7 +110,7 @@ def bash(words):
         "        return",
         "    fi",
         "    case $before in",
-        '        --profile) COMPREPLY=($(compgen -W "schip vip" -- "$word")); return ;;',
+        f'        --profile) COMPREPLY=($(compgen -W "{profiles()}" -- "$word")); return ;;',
         f"        {untold}) return ;;",
         # the program has the codes
         f'        explain) COMPREPLY=($(compgen -W "$({CODES})" -- "$word")); return ;;',
@@ -138,7 +147,7 @@ def zsh(words):
         rest = ["'*:file:_files'"] if command.places else []
         for option in command.options:
             text = re.sub(r"[\[\]:]", " ", option.help.split(",")[0].split(" [")[0])
-            action = ":name:(schip vip)" if option.long == "profile" else (
+            action = f":name:({profiles()})" if option.long == "profile" else (
                 ":file:_files" if option.value == "FILE" else f":{option.value}:" if option.value else "")
             rest.append(quoted(f"--{option.long}[{text}]{action}"))
         lines.append("            _arguments " + " \\\n                ".join(rest) + " ;;")
@@ -155,7 +164,7 @@ def fish(words):
     for command in words.commands:
         for option in command.options:
             text = quoted(option.help.split(",")[0].split(" [")[0])
-            value = " -x -a 'schip vip'" if option.long == "profile" else (
+            value = f" -x -a '{profiles()}'" if option.long == "profile" else (
                 " -r" if option.value == "FILE" else " -x" if option.value else "")
             takers.setdefault(f"-l {option.long}{value} -d {text}", []).append(command.name)
     takers[f"-f -a {quoted('(' + CODES + ')')}"] = ["explain"]

@@ -1,5 +1,5 @@
 -- Which keys the next step can tell apart, by the rows of the table.
-use Rattle.std.proofs.Common.{◌≡◌, ◌≢◌, ℕ, ◌==◌, ◌%◌, ◌^◌, Bool, true, false, not, bit_and, List, [], ◌∷◌, length, min, Option, Some, None, Ok, refl, sym, nat_le, find, is_some, ap, subst, if◌then◌else◌, ◌∙◌, inl, inr, ⊎_elim, arith, eq-eqb}
+use Rattle.std.proofs.Common.{◌≡◌, ◌≢◌, ℕ, ◌==◌, ◌&&◌, ◌%◌, ◌^◌, Bool, true, false, not, bit_and, List, [], ◌∷◌, length, min, Option, Some, None, Ok, refl, sym, nat_le, find, is_some, ap, subst, if◌then◌else◌, ◌∙◌, inl, inr, ⊎_elim, arith, eq-eqb}
 use Rattle.std.specs.Int.{bit_at}
 use Rattle.std.specs.List.{range_with_len}
 use Rattle.std.proofs.lemmas.Bool.{cases_eq, eqb-true}
@@ -7,13 +7,11 @@ use Rattle.std.proofs.lemmas.Nat.Bits.{bit_at-zero, bit_at_and, bit_at-pow_same,
 use Rattle.chip_lang.specs.declared.instr.Instr.{Instr}
 use Rattle.chip_lang.specs.declared.instr.Instr.TheVariants as row
 use Rattle.chip_machine.specs.declared.limits.TheConstants.{FLAGS, FRAMES}
-use Rattle.chip_machine.specs.declared.profile.Profile.{Profile}
-use Rattle.chip_machine.specs.declared.profile.Profile.TheVariants as profile
 use Rattle.chip_machine.specs.declared.stop.Stop.{Stop}
 use Rattle.chip_machine.specs.declared.stop.Stop.TheVariants as cause
-use Rattle.chip_machine.specs.Profile.{by_profile}
+use Rattle.chip_machine.specs.Profile.{quirks}
 use Rattle.chip_machine.specs.State.{Core, State}
-use Rattle.chip_machine.specs.Step.{Effect, Stops, Changes, Keyed, Loads, Stores, effect, effect_at, effect_of_word, is_down, perform, reg, settle, skip_if, step_of, take_key}
+use Rattle.chip_machine.specs.Step.{Effect, Stops, Changes, Keyed, Loads, Stores, effect, effect_at, effect_of_word, is_down, perform, reg, settle, skip_if, step_of, super_only, take_key}
 use Rattle.chip_machine.specs.Choices.{IsWithin, IsChoice, Represents}
 use Rattle.chip_machine.specs.inner.KeyRows.{choices_of}
 
@@ -106,24 +104,23 @@ abbrev Acts : ℕ → ℕ → Effect → Type 0
 Acts allowed some (Keyed core_by) = IsOneOf allowed some core_by
 Acts allowed some _ = Unit {0}
 
-schip_represents : (q : Profile) (allowed some : ℕ) (effect : Effect) → Acts allowed some effect → Acts allowed some (by_profile q effect (Stops cause.NoInstruction))
-schip_represents profile.Schip allowed some effect h = h
-schip_represents profile.Vip allowed some effect h = tt
-
 either_represents : (test : Bool) (allowed some : ℕ) (one other : Effect) → Acts allowed some one → Acts allowed some other → Acts allowed some (if test then one else other)
 either_represents true allowed some one other h k = h
 either_represents false allowed some one other h k = k
 
+super_represents : (c : Core) (allowed some : ℕ) (effect : Effect) → Acts allowed some effect → Acts allowed some (super_only c effect)
+super_represents c allowed some effect h = either_represents (quirks c.profile).has_super_instructions allowed some effect (Stops cause.NoInstruction) h tt
+
 row_represents : (allowed : ℕ) (i : Instr) (c : Core) → Acts allowed (choices_of allowed i c) (effect i c)
 unfolding effect
-row_represents allowed (row.ScrollDown n) c = schip_represents c.profile allowed 0 _ tt
+row_represents allowed (row.ScrollDown n) c = super_represents c allowed 0 _ tt
 row_represents allowed row.ClearScreen c = tt
 row_represents allowed row.Return c = either_represents (length c.frames == 0) allowed 0 _ _ tt tt
-row_represents allowed row.ScrollRight c = schip_represents c.profile allowed 0 _ tt
-row_represents allowed row.ScrollLeft c = schip_represents c.profile allowed 0 _ tt
-row_represents allowed row.Exit c = schip_represents c.profile allowed 0 _ tt
-row_represents allowed row.LowSize c = schip_represents c.profile allowed 0 _ tt
-row_represents allowed row.HighSize c = schip_represents c.profile allowed 0 _ tt
+row_represents allowed row.ScrollRight c = super_represents c allowed 0 _ tt
+row_represents allowed row.ScrollLeft c = super_represents c allowed 0 _ tt
+row_represents allowed row.Exit c = super_represents c allowed 0 _ tt
+row_represents allowed row.LowSize c = super_represents c allowed 0 _ tt
+row_represents allowed row.HighSize c = super_represents c allowed 0 _ tt
 row_represents allowed (row.Jump address) c = tt
 row_represents allowed (row.Call address) c = either_represents (length c.frames == FRAMES) allowed 0 _ _ tt tt
 row_represents allowed (row.SkipIfByte x byte) c = tt
@@ -144,7 +141,7 @@ row_represents allowed (row.SkipUnlessEqual x y) c = tt
 row_represents allowed (row.LoadIndex address) c = tt
 row_represents allowed (row.JumpOffset address) c = tt
 row_represents allowed (row.Random x byte) c = tt
-row_represents allowed (row.Draw x y n) c = either_represents (by_profile c.profile false (n == 0)) allowed 0 _ _ tt tt
+row_represents allowed (row.Draw x y n) c = either_represents (n == 0 && not (quirks c.profile).draws_sixteen) allowed 0 _ _ tt tt
 row_represents allowed (row.SkipIfKey x) c = skip_represents allowed (reg c x % 16) (λ down. skip_if down c)
 row_represents allowed (row.SkipUnlessKey x) c = skip_represents allowed (reg c x % 16) (λ down. skip_if (not down) c)
 row_represents allowed (row.ReadDelay x) c = tt
@@ -153,12 +150,12 @@ row_represents allowed (row.SetDelay x) c = tt
 row_represents allowed (row.SetSound x) c = tt
 row_represents allowed (row.AddIndex x) c = tt
 row_represents allowed (row.SmallDigit x) c = tt
-row_represents allowed (row.BigDigit x) c = schip_represents c.profile allowed 0 _ tt
+row_represents allowed (row.BigDigit x) c = super_represents c allowed 0 _ tt
 row_represents allowed (row.StoreDecimal x) c = tt
 row_represents allowed (row.StoreRegisters x) c = tt
 row_represents allowed (row.LoadRegisters x) c = tt
-row_represents allowed (row.StoreFlags x) c = schip_represents c.profile allowed 0 _ (either_represents (nat_le FLAGS x) allowed 0 _ _ tt tt)
-row_represents allowed (row.LoadFlags x) c = schip_represents c.profile allowed 0 _ (either_represents (nat_le FLAGS x) allowed 0 _ _ tt tt)
+row_represents allowed (row.StoreFlags x) c = super_represents c allowed 0 _ (either_represents (nat_le FLAGS x) allowed 0 _ _ tt tt)
+row_represents allowed (row.LoadFlags x) c = super_represents c allowed 0 _ (either_represents (nat_le FLAGS x) allowed 0 _ _ tt tt)
 
 perform_acts : (allowed some : ℕ) (s : State) (effect : Effect) → Acts allowed some effect → (keys : ℕ) → IsWithin allowed keys
     → (one : ℕ) × IsChoice some one × (perform keys s effect ≡ perform one s effect)

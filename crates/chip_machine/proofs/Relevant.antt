@@ -1,6 +1,6 @@
 -- What later steps depend on, by the rows of the table: two states that differ in the sound timer and
 -- the count of the draws alone, and what the same step makes of them.
-use Rattle.std.proofs.Common.{◌≡◌, ℕ, ◌+◌, ◌-◌, ◌*◌, ◌/◌, ◌%◌, ◌^◌, ◌<◌, ◌≤◌, ◌==◌, min, bit_and, bit_or, bit_xor, Bool, true, false, not, List, length, slice_index, slice_set, Option, Some, None, Result, Ok, Err, refl, sym, nat_le, find, is_some, ap, subst, if◌then◌else◌, take, drop, nat_lt, ◌∙◌, arith}
+use Rattle.std.proofs.Common.{◌≡◌, ℕ, ◌+◌, ◌-◌, ◌*◌, ◌/◌, ◌%◌, ◌^◌, ◌<◌, ◌≤◌, ◌==◌, ◌&&◌, min, bit_and, bit_or, bit_xor, Bool, true, false, not, List, length, slice_index, slice_set, Option, Some, None, Result, Ok, Err, refl, sym, nat_le, find, is_some, ap, subst, if◌then◌else◌, take, drop, nat_lt, ◌∙◌, arith}
 use Rattle.std.specs.FinSet as set
 use Rattle.std.specs.List.{range_with_len}
 use Rattle.std.proofs.Math.Nat.{mod-add-div', add-mul-mod_self_right}
@@ -8,11 +8,9 @@ use Rattle.chip_lang.specs.Decoding.{decode_of}
 use Rattle.chip_lang.specs.declared.instr.Instr.{Instr}
 use Rattle.chip_lang.specs.declared.instr.Instr.TheVariants as row
 use Rattle.chip_machine.specs.declared.limits.TheConstants.{FLAGS, FRAMES, LAST_WORD}
-use Rattle.chip_machine.specs.declared.profile.Profile.{Profile}
-use Rattle.chip_machine.specs.declared.profile.Profile.TheVariants as profile
 use Rattle.chip_machine.specs.declared.stop.Stop.{Stop}
 use Rattle.chip_machine.specs.declared.stop.Stop.TheVariants as cause
-use Rattle.chip_machine.specs.Profile.{by_profile}
+use Rattle.chip_machine.specs.Profile.{quirks}
 use Rattle.chip_machine.specs.Relevant.{relevant, relevant_core, AlikeSteps, DrawsGrow, QuietTick}
 use Rattle.chip_machine.specs.Scroll.{scrolled_down, scrolled_right, scrolled_left}
 use Rattle.chip_machine.specs.State.{Core, State, overwrite}
@@ -31,20 +29,19 @@ Like most (Loads m f) (Loads n g) = (m ≡ n) × ((bytes : List ℕ) → Near mo
 Like most (Stores a c) (Stores b d) = (a ≡ b) × Near most c d
 Like most _ _ = ⊥
 
-schip_like : (most : ℕ) (q : Profile) (one other : Effect) → Like most one other → Like most (by_profile q one (Stops cause.NoInstruction)) (by_profile q other (Stops cause.NoInstruction))
-schip_like most profile.Schip one other h = h
-schip_like most profile.Vip one other h = refl
-
 either_like : (most : ℕ) (test : Bool) (a b c d : Effect) → Like most a c → Like most b d → Like most (if test then a else b) (if test then c else d)
 either_like most true a b c d h k = h
 either_like most false a b c d h k = k
 
+super_like : (most : ℕ) (has_super : Bool) (one other : Effect) → Like most one other → Like most (if has_super then one else Stops cause.NoInstruction) (if has_super then other else Stops cause.NoInstruction)
+super_like most has_super one other h = either_like most has_super one (Stops cause.NoInstruction) other (Stops cause.NoInstruction) h refl
+
 next_near : (most : ℕ) (a b : Core) → Near most a b → Near most (next a) (next b)
 next_near most a b h = (ap next h.0, h.1)
 
-logic_like : (most : ℕ) (q : Profile) (a b c d : Core) → Near most a c → Near most b d → Near most (next (by_profile q a b)) (next (by_profile q c d))
-logic_like most profile.Schip a b c d h k = next_near most a c h
-logic_like most profile.Vip a b c d h k = next_near most b d k
+logic_like : (most : ℕ) (test : Bool) (a b c d : Core) → Near most a c → Near most b d → Near most (next (if test then a else b)) (next (if test then c else d))
+logic_like most true a b c d h k = next_near most a c h
+logic_like most false a b c d h k = next_near most b d k
 
 -- the states that differ in the sound timer and the count of the draws
 abbrev counted : ℕ → ℕ → Core → Core
@@ -75,14 +72,14 @@ module _ (c : Core) (z e : ℕ) (same : c.draws % length c.tape ≡ e % length c
 
   row_like : (i : Instr) → Like (c.draws + 1) (effect i c) (effect i other)
   unfolding effect
-  row_like (row.ScrollDown n) = schip_like _ c.profile _ _ (alike (next (with_lit (scrolled_down n c.lit) c)))
+  row_like (row.ScrollDown n) = super_like _ (quirks c.profile).has_super_instructions _ _ (alike (next (with_lit (scrolled_down n c.lit) c)))
   row_like row.ClearScreen = alike (next (with_lit set.empty c))
   row_like row.Return = either_like _ (length c.frames == 0) _ _ _ _ (refl) (alike (return c))
-  row_like row.ScrollRight = schip_like _ c.profile _ _ (alike (next (with_lit (scrolled_right 4 c.lit) c)))
-  row_like row.ScrollLeft = schip_like _ c.profile _ _ (alike (next (with_lit (scrolled_left 4 c.lit) c)))
-  row_like row.Exit = schip_like _ c.profile _ _ (refl)
-  row_like row.LowSize = schip_like _ c.profile _ _ (alike (next (with_size false c)))
-  row_like row.HighSize = schip_like _ c.profile _ _ (alike (next (with_size true c)))
+  row_like row.ScrollRight = super_like _ (quirks c.profile).has_super_instructions _ _ (alike (next (with_lit (scrolled_right 4 c.lit) c)))
+  row_like row.ScrollLeft = super_like _ (quirks c.profile).has_super_instructions _ _ (alike (next (with_lit (scrolled_left 4 c.lit) c)))
+  row_like row.Exit = super_like _ (quirks c.profile).has_super_instructions _ _ (refl)
+  row_like row.LowSize = super_like _ (quirks c.profile).has_super_instructions _ _ (alike (next (with_size false c)))
+  row_like row.HighSize = super_like _ (quirks c.profile).has_super_instructions _ _ (alike (next (with_size true c)))
   row_like (row.Jump address) = alike (go_to address c)
   row_like (row.Call address) = either_like _ (length c.frames == FRAMES) _ _ _ _ (refl) (alike (call address c))
   row_like (row.SkipIfByte x byte) = alike (skip_if (reg c x == byte) c)
@@ -91,19 +88,19 @@ module _ (c : Core) (z e : ℕ) (same : c.draws % length c.tape ≡ e % length c
   row_like (row.LoadByte x byte) = alike (next (with_reg x byte c))
   row_like (row.AddByte x byte) = alike (next (with_reg x ((reg c x + byte) % 256) c))
   row_like (row.Copy x y) = alike (next (with_reg x (reg c y) c))
-  row_like (row.Or x y) = let value = bit_or (reg c x) (reg c y) in logic_like _ c.profile _ _ _ _ (alike (with_reg x value c)) (alike (with_flag x value 0 c))
-  row_like (row.And x y) = let value = bit_and (reg c x) (reg c y) in logic_like _ c.profile _ _ _ _ (alike (with_reg x value c)) (alike (with_flag x value 0 c))
-  row_like (row.Xor x y) = let value = bit_xor (reg c x) (reg c y) in logic_like _ c.profile _ _ _ _ (alike (with_reg x value c)) (alike (with_flag x value 0 c))
+  row_like (row.Or x y) = let value = bit_or (reg c x) (reg c y) in logic_like _ (quirks c.profile).clears_flag _ _ _ _ (alike (with_flag x value 0 c)) (alike (with_reg x value c))
+  row_like (row.And x y) = let value = bit_and (reg c x) (reg c y) in logic_like _ (quirks c.profile).clears_flag _ _ _ _ (alike (with_flag x value 0 c)) (alike (with_reg x value c))
+  row_like (row.Xor x y) = let value = bit_xor (reg c x) (reg c y) in logic_like _ (quirks c.profile).clears_flag _ _ _ _ (alike (with_flag x value 0 c)) (alike (with_reg x value c))
   row_like (row.Add x y) = let sum = reg c x + reg c y in alike (next (with_flag x (sum % 256) (bit_of (nat_lt 255 sum)) c))
   row_like (row.Subtract x y) = alike (next (with_flag x ((256 + reg c x - reg c y) % 256) (bit_of (nat_le (reg c y) (reg c x))) c))
-  row_like (row.ShiftRight x y) = let value = reg c (by_profile c.profile x y) in alike (next (with_flag x (value / 2) (value % 2) c))
+  row_like (row.ShiftRight x y) = let value = reg c (if (quirks c.profile).shifts_second then y else x) in alike (next (with_flag x (value / 2) (value % 2) c))
   row_like (row.SubtractFrom x y) = alike (next (with_flag x ((256 + reg c y - reg c x) % 256) (bit_of (nat_le (reg c x) (reg c y))) c))
-  row_like (row.ShiftLeft x y) = let value = reg c (by_profile c.profile x y) in alike (next (with_flag x (value * 2 % 256) (value / 128) c))
+  row_like (row.ShiftLeft x y) = let value = reg c (if (quirks c.profile).shifts_second then y else x) in alike (next (with_flag x (value * 2 % 256) (value / 128) c))
   row_like (row.SkipUnlessEqual x y) = alike (skip_if (not (reg c x == reg c y)) c)
   row_like (row.LoadIndex address) = alike (next (with_index address c))
-  row_like (row.JumpOffset address) = alike (go_to (address + reg c (by_profile c.profile (address / 256) 0)) c)
+  row_like (row.JumpOffset address) = let x = if (quirks c.profile).jumps_by_first then 0 else address / 256 in alike (go_to (address + reg c x) c)
   row_like (row.Random x byte) = random x byte
-  row_like (row.Draw x y n) = let draws_nothing = by_profile c.profile false (n == 0) in either_like _ (draws_nothing) _ _ _ _ (alike (next (with_reg 15 0 c))) ((refl, λ sprite. alike (next (with_sprite (reg c x) (reg c y) n sprite c))))
+  row_like (row.Draw x y n) = let draws_nothing = n == 0 && not (quirks c.profile).draws_sixteen in either_like _ (draws_nothing) _ _ _ _ (alike (next (with_reg 15 0 c))) ((refl, λ sprite. alike (next (with_sprite (reg c x) (reg c y) n sprite c))))
   row_like (row.SkipIfKey x) = λ keys. alike (skip_if (is_down keys (reg c x % 16)) c)
   row_like (row.SkipUnlessKey x) = λ keys. alike (skip_if (not (is_down keys (reg c x % 16))) c)
   row_like (row.ReadDelay x) = alike (next (with_reg x c.delay c))
@@ -112,12 +109,12 @@ module _ (c : Core) (z e : ℕ) (same : c.draws % length c.tape ≡ e % length c
   row_like (row.SetSound x) = alike (next (record c { sound = reg c x }))
   row_like (row.AddIndex x) = alike (next (with_index ((c.index + reg c x) % 65536) c))
   row_like (row.SmallDigit x) = alike (next (with_index (5 * (reg c x % 16)) c))
-  row_like (row.BigDigit x) = schip_like _ c.profile _ _ (alike (next (with_index (80 + 10 * (reg c x % 16)) c)))
+  row_like (row.BigDigit x) = super_like _ (quirks c.profile).has_super_instructions _ _ (alike (next (with_index (80 + 10 * (reg c x % 16)) c)))
   row_like (row.StoreDecimal x) = (refl, alike (next c))
-  row_like (row.StoreRegisters x) = let index = by_profile c.profile c.index (past_registers x c) in (refl, alike (next (with_index index c)))
-  row_like (row.LoadRegisters x) = let index = by_profile c.profile c.index (past_registers x c) in (refl, λ bytes. alike (next (with_index index (load_registers c bytes))))
-  row_like (row.StoreFlags x) = schip_like _ c.profile _ _ (either_like _ (nat_le FLAGS x) _ _ _ _ (refl) (alike (next (store_flags x c))))
-  row_like (row.LoadFlags x) = schip_like _ c.profile _ _ (either_like _ (nat_le FLAGS x) _ _ _ _ (refl) (alike (next (load_flags x c))))
+  row_like (row.StoreRegisters x) = let index = if (quirks c.profile).moves_index then past_registers x c else c.index in (refl, alike (next (with_index index c)))
+  row_like (row.LoadRegisters x) = let index = if (quirks c.profile).moves_index then past_registers x c else c.index in (refl, λ bytes. alike (next (with_index index (load_registers c bytes))))
+  row_like (row.StoreFlags x) = super_like _ (quirks c.profile).has_super_instructions _ _ (either_like _ (nat_le FLAGS x) _ _ _ _ (refl) (alike (next (store_flags x c))))
+  row_like (row.LoadFlags x) = super_like _ (quirks c.profile).has_super_instructions _ _ (either_like _ (nat_le FLAGS x) _ _ _ _ (refl) (alike (next (load_flags x c))))
 
   word_like : (word : Option Instr) → Like (c.draws + 1) (effect_of_word word c) (effect_of_word word other)
   word_like None = refl

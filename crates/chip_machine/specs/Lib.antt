@@ -3,7 +3,7 @@
 --   Sprite    the points that a sprite covers
 --   Scroll    the lit pixels moved down, right or left
 --   Digits    the shapes of the digits
---   Profile   the two machines, and their names
+--   Profile   the two machines: their names and their quirks
 --   State     the state of the machine
 --   Start     the state before the first step
 --   Step      the table of the instructions, one step, and the addresses that it touches

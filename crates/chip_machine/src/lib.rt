@@ -23,6 +23,6 @@ pub mod touch;
 pub use keys::{HeldKeys, SameKeys};
 pub use machine::{Machine, StartError};
 pub use parts::Parts;
-pub use profile::Profile;
+pub use profile::{Profile, Quirks};
 pub use stop::Stop;
 pub use touch::Touch;

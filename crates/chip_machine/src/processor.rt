@@ -1,8 +1,8 @@
 //! All of the machine but its memory.
 
-ghost use Rattle.std.specs.Prelude.{◌≡◌, ◌+◌, ◌*◌, ◌/◌, ◌-◌, ◌<◌, ◌≤◌, ◌^◌, ◌%◌, length, slice_index, OnOk, OnErr, IfOk, IfErr, IsOk, ◌↔◌, ◌==◌, false, IsTrue, ℕ};
-ghost use Rattle.chip_machine.specs.Step.{reg, with_reg, with_flag, go_to, skip_if, next, call, return, with_index, random_byte, drawn, store_flags, load_flags, load_registers, past_registers, ticked, with_size, with_lit, with_sprite, Effect, Stops, schip_only};
-ghost use Rattle.chip_machine.specs.Profile.{by_profile};
+ghost use Rattle.std.specs.Prelude.{◌≡◌, ◌+◌, ◌*◌, ◌/◌, ◌-◌, ◌<◌, ◌≤◌, ◌^◌, ◌%◌, length, slice_index, OnOk, OnErr, IfOk, IfErr, IsOk, ◌↔◌, ◌==◌, ◌&&◌, not, false, if◌then◌else◌, IsTrue, ℕ};
+ghost use Rattle.chip_machine.specs.Step.{reg, with_reg, with_flag, go_to, skip_if, next, call, return, with_index, random_byte, drawn, store_flags, load_flags, load_registers, past_registers, ticked, with_size, with_lit, with_sprite, Effect, Stops, super_only};
+ghost use Rattle.chip_machine.specs.Profile.{quirks};
 ghost use Rattle.chip_machine.specs.inner.KeyRows.{choices_of};
 ghost use Rattle.chip_machine.specs.Points.{is_lit, IsOnScreen, lights};
 ghost use Rattle.chip_machine.specs.Sprite.{sprite_bytes};
@@ -228,69 +228,71 @@ impl Processor {
     }
 
     /// Stops where the machine is one without the instructions that SUPER-CHIP added.
-    pub(crate) fn needs_schip(&self) -> Result<(), Stop>
-        ensures ok { OnOk result ((effect : Effect) → schip_only self.now effect ≡ effect) }
+    pub(crate) fn needs_super_instructions(&self) -> Result<(), Stop>
+        ensures ok { OnOk result ((effect : Effect) → super_only self.now effect ≡ effect) }
         ensures why { IfErr result (λ why. (effect : Effect)
-            → schip_only self.now effect ≡ Stops why) }
+            → super_only self.now effect ≡ Stops why) }
     {
-        match self.profile {
-            Profile::Schip => Ok(()),
-            Profile::Vip => Err(Stop::NoInstruction),
+        if self.profile.quirks().has_super_instructions {
+            Ok(())
+        } else {
+            Err(Stop::NoInstruction)
         }
     }
 
     /// What a shift of Vx and Vy shifts: the value of the one or of the other.
     pub(crate) fn shifted(&self, x: Reg, y: Reg) -> u8
-        ensures { result ≡ reg self.now (by_profile self.now.profile x y) }
+        ensures { result
+            ≡ reg self.now (if (quirks self.now.profile).shifts_second then y else x) }
     {
-        match self.profile {
-            Profile::Schip => self.reg(x),
-            Profile::Vip => self.reg(y),
+        if self.profile.quirks().shifts_second {
+            self.reg(y)
+        } else {
+            self.reg(x)
         }
     }
 
     /// What a jump adds to its address: the value of the register of the address's top digit, or
     /// that of V0.
     pub(crate) fn jump_offset(&self, address: Addr) -> u8
-        ensures { result ≡ reg self.now (by_profile self.now.profile (address / 256) 0) }
+        ensures { result ≡ reg self.now
+            (if (quirks self.now.profile).jumps_by_first then 0 else address / 256) }
     {
-        match self.profile {
-            Profile::Schip => self.registers[address.number() as usize / 256],
-            Profile::Vip => self.registers[0],
+        if self.profile.quirks().jumps_by_first {
+            self.registers[0]
+        } else {
+            self.registers[address.number() as usize / 256]
         }
     }
 
     /// Sets a register to what a logical operation gives: VF stays, or is 0 then.
     pub(crate) fn set_logic(&mut self, x: Reg, value: u8)
-        ensures { self.new ≡ by_profile self.old.profile (with_reg x value self.old)
-            (with_flag x value 0 self.old) }
+        ensures { self.new ≡ (if (quirks self.old.profile).clears_flag
+            then with_flag x value 0 self.old else with_reg x value self.old) }
     {
-        match self.profile {
-            Profile::Schip => self.set(x, value),
-            Profile::Vip => self.set_with_flag(x, value, 0),
+        if self.profile.quirks().clears_flag {
+            self.set_with_flag(x, value, 0);
+        } else {
+            self.set(x, value);
         }
     }
 
     /// Ends a move of V0 to Vx to or from the memory: I stays, or moves past their bytes.
     pub(crate) fn finish_move(&mut self, x: Reg)
-        ensures { self.new ≡ with_index
-            (by_profile self.old.profile self.old.index (past_registers x self.old)) self.old }
+        ensures { self.new ≡ with_index (if (quirks self.old.profile).moves_index
+            then past_registers x self.old else self.old.index) self.old }
     {
-        match self.profile {
-            Profile::Schip => {}
-            Profile::Vip => self.index = self.index.wrapping_add(u16::from(x.number()) + 1),
+        if self.profile.quirks().moves_index {
+            self.index = self.index.wrapping_add(u16::from(x.number()) + 1);
         }
     }
 
     /// Whether a sprite of this number of rows is nothing at all: of number 0, where that doesn't
     /// stand for sixteen rows.
     pub(crate) fn draws_nothing(&self, n: Nibble) -> bool
-        ensures { result ≡ by_profile self.now.profile false (n == 0) }
+        ensures { result ≡ (n == 0 && not (quirks self.now.profile).draws_sixteen) }
     {
-        match self.profile {
-            Profile::Schip => false,
-            Profile::Vip => n.number() == 0,
-        }
+        n.number() == 0 && !self.profile.quirks().draws_sixteen
     }
 
     /// Which of the allowed keys an instruction can tell apart.

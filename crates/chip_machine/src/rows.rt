@@ -279,7 +279,7 @@ impl Processor {
         ensures why { IfErr result (λ why. effect (Instr.BigDigit x) self.old ≡ Stops why) }
         ensures same { OnErr result (self.new ≡ self.old) }
     {
-        self.needs_schip()?;
+        self.needs_super_instructions()?;
         let digit = u16::from(self.reg(x) % 16);
         self.set_index(80 + 10 * digit);
         self.advance();
@@ -294,7 +294,7 @@ impl Processor {
         ensures why { IfErr result (λ why. effect (Instr.ScrollDown n) self.old ≡ Stops why) }
         ensures same { OnErr result (self.new ≡ self.old) }
     {
-        self.needs_schip()?;
+        self.needs_super_instructions()?;
         self.scroll_down(n.number());
         self.advance();
         Ok(())
@@ -318,7 +318,7 @@ impl Processor {
         ensures why { IfErr result (λ why. effect Instr.ScrollRight self.old ≡ Stops why) }
         ensures same { OnErr result (self.new ≡ self.old) }
     {
-        self.needs_schip()?;
+        self.needs_super_instructions()?;
         self.scroll_right();
         self.advance();
         Ok(())
@@ -332,7 +332,7 @@ impl Processor {
         ensures why { IfErr result (λ why. effect Instr.ScrollLeft self.old ≡ Stops why) }
         ensures same { OnErr result (self.new ≡ self.old) }
     {
-        self.needs_schip()?;
+        self.needs_super_instructions()?;
         self.scroll_left();
         self.advance();
         Ok(())
@@ -343,7 +343,7 @@ impl Processor {
     pub(crate) fn row_exit(&self) -> Stop
         ensures { effect Instr.Exit self.now ≡ Stops result }
     {
-        match self.needs_schip() {
+        match self.needs_super_instructions() {
             Ok(()) => Stop::Exit,
             Err(why) => why,
         }
@@ -357,7 +357,7 @@ impl Processor {
         ensures why { IfErr result (λ why. effect Instr.LowSize self.old ≡ Stops why) }
         ensures same { OnErr result (self.new ≡ self.old) }
     {
-        self.needs_schip()?;
+        self.needs_super_instructions()?;
         self.set_size(false);
         self.advance();
         Ok(())
@@ -371,7 +371,7 @@ impl Processor {
         ensures why { IfErr result (λ why. effect Instr.HighSize self.old ≡ Stops why) }
         ensures same { OnErr result (self.new ≡ self.old) }
     {
-        self.needs_schip()?;
+        self.needs_super_instructions()?;
         self.set_size(true);
         self.advance();
         Ok(())
@@ -414,7 +414,7 @@ impl Processor {
         ensures why { IfErr result (λ why. effect (Instr.StoreFlags x) self.old ≡ Stops why) }
         ensures same { OnErr result (self.new ≡ self.old) }
     {
-        self.needs_schip()?;
+        self.needs_super_instructions()?;
         if x.number() as usize >= FLAGS {
             return Err(Stop::NoFlag);
         }
@@ -431,7 +431,7 @@ impl Processor {
         ensures why { IfErr result (λ why. effect (Instr.LoadFlags x) self.old ≡ Stops why) }
         ensures same { OnErr result (self.new ≡ self.old) }
     {
-        self.needs_schip()?;
+        self.needs_super_instructions()?;
         if x.number() as usize >= FLAGS {
             return Err(Stop::NoFlag);
         }

@@ -2,6 +2,7 @@ pub mod Spaced
 pub mod TracedLaws
 pub mod Patched
 pub mod Blocks
+pub mod Parts
 pub mod Sound
 pub mod Changed
 pub mod Bytes

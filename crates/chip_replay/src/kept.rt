@@ -14,6 +14,9 @@ use crate::limits::{IMAGE_START, LAST_STEP, MEMORY_BYTES, NEVER};
 use crate::traced::Traced;
 use std::alloc::{AllocError, Global};
 
+/// How many first touches are cut together.
+const PART: usize = 256;
+
 /// What is kept of a run.
 #[derive(Drop)]
 pub(crate) struct Kept<M: Traced> {
@@ -471,8 +474,42 @@ fn patch_all<M: Traced>(states: &mut [M], first: usize, end: usize, old: &[u8], 
     }
 }
 
-/// Changes the first touches from a step on to none.
+/// Changes the first touches from a step on to none. A part of the table that no step touched is
+/// read alone.
 fn cut(first_touch: &mut [u32], reach: u32)
+    ensures { first_touch.new
+        ≡ map (λ first. if nat_lt first reach then first else NEVER) first_touch.old }
+{
+    let parts = first_touch.len() / PART;
+    for place in 0..parts {
+        let start = place * PART;
+        cut_part(&mut first_touch[start..start + PART], reach);
+    }
+    cut_each(&mut first_touch[parts * PART..], reach);
+}
+
+/// The same for a part of the table.
+fn cut_part(part: &mut [u32], reach: u32)
+    ensures { part.new ≡ map (λ first. if nat_lt first reach then first else NEVER) part.old }
+{
+    if least_of(part) != NEVER {
+        cut_each(part, reach);
+    }
+}
+
+/// The least of some steps, or `NEVER` where there are none.
+fn least_of(steps: &[u32]) -> u32
+    ensures { (i : ℕ) → i < length steps.now → result ≤ slice_index steps.now i }
+{
+    let mut least = NEVER;
+    for step in steps {
+        least = least.min(*step);
+    }
+    least
+}
+
+/// The same, at each address.
+fn cut_each(first_touch: &mut [u32], reach: u32)
     ensures { first_touch.new
         ≡ map (λ first. if nat_lt first reach then first else NEVER) first_touch.old }
 {

@@ -153,9 +153,12 @@ pub(crate) fn data_line(marks: &Marks, seen: &Seen) -> Option<usize> {
 
 /// Whether a line is an instruction that a profile doesn't have.
 fn is_missing(profile: Profile, seen: &Seen) -> bool {
-    match (profile, seen.says) {
+    if profile.quirks().has_super_instructions {
+        return false;
+    }
+    match seen.says {
         // SCD, SCR, SCL, EXIT, LOW, HIGH, LD HF, LD R
-        (Profile::Vip, Says::Code { base, .. }) => matches!(
+        Says::Code { base, .. } => matches!(
             base,
             0x00C0 | 0x00FB | 0x00FC | 0x00FD | 0x00FE | 0x00FF | 0xF030 | 0xF075 | 0xF085
         ),
