@@ -42,6 +42,7 @@ fn word_digits(word: u16) -> [u8; 4]
 }
 
 /// Adds a byte in two hexadecimal digits.
+#[inline(always)]
 pub(crate) fn push_byte(text: &mut Vec<u8>, byte: u8) -> Result<(), AllocError>
     ensures { OnOk result (text.new.items ≡ text.old.items ++ hex_byte byte) }
 {
@@ -49,6 +50,7 @@ pub(crate) fn push_byte(text: &mut Vec<u8>, byte: u8) -> Result<(), AllocError>
 }
 
 /// Adds a number of 16 bits in four hexadecimal digits.
+#[inline(always)]
 pub(crate) fn push_word(text: &mut Vec<u8>, word: u16) -> Result<(), AllocError>
     ensures { OnOk result (text.new.items ≡ text.old.items ++ hex_word word) }
 {

@@ -60,6 +60,7 @@ fn push_member(
 }
 
 /// Adds a byte, the name of a column in quotes, and a colon.
+#[inline(always)]
 fn push_name(text: &mut Vec<u8>, before: u8, column: &Column) -> Result<(), AllocError>
     ensures { OnOk result (text.new.items
         ≡ text.old.items ++ before ∷ quoted (column_name column.now) ++ 58 ∷ []) }

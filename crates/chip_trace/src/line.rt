@@ -60,6 +60,7 @@ pub(crate) fn push_line(
 }
 
 /// Adds a space and what a column shows.
+#[inline(always)]
 fn push_spaced(
     text: &mut Vec<u8>,
     workspace: &mut Workspace,
