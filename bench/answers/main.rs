@@ -155,7 +155,10 @@ impl Shown {
     fn new() -> Shown {
         let mut forms = vec![None; 0x1_0000];
         for form in FORMS.iter().rev() {
-            let fields = form.1.iter().fold(0, |fields, operand| fields | field(*operand));
+            let fields = form
+                .1
+                .iter()
+                .fold(0, |fields, operand| fields | field(*operand));
             for word in 0..=u16::MAX {
                 if word & !fields == form.2 {
                     forms[usize::from(word)] = Some(form);
@@ -242,7 +245,9 @@ impl Bytes {
         let digits = text.trim_end();
         let places = (0..digits.len()).step_by(2);
         let bytes = places.map(|place| hex_byte(digits.get(place..place + 2)?));
-        Some(Bytes { bytes: bytes.collect::<Parsed<_>>()? })
+        Some(Bytes {
+            bytes: bytes.collect::<Parsed<_>>()?,
+        })
     }
 }
 
@@ -270,7 +275,12 @@ struct Registers {
 impl Registers {
     fn read(text: &str) -> Parsed<Registers> {
         let mut lines = text.lines();
-        let registers: Vec<u8> = lines.next()?.split(' ').skip(1).map(hex_byte).collect::<Parsed<_>>()?;
+        let registers: Vec<u8> = lines
+            .next()?
+            .split(' ')
+            .skip(1)
+            .map(hex_byte)
+            .collect::<Parsed<_>>()?;
         let state: Vec<&str> = lines.next()?.split(' ').collect();
         let last: Vec<&str> = lines.next()?.split(' ').collect();
         let stack = last.iter().position(|word| *word == "stack")?;
@@ -283,8 +293,14 @@ impl Registers {
             draws: state.get(9)?.parse().ok()?,
             size: state.get(10)?.as_bytes().to_vec(),
             state: state.get(11)?.as_bytes().to_vec(),
-            flags: last[1..stack].iter().map(|flag| hex_byte(flag)).collect::<Parsed<_>>()?,
-            stack: last[stack + 1..].iter().map(|frame| hex_word(frame)).collect::<Parsed<_>>()?,
+            flags: last[1..stack]
+                .iter()
+                .map(|flag| hex_byte(flag))
+                .collect::<Parsed<_>>()?,
+            stack: last[stack + 1..]
+                .iter()
+                .map(|frame| hex_word(frame))
+                .collect::<Parsed<_>>()?,
         })
     }
 }
@@ -401,9 +417,15 @@ impl Symbols {
         let symbols = lines.map(|line| {
             let mut words = line.split(' ');
             let name = words.next()?.as_bytes().to_vec();
-            Some((name, words.next()?.parse().ok()?, words.next()?.parse().ok()?))
+            Some((
+                name,
+                words.next()?.parse().ok()?,
+                words.next()?.parse().ok()?,
+            ))
         });
-        Some(Symbols { symbols: symbols.collect::<Parsed<_>>()? })
+        Some(Symbols {
+            symbols: symbols.collect::<Parsed<_>>()?,
+        })
     }
 }
 
@@ -473,8 +495,13 @@ struct Listing {
 
 impl Listing {
     fn read(text: &str) -> Parsed<Listing> {
-        let lines = text.lines().take_while(|line| *line != ".").map(Listed::read);
-        Some(Listing { lines: lines.collect::<Parsed<_>>()? })
+        let lines = text
+            .lines()
+            .take_while(|line| *line != ".")
+            .map(Listed::read);
+        Some(Listing {
+            lines: lines.collect::<Parsed<_>>()?,
+        })
     }
 }
 
@@ -554,9 +581,17 @@ const HEADER: &[u8] =
 
 impl Trace {
     fn read(text: &str) -> Parsed<Trace> {
-        let states = text.lines().skip(1).map(State::read).collect::<Parsed<Vec<_>>>()?;
+        let states = text
+            .lines()
+            .skip(1)
+            .map(State::read)
+            .collect::<Parsed<Vec<_>>>()?;
         let end = text.trim_end().rsplit(' ').next()?.as_bytes().to_vec();
-        Some(Trace { shown: Shown::new(), states, end })
+        Some(Trace {
+            shown: Shown::new(),
+            states,
+            end,
+        })
     }
 
     fn push_text(&self, out: &mut Vec<u8>, step: usize) {
@@ -648,7 +683,9 @@ impl Trace {
         (0..self.states.len()).all(|step| {
             line.clear();
             self.push_fields(&mut line, step);
-            theirs.next().is_some_and(|theirs| line.eq_ignore_ascii_case(theirs))
+            theirs
+                .next()
+                .is_some_and(|theirs| line.eq_ignore_ascii_case(theirs))
         })
     }
 }
