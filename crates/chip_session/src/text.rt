@@ -89,6 +89,7 @@ pub(crate) fn word_digits(word: u16) -> [u8; 4]
 }
 
 /// Adds a number of 16 bits in four hexadecimal digits.
+#[inline(always)]
 pub(crate) fn push_hex_word(out: &mut Vec<u8>, word: u16) -> Result<(), AllocError>
     ensures { OnOk result (out.new.items ≡ out.old.items ++ hex_word word) }
 {

@@ -1,6 +1,9 @@
--- The hexadecimal digit of a number, by arithmetic.
-use Rattle.std.proofs.Common.{◌≡◌, ℕ, zero, suc, ◌+◌, ◌<◌, ◌==◌, ◌&&◌, Bool, true, inl, inr, refl, slice_index, arith}
+-- The digits of numbers, by arithmetic.
+use Rattle.std.proofs.Common.{◌≡◌, ℕ, zero, suc, ◌+◌, ◌/◌, ◌%◌, ◌<◌, ◌≤◌, ◌==◌, ◌&&◌, Bool, true, cond, inl, inr, ◌∷◌, [], Ok, Err, Result, OnOk, is_ok, refl, slice_index, arith}
+use Rattle.std.specs.Fmt.{decimal}
 use Rattle.std.specs.Prelude.{nat_lt, if◌then◌else◌}
+use Rattle.itoa.proofs.Decimal.{decimal_pair}
+use Rattle.std.proofs.lemmas.Fmt.{decimal_digit}
 use Rattle.std.proofs.lemmas.Bool.{and_parts, cases_lt, eqb-true}
 use Rattle.hex.specs.Hex.{lower_digits}
 
@@ -26,3 +29,12 @@ digits_below (suc n) k h lt =
 
 pub hex_digit_is : (n : ℕ) → n < 16 → n + 48 + (if nat_lt 9 n then 39 else 0) ≡ slice_index lower_digits n
 hex_digit_is n lt = digits_below 16 n refl lt
+
+-- the one clause of an append, where it succeeds
+pub taken_where_ok : {T E X : Type 0} (r : Result T E) (x a b : X) → x ≡ cond (is_ok r) a b → OnOk r (x ≡ a)
+taken_where_ok (Ok t) x a b h = h
+taken_where_ok (Err e) x a b h = tt
+
+-- a byte of three digits
+pub three_digits : (n : ℕ) → 100 ≤ n → n < 256 → decimal n ≡ (48 + n / 100) ∷ (48 + n % 100 / 10) ∷ (48 + n % 100 % 10) ∷ []
+three_digits n lo hi = rw (decimal_pair n lo (omega arith), decimal_digit (n / 100) (omega arith)) refl

@@ -16,10 +16,10 @@ joined_more between f front x xs =
 
 -- the same with a byte before the first piece, and one after the last
 pub enclosed_more : {A : Type 0} (before between after : ℕ) (f : A → List ℕ) (front : List ℕ) (x : A) (xs : List A) →
-    (((front ++ before ∷ []) ++ f x) ++ flat_map (λ y. between ∷ f y) xs) ++ after ∷ []
+    ((front ++ before ∷ f x) ++ flat_map (λ y. between ∷ f y) xs) ++ after ∷ []
     ≡ front ++ (before ∷ join_with_byte between (map f (x ∷ xs)) ++ after ∷ [])
 enclosed_more before between after f front x xs =
-    let inner : List ℕ = join_with_byte between (map f (x ∷ xs)) in
-    ap (λ l. l ++ after ∷ []) (joined_more between f (front ++ before ∷ []) x xs)
-    ∙ append_assoc (front ++ before ∷ []) inner (after ∷ [])
-    ∙ append_assoc front (before ∷ []) (inner ++ after ∷ [])
+    let others : List ℕ = flat_map (λ y. between ∷ f y) xs in
+    ap (λ l. l ++ after ∷ []) (append_assoc front (before ∷ f x) others)
+    ∙ append_assoc front (before ∷ (f x ++ others)) (after ∷ [])
+    ∙ ap (λ l. front ++ (before ∷ l ++ after ∷ [])) (sym (joined_is between f x xs))

@@ -1,6 +1,7 @@
 //! Where a trace differs from another one first.
 
-ghost use Rattle.std.specs.Prelude.{◌≡◌, ◌+◌, ◌<◌, ◌≤◌, ◌++◌, ◌∷◌, length, map, IfOk, OnOk, vec_len};
+ghost use Rattle.std.specs.Prelude.{◌≡◌, ◌↔◌, ◌+◌, ◌<◌, ◌≤◌, ◌++◌, ◌∷◌, length, map, IsTrue, IfOk, OnOk, vec_len};
+ghost use Rattle.std.specs.Str.{str_to_ascii_lowercase};
 ghost use Rattle.std.specs.Str.Lines.{lines};
 ghost use Rattle.chip_trace.specs.Lines.{states_of, remaining, SameRun};
 ghost use Rattle.chip_trace.specs.Difference.{bytes_of, IsComparison};
@@ -60,7 +61,7 @@ pub fn first_difference(
                 before,
             }));
         }
-        let is_alike = ours.eq_ignore_ascii_case(line);
+        let is_alike = are_alike(&ours, line);
         if !is_alike {
             let theirs = Some(copied(alloc, line)?);
             return Ok(Some(Difference {
@@ -85,6 +86,17 @@ pub fn first_difference(
         theirs: None,
         before,
     }))
+}
+
+/// Whether two lines are the same, letters' case ignored. Most are the same byte for byte.
+fn are_alike(ours: &[u8], theirs: &[u8]) -> bool
+    ensures test { IsTrue result
+        ↔ (str_to_ascii_lowercase ours.now ≡ str_to_ascii_lowercase theirs.now) }
+{
+    if ours == theirs {
+        return true;
+    }
+    ours.eq_ignore_ascii_case(theirs)
 }
 
 /// The same bytes.

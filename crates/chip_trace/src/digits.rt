@@ -11,7 +11,7 @@ use std::alloc::AllocError;
 /// The hexadecimal digit of a number below 16.
 #[inline(always)]
 #[tactic(auto, using(crate::proofs::DigitLemmas::hex_digit_is))]
-fn hex_digit(value: u8) -> u8
+pub(crate) fn hex_digit(value: u8) -> u8
     requires { value < 16 }
     ensures { result ≡ slice_index lower_digits value }
 {
@@ -20,7 +20,7 @@ fn hex_digit(value: u8) -> u8
 
 /// A byte in two hexadecimal digits.
 #[inline(always)]
-fn byte_digits(byte: u8) -> [u8; 2]
+pub(crate) fn byte_digits(byte: u8) -> [u8; 2]
     ensures { result ≡ hex_byte byte }
 {
     [hex_digit(byte / 16), hex_digit(byte % 16)]
@@ -42,6 +42,7 @@ fn word_digits(word: u16) -> [u8; 4]
 }
 
 /// Adds a byte in two hexadecimal digits.
+#[inline(always)]
 pub(crate) fn push_byte(text: &mut Vec<u8>, byte: u8) -> Result<(), AllocError>
     ensures { OnOk result (text.new.items ≡ text.old.items ++ hex_byte byte) }
 {
@@ -49,6 +50,7 @@ pub(crate) fn push_byte(text: &mut Vec<u8>, byte: u8) -> Result<(), AllocError>
 }
 
 /// Adds a number of 16 bits in four hexadecimal digits.
+#[inline(always)]
 pub(crate) fn push_word(text: &mut Vec<u8>, word: u16) -> Result<(), AllocError>
     ensures { OnOk result (text.new.items ≡ text.old.items ++ hex_word word) }
 {
@@ -69,6 +71,25 @@ pub(crate) fn push_sum(text: &mut Vec<u8>, sum: u64) -> Result<(), AllocError>
 pub(crate) fn push_decimal(text: &mut Vec<u8>, number: u64) -> Result<(), AllocError>
     ensures { OnOk result (text.new.items ≡ text.old.items ++ decimal number) }
 {
+    if number < 10 {
+        text.push(b'0' + number as u8)?;
+        return Ok(());
+    }
     let mut digits = Buffer::new();
     text.extend_from_slice(digits.format(number).as_bytes())
+}
+
+/// Adds a byte in decimal.
+pub(crate) fn push_small(text: &mut Vec<u8>, number: u8) -> Result<(), AllocError>
+    ensures { OnOk result (text.new.items ≡ text.old.items ++ decimal number) }
+{
+    if number < 10 {
+        text.push(b'0' + number)?;
+        return Ok(());
+    }
+    if number < 100 {
+        return text.extend_from_slice(&[b'0' + number / 10, b'0' + number % 10]);
+    }
+    let last = number % 100;
+    text.extend_from_slice(&[b'0' + number / 100, b'0' + last / 10, b'0' + last % 10])
 }

@@ -1,10 +1,10 @@
 //! The line of a step.
 
-ghost use Rattle.std.specs.Prelude.{◌≡◌, ◌++◌, OnOk};
+ghost use Rattle.std.specs.Prelude.{◌≡◌, ◌++◌, ◌∷◌, OnOk};
 ghost use Rattle.chip_trace.specs.Line.{word_of, stop_name, text_of, field_of, line_of};
 
 use crate::column::Column;
-use crate::digits::{push_byte, push_decimal, push_sum, push_word};
+use crate::digits::{byte_digits, push_byte, push_decimal, push_sum, push_word};
 use crate::sums::{Summed, SummedRows};
 use chip_lang::push_shown;
 use chip_machine::{Machine, Stop};
@@ -54,10 +54,34 @@ pub(crate) fn push_line(
     text.reserve(LINE_ROOM)?;
     push_field(text, workspace, *first, machine, step, is_last)?;
     for column in others {
-        text.push(b' ')?;
-        push_field(text, workspace, *column, machine, step, is_last)?;
+        push_spaced(text, workspace, *column, machine, step, is_last)?;
     }
     Ok(())
+}
+
+/// Adds a space and what a column shows.
+#[inline(always)]
+fn push_spaced(
+    text: &mut Vec<u8>,
+    workspace: &mut Workspace,
+    column: Column,
+    machine: &Machine,
+    step: u32,
+    is_last: bool,
+) -> Result<(), AllocError>
+    ensures { OnOk result (text.new.items
+        ≡ text.old.items ++ 32 ∷ field_of column step machine.now is_last) }
+{
+    match column {
+        Column::Register(register) => {
+            let [high, low] = byte_digits(machine.reg(register));
+            text.extend_from_slice(&[b' ', high, low])
+        }
+        _ => {
+            text.push(b' ')?;
+            push_field(text, workspace, column, machine, step, is_last)
+        }
+    }
 }
 
 /// Adds what a column shows.
