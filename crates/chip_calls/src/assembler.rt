@@ -8,17 +8,26 @@
 //! - `fault N`, `faults`: the fault of a line, or all with their lines. `symbol NAME`, `symbols`: a
 //!   name's value and line, or all names with theirs. `listing`: the listing.
 
-use crate::text::{line_bytes, number, push_bytes, push_hex, refuse, split_word};
-use chip_asm::{OpenError, Refusal, Source};
+use crate::language::push_fault;
+use crate::output::{Refused, Reply};
+use crate::text::{line_bytes, number, split_word};
+use chip_asm::{OpenError, Refusal, Source, Symbol};
+use chip_lang::Fault;
 use std::alloc::{AllocError, Global};
 
 /// Opens a source: by its bytes for `open-bytes`, else by a copy of them.
-pub(crate) fn opened(alloc: Global, word: &str, text: &[u8]) -> Result<Source, OpenError> {
-    if word == "open-bytes" {
-        Source::open_bytes(alloc, Vec::from_slice(alloc, text)?)
+pub(crate) fn opened(alloc: Global, word: &str, text: &[u8]) -> Result<Box<Source>, OpenError> {
+    let source = if word == "open-bytes" {
+        Source::open_bytes(alloc, Vec::from_slice(alloc, text)?)?
     } else {
-        Source::open(alloc, text)
-    }
+        Source::open(alloc, text)?
+    };
+    Ok(boxed(alloc, source)?)
+}
+
+/// A source in a box, so that each caller lets it go by a call.
+pub(crate) fn boxed(alloc: Global, source: Source) -> Result<Box<Source>, AllocError> {
+    Ok(Box::new(alloc, source)?)
 }
 
 /// Makes the edit of a command.
@@ -39,67 +48,61 @@ pub(crate) fn edited(
 /// Makes an edit, and answers it.
 pub(crate) fn edit(
     alloc: Global,
-    out: &mut String,
+    out: &mut Reply,
     built: &[u8],
     source: &mut Source,
     word: &str,
     rest: &str,
-) -> Result<(), AllocError> {
+) -> Result<(), Refused> {
     let (place, line) = split_word(rest);
-    let Some(place) = number(place) else {
-        return refuse(out);
-    };
-    match edited(alloc, source, word, place as usize, line_bytes(built, line)) {
-        Ok(()) => out.push_str("ok"),
-        Err(refusal) => write!(out, "{refusal:?}"),
+    let place = number(place)? as usize;
+    match edited(alloc, source, word, place, line_bytes(built, line)) {
+        Ok(()) => out.text("ok"),
+        Err(refusal) => out.debug(&refusal),
     }
+    Ok(())
 }
 
-/// Answers a command, and says whether it is one of these.
+/// Answers a command.
 pub(crate) fn answer(
     alloc: Global,
-    out: &mut String,
+    out: &mut Reply,
     source: &Source,
     word: &str,
     rest: &str,
-) -> Result<bool, AllocError> {
-    let answered = match word {
-        "image" => push_image(out, source),
-        "fault" => push_fault(out, source, rest),
-        "faults" => push_faults(alloc, out, source),
-        "symbol" => push_symbol(out, source, rest),
-        "symbols" => push_symbols(alloc, out, source),
-        "listing" => push_listing(alloc, out, source),
-        "lines" => write!(out, "{}", source.lines()),
-        "parsed" | "work" | "encoded" => push_work(out, source, word, rest),
-        _ => return Ok(false),
-    };
-    answered?;
-    Ok(true)
+) -> Result<(), Refused> {
+    match word {
+        "image" => push_image(out, source.image()),
+        "fault" => push_found(out, source.fault(number(rest)? as usize)),
+        "faults" => push_faults(alloc, out, source)?,
+        "symbol" => push_symbol(out, source.symbol(rest.as_bytes())),
+        "symbols" => push_symbols(alloc, out, source)?,
+        "listing" => out.characters(&source.listing(alloc)?),
+        "lines" => out.show(&source.lines()),
+        "parsed" => out.show(&source.work().parsed),
+        "work" => push_work(out, source),
+        "encoded" => out.show(&(source.work().encoded <= u64::from(number(rest)?))),
+        _ => return Err(Refused::BadCommand),
+    }
+    Ok(())
 }
 
-fn push_work(out: &mut String, source: &Source, word: &str, rest: &str) -> Result<(), AllocError> {
+fn push_work(out: &mut Reply, source: &Source) {
     let work = source.work();
-    let (parsed, encoded) = (work.parsed, work.encoded);
-    match (word, number(rest)) {
-        ("parsed", _) => write!(out, "{parsed}"),
-        ("encoded", Some(most)) => write!(out, "{}", encoded <= u64::from(most)),
-        _ => write!(out, "{parsed} {encoded}"),
-    }
+    out.numbers(&[work.parsed, work.encoded]);
 }
 
-fn push_image(out: &mut String, source: &Source) -> Result<(), AllocError> {
-    match source.image() {
-        Some(image) => push_code(out, image),
-        None => out.push_str("none"),
-    }
-}
-
-fn push_code(out: &mut String, image: &[u8]) -> Result<(), AllocError> {
-    match image.len() {
-        0 => out.push_str("empty"),
-        1..=32 => push_hex(out, image),
-        length => write!(out, "{length} bytes, {} not 0", count_of_others(image)),
+fn push_image(out: &mut Reply, image: Option<&[u8]>) {
+    match image {
+        None => out.text("none"),
+        Some([]) => out.text("empty"),
+        Some(image) if image.len() <= 32 => out.bytes(image),
+        Some(image) => {
+            out.show(&image.len());
+            out.text(" bytes, ");
+            out.show(&count_of_others(image));
+            out.text(" not 0");
+        }
     }
 }
 
@@ -107,47 +110,45 @@ fn push_code(out: &mut String, image: &[u8]) -> Result<(), AllocError> {
 fn count_of_others(bytes: &[u8]) -> usize {
     let mut count = 0usize;
     for byte in bytes {
-        if *byte != 0 {
-            count = count.saturating_add(1);
-        }
+        count = count.saturating_add(usize::from(*byte != 0));
     }
     count
 }
 
-fn push_fault(out: &mut String, source: &Source, line: &str) -> Result<(), AllocError> {
-    let Some(line) = number(line) else {
-        return refuse(out);
-    };
-    match source.fault(line as usize) {
-        Some(fault) => write!(out, "F{}", fault.number()),
-        None => out.push_str("none"),
+fn push_found(out: &mut Reply, fault: Option<Fault>) {
+    match fault {
+        Some(fault) => push_fault(out, fault),
+        None => out.text("none"),
     }
 }
 
-fn push_faults(alloc: Global, out: &mut String, source: &Source) -> Result<(), AllocError> {
+fn push_faults(alloc: Global, out: &mut Reply, source: &Source) -> Result<(), AllocError> {
     for (line, fault) in &source.faults(alloc)? {
-        let number = fault.number();
-        writeln!(out, "{line} F{number}")?;
+        out.show(line);
+        out.text(" ");
+        push_fault(out, *fault);
+        out.text("\n");
     }
     Ok(())
 }
 
-fn push_symbol(out: &mut String, source: &Source, name: &str) -> Result<(), AllocError> {
-    match source.symbol(name.as_bytes()) {
-        Some(symbol) => write!(out, "{} {}", symbol.value, symbol.line),
-        None => out.push_str("none"),
+fn push_symbol(out: &mut Reply, symbol: Option<Symbol>) {
+    match symbol {
+        Some(symbol) => {
+            out.show(&symbol.value);
+            out.text(" ");
+            out.show(&symbol.line);
+        }
+        None => out.text("none"),
     }
 }
 
-fn push_symbols(alloc: Global, out: &mut String, source: &Source) -> Result<(), AllocError> {
+fn push_symbols(alloc: Global, out: &mut Reply, source: &Source) -> Result<(), AllocError> {
     for (name, symbol) in &source.symbols(alloc)? {
-        push_bytes(out, name.get())?;
-        let (value, line) = (symbol.value, symbol.line);
-        writeln!(out, " {value} {line}")?;
+        out.characters(name.get());
+        out.text(" ");
+        push_symbol(out, Some(*symbol));
+        out.text("\n");
     }
     Ok(())
-}
-
-fn push_listing(alloc: Global, out: &mut String, source: &Source) -> Result<(), AllocError> {
-    push_bytes(out, &source.listing(alloc)?)
 }

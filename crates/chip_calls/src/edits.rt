@@ -2,16 +2,18 @@
 //! all answers are those of the lines opened anew. It answers `ok` with the number of edits of each
 //! kind, or the first edit after which an answer differs.
 
-use crate::assembler::{edited, opened};
-use crate::text::{number, refuse, split_word};
+use crate::assembler::{boxed, edited, opened};
+use crate::output::{Refused, Reply};
+use crate::text::{number, split_word};
 use chip_asm::Source;
 use std::alloc::{AllocError, Global};
 
 /// A source has no more lines than this.
 const MOST_LINES: usize = 24;
 
-/// Data, instructions and lines without effect.
-const PLAIN_LINES: [&str; 16] = [
+/// First data, instructions and lines without effect; then as many lines that move others, give
+/// names or open and close blocks.
+const LINES: &[&str] = &[
     "",
     "; a comment",
     "LD V0, 5",
@@ -28,10 +30,6 @@ const PLAIN_LINES: [&str; 16] = [
     "OPTION SCHIP11",
     "DB C / (B - 2)",
     "LD V0",
-];
-
-/// Lines that move others, give names or open and close blocks.
-const MOVING_LINES: [&str; 16] = [
     "IFDEF A",
     "IFUND B",
     "ELSE",
@@ -56,117 +54,139 @@ pub(crate) fn next(state: &mut u32) -> u32 {
     *state / 65_536
 }
 
-/// A line of either kind, mostly a plain one.
+/// A line of either kind, mostly one of the first.
 fn some_line(state: &mut u32) -> &'static str {
-    let pick = next(state) as usize % 16;
-    if next(state) % 4 == 0 {
-        MOVING_LINES[pick]
-    } else {
-        PLAIN_LINES[pick]
-    }
+    let pick = next(state) % 16;
+    let is_moving = next(state) % 4 == 0;
+    let place = pick + 16 * u32::from(is_moving);
+    LINES.get(place as usize).copied().unwrap_or("")
 }
 
-/// All answers of a source but its work, one after another.
-fn answers(alloc: Global, source: &Source) -> Result<Vec<u8>, AllocError> {
-    let (faults, symbols) = (source.faults(alloc)?, source.symbols(alloc)?);
-    let tables = format!(in alloc; "{faults:?} {symbols:?}")?;
-    let mut answers = source.listing(alloc)?;
-    answers.extend_from_slice(tables.as_bytes())?;
-    answers.extend_from_slice(source.image().unwrap_or(b" no image"))?;
-    Ok(answers)
+/// Adds all answers of a source but its work, one after another.
+fn push_answers(alloc: Global, out: &mut Reply, source: &Source) -> Result<(), AllocError> {
+    out.debug(&source.faults(alloc)?);
+    out.debug(&source.symbols(alloc)?);
+    out.characters(&source.listing(alloc)?);
+    out.characters(source.image().unwrap_or(b" no image"));
+    Ok(())
 }
 
 /// Whether a source answers as its lines opened anew do.
 fn answers_alike(alloc: Global, source: &Source, lines: &[&str]) -> Result<bool, AllocError> {
-    let mut text = String::new(alloc);
+    let mut text = Reply::new(alloc);
     for line in lines {
-        text.push_str(line)?;
-        text.push('\n')?;
+        text.text(line);
+        text.text("\n");
     }
-    match opened(alloc, "open", text.as_bytes()) {
-        Ok(fresh) => Ok(answers(alloc, source)?.as_slice() == answers(alloc, &fresh)?.as_slice()),
-        Err(_) => Ok(false),
+    let (mut ours, mut theirs) = (Reply::new(alloc), Reply::new(alloc));
+    push_answers(alloc, &mut ours, source)?;
+    if let Ok(fresh) = opened(alloc, "open", text.text.as_bytes()) {
+        push_answers(alloc, &mut theirs, &*fresh)?;
     }
+    Ok(ours.is_whole && ours.text == theirs.text)
 }
 
-/// How many edits of each kind were made.
-#[derive(Clone, Copy)]
-struct Counts {
-    replaced: u32,
-    inserted: u32,
-    deleted: u32,
+/// A source and its lines, and how many edits of each kind were made.
+#[derive(Drop)]
+struct Edited {
+    source: Box<Source>,
+    lines: Vec<&'static str>,
+    replaced: u64,
+    inserted: u64,
+    deleted: u64,
 }
 
-/// Makes some edit in a source and in its lines, and says whether it was accepted.
-fn edit_once(
-    alloc: Global,
-    source: &mut Source,
-    lines: &mut Vec<&'static str>,
-    state: &mut u32,
-    counts: &mut Counts,
-) -> Result<bool, AllocError> {
-    let line = some_line(state);
-    let place = next(state) as usize % (lines.len() + 1);
-    let kind = next(state) % 8;
-    let word = if place == lines.len() || (kind == 0 && lines.len() < MOST_LINES) {
-        lines.insert(place, line)?;
-        counts.inserted = counts.inserted.saturating_add(1);
-        "ins"
-    } else if kind == 1 || lines.len() > MOST_LINES {
-        lines.remove(place);
-        counts.deleted = counts.deleted.saturating_add(1);
-        "del"
-    } else {
-        lines[place] = line;
-        counts.replaced = counts.replaced.saturating_add(1);
-        "rep"
-    };
-    Ok(edited(
-        alloc,
-        source,
-        word,
-        place.saturating_add(1),
-        line.as_bytes(),
-    )
-    .is_ok())
-}
+impl Edited {
+    /// Makes some edit in the source and in its lines, and says whether it was accepted.
+    fn edit_once(&mut self, alloc: Global, state: &mut u32) -> Result<bool, AllocError> {
+        let line = some_line(state);
+        let count = self.lines.len();
+        let place = next(state) as usize % (count + 1);
+        let kind = next(state) % 8;
+        let word = if place == count || (kind == 0 && count < MOST_LINES) {
+            "ins"
+        } else if kind == 1 || count > MOST_LINES {
+            "del"
+        } else {
+            "rep"
+        };
+        self.edit_lines(word, place, line)?;
+        let number = place.saturating_add(1);
+        Ok(edited(alloc, &mut *self.source, word, number, line.as_bytes()).is_ok())
+    }
 
-/// Makes so many edits, and gives the number of the first after which an answer differs.
-fn first_difference(
-    alloc: Global,
-    seed: u32,
-    count: u32,
-    counts: &mut Counts,
-) -> Result<Option<u32>, AllocError> {
-    let mut source = Box::new(alloc, Source::new(alloc))?;
-    let mut lines = Vec::new(alloc);
-    let mut state = seed;
-    for number in 0..count {
-        let is_made = edit_once(alloc, &mut *source, &mut lines, &mut state, counts)?;
-        if !is_made || !answers_alike(alloc, &*source, &lines)? {
-            return Ok(Some(number));
+    /// Makes the edit of a command in the lines.
+    fn edit_lines(
+        &mut self,
+        word: &str,
+        place: usize,
+        line: &'static str,
+    ) -> Result<(), AllocError> {
+        match word {
+            "rep" => {
+                self.replaced = self.replaced.saturating_add(1);
+                if let Some(old) = self.lines.get_mut(place) {
+                    *old = line;
+                }
+            }
+            "del" => {
+                self.deleted = self.deleted.saturating_add(1);
+                if place < self.lines.len() {
+                    self.lines.remove(place);
+                }
+            }
+            _ => {
+                self.inserted = self.inserted.saturating_add(1);
+                let place = place.min(self.lines.len());
+                self.lines.insert(place, line)?;
+            }
         }
+        Ok(())
     }
-    Ok(None)
+
+    /// Makes so many edits, and gives the number of the first after which an answer differs.
+    fn first_difference(
+        &mut self,
+        alloc: Global,
+        seed: u32,
+        count: u32,
+    ) -> Result<Option<u32>, AllocError> {
+        let mut state = seed;
+        for number in 0..count {
+            let is_made = self.edit_once(alloc, &mut state)?;
+            if !is_made || !answers_alike(alloc, &*self.source, &self.lines)? {
+                return Ok(Some(number));
+            }
+        }
+        Ok(None)
+    }
 }
 
 /// Answers `edits`.
-pub(crate) fn answer(alloc: Global, out: &mut String, rest: &str) -> Result<(), AllocError> {
+pub(crate) fn answer(alloc: Global, out: &mut Reply, rest: &str) -> Result<(), Refused> {
     let (seed, count) = split_word(rest);
-    let (Some(seed), Some(count)) = (number(seed), number(count)) else {
-        return refuse(out);
-    };
-    let mut counts = Counts {
+    let (seed, count) = (number(seed)?, number(count)?);
+    let mut run = Edited {
+        source: boxed(alloc, Source::new(alloc))?,
+        lines: Vec::new(alloc),
         replaced: 0,
         inserted: 0,
         deleted: 0,
     };
-    if let Some(place) = first_difference(alloc, seed, count, &mut counts)? {
-        return write!(out, "differs after edit {place}");
+    match run.first_difference(alloc, seed, count)? {
+        Some(place) => {
+            out.text("differs after edit ");
+            out.show(&place);
+        }
+        None => {
+            out.text("ok ");
+            out.show(&run.replaced);
+            out.text(" replaced, ");
+            out.show(&run.inserted);
+            out.text(" inserted, ");
+            out.show(&run.deleted);
+            out.text(" deleted");
+        }
     }
-    let (replaced, inserted, deleted) = (counts.replaced, counts.inserted, counts.deleted);
-    write!(
-        out,
-        "ok {replaced} replaced, {inserted} inserted, {deleted} deleted"
-    )
+    Ok(())
 }

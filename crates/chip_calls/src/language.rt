@@ -16,9 +16,10 @@
 ghost use Rattle.chip_lang.specs.Value.{Symbols};
 ghost use Rattle.std.specs.FinMap as map;
 
-use crate::text::{line_bytes, number, push_bytes, push_hex, push_name, refuse, split_word};
+use crate::output::{Refused, Reply};
+use crate::text::{line_bytes, number, split_word};
 use chip_lang::{
-    Body, Bytes, Coded, Expr, Fault, Line, Meter, Names, agree_on, constant, defines, encode, eval,
+    Body, Bytes, Coded, Fault, Line, Meter, Names, agree_on, constant, defines, encode, eval,
     fault_span, mnemonic_of, read_line, read_nothing, tokens, uses, uses_names,
 };
 use std::alloc::{AllocError, Global};
@@ -34,30 +35,29 @@ impl Names for NoNames {
     }
 }
 
-/// Answers a command, and says whether it is one of these.
+/// Answers a command.
 pub(crate) fn answer(
     alloc: Global,
-    out: &mut String,
+    out: &mut Reply,
     built: &[u8],
     word: &str,
     rest: &str,
-) -> Result<bool, AllocError> {
+) -> Result<(), Refused> {
     let bytes = line_bytes(built, rest);
-    let answered = match word {
-        "read" => push_reading(alloc, out, bytes),
-        "read-length" => push_length(alloc, out, bytes),
-        "tokens" => push_tokens(alloc, out, bytes),
-        "nothing" => write!(out, "{}", count_of_nothing(bytes)),
-        "copy" => push_copy(alloc, out, bytes),
-        "mnemonic" => push_mnemonic(alloc, out, bytes),
-        "place" => push_place(alloc, out, built, rest),
-        "sentence" => push_sentence(out, rest),
-        "name" => push_used_name(alloc, out, built, rest),
-        "defines" | "uses-names" | "agrees" | "constant" => push_names(alloc, out, word, bytes),
-        _ => return Ok(false),
-    };
-    answered?;
-    Ok(true)
+    match word {
+        "read" | "read-length" | "defines" | "uses-names" | "agrees" | "constant" => {
+            push_said(alloc, out, word, &*read(alloc, &mut Meter::new(), bytes)?)?
+        }
+        "tokens" => push_tokens(alloc, out, bytes)?,
+        "nothing" => out.show(&count_of_nothing(bytes)),
+        "copy" => out.characters(Bytes::from_slice(alloc, bytes)?.get()),
+        "mnemonic" => push_mnemonic(alloc, out, bytes)?,
+        "place" => push_place(alloc, out, built, rest)?,
+        "sentence" => out.show(&fault_of(rest)?),
+        "name" => push_used_name(alloc, out, built, rest)?,
+        _ => return Err(Refused::BadCommand),
+    }
+    Ok(())
 }
 
 /// A line as it is read, in a box, so that each caller lets it go by a call.
@@ -66,39 +66,45 @@ pub(crate) fn read(alloc: Global, meter: &mut Meter, line: &[u8]) -> Result<Box<
     Ok(Box::new(alloc, line)?)
 }
 
-/// What a line says.
-fn push_reading(alloc: Global, out: &mut String, bytes: &[u8]) -> Result<(), AllocError> {
-    push_line(alloc, out, &*read(alloc, &mut Meter::new(), bytes)?)
+/// What there is to say of a line.
+fn push_said(alloc: Global, out: &mut Reply, word: &str, line: &Line) -> Result<(), AllocError> {
+    match word {
+        "read" => push_line(alloc, out, line)?,
+        "read-length" => {
+            let mut text = Reply::new(alloc);
+            push_line(alloc, &mut text, line)?;
+            out.show(&text.text.len());
+        }
+        "defines" => out.name(defines(line)),
+        "uses-names" => out.show(&uses_names(line)),
+        "agrees" => out.show(&agree_on(line, &NoNames, &NoNames)),
+        _ => out.debug(&constant_of(line)),
+    }
+    Ok(())
 }
 
-/// How long that is.
-fn push_length(alloc: Global, out: &mut String, bytes: &[u8]) -> Result<(), AllocError> {
-    let mut text = String::new(alloc);
-    push_reading(alloc, &mut text, bytes)?;
-    write!(out, "{}", text.len())
-}
-
-fn push_fault(out: &mut String, fault: Fault) -> Result<(), AllocError> {
-    let number = fault.number();
-    write!(out, "F{number}")
+pub(crate) fn push_fault(out: &mut Reply, fault: Fault) {
+    out.text("F");
+    out.show(&fault.number());
 }
 
 /// The label, the kind of the statement, and what its operand says.
-fn push_line(alloc: Global, out: &mut String, line: &Line) -> Result<(), AllocError> {
+fn push_line(alloc: Global, out: &mut Reply, line: &Line) -> Result<(), AllocError> {
     match line {
         Line::Bad(fault) => push_fault(out, *fault),
         Line::Read { label, body } => {
-            push_label(out, label)?;
-            out.push_str(kind_of(body))?;
-            push_operand(alloc, out, line, body)
+            out.characters(label_of(label));
+            out.text(kind_of(body));
+            push_operand(alloc, out, line, body)?;
         }
     }
+    Ok(())
 }
 
-fn push_label(out: &mut String, label: &Option<Bytes>) -> Result<(), AllocError> {
+fn label_of(label: &Option<Bytes>) -> &[u8] {
     match label {
-        Some(label) => push_bytes(out, label.get()),
-        None => out.push('-'),
+        Some(label) => label.get(),
+        None => b"-",
     }
 }
 
@@ -129,74 +135,41 @@ fn kind_of(body: &Body) -> &'static str {
 /// What the operand of a statement says.
 fn push_operand(
     alloc: Global,
-    out: &mut String,
+    out: &mut Reply,
     line: &Line,
     body: &Body,
 ) -> Result<(), AllocError> {
     match body {
-        Body::Equ(expr) | Body::Org(expr) | Body::Ds(expr) => push_value(out, expr),
-        Body::Ifdef(name) | Body::Ifund(name) => push_bytes(out, name.get()),
-        Body::Align(true) => out.push_str("ON"),
-        Body::Align(false) => out.push_str("OFF"),
-        _ => push_code(alloc, out, line),
-    }
-}
-
-fn push_value(out: &mut String, expr: &Expr) -> Result<(), AllocError> {
-    match eval(expr, &NoNames) {
-        Ok(value) => write!(out, "{value}"),
-        Err(fault) => push_fault(out, fault),
-    }
-}
-
-fn push_code(alloc: Global, out: &mut String, line: &Line) -> Result<(), AllocError> {
-    match encode(alloc, &mut Meter::new(), line, &NoNames)? {
-        Coded::Bytes(bytes) => push_hex(out, bytes.get()),
-        Coded::Faulty(fault) => push_fault(out, fault),
-    }
-}
-
-fn push_tokens(alloc: Global, out: &mut String, bytes: &[u8]) -> Result<(), AllocError> {
-    for token in &tokens(alloc, bytes)? {
-        let (kind, start, end) = (token.kind, token.start, token.end);
-        writeln!(out, "{kind:?} {start} {end}")?;
+        Body::Equ(expr) | Body::Org(expr) | Body::Ds(expr) => match eval(expr, &NoNames) {
+            Ok(value) => out.show(&value),
+            Err(fault) => push_fault(out, fault),
+        },
+        Body::Ifdef(name) | Body::Ifund(name) => out.characters(name.get()),
+        Body::Align(is_on) => out.text(if *is_on { "ON" } else { "OFF" }),
+        _ => match encode(alloc, &mut Meter::new(), line, &NoNames)? {
+            Coded::Bytes(bytes) => out.bytes(bytes.get()),
+            Coded::Faulty(fault) => push_fault(out, fault),
+        },
     }
     Ok(())
 }
 
-fn push_used_name(
-    alloc: Global,
-    out: &mut String,
-    built: &[u8],
-    rest: &str,
-) -> Result<(), AllocError> {
+fn push_tokens(alloc: Global, out: &mut Reply, bytes: &[u8]) -> Result<(), AllocError> {
+    for token in &tokens(alloc, bytes)? {
+        out.debug(&token.kind);
+        out.text(" ");
+        out.numbers(&[token.start as u64, token.end as u64]);
+        out.text("\n");
+    }
+    Ok(())
+}
+
+fn push_used_name(alloc: Global, out: &mut Reply, built: &[u8], rest: &str) -> Result<(), Refused> {
     let (place, line) = split_word(rest);
-    match number(place) {
-        Some(place) => push_use(
-            out,
-            &*read(alloc, &mut Meter::new(), line_bytes(built, line))?,
-            place as usize,
-        ),
-        None => refuse(out),
-    }
-}
-
-fn push_use(out: &mut String, line: &Line, place: usize) -> Result<(), AllocError> {
-    push_name(out, uses(line, place))
-}
-
-/// What there is to say of the names of a line.
-fn push_names(alloc: Global, out: &mut String, word: &str, bytes: &[u8]) -> Result<(), AllocError> {
-    push_names_of(out, word, &*read(alloc, &mut Meter::new(), bytes)?)
-}
-
-fn push_names_of(out: &mut String, word: &str, line: &Line) -> Result<(), AllocError> {
-    match word {
-        "defines" => push_name(out, defines(line)),
-        "uses-names" => write!(out, "{}", uses_names(line)),
-        "agrees" => write!(out, "{}", agree_on(line, &NoNames, &NoNames)),
-        _ => write!(out, "{:?}", constant_of(line)),
-    }
+    let place = number(place)? as usize;
+    let line = read(alloc, &mut Meter::new(), line_bytes(built, line))?;
+    out.name(uses(&*line, place));
+    Ok(())
 }
 
 /// The value of the expression of an EQU, where it is constant.
@@ -220,15 +193,12 @@ fn count_of_nothing(bytes: &[u8]) -> u64 {
     }
 }
 
-fn push_copy(alloc: Global, out: &mut String, bytes: &[u8]) -> Result<(), AllocError> {
-    push_bytes(out, Bytes::from_slice(alloc, bytes)?.get())
-}
-
-fn push_mnemonic(alloc: Global, out: &mut String, bytes: &[u8]) -> Result<(), AllocError> {
+fn push_mnemonic(alloc: Global, out: &mut Reply, bytes: &[u8]) -> Result<(), AllocError> {
     match mnemonic_of(alloc, bytes)? {
-        Some(mnemonic) => push_bytes(out, mnemonic.get()),
-        None => out.push_str("none"),
+        Some(mnemonic) => out.characters(mnemonic.get()),
+        None => out.text("none"),
     }
+    Ok(())
 }
 
 /// The faults, each at the place of its number, counted from 1.
@@ -253,25 +223,21 @@ const FAULTS: &[Fault] = &[
 ];
 
 /// The fault of a number, as `F4`.
-fn fault_of(name: &str) -> Option<Fault> {
-    let place = number(name.strip_prefix("F")?)?.checked_sub(1)?;
-    FAULTS.get(place as usize).copied()
-}
-
-fn push_sentence(out: &mut String, fault: &str) -> Result<(), AllocError> {
-    match fault_of(fault) {
-        Some(fault) => write!(out, "{fault}"),
-        None => refuse(out),
+fn fault_of(name: &str) -> Result<Fault, Refused> {
+    let place = match name.strip_prefix("F") {
+        Some(digits) => number(digits)?.wrapping_sub(1),
+        None => u32::MAX,
+    };
+    match FAULTS.get(place as usize) {
+        Some(fault) => Ok(*fault),
+        None => Err(Refused::BadCommand),
     }
 }
 
 /// Where in a line a fault lies: its first byte, and the place after its last one.
-fn push_place(alloc: Global, out: &mut String, built: &[u8], rest: &str) -> Result<(), AllocError> {
+fn push_place(alloc: Global, out: &mut Reply, built: &[u8], rest: &str) -> Result<(), Refused> {
     let (fault, line) = split_word(rest);
-    let Some(fault) = fault_of(fault) else {
-        return refuse(out);
-    };
-    let span = fault_span(alloc, line_bytes(built, line), fault)?;
-    let (start, end) = (span.start, span.end);
-    write!(out, "{start} {end}")
+    let span = fault_span(alloc, line_bytes(built, line), fault_of(fault)?)?;
+    out.numbers(&[span.start as u64, span.end as u64]);
+    Ok(())
 }

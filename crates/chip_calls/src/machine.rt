@@ -12,8 +12,9 @@
 //!   the state of the kept one. `same-memory`: whether both have the same memory.
 //! - `touch-add ADDRESS`, `touch-clear`, `touch-empty`: the list of touched addresses alone.
 
+use crate::output::{Refused, Reply};
 use crate::state;
-use crate::text::{bytes_of_hex, hex_number, number, refuse, split_word};
+use crate::text::{bytes_of_hex, hex_number, number, split_word};
 use chip_machine::limits::MEMORY_BYTES;
 use chip_machine::{Machine, Profile, SameKeys, Touch};
 use std::alloc::{AllocError, Global};
@@ -22,8 +23,8 @@ use std::mem;
 /// A machine, one that is kept, and what their steps touched.
 #[derive(Drop)]
 pub(crate) struct Machines {
-    machine: Option<Machine>,
-    kept: Option<Machine>,
+    machine: Option<Box<Machine>>,
+    kept: Option<Box<Machine>>,
     /// The steps that `run` made since the start.
     steps: u32,
     touch: Touch,
@@ -41,102 +42,99 @@ impl Machines {
         })
     }
 
-    /// Answers a command, and says whether it is one of these.
+    /// Answers a command.
     pub(crate) fn answer(
         &mut self,
         alloc: Global,
-        out: &mut String,
+        out: &mut Reply,
         word: &str,
         rest: &str,
-    ) -> Result<bool, AllocError> {
-        let answered = match word {
-            "start" | "start-zeros" => self.start(alloc, out, word, rest),
-            "keep" | "swap" | "take" => self.copy(word),
-            "same-memory" => write!(out, "{}", self.is_same_memory()),
-            "first-touch" => push_first_touch(out, &self.first_touch, rest),
+    ) -> Result<(), Refused> {
+        match word {
+            "start" => self.start(alloc, out, rest)?,
+            "start-zeros" => self.start_zeros(alloc, out, rest)?,
+            "keep" | "swap" | "take" => self.copy(alloc, word)?,
+            "same-memory" => out.show(&self.is_same_memory()),
+            "first-touch" => push_first_touch(out, &self.first_touch, hex_number(rest)?),
             "touches" => push_touches(out, &self.touch),
-            "touch-count" | "touch-empty" | "touch-add" | "touch-clear" => {
-                answer_touch(out, &mut self.touch, word, rest)
-            }
-            "profiles" | "profile" | "start-error" => state::push_profile(alloc, out, word, rest),
-            _ => return self.machine_answer(alloc, out, word, rest),
-        };
-        answered?;
-        Ok(true)
+            "touch-count" => out.show(&self.touch.len()),
+            "touch-empty" => out.show(&self.touch.is_empty()),
+            "touch-add" => out.show(&self.touch.add(hex_number(rest)?)),
+            "touch-clear" => self.touch.clear(),
+            "profiles" | "profile" | "start-error" => state::push_profile(alloc, out, word, rest)?,
+            _ => return self.answer_machine(alloc, out, word, rest),
+        }
+        Ok(())
     }
 
     /// What the machine does or answers.
-    fn machine_answer(
+    fn answer_machine(
         &mut self,
         alloc: Global,
-        out: &mut String,
+        out: &mut Reply,
         word: &str,
         rest: &str,
-    ) -> Result<bool, AllocError> {
+    ) -> Result<(), Refused> {
         let Some(machine) = &mut self.machine else {
-            return Ok(false);
+            return Err(Refused::BadCommand);
         };
-        let is_made = match word {
-            "run" => run(machine, &mut self.touch, &mut self.steps, rest),
-            "step" | "step-tick" => step(machine, &mut self.touch, word),
-            "steps" => make_steps(machine, &mut self.first_touch, rest),
-            "poke" => poke(machine, rest),
-            "exchange" => exchange(alloc, machine, rest),
-            _ => return state::answer(out, machine, word, rest),
-        };
-        if is_made.is_none() {
-            refuse(out)?;
+        match word {
+            "run" => run(&mut **machine, &mut self.touch, &mut self.steps, rest)?,
+            "step" => machine.step(0, false, &mut self.touch),
+            "step-tick" => machine.step(0, true, &mut self.touch),
+            "steps" => make_steps(&mut **machine, &mut self.first_touch, rest)?,
+            "poke" => poke(&mut **machine, rest)?,
+            "exchange" => exchange(alloc, &mut **machine, rest)?,
+            _ => return state::answer(out, &**machine, word, rest),
         }
-        Ok(true)
+        Ok(())
     }
 
-    fn start(
-        &mut self,
-        alloc: Global,
-        out: &mut String,
-        word: &str,
-        rest: &str,
-    ) -> Result<(), AllocError> {
-        let (first, second) = split_word(rest);
-        if word == "start-zeros" {
-            let (Some(image), Some(tape)) = (number(first), number(second)) else {
-                return refuse(out);
-            };
-            let image = vec![in alloc; 0; image as usize]?;
-            let tape = vec![in alloc; 0; tape as usize]?;
-            return self.start_with(alloc, out, &image, &tape, Profile::Schip);
-        }
-        match (Profile::from_name(first), bytes_of_hex(alloc, second)) {
-            (Some(profile), Some(image)) => {
-                self.start_with(alloc, out, &image, &[0xa5, 0x5a], profile)
-            }
-            _ => refuse(out),
-        }
+    fn start(&mut self, alloc: Global, out: &mut Reply, rest: &str) -> Result<(), Refused> {
+        let (profile, image) = split_word(rest);
+        let Some(profile) = Profile::from_name(profile) else {
+            return Err(Refused::BadCommand);
+        };
+        let image = bytes_of_hex(alloc, image)?;
+        self.start_with(alloc, out, &image, &[0xa5, 0x5a], profile)?;
+        Ok(())
+    }
+
+    fn start_zeros(&mut self, alloc: Global, out: &mut Reply, rest: &str) -> Result<(), Refused> {
+        let (image, tape) = split_word(rest);
+        let image = vec![in alloc; 0; number(image)? as usize]?;
+        let tape = vec![in alloc; 0; number(tape)? as usize]?;
+        self.start_with(alloc, out, &image, &tape, Profile::Schip)?;
+        Ok(())
     }
 
     fn start_with(
         &mut self,
         alloc: Global,
-        out: &mut String,
+        out: &mut Reply,
         image: &[u8],
         tape: &[u8],
         profile: Profile,
     ) -> Result<(), AllocError> {
         match Machine::start(alloc, image, tape, profile) {
             Ok(machine) => {
-                self.machine = Some(machine);
+                self.machine = Some(Box::new(alloc, machine)?);
                 self.steps = 0;
-                out.push_str("ok")
+                out.text("ok");
             }
-            Err(error) => write!(out, "M{}", error.number()),
+            Err(error) => {
+                out.text("M");
+                out.show(&error.number());
+            }
         }
+        Ok(())
     }
 
     /// Copies machines.
-    fn copy(&mut self, word: &str) -> Result<(), AllocError> {
+    fn copy(&mut self, alloc: Global, word: &str) -> Result<(), AllocError> {
         match (word, &mut self.machine, &mut self.kept) {
-            ("keep", Some(machine), kept) => *kept = Some(machine.copy_of()?),
-            ("take", Some(machine), Some(kept)) => machine.copy_from(kept)?,
+            ("keep", Some(machine), kept) => *kept = Some(Box::new(alloc, machine.copy_of()?)?),
+            ("take", Some(machine), Some(kept)) => machine.copy_from(&**kept)?,
             (_, machine, kept) => mem::swap(machine, kept),
         }
         Ok(())
@@ -151,100 +149,68 @@ impl Machines {
 }
 
 /// Makes so many steps, where the command says how many.
-fn run(machine: &mut Machine, touch: &mut Touch, made: &mut u32, rest: &str) -> Option<()> {
+fn run(
+    machine: &mut Machine,
+    touch: &mut Touch,
+    made: &mut u32,
+    rest: &str,
+) -> Result<(), Refused> {
     let (count, keys) = split_word(rest);
-    let keys = if keys.is_empty() {
-        0
-    } else {
-        hex_number(keys)?
-    };
+    let keys = hex_number(if keys.is_empty() { "0" } else { keys })?;
     for _ in 0..number(count)? {
         machine.step(keys, *made % 10 == 9, touch);
         *made = made.wrapping_add(1);
     }
-    Some(())
-}
-
-fn step(machine: &mut Machine, touch: &mut Touch, word: &str) -> Option<()> {
-    machine.step(0, word == "step-tick", touch);
-    Some(())
+    Ok(())
 }
 
 /// Makes steps at once.
-fn make_steps(machine: &mut Machine, first_touch: &mut [u32], rest: &str) -> Option<()> {
+fn make_steps(machine: &mut Machine, first_touch: &mut [u32], rest: &str) -> Result<(), Refused> {
     let (from, rest) = split_word(rest);
     let (count, keys) = split_word(rest);
-    let from = u16::try_from(number(from)?).ok()?;
-    let count = u16::try_from(number(count)?).ok()?;
+    let (from, count) = (number(from)?, number(count)?);
     let mut keys = SameKeys(hex_number(keys)?);
-    if first_touch.len() != MEMORY_BYTES {
-        return None;
+    if first_touch.len() != MEMORY_BYTES || from.max(count) > u32::from(u16::MAX) {
+        return Err(Refused::BadCommand);
     }
-    machine.steps(
-        &mut keys,
-        10,
-        u32::from(from),
-        u32::from(count),
-        first_touch,
-    );
-    Some(())
+    machine.steps(&mut keys, 10, from, count, first_touch);
+    Ok(())
 }
 
-fn poke(machine: &mut Machine, rest: &str) -> Option<()> {
+fn poke(machine: &mut Machine, rest: &str) -> Result<(), Refused> {
     let (at, byte) = split_word(rest);
     let (at, byte) = (hex_number(at)?, hex_number(byte)?);
     if usize::from(at) < MEMORY_BYTES {
         machine.poke(at, (byte % 256) as u8);
     }
-    Some(())
+    Ok(())
 }
 
-fn exchange(alloc: Global, machine: &mut Machine, rest: &str) -> Option<()> {
+fn exchange(alloc: Global, machine: &mut Machine, rest: &str) -> Result<(), Refused> {
     let (at, rest) = split_word(rest);
     let (old, new) = split_word(rest);
     let at = hex_number(at)?;
     let (old, new) = (bytes_of_hex(alloc, old)?, bytes_of_hex(alloc, new)?);
-    let has_room = new.len() <= MEMORY_BYTES && at as usize <= MEMORY_BYTES - new.len();
-    if !has_room || old.len() != new.len() {
-        return None;
+    let end = new.len().saturating_add(usize::from(at));
+    if end > MEMORY_BYTES || old.len() != new.len() {
+        return Err(Refused::BadCommand);
     }
     machine.exchange(at, &old, &new);
-    Some(())
-}
-
-fn push_touches(out: &mut String, touch: &Touch) -> Result<(), AllocError> {
-    for place in 0..=touch.len() {
-        if let Some(address) = touch.get(place) {
-            write!(out, "{address:03x} ")?;
-        }
-    }
     Ok(())
 }
 
-/// What the list of touched addresses answers.
-fn answer_touch(
-    out: &mut String,
-    touch: &mut Touch,
-    word: &str,
-    rest: &str,
-) -> Result<(), AllocError> {
-    match (word, hex_number(rest)) {
-        ("touch-count", _) => write!(out, "{}", touch.len()),
-        ("touch-empty", _) => write!(out, "{}", touch.is_empty()),
-        ("touch-add", Some(address)) => write!(out, "{}", touch.add(address)),
-        _ => {
-            touch.clear();
-            Ok(())
+fn push_touches(out: &mut Reply, touch: &Touch) {
+    for place in 0..=touch.len() {
+        if let Some(address) = touch.get(place) {
+            out.hex(address, 3);
+            out.text(" ");
         }
     }
 }
 
-fn push_first_touch(out: &mut String, first_touch: &[u32], rest: &str) -> Result<(), AllocError> {
-    let Some(address) = hex_number(rest) else {
-        return refuse(out);
-    };
+fn push_first_touch(out: &mut Reply, first_touch: &[u32], address: u16) {
     match first_touch.get(usize::from(address)) {
-        Some(step) if *step != u32::MAX => write!(out, "{step}"),
-        _ => out.push_str("none"),
+        Some(step) if *step != u32::MAX => out.show(step),
+        _ => out.text("none"),
     }
 }

@@ -12,6 +12,7 @@ mod assembler;
 mod edits;
 mod language;
 mod machine;
+mod output;
 mod replay;
 mod runs;
 mod state;
@@ -20,10 +21,10 @@ mod toy;
 mod words;
 
 use crate::machine::Machines;
+use crate::output::{Refused, Reply};
 use crate::replay::Run;
-use crate::text::{bytes_of_hex, number, refuse, split_word};
+use crate::text::{bytes_of_hex, number, split_word};
 use chip_asm::Source;
-use chip_replay::Keys;
 use std::alloc::{AllocError, Global};
 use std::io;
 use std::io::{BufRead, BufReader};
@@ -31,114 +32,107 @@ use std::io::{BufRead, BufReader};
 /// What the commands so far made.
 #[derive(Drop)]
 struct Calls {
+    alloc: Global,
     built: Vec<u8>,
     /// Whether the lines are those of a source.
     is_source: bool,
-    source: Source,
+    source: Box<Source>,
     machines: Machines,
     run: Run,
 }
 
 impl Calls {
     fn new(alloc: Global) -> Result<Calls, AllocError> {
+        let machines = Machines::new(alloc)?;
+        let source = assembler::boxed(alloc, Source::new(alloc))?;
         Ok(Calls {
+            alloc,
             built: Vec::new(alloc),
             is_source: false,
-            source: Source::new(alloc),
-            machines: Machines::new(alloc)?,
-            run: Run::Keys(Keys::new(alloc)),
+            source,
+            machines,
+            run: Run::new(alloc),
         })
     }
 
     /// Answers a line of the input.
-    fn take(&mut self, alloc: Global, out: &mut String, line: &str) -> Result<(), AllocError> {
+    fn take(&mut self, out: &mut Reply, line: &str) -> Result<(), Refused> {
         if !self.is_source {
             let (word, rest) = split_word(line);
-            return self.answer(alloc, out, word, rest);
+            return self.answer(out, word, rest);
         }
         if line == "end" {
             self.is_source = false;
-            return self.open(alloc, out, "open");
+            self.open(out, "open");
+            return Ok(());
         }
         self.built.extend_from_slice(line.as_bytes())?;
-        self.built.push(b'\n')?;
+        self.built.extend_from_slice(b"\n")?;
         Ok(())
     }
 
     /// Answers a command.
-    fn answer(
-        &mut self,
-        alloc: Global,
-        out: &mut String,
-        word: &str,
-        rest: &str,
-    ) -> Result<(), AllocError> {
+    fn answer(&mut self, out: &mut Reply, word: &str, rest: &str) -> Result<(), Refused> {
         match word {
             "source" | "text" | "text-hex" => {
                 self.is_source = word == "source";
                 self.built.clear();
-                self.add(alloc, out, word, 1, rest)
+                self.add(word, 1, rest)?;
             }
             "add" | "add-hex" => {
                 let (count, line) = split_word(rest);
-                self.add(alloc, out, word, number(count).unwrap_or(0), line)
+                self.add(word, number(count).unwrap_or(0), line)?;
             }
-            "open" | "open-bytes" => self.open(alloc, out, word),
+            "open" | "open-bytes" => self.open(out, word),
             "ins" | "rep" | "del" => {
-                assembler::edit(alloc, out, &self.built, &mut self.source, word, rest)
+                assembler::edit(self.alloc, out, &self.built, &mut *self.source, word, rest)?
             }
-            "edits" => edits::answer(alloc, out, rest),
-            "runs" => runs::answer(alloc, out, rest),
-            _ => self.ask(alloc, out, word, rest),
+            "edits" => edits::answer(self.alloc, out, rest)?,
+            "runs" => runs::answer(self.alloc, out, rest)?,
+            _ => return self.ask(out, word, rest),
         }
+        Ok(())
     }
 
     /// Adds a line or bytes in hexadecimal so many times to the built text.
-    fn add(
-        &mut self,
-        alloc: Global,
-        out: &mut String,
-        word: &str,
-        count: u32,
-        line: &str,
-    ) -> Result<(), AllocError> {
+    fn add(&mut self, word: &str, count: u32, line: &str) -> Result<(), Refused> {
         if !word.ends_with("-hex") {
-            return add_bytes(&mut self.built, count, line.as_bytes());
+            return Ok(add_bytes(&mut self.built, count, line.as_bytes())?);
         }
-        match bytes_of_hex(alloc, line) {
-            Some(bytes) => add_bytes(&mut self.built, count, &bytes),
-            None => refuse(out),
-        }
+        let bytes = bytes_of_hex(self.alloc, line)?;
+        Ok(add_bytes(&mut self.built, count, &bytes)?)
     }
 
     /// Opens the built text.
-    fn open(&mut self, alloc: Global, out: &mut String, word: &str) -> Result<(), AllocError> {
-        match assembler::opened(alloc, word, &self.built) {
+    fn open(&mut self, out: &mut Reply, word: &str) {
+        match assembler::opened(self.alloc, word, &self.built) {
             Ok(source) => {
                 self.source = source;
-                out.push_str("ok")
+                out.text("ok");
             }
-            Err(error) => write!(out, "{error:?}"),
+            Err(error) => out.debug(&error),
         }
     }
 
     /// Has the layer answer whose command it is.
-    fn ask(
-        &mut self,
-        alloc: Global,
-        out: &mut String,
-        word: &str,
-        rest: &str,
-    ) -> Result<(), AllocError> {
-        if language::answer(alloc, out, &self.built, word, rest)?
-            || words::answer(alloc, out, word, rest)?
-            || assembler::answer(alloc, out, &self.source, word, rest)?
-            || self.machines.answer(alloc, out, word, rest)?
-            || self.run.answer(alloc, out, word, rest)?
-        {
-            return Ok(());
+    fn ask(&mut self, out: &mut Reply, word: &str, rest: &str) -> Result<(), Refused> {
+        match language::answer(self.alloc, out, &self.built, word, rest) {
+            Err(Refused::BadCommand) => (),
+            answered => return answered,
         }
-        refuse(out)
+        match words::answer(self.alloc, out, word, rest) {
+            Err(Refused::BadCommand) => (),
+            answered => return answered,
+        }
+        match assembler::answer(self.alloc, out, &*self.source, word, rest) {
+            Err(Refused::BadCommand) => (),
+            answered => return answered,
+        }
+        match self.machines.answer(self.alloc, out, word, rest) {
+            Err(Refused::BadCommand) => (),
+            answered => return answered,
+        }
+        self.run.answer(self.alloc, out, word, rest)
     }
 }
 
@@ -149,15 +143,28 @@ fn add_bytes(built: &mut Vec<u8>, count: u32, bytes: &[u8]) -> Result<(), AllocE
     Ok(())
 }
 
+/// The answer to a line of the input, without the blanks at its end.
+fn answered(calls: &mut Calls, line: &str) -> Result<String, AllocError> {
+    let mut out = Reply::new(calls.alloc);
+    match calls.take(&mut out, line) {
+        Err(Refused::BadCommand) => out.text("bad command"),
+        Err(Refused::OutOfMemory) => out.is_whole = false,
+        Ok(()) => (),
+    }
+    if out.is_whole {
+        Ok(out.text)
+    } else {
+        Err(AllocError)
+    }
+}
+
 /// Answers each line of the input.
 fn answer_all(rt: &(impl Input + Print + AllocGlobal), calls: &mut Calls) -> io::Result<()> {
-    let mut out = String::new(rt.alloc());
     for line in BufReader::new(rt.alloc(), rt.reader())?.lines(rt.alloc()) {
-        calls.take(rt.alloc(), &mut out, line?.as_str())?;
-        if !out.is_empty() {
-            rt.println(out.as_str().trim_end())?;
+        let answer = answered(calls, line?.as_str())?;
+        if !answer.is_empty() {
+            rt.println(answer.as_str().trim_end())?;
         }
-        out.clear();
     }
     Ok(())
 }

@@ -16,77 +16,102 @@ ghost use Rattle.std.specs.Prelude.{◌≡◌, ◌≤◌, [], drop, IfOk};
 ghost use Rattle.chip_replay.specs.Image.{padded};
 ghost use Rattle.chip_replay.specs.Limits.{image_start};
 
-use crate::text::{number, refuse, split_word};
+use crate::output::{Refused, Reply};
+use crate::text::{number, split_word};
 use crate::toy::Toy;
 use chip_replay::{KeyFault, Keys, LEAST_SPACING, MOST_SPACING, Replay, Traced};
 use std::alloc::{AllocError, Global};
 use std::cell::Cell;
 use std::rc::Rc;
 
-/// Key events, alone or those of a replay.
+/// The replay of a small machine, and the steps that the machine and its copies made.
 #[derive(Drop)]
-pub(crate) enum Run {
-    Keys(Keys),
-    Toy(Replay<Toy>, Rc<Cell<u64>>),
+struct ToyRun {
+    replay: Replay<Toy>,
+    made: Rc<Cell<u64>>,
+}
+
+/// Key events: those of a replay where there is one.
+#[derive(Drop)]
+pub(crate) struct Run {
+    keys: Keys,
+    toy: Option<Box<ToyRun>>,
 }
 
 impl Run {
-    /// Answers a command, and says whether it is one of these.
-    pub(crate) fn answer(
-        &mut self,
-        alloc: Global,
-        out: &mut String,
-        word: &str,
-        rest: &str,
-    ) -> Result<bool, AllocError> {
-        *self = match word {
-            "keys" => Run::Keys(Keys::new(alloc)),
-            "toy" => toy_run(alloc, number(rest).unwrap_or(0))?,
-            "toy-image" => toy_with_image(alloc, rest)?,
-            _ => return self.change(out, word, rest),
-        };
-        Ok(true)
-    }
-
-    /// Answers a command about the run as it is, and says whether it is one of these.
-    fn change(&mut self, out: &mut String, word: &str, rest: &str) -> Result<bool, AllocError> {
-        let answered = match (word, self) {
-            ("insert" | "replace" | "delete" | "fill", run) => run.edit(out, word, rest),
-            ("held", run) => run.push_held(out, rest),
-            (_, Run::Toy(replay, made)) => return answer_toy(out, replay, made, word, rest),
-            (_, Run::Keys(_)) => return Ok(false),
-        };
-        answered?;
-        Ok(true)
-    }
-
-    /// Makes an edit, and answers it.
-    fn edit(&mut self, out: &mut String, word: &str, rest: &str) -> Result<(), AllocError> {
-        let (step, rest) = split_word(rest);
-        let (key, state) = split_word(rest);
-        let (Some(step), Some(key)) = (number(step), number(key)) else {
-            return refuse(out);
-        };
-        let made = match self {
-            Run::Keys(keys) => edit_keys(keys, word, step, key, state == "down"),
-            Run::Toy(replay, _) => edit_replay(replay, word, step, key, state == "down"),
-        };
-        match made {
-            Ok(()) => out.push_str("ok"),
-            Err(fault) => write!(out, "{fault:?}"),
+    pub(crate) fn new(alloc: Global) -> Run {
+        Run {
+            keys: Keys::new(alloc),
+            toy: None,
         }
     }
 
+    /// Answers a command.
+    pub(crate) fn answer(
+        &mut self,
+        alloc: Global,
+        out: &mut Reply,
+        word: &str,
+        rest: &str,
+    ) -> Result<(), Refused> {
+        match word {
+            "keys" => *self = Run::new(alloc),
+            "toy" => self.toy = Some(toy_run(alloc, number(rest).unwrap_or(0))?),
+            "toy-image" => self.toy = Some(toy_with_image(alloc, rest)?),
+            "insert" | "replace" | "delete" | "fill" => self.edit(out, word, rest)?,
+            "held" => self.push_held(out, number(rest)?),
+            _ => return self.answer_toy(out, word, rest),
+        }
+        Ok(())
+    }
+
+    /// Makes an edit, and answers it.
+    fn edit(&mut self, out: &mut Reply, word: &str, rest: &str) -> Result<(), Refused> {
+        let (step, rest) = split_word(rest);
+        let (key, state) = split_word(rest);
+        let (step, key) = (number(step)?, number(key)?);
+        let made = match &mut self.toy {
+            None => edit_keys(&mut self.keys, word, step, key, state == "down"),
+            Some(toy) => edit_replay(&mut toy.replay, word, step, key, state == "down"),
+        };
+        match made {
+            Ok(()) => out.text("ok"),
+            Err(fault) => out.debug(&fault),
+        }
+        Ok(())
+    }
+
     /// The keys that are down at a step.
-    fn push_held(&self, out: &mut String, rest: &str) -> Result<(), AllocError> {
-        let Some(step) = number(rest) else {
-            return refuse(out);
+    fn push_held(&self, out: &mut Reply, step: u32) {
+        let keys = match &self.toy {
+            None => &self.keys,
+            Some(toy) => toy.replay.keys(),
         };
-        let keys = match self {
-            Run::Keys(keys) => keys,
-            Run::Toy(replay, _) => replay.keys(),
+        out.show(&keys.held(step));
+    }
+
+    /// Answers a command about the small machine.
+    fn answer_toy(&mut self, out: &mut Reply, word: &str, rest: &str) -> Result<(), Refused> {
+        let Some(toy) = &mut self.toy else {
+            return Err(Refused::BadCommand);
         };
-        write!(out, "{}", keys.held(step))
+        let made = toy.made.get();
+        let replay = &mut toy.replay;
+        match word {
+            "at" => {
+                let step = number(rest)?;
+                push_sum(out, replay, step, step);
+            }
+            "at-each" => push_sum(out, replay, 0, number(rest)?),
+            "made" => out.show(&made),
+            "is-counted" => out.show(&(replay.ran() == made)),
+            "counts" => {
+                let (ran, reach, kept) = (replay.ran(), replay.reach(), replay.kept());
+                out.numbers(&[ran, u64::from(reach), kept as u64]);
+            }
+            _ => return Err(Refused::BadCommand),
+        }
+        Ok(())
     }
 }
 
@@ -120,53 +145,26 @@ pub(crate) fn edit_replay<M: Traced>(
     }
 }
 
-/// Answers a command about the small machine, and says whether it is one.
-fn answer_toy(
-    out: &mut String,
-    replay: &mut Replay<Toy>,
-    made: &Rc<Cell<u64>>,
-    word: &str,
-    rest: &str,
-) -> Result<bool, AllocError> {
-    let answered = match (word, number(rest)) {
-        ("at", Some(step)) => push_sum(out, replay, step, step),
-        ("at-each", Some(last)) => push_sum(out, replay, 0, last),
-        ("made", _) => write!(out, "{}", made.get()),
-        ("is-counted", _) => write!(out, "{}", replay.ran() == made.get()),
-        ("counts", _) => {
-            let (ran, reach, kept) = (replay.ran(), replay.reach(), replay.kept());
-            write!(out, "{ran} {reach} {kept}")
-        }
-        _ => return Ok(false),
-    };
-    answered?;
-    Ok(true)
-}
-
 /// The sum at the last of these steps, or the first error at one of them.
-fn push_sum(
-    out: &mut String,
-    replay: &mut Replay<Toy>,
-    first: u32,
-    last: u32,
-) -> Result<(), AllocError> {
+fn push_sum(out: &mut Reply, replay: &mut Replay<Toy>, first: u32, last: u32) {
     let mut sum = 0;
     for step in first..=last {
         match replay.at(step) {
             Ok(state) => sum = state.sum(),
-            Err(error) => return write!(out, "{error:?}"),
+            Err(error) => return out.debug(&error),
         }
     }
-    write!(out, "{sum}")
+    out.show(&sum);
 }
 
 /// The replay of a small machine with checkpoints after so many steps each, or the nearest number
 /// that is allowed.
-fn toy_run(alloc: Global, spacing: u32) -> Result<Run, AllocError> {
+fn toy_run(alloc: Global, spacing: u32) -> Result<Box<ToyRun>, AllocError> {
     let made = Rc::new(alloc, Cell::new(0))?;
     let toy = Toy::new(alloc, made.clone()?)?;
     let spacing = spacing.max(LEAST_SPACING).min(MOST_SPACING);
-    Ok(Run::Toy(Replay::new(alloc, toy, 10, spacing)?, made))
+    let replay = Replay::new(alloc, toy, 10, spacing)?;
+    Ok(Box::new(alloc, ToyRun { replay, made })?)
 }
 
 /// A replay that was asked about the step 5000; an error where the sum there is not 0.
@@ -193,9 +191,9 @@ fn change_image(replay: &mut Replay<Toy>, way: &str)
 }
 
 /// A replay that was asked and then has another image.
-fn toy_with_image(alloc: Global, way: &str) -> Result<Run, AllocError> {
+fn toy_with_image(alloc: Global, way: &str) -> Result<Box<ToyRun>, AllocError> {
     let made = Rc::new(alloc, Cell::new(0))?;
     let mut replay = asked(alloc, made.clone()?)?;
     change_image(&mut replay, way);
-    Ok(Run::Toy(replay, made))
+    Ok(Box::new(alloc, ToyRun { replay, made })?)
 }

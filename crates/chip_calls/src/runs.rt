@@ -4,8 +4,10 @@
 //! first difference.
 
 use crate::edits::next;
+use crate::output::{Refused, Reply};
 use crate::replay::edit_replay;
-use crate::text::{number, refuse, split_word};
+use crate::state::stop_number;
+use crate::text::{number, split_word};
 use chip_machine::{Machine, Profile, Touch};
 use chip_replay::{LEAST_SPACING, Replay};
 use std::alloc::{AllocError, Global};
@@ -27,58 +29,73 @@ const APART: u32 = 16;
 /// A replay, and what it was made of as edited so far.
 #[derive(Drop)]
 struct Run {
-    start: Machine,
+    start: Box<Machine>,
     rate: u32,
     /// For each step that can have events each key, and whether it is down from then on.
     events: Vec<Option<bool>>,
     replay: Replay<Machine>,
 }
 
-/// A word of a kind, with these digits: mostly instructions that stay in the program, write into it
-/// or read the keys.
-fn word_of(kind: u32, digits: u32) -> u32 {
-    match kind % 20 {
-        0 | 1 => 0x6000 + digits % 0x1000,
-        2 | 3 => 0x7000 + digits % 0x1000,
-        4 => 0x8000 + digits % 0x1000,
-        5 => 0x3000 + digits % 0x1000,
-        6 | 7 => 0xa200 + digits % 0x30,
-        8 => 0xc000 + digits % 0x1000,
-        9 => 0xd000 + digits % 0x1000,
-        10 | 11 => 0x1200 + 2 * (digits % 0x18),
-        12 => 0x2200 + 2 * (digits % 0x18),
-        13 => 0xf055 + 0x100 * (digits % 3),
-        14 => 0xf065 + 0x100 * (digits % 3),
-        15 => 0xf033 + 0x100 * (digits % 16),
-        16 | 17 => 0xe09e + 3 * (digits % 2) + 0x100 * (digits / 2 % 16),
-        18 => 0xf00a + 0x100 * (digits % 16),
-        _ => 0xf007 + 0x100 * (digits % 16),
-    }
+/// The words of each kind: the first one, how far apart so many of them stand, and how far apart
+/// those of 16 registers. Mostly they are instructions that stay in the program, write into it or
+/// read the keys.
+const WORDS: &[(u32, u32, u32, u32)] = &[
+    (0x6000, 1, 0x1000, 0),
+    (0x6000, 1, 0x1000, 0),
+    (0x7000, 1, 0x1000, 0),
+    (0x7000, 1, 0x1000, 0),
+    (0x8000, 1, 0x1000, 0),
+    (0x3000, 1, 0x1000, 0),
+    (0xa200, 1, 0x30, 0),
+    (0xa200, 1, 0x30, 0),
+    (0xc000, 1, 0x1000, 0),
+    (0xd000, 1, 0x1000, 0),
+    (0x1200, 2, 0x18, 0),
+    (0x1200, 2, 0x18, 0),
+    (0x2200, 2, 0x18, 0),
+    (0xf055, 0x100, 3, 0),
+    (0xf065, 0x100, 3, 0),
+    (0xf033, 0x100, 16, 0),
+    (0xe09e, 3, 2, 0x100),
+    (0xe09e, 3, 2, 0x100),
+    (0xf00a, 0x100, 16, 0),
+    (0xf007, 0x100, 16, 0),
+];
+
+/// A word of a kind, with these digits.
+fn word_of(kind: u32, digits: u32) -> u16 {
+    let (first, apart, count, register) = match WORDS.get((kind % 20) as usize) {
+        Some(words) => *words,
+        None => (0, 0, 1, 0),
+    };
+    let place = apart.wrapping_mul(digits % count.max(1));
+    let of_register = register.wrapping_mul(digits / 2 % 16);
+    (first.wrapping_add(place).wrapping_add(of_register) % 65_536) as u16
 }
 
 /// A machine with a generated program.
-fn some_machine(alloc: Global, state: &mut u32) -> Result<Machine, AllocError> {
+fn some_machine(alloc: Global, state: &mut u32) -> Result<Box<Machine>, AllocError> {
     let mut image = Vec::new(alloc);
     for _ in 0..24u32 {
         let kind = next(state);
-        let word = (word_of(kind, next(state)) % 65_536) as u16;
-        image.extend_from_slice(&word.to_be_bytes())?;
+        image.extend_from_slice(&word_of(kind, next(state)).to_be_bytes())?;
     }
     match Machine::start(alloc, &image, &[0xa5, 0x5a], Profile::Schip) {
-        Ok(machine) => Ok(machine),
+        Ok(machine) => Ok(Box::new(alloc, machine)?),
         Err(_) => Err(AllocError),
     }
 }
 
 /// A run of a generated program.
 fn opened(alloc: Global, state: &mut u32) -> Result<Box<Run>, AllocError> {
+    let events = vec![in alloc; None; (STEPS / APART * KEYS) as usize]?;
     let start = some_machine(alloc, state)?;
     let rate = 1 + next(state) % 12;
     let replay = Replay::new(alloc, start.copy_of()?, rate, LEAST_SPACING)?;
     let run = Run {
         start,
         rate,
-        events: vec![in alloc; None; (STEPS / APART * KEYS) as usize]?,
+        events,
         replay,
     };
     Ok(Box::new(alloc, run)?)
@@ -101,32 +118,33 @@ fn keys_in_step(events: &[Option<bool>], step: u32, before: u16) -> u16 {
 
 /// Whether two machines are in the same state.
 fn are_alike(one: &Machine, other: &Machine) -> bool {
-    have_same_rows(one, other)
-        && have_same_counts(one, other)
-        && one.registers() == other.registers()
-        && one.frames() == other.frames()
-        && one.flags() == other.flags()
-        && one.memory() == other.memory()
-}
-
-fn have_same_rows(one: &Machine, other: &Machine) -> bool {
     for row in 0..64 {
         if one.row(row) != other.row(row) {
             return false;
         }
     }
-    true
+    counts(one) == counts(other) && have_same_lists(one, other)
 }
 
-/// Whether two machines have the same counters, timers and screen size, and stopped alike.
-fn have_same_counts(one: &Machine, other: &Machine) -> bool {
-    one.pc() == other.pc()
-        && one.index() == other.index()
-        && one.draws() == other.draws()
-        && one.high() == other.high()
-        && one.delay() == other.delay()
-        && one.sound() == other.sound()
-        && one.stopped() == other.stopped()
+fn have_same_lists(one: &Machine, other: &Machine) -> bool {
+    (one.registers() == other.registers())
+        & (one.frames() == other.frames())
+        & (one.flags() == other.flags())
+        & (one.memory() == other.memory())
+}
+
+/// The counters and the timers of a machine, whether its screen has the high size, and why it
+/// stopped.
+fn counts(machine: &Machine) -> [u64; 7] {
+    [
+        u64::from(machine.pc()),
+        u64::from(machine.index()),
+        machine.draws(),
+        u64::from(machine.delay()),
+        u64::from(machine.sound()),
+        u64::from(machine.high()),
+        u64::from(stop_number(machine)),
+    ]
 }
 
 /// Whether the replay answers some steps from one on as a machine that makes each step.
@@ -198,16 +216,20 @@ fn first_difference(alloc: Global, seed: u32) -> Result<Option<u32>, AllocError>
 }
 
 /// Answers `runs`.
-pub(crate) fn answer(alloc: Global, out: &mut String, rest: &str) -> Result<(), AllocError> {
+pub(crate) fn answer(alloc: Global, out: &mut Reply, rest: &str) -> Result<(), Refused> {
     let (first, count) = split_word(rest);
-    let (Some(first), Some(count)) = (number(first), number(count)) else {
-        return refuse(out);
-    };
+    let (first, count) = (number(first)?, number(count)?);
     for place in 0..count {
         let seed = first.wrapping_add(place);
         if let Some(command) = first_difference(alloc, seed)? {
-            return write!(out, "differs at command {command} of seed {seed}");
+            out.text("differs at command ");
+            out.show(&command);
+            out.text(" of seed ");
+            out.show(&seed);
+            return Ok(());
         }
     }
-    write!(out, "ok {count}")
+    out.text("ok ");
+    out.show(&count);
+    Ok(())
 }

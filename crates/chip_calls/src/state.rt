@@ -13,114 +13,110 @@
 //! - `profiles`, `profile NAME`: the profiles' names, and the name of the one that is found by one.
 //!   `start-error NUMBER`: what an error of a start says.
 
-use crate::text::{hex_number, number, push_hex, refuse, split_word};
+use crate::output::{Refused, Reply};
+use crate::text::{hex_number, number, split_word};
 use chip_lang::Reg;
 use chip_machine::profile::PROFILES;
 use chip_machine::{Machine, Profile, StartError};
 use std::alloc::{AllocError, Global};
 
-/// Answers a command, and says whether it is one of these.
+/// Answers a command.
 pub(crate) fn answer(
-    out: &mut String,
+    out: &mut Reply,
     machine: &Machine,
     word: &str,
     rest: &str,
-) -> Result<bool, AllocError> {
-    let answered = match word {
+) -> Result<(), Refused> {
+    match word {
         "state" => push_state(out, machine),
         "registers" => push_registers(out, machine),
-        "bytes" => push_memory(out, machine, rest),
-        "frames" => push_frames(out, machine),
-        "flags" => push_hex(out, machine.flags()),
-        "frame" | "flag" => push_place(out, machine, word, rest),
+        "bytes" => push_memory(out, machine, rest)?,
+        "frames" => push_frames(out, machine.frames()),
+        "flags" => out.bytes(machine.flags()),
+        "frame" => push_found(out, machine.frame(number(rest)? as usize)),
+        "flag" => push_found(out, flag(machine, number(rest)?)),
         "screen" => push_screen(out, machine),
-        "row" => push_row(out, machine, rest),
-        _ => return answer_number(out, machine, word),
-    };
-    answered?;
-    Ok(true)
-}
-
-fn answer_number(out: &mut String, machine: &Machine, word: &str) -> Result<bool, AllocError> {
-    let answered = match word {
-        "pc" => write!(out, "{:03x}", machine.pc()),
-        "stop" => write!(out, "{}", stop_number(machine)),
-        "draws" => write!(out, "{}", machine.draws()),
-        "depth" => write!(out, "{}", machine.depth()),
-        "delay" => write!(out, "{}", machine.delay()),
-        "timers" => write!(out, "{} {}", machine.delay(), machine.sound()),
-        "high" => write!(out, "{}", machine.high()),
-        "rows" => write!(out, "{}", are_rows_lit(machine)),
-        _ => return Ok(false),
-    };
-    answered?;
-    Ok(true)
-}
-
-fn push_registers(out: &mut String, machine: &Machine) -> Result<(), AllocError> {
-    for number in [0, 1, 2, 3, 15] {
-        if let Some(x) = Reg::new(number) {
-            let value = machine.reg(x);
-            write!(out, "{value:02x} ")?;
-        }
+        "row" => out.bytes(&row_bits(machine, number(rest)? as usize).to_be_bytes()),
+        _ => return answer_part(out, machine, word),
     }
     Ok(())
 }
 
-fn push_state(out: &mut String, machine: &Machine) -> Result<(), AllocError> {
-    push_registers(out, machine)?;
-    let (pc, index, stop) = (machine.pc(), machine.index(), stop_number(machine));
-    write!(out, "{pc:03x} {index:03x} {stop}")
+/// Answers a command about one part of a machine.
+fn answer_part(out: &mut Reply, machine: &Machine, word: &str) -> Result<(), Refused> {
+    match word {
+        "pc" => out.hex(machine.pc(), 3),
+        "stop" => out.show(&stop_number(machine)),
+        "draws" => out.show(&machine.draws()),
+        "depth" => out.show(&machine.depth()),
+        "delay" => out.show(&machine.delay()),
+        "timers" => out.numbers(&[u64::from(machine.delay()), u64::from(machine.sound())]),
+        "high" => out.show(&machine.high()),
+        "rows" => out.show(&are_rows_lit(machine)),
+        _ => return Err(Refused::BadCommand),
+    }
+    Ok(())
+}
+
+/// The registers that are shown.
+const SHOWN: &[u8] = &[0, 1, 2, 3, 15];
+
+fn push_registers(out: &mut Reply, machine: &Machine) {
+    for number in SHOWN {
+        if let Some(x) = Reg::new(*number) {
+            out.hex(u16::from(machine.reg(x)), 2);
+            out.text(" ");
+        }
+    }
+}
+
+fn push_state(out: &mut Reply, machine: &Machine) {
+    push_registers(out, machine);
+    out.hex(machine.pc(), 3);
+    out.text(" ");
+    out.hex(machine.index(), 3);
+    out.text(" ");
+    out.show(&stop_number(machine));
 }
 
 /// The number of the stop cause, or 0.
-fn stop_number(machine: &Machine) -> u8 {
+pub(crate) fn stop_number(machine: &Machine) -> u8 {
     match machine.stopped() {
         Some(why) => why.number(),
         None => 0,
     }
 }
 
-fn push_memory(out: &mut String, machine: &Machine, rest: &str) -> Result<(), AllocError> {
+fn push_memory(out: &mut Reply, machine: &Machine, rest: &str) -> Result<(), Refused> {
     let (from, count) = split_word(rest);
-    let (Some(from), Some(count)) = (hex_number(from), number(count)) else {
-        return refuse(out);
-    };
-    for place in 0..count.min(4096) {
-        match machine.byte_at(from.saturating_add(place as u16)) {
-            Some(byte) => write!(out, "{byte:02x}")?,
-            None => out.push_str("--")?,
+    let (from, count) = (hex_number(from)?, number(count)?.min(4096));
+    for place in 0..count as u16 {
+        match machine.byte_at(from.saturating_add(place)) {
+            Some(byte) => out.hex(u16::from(byte), 2),
+            None => out.text("--"),
         }
     }
     Ok(())
 }
 
-fn push_frames(out: &mut String, machine: &Machine) -> Result<(), AllocError> {
-    for address in machine.frames() {
-        write!(out, "{address:03x} ")?;
+fn push_frames(out: &mut Reply, frames: &[u16]) {
+    for address in frames {
+        out.hex(*address, 3);
+        out.text(" ");
     }
-    Ok(())
 }
 
-/// A frame or a flag, by its place.
-fn push_place(
-    out: &mut String,
-    machine: &Machine,
-    word: &str,
-    rest: &str,
-) -> Result<(), AllocError> {
-    let Some(place) = number(rest) else {
-        return refuse(out);
-    };
-    let place = place as usize;
-    let found = match (word, machine.flag(place)) {
-        ("frame", _) => machine.frame(place),
-        (_, Some(flag)) => Some(u16::from(flag)),
-        (_, None) => None,
-    };
+fn flag(machine: &Machine, number: u32) -> Option<u16> {
+    match machine.flag(number as usize) {
+        Some(flag) => Some(u16::from(flag)),
+        None => None,
+    }
+}
+
+fn push_found(out: &mut Reply, found: Option<u16>) {
     match found {
-        Some(value) => write!(out, "{value:02x}"),
-        None => out.push_str("none"),
+        Some(value) => out.hex(value, 2),
+        None => out.text("none"),
     }
 }
 
@@ -133,27 +129,22 @@ fn row_bits(machine: &Machine, row: usize) -> u128 {
     bits
 }
 
-fn push_row(out: &mut String, machine: &Machine, rest: &str) -> Result<(), AllocError> {
-    match number(rest) {
-        Some(row) => push_hex(out, &row_bits(machine, row as usize).to_be_bytes()),
-        None => refuse(out),
-    }
-}
-
 /// The rows with a lit pixel, each with its number.
-fn push_screen(out: &mut String, machine: &Machine) -> Result<(), AllocError> {
-    for row in 0..64 {
+fn push_screen(out: &mut Reply, machine: &Machine) {
+    let mut is_dark = true;
+    for row in 0..64usize {
         let bits = row_bits(machine, row);
         if bits != 0 {
-            write!(out, "{row} ")?;
-            push_hex(out, &bits.to_be_bytes())?;
-            out.push('\n')?;
+            is_dark = false;
+            out.show(&row);
+            out.text(" ");
+            out.bytes(&bits.to_be_bytes());
+            out.text("\n");
         }
     }
-    if out.is_empty() {
-        out.push_str("dark")?;
+    if is_dark {
+        out.text("dark");
     }
-    Ok(())
 }
 
 /// Whether each row that is lent has the points of the screen, and past the last one there are none.
@@ -169,18 +160,24 @@ fn are_rows_lit(machine: &Machine) -> bool {
 /// Names of profiles, and the text of an error.
 pub(crate) fn push_profile(
     alloc: Global,
-    out: &mut String,
+    out: &mut Reply,
     word: &str,
     rest: &str,
 ) -> Result<(), AllocError> {
     match (word, rest) {
-        ("profiles", _) => out.push_str(PROFILES.join(alloc, " ")?.as_str()),
-        ("profile", _) => match Profile::from_name(rest) {
-            Some(profile) => out.push_str(profile.name()),
-            None => out.push_str("none"),
-        },
-        (_, "1") => write!(out, "{}", StartError::ImageTooLong),
-        (_, "2") => write!(out, "{}", StartError::BadTape),
-        _ => write!(out, "{}", StartError::Alloc),
+        ("profiles", _) => out.text(PROFILES.join(alloc, " ")?.as_str()),
+        ("profile", _) => out.text(profile_name(rest)),
+        (_, "1") => out.show(&StartError::ImageTooLong),
+        (_, "2") => out.show(&StartError::BadTape),
+        _ => out.show(&StartError::Alloc),
+    }
+    Ok(())
+}
+
+/// The name of the profile that is found by one.
+fn profile_name(name: &str) -> &'static str {
+    match Profile::from_name(name) {
+        Some(profile) => profile.name(),
+        None => "none",
     }
 }

@@ -1,6 +1,7 @@
-//! Pieces of commands and of answers.
+//! Pieces of commands.
 
-use std::alloc::{AllocError, Global};
+use crate::output::Refused;
+use std::alloc::Global;
 
 /// The text up to the first blank, and what stands after it.
 pub(crate) fn split_word(text: &str) -> (&str, &str) {
@@ -17,43 +18,26 @@ pub(crate) fn line_bytes<'a>(built: &'a [u8], line: &'a str) -> &'a [u8] {
 }
 
 /// A decimal number.
-pub(crate) fn number(text: &str) -> Option<u32> {
-    text.parse::<u32>().ok()
+pub(crate) fn number(text: &str) -> Result<u32, Refused> {
+    match text.parse::<u32>() {
+        Ok(number) => Ok(number),
+        Err(_) => Err(Refused::BadCommand),
+    }
 }
 
 /// A hexadecimal number.
-pub(crate) fn hex_number(text: &str) -> Option<u16> {
-    u16::from_str_radix(text, 16).ok()
+pub(crate) fn hex_number(text: &str) -> Result<u16, Refused> {
+    match u16::from_str_radix(text, 16) {
+        Ok(number) => Ok(number),
+        Err(_) => Err(Refused::BadCommand),
+    }
 }
 
 /// The bytes of a text in hexadecimal, with blanks between them.
-pub(crate) fn bytes_of_hex(alloc: Global, text: &str) -> Option<Vec<u8>> {
-    let digits = text.replace(alloc, " ", "").ok()?;
-    hex::decode(alloc, digits.as_str()).ok()
-}
-
-/// Adds bytes in hexadecimal.
-pub(crate) fn push_hex(out: &mut String, bytes: &[u8]) -> Result<(), AllocError> {
-    for byte in bytes {
-        write!(out, "{byte:02x}")?;
+pub(crate) fn bytes_of_hex(alloc: Global, text: &str) -> Result<Vec<u8>, Refused> {
+    let digits = text.replace(alloc, " ", "")?;
+    match hex::decode(alloc, digits.as_str()) {
+        Ok(bytes) => Ok(bytes),
+        Err(_) => Err(Refused::BadCommand),
     }
-    Ok(())
-}
-
-/// Adds bytes as characters.
-pub(crate) fn push_bytes(out: &mut String, bytes: &[u8]) -> Result<(), AllocError> {
-    for byte in bytes {
-        out.push(char::from(*byte))?;
-    }
-    Ok(())
-}
-
-/// Adds a name, or `none`.
-pub(crate) fn push_name(out: &mut String, name: Option<&[u8]>) -> Result<(), AllocError> {
-    push_bytes(out, name.unwrap_or(b"none"))
-}
-
-/// The answer to a command whose words don't fit.
-pub(crate) fn refuse(out: &mut String) -> Result<(), AllocError> {
-    out.push_str("bad command")
 }

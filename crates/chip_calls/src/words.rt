@@ -7,26 +7,26 @@
 //!   has to have the word as its code, and to be one of data where the word is not an instruction.
 
 use crate::language::{NoNames, read};
-use crate::text::{hex_number, refuse};
+use crate::output::{Refused, Reply};
+use crate::text::hex_number;
 use chip_lang::{Coded, Line, Meter, decode, encode, push_shown, show, word as word_of};
 use std::alloc::{AllocError, Global};
 
-/// Answers a command, and says whether it is one of these.
+/// Answers a command.
 pub(crate) fn answer(
     alloc: Global,
-    out: &mut String,
+    out: &mut Reply,
     word: &str,
     rest: &str,
-) -> Result<bool, AllocError> {
-    let answered = match word {
-        "decode" => push_decoded(out, rest),
-        "show" => push_texts(alloc, out, rest),
+) -> Result<(), Refused> {
+    match word {
+        "decode" => push_decoded(out, hex_number(rest)?),
+        "show" => push_texts(alloc, out, hex_number(rest)?)?,
         "decode-all" => decode_all(out),
-        "show-all" => show_all(alloc, out),
-        _ => return Ok(false),
-    };
-    answered?;
-    Ok(true)
+        "show-all" => show_all(alloc, out)?,
+        _ => return Err(Refused::BadCommand),
+    }
+    Ok(())
 }
 
 /// The word of the instruction that a word is.
@@ -37,27 +37,27 @@ fn decoded(word: u16) -> Option<u16> {
     }
 }
 
-fn push_decoded(out: &mut String, rest: &str) -> Result<(), AllocError> {
-    let Some(word) = hex_number(rest) else {
-        return refuse(out);
-    };
+fn push_decoded(out: &mut Reply, word: u16) {
     match decoded(word) {
-        Some(word) => write!(out, "{word:04x}"),
-        None => out.push_str("none"),
+        Some(word) => out.hex(word, 4),
+        None => out.text("none"),
     }
 }
 
-fn decode_all(out: &mut String) -> Result<(), AllocError> {
+fn decode_all(out: &mut Reply) {
     let mut count = 0u32;
     for word in 0..=65535u16 {
         if let Some(found) = decoded(word) {
             if found != word {
-                return write!(out, "{word:04x} is decoded as {found:04x}");
+                out.hex(word, 4);
+                out.text(" is decoded as ");
+                return out.hex(found, 4);
             }
             count = count.saturating_add(1);
         }
     }
-    write!(out, "{count} instructions")
+    out.show(&count);
+    out.text(" instructions");
 }
 
 /// The source text of a word.
@@ -65,24 +65,26 @@ fn shown(alloc: Global, word: u16) -> Result<String, AllocError> {
     show(alloc, word)
 }
 
-fn push_texts(alloc: Global, out: &mut String, rest: &str) -> Result<(), AllocError> {
-    let Some(word) = hex_number(rest) else {
-        return refuse(out);
-    };
-    out.push_str(shown(alloc, word)?.as_str())?;
-    out.push('\n')?;
-    push_shown(out, word)
+fn push_texts(alloc: Global, out: &mut Reply, word: u16) -> Result<(), AllocError> {
+    out.text(shown(alloc, word)?.as_str());
+    out.text("\n");
+    push_shown(&mut out.text, word)
 }
 
-fn show_all(alloc: Global, out: &mut String) -> Result<(), AllocError> {
+fn show_all(alloc: Global, out: &mut Reply) -> Result<(), AllocError> {
     let mut meter = Meter::new();
     for word in 0..=65535u16 {
         if !gives_back(alloc, &mut meter, word)? {
-            return write!(out, "not {word:04x}");
+            out.text("not ");
+            out.hex(word, 4);
+            return Ok(());
         }
     }
-    let (parsed, encoded) = (meter.parsed, meter.encoded);
-    write!(out, "{parsed} parsed, {encoded} encoded")
+    out.show(&meter.parsed);
+    out.text(" parsed, ");
+    out.show(&meter.encoded);
+    out.text(" encoded");
+    Ok(())
 }
 
 /// Whether the source text of a word is one of data where it has to be, and has the word as its
@@ -91,7 +93,7 @@ fn gives_back(alloc: Global, meter: &mut Meter, word: u16) -> Result<bool, Alloc
     let text = shown(alloc, word)?;
     let is_data = text.as_str().starts_with("DW");
     let line = read(alloc, meter, text.as_bytes())?;
-    Ok(is_data == decoded(word).is_none() && has_code(alloc, meter, &*line, word)?)
+    Ok(has_code(alloc, meter, &*line, word)? && is_data == decoded(word).is_none())
 }
 
 /// Whether a line has a word as its code.

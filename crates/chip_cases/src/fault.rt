@@ -7,7 +7,7 @@ use std::alloc::AllocError;
 use thiserror::Error;
 
 /// Why a line of a file of cases can't be read.
-#[derive(Clone, Copy, Debug, PartialEq, Eq, Error)]
+#[derive(Clone, Copy, Debug, Error)]
 pub enum CaseFault {
     /// A line before a case's first command is neither a setting nor anything else known.
     #[error("neither a setting nor a command")]
@@ -33,7 +33,7 @@ pub enum CaseFault {
 }
 
 /// Why a file is not one of cases.
-#[derive(Clone, Copy, Debug, PartialEq, Eq)]
+#[derive(Clone, Copy)]
 pub enum FileFault {
     /// The line of that number, from 1.
     Line(usize, CaseFault),

@@ -168,12 +168,14 @@ impl<F: OpenFile + Write + Drop> Part<F> {
         bytes: &[u8],
     ) -> io::Result<()> {
         let Part { name, file } = self;
-        let is_put = fill(file, permissions, bytes).and_then(|_| fs::rename(files, &name, place));
-        match is_put {
-            Ok(()) => sync_folder(files, place),
-            Err(_) => {
-                let _ = fs::remove_file(files, &name);
-            }
+        let is_put = match fill(file, permissions, bytes) {
+            Ok(()) => fs::rename(files, &name, place),
+            Err(error) => Err(error),
+        };
+        if is_put.is_ok() {
+            sync_folder(files, place);
+        } else {
+            let _ = fs::remove_file(files, &name);
         }
         is_put
     }
