@@ -189,6 +189,10 @@ keys_to = record (new_rule (codes "keys-to")) { long = Some (codes "keys-to"); v
 unfoldable pub reach : Rule
 reach = record (new_rule (codes "reach")) { long = Some (codes "reach"); value_names = 1 }
 
+-- a second search, of the deepest states first
+unfoldable pub deep : Rule
+deep = record (new_rule (codes "deep")) { long = Some (codes "deep"); action = Some SetTrue }
+
 -- the listing with marks
 unfoldable pub cover : Rule
 cover = record (new_rule (codes "cover")) { long = Some (codes "cover"); action = Some SetTrue }
@@ -203,7 +207,8 @@ progress = record (new_rule (codes "progress")) {
 unfoldable pub with_search : App → App
 with_search app =
     with_rule (with_rule (with_rule (with_rule (with_rule (with_rule (with_rule (with_rule (with_rule
-    app needed_source) search_steps) states) want) reach) allowed_keys) keys_to) cover) progress
+    (with_rule app needed_source) search_steps) states) deep) want) reach) allowed_keys) keys_to) cover)
+    progress
 
 unfoldable pub explore : App
 explore = with_rule (with_settings (with_search (new_app (codes "explore")))) as_image

@@ -173,6 +173,7 @@ pub record AsksExplore (rows : List Row) (words : ExploreWords) : Type 0 where
   pub place : option_copied words.place ≡ first_of (codes "reach") rows
   pub allowed_keys : option_copied words.allowed_keys ≡ first_of (codes "keys-allowed") rows
   pub keys_to : option_copied words.keys_to ≡ first_of (codes "keys-to") rows
+  pub is_deep : AsksFlag (one_of (codes "deep") rows) words.is_deep
   pub is_covering : AsksFlag (one_of (codes "cover") rows) words.is_covering
   pub is_progress_shown : AsksFlag (one_of (codes "progress") rows) words.is_progress_shown
   pub settings : AsksSettings rows words.settings

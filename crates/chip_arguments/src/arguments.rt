@@ -44,6 +44,7 @@ pub(crate) enum Argument {
     AsImage,
     SearchSteps,
     States,
+    Deep,
     Want,
     AllowedKeys,
     KeysTo,
@@ -85,6 +86,7 @@ impl Argument {
             Argument::AsImage => as_image_argument(alloc),
             Argument::SearchSteps => search_steps_argument(alloc),
             Argument::States => states_argument(alloc),
+            Argument::Deep => deep_argument(alloc),
             Argument::Want => want_argument(alloc),
             Argument::AllowedKeys => allowed_keys_argument(alloc),
             Argument::KeysTo => keys_to_argument(alloc),
@@ -378,6 +380,18 @@ fn states_argument<'a>(alloc: Global) -> Arg<'a>
     )
     .value_parser(value_parser!(u32).range(1..=i64::from(MOST_STATES)))
     .default_value("1000000")
+}
+
+#[tactic(auto, unfolding(crate::specs::CommandLine::deep))]
+fn deep_argument<'a>(alloc: Global) -> Arg<'a>
+    ensures rule { rule_of result ≡ line.deep }
+    ensures local { result.global ≡ false }
+{
+    flag(
+        alloc,
+        "deep",
+        "Where it keeps that many, searches once more, the deepest states first: the script needn't be a shortest one",
+    )
 }
 
 #[tactic(auto, unfolding(crate::specs::CommandLine::want))]

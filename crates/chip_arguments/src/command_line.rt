@@ -152,6 +152,8 @@ pub struct ExploreWords<'a> {
     pub steps: Option<u32>,
     /// How many states it keeps at most.
     pub states: u32,
+    /// Whether a search of the deepest states first follows where it keeps that many.
+    pub is_deep: bool,
     /// The stop causes that are looked for, with commas between them.
     pub causes: Option<&'a str>,
     /// The place that is looked for: a name of the source, or an address after `#`.
@@ -514,6 +516,7 @@ fn explore_words<'a>(found: &ArgMatches<'a>, profile: Profile) -> ExploreWords<'
         is_image: found.get_flag("image"),
         steps: number(found.get_str("steps")),
         states: number(found.get_str("states")).unwrap_or(USUAL_STATES),
+        is_deep: found.get_flag("deep"),
         causes: found.get_str("want"),
         place: found.get_str("reach"),
         allowed_keys: found.get_str("keys-allowed"),

@@ -59,6 +59,8 @@ Answers `found`, `within` or `never`, each with what it rests on:
   Sk T                 some key script makes the machine stop for Sk at step T, and none does so earlier;
                        below it, `keys N`: how many key events that script has
   reached T            the same of the place that --reach names
+                       a third line `within M`, with --deep alone: some script may do so earlier, but none
+                       up to step M
   within N             no key script makes it stop for a wanted cause, or reach the place, at a step up to N
   never                no key script does at any step below 2^64 - 1
 Then a line `Sj T` for each other cause that was met, with the least step that was, and `states N`.
@@ -191,6 +193,7 @@ const COMMANDS: [CommandRow; 11] = [
             Argument::NeededSource,
             Argument::SearchSteps,
             Argument::States,
+            Argument::Deep,
             Argument::Want,
             Argument::Reach,
             Argument::AllowedKeys,

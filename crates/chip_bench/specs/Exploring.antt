@@ -19,7 +19,7 @@ use Rattle.chip_machine.specs.Limits.{MEMORY_BYTES}
 use Rattle.chip_machine.specs.Numbers.{stop_number}
 use Rattle.chip_machine.specs.declared.stop.Stop.{Stop}
 use Rattle.chip_explore.specs.declared.question.Outcome.{Outcome}
-use Rattle.chip_explore.specs.declared.question.Outcome.TheVariants.{Found, Within, Never}
+use Rattle.chip_explore.specs.declared.question.Outcome.TheVariants.{Found, Later, Within, Never}
 use Rattle.chip_explore.specs.declared.question.Explored.{Explored}
 use Rattle.chip_explore.specs.declared.target.Target.{Target}
 use Rattle.chip_explore.specs.declared.target.Met.{Met}
@@ -148,16 +148,21 @@ met_word (Cause cause) = cause_word cause
 met_word Address = codes "reached "
 
 -- what is printed first of what a search found: the cause with its step and how many key events lead
--- there; up to which step it avoids the target; or that it does ever
+-- there, and where the step may not be the first, up to which one the target is avoided; up to which
+-- step it is; or that it is ever
 abbrev pub first_lines : Outcome → List ℕ
 first_lines (Found events step met) =
     number_line (met_word met) step ++ number_line (codes "keys ") (length events.items)
+first_lines (Later events step met covered) =
+    number_line (met_word met) step ++ number_line (codes "keys ") (length events.items)
+    ++ number_line (codes "within ") covered
 first_lines (Within step) = number_line (codes "within ") step
 first_lines Never = codes "never\n"
 
 -- a script that was found ends the program as a fault of the source does
 abbrev pub search_ending : Outcome → (is_short : Bool) → Ending
 search_ending (Found events step met) is_short = Faulty
+search_ending (Later events step met covered) is_short = Faulty
 search_ending outcome is_short = if is_short then Short else Done
 
 -- the listing of the lines with a mark at each that is executed, where it is asked for

@@ -142,6 +142,7 @@ fn search<'a, F: Files, O: Write, E: Write>(
             None => END,
         },
         states: words.states as usize,
+        is_deep: words.is_deep,
     };
     let mut progress = Progress {
         errors,
@@ -162,13 +163,14 @@ fn write_script<'a, F: Files>(
 ) -> Result<Ending, Failure<'a>>
     ensures { IfErr result (IsScriptUnwritten words.entry.now.keys_to) }
 {
-    match (outcome, words.keys_to) {
-        (Outcome::Found { events, .. }, Some(name)) => {
-            let text = script_text(alloc, events)?;
-            write_image(alloc, files, &[file_name(words.source)], name, &text)
-        }
-        _ => Ok(Ending::Done),
-    }
+    let (Outcome::Found { events, .. } | Outcome::Later { events, .. }) = outcome else {
+        return Ok(Ending::Done);
+    };
+    let Some(name) = words.keys_to else {
+        return Ok(Ending::Done);
+    };
+    let text = script_text(alloc, events)?;
+    write_image(alloc, files, &[file_name(words.source)], name, &text)
 }
 
 // Key events as lines of a key file.
@@ -224,7 +226,7 @@ fn search_ending(explored: &Explored) -> Ending
     ensures { result ≡ search_ending explored.now.outcome explored.now.is_short }
 {
     match explored.outcome {
-        Outcome::Found { .. } => Ending::Faulty,
+        Outcome::Found { .. } | Outcome::Later { .. } => Ending::Faulty,
         Outcome::Within(_) | Outcome::Never if explored.is_short => Ending::Short,
         Outcome::Within(_) | Outcome::Never => Ending::Done,
     }
@@ -238,6 +240,16 @@ fn push_first_lines(text: &mut Vec<u8>, outcome: &Outcome) -> Result<(), AllocEr
         Outcome::Found { events, step, met } => {
             push_met(text, *met, u64::from(*step))?;
             push_line(text, b"keys ", events.len() as u64)
+        }
+        Outcome::Later {
+            events,
+            step,
+            met,
+            covered,
+        } => {
+            push_met(text, *met, u64::from(*step))?;
+            push_line(text, b"keys ", events.len() as u64)?;
+            push_line(text, b"within ", *covered)
         }
         Outcome::Within(step) => push_line(text, b"within ", *step),
         Outcome::Never => text.extend_from_slice(b"never\n"),

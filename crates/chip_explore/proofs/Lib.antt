@@ -1,3 +1,4 @@
 pub mod Covered
+pub mod Deep
 pub mod Growth
 pub mod Places

@@ -1,13 +1,15 @@
 -- What each answer of a search says.
 -- Source: own.
---     IsFound         under the events the machine meets this of the target at the step, with none
---                     but allowed keys down before it, and under no key script does it meet the
---                     target at an earlier step
---     Answers         found; within n: avoided up to step n; never: avoided up to each step below
---                     the end
+--     Meets           under the events the machine meets this of the target at the step, with none
+--                     but allowed keys down before it
+--     IsFound         so it does, and under no key script does it meet the target at an earlier step
+--     IsFirst         no answer with a step at which the target may be met earlier
+--     Answers         found; later: the target is met, and avoided up to another step; within n:
+--                     avoided up to step n; never: avoided up to each step below the end
 --     AreExecuted     what is said of the addresses that a search saw executed: under no key script
 --                     does the machine make a step at another one, before the step at which the
---                     target was found; up to step n; at any step below the end
+--                     target was found; up to the step to which it is avoided; at any step below the
+--                     end
 use Rattle.std.specs.Prelude.{◌≡◌, ℕ, ◌<◌, Some, Bool, List}
 use Rattle.chip_machine.specs.Choices.{IsWithin}
 use Rattle.chip_machine.specs.State.{State}
@@ -20,24 +22,35 @@ use Rattle.chip_explore.specs.Target.{met_in}
 use Rattle.chip_explore.specs.declared.limits.TheConstants.{END}
 use Rattle.chip_explore.specs.declared.script.KeyEvent.{KeyEvent}
 use Rattle.chip_explore.specs.declared.question.Outcome.{Outcome}
-use Rattle.chip_explore.specs.declared.question.Outcome.TheVariants.{Found, Within, Never}
+use Rattle.chip_explore.specs.declared.question.Outcome.TheVariants.{Found, Later, Within, Never}
 use Rattle.chip_explore.specs.declared.target.Met.{Met}
 use Rattle.chip_explore.specs.declared.target.Target.{Target}
 
-pub record IsFound (rate allowed : ℕ) (target : Target) (start : State) (events : List KeyEvent) (step : ℕ) (met : Met) : Type 0 where
+pub record Meets (rate allowed : ℕ) (target : Target) (start : State) (events : List KeyEvent) (step : ℕ) (met : Met) : Type 0 where
   pub meets : met_in target (run step_of rate (held (keys_of events)) start step) ≡ Some met
   pub allowed_only : (t : ℕ) → t < step → IsWithin allowed (held (keys_of events) t)
+
+pub record IsFound (rate allowed : ℕ) (target : Target) (start : State) (events : List KeyEvent) (step : ℕ) (met : Met) : Type 0 where
+  pub script : Meets rate allowed target start events step met
   pub first : (n : ℕ) → n < step → Avoids rate allowed target start n
+
+abbrev pub IsFirst : Outcome → Type 0
+IsFirst (Later events step met covered) = ⊥
+IsFirst outcome = Unit {0}
 
 abbrev pub Answers : (rate allowed : ℕ) → Target → State → Outcome → Type 0
 Answers rate allowed target start (Found events step met) =
     IsFound rate allowed target start events.items step met
+Answers rate allowed target start (Later events step met covered) =
+    Meets rate allowed target start events.items step met × Avoids rate allowed target start covered
 Answers rate allowed target start (Within n) = Avoids rate allowed target start n
 Answers rate allowed target start Never = (n : ℕ) → n < END → Avoids rate allowed target start n
 
 abbrev pub AreExecuted : (rate allowed : ℕ) → (addresses : List Bool) → State → Outcome → Type 0
 AreExecuted rate allowed addresses start (Found events step met) =
     (n : ℕ) → n < step → StaysAmong rate allowed addresses start n
+AreExecuted rate allowed addresses start (Later events step met covered) =
+    StaysAmong rate allowed addresses start covered
 AreExecuted rate allowed addresses start (Within n) = StaysAmong rate allowed addresses start n
 AreExecuted rate allowed addresses start Never =
     (n : ℕ) → n < END → StaysAmong rate allowed addresses start n

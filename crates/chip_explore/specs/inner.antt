@@ -1,3 +1,5 @@
--- A state as what it has beside a base (Kept), what a search keeps, and what is known of it (Cover).
+-- A state as what it has beside a base (Kept), what a search keeps, and what is known of it (Cover),
+-- and what a deep search adds to one before it (Deep).
 pub mod Cover
+pub mod Deep
 pub mod Kept

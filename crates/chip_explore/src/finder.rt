@@ -1,7 +1,9 @@
 //! In which order states are taken up, where one may be found, and how each was reached. Nothing is
 //! claimed of it: what it answers is checked.
 
+use crate::limits::{END, MOST_PRESSES};
 use crate::seen::Seen;
+use chip_replay::LAST_STEP;
 use std::alloc::{AllocError, Global};
 use std::collections::{BTreeSet, HashMap};
 
@@ -12,30 +14,37 @@ pub(crate) struct Turn {
     pub(crate) place: usize,
 }
 
+/// Which state is taken up next.
+#[derive(Clone, Copy, PartialEq, Eq)]
+pub(crate) enum Order {
+    /// One with the least step: the step of what is found is a first one.
+    LeastStep,
+    /// One with the greatest step, until the target is met.
+    GreatestStep,
+}
+
 /// How a state was reached.
 #[derive(Clone, Copy)]
 pub(crate) struct Origin {
     /// The place of the state before the last step that could tell keys apart: past all places if
     /// there was none.
     parent: u32,
-    /// The keys that were down in that step, key k at bit k.
+    /// The number of that step.
+    pub(crate) step: u32,
+    /// The keys that were down in it, key k at bit k.
     pub(crate) keys: u16,
+    /// In how many such steps on the way keys were down.
+    presses: u16,
 }
 
 impl Origin {
     /// That of a state before which no step can tell keys apart.
     pub(crate) const START: Origin = Origin {
         parent: u32::MAX,
+        step: 0,
         keys: 0,
+        presses: 0,
     };
-
-    /// That of a state that a step of the state at a place led to, with these keys down.
-    pub(crate) fn from(place: usize, keys: u16) -> Origin {
-        Origin {
-            parent: u32::try_from(place).unwrap_or(u32::MAX),
-            keys,
-        }
-    }
 
     /// The place of the state before that step, if there was one.
     pub(crate) fn parent(self) -> Option<usize> {
@@ -50,6 +59,7 @@ impl Origin {
 /// The untrusted part of a search.
 #[derive(Drop)]
 pub(crate) struct Finder {
+    order: Order,
     places: HashMap<u64, u32>,
     turns: BTreeSet<Turn>,
     pub(crate) origins: Vec<Origin>,
@@ -61,14 +71,15 @@ pub(crate) struct Finder {
 }
 
 impl Finder {
-    /// Nothing is known.
-    pub(crate) fn new(alloc: Global) -> Finder {
+    /// No state is known, and these causes were met.
+    pub(crate) fn new(alloc: Global, order: Order, seen: Seen) -> Finder {
         Finder {
+            order,
             places: HashMap::new(alloc),
             turns: BTreeSet::new(alloc),
             origins: Vec::new(alloc),
             hit: None,
-            seen: Seen::none(),
+            seen,
             is_timer_set: false,
         }
     }
@@ -81,27 +92,74 @@ impl Finder {
         }
     }
 
+    /// The step at which each run is left. Where the greatest step comes first, it is the end of the
+    /// steps that are asked for, and of those that a script may have.
+    pub(crate) fn limit(&self, most_steps: u64) -> u64 {
+        match self.order {
+            Order::LeastStep => END,
+            Order::GreatestStep => most_steps.min(u64::from(LAST_STEP) + 1),
+        }
+    }
+
+    /// How a state is reached by a step of the state at a place, with these keys down.
+    pub(crate) fn origin(&self, place: usize, step: u64, keys: u16) -> Origin {
+        let before = match self.origins.get(place) {
+            Some(origin) => origin.presses,
+            None => 0,
+        };
+        Origin {
+            parent: u32::try_from(place).unwrap_or(u32::MAX),
+            step: u32::try_from(step).unwrap_or(u32::MAX),
+            keys,
+            presses: before.saturating_add(u16::from(keys != 0)),
+        }
+    }
+
     /// Notes a new state.
     pub(crate) fn note(&mut self, sum: u64, turn: Turn, origin: Origin) -> Result<(), AllocError> {
         if let Ok(place) = u32::try_from(turn.place) {
             self.places.insert(sum, place)?;
         }
         self.origins.push(origin)?;
-        self.turns.insert(turn)?;
+        self.open(turn, origin)
+    }
+
+    /// Notes that a state is to be taken up, which was reached so. Where the greatest step comes
+    /// first, it isn't if its script is as long as one may be.
+    fn open(&mut self, turn: Turn, origin: Origin) -> Result<(), AllocError> {
+        if self.order == Order::LeastStep || origin.presses < MOST_PRESSES {
+            self.turns.insert(turn)?;
+        }
         Ok(())
     }
 
-    /// Notes that a state was reached earlier.
-    pub(crate) fn note_earlier(&mut self, turn: Turn, origin: Origin) -> Result<(), AllocError> {
+    /// Notes that a state was reached earlier than at a step. Where the greatest step comes first, one
+    /// that was taken up isn't again: the scripts through it are those by which it was reached first.
+    pub(crate) fn note_earlier(
+        &mut self,
+        turn: Turn,
+        before: u64,
+        origin: Origin,
+    ) -> Result<(), AllocError> {
+        let known = Turn {
+            step: before,
+            place: turn.place,
+        };
+        if self.order == Order::GreatestStep && !self.turns.remove(&known) {
+            return Ok(());
+        }
         if turn.place < self.origins.len() {
             self.origins[turn.place] = origin;
         }
-        self.turns.insert(turn)?;
-        Ok(())
+        self.open(turn, origin)
     }
 
-    /// The next state to be taken up, by the least step.
+    /// The next state to be taken up, if there is one.
     pub(crate) fn next(&mut self) -> Option<Turn> {
-        self.turns.pop_first()
+        match self.order {
+            Order::LeastStep => self.turns.pop_first(),
+            Order::GreatestStep if self.hit.is_some() => None,
+            Order::GreatestStep => self.turns.pop_last(),
+        }
     }
 }

@@ -1,10 +1,15 @@
 //! The limits of a search, each with its one name.
 
+use chip_replay::MOST_EVENTS;
+
 /// The step below which a search speaks of: the count of the draws is exact up to it.
 pub const END: u64 = u64::MAX;
 
 /// How many steps that don't tell keys apart are made in a row before their state is kept.
 pub(crate) const MOST_QUIET_STEPS: u32 = 1_000;
+
+/// How often keys go down in a script at most: each time gives two events.
+pub(crate) const MOST_PRESSES: u16 = (MOST_EVENTS / 2) as u16;
 
 /// A watcher is told of each turn whose number is a multiple of it.
 pub(crate) const TURNS_TOLD: u64 = 250_000;

@@ -29,9 +29,14 @@ pub(crate) struct Members {
 
 impl Members {
     /// No state is kept yet.
-    pub(crate) fn new(alloc: Global, start: &Machine, base: Base) -> Result<Members, AllocError>
+    pub(crate) fn new(
+        alloc: Global,
+        start: &Machine,
+        base: Base,
+        limit: u64,
+    ) -> Result<Members, AllocError>
         ensures start { IfOk result (λ members. members.start ≡ start.now) }
-        ensures limit { IfOk result (λ members. members.limit ≡ 2 ^ 64 - 1) }
+        ensures limit { IfOk result (λ members. members.limit ≡ limit) }
         ensures empty { IfOk result (λ members. members.steps.items ≡ []) }
         ensures none_closed { IfOk result (λ members. members.closed.items ≡ []) }
         ensures no_states { IfOk result (λ members. members.states.items ≡ []) }
@@ -45,7 +50,7 @@ impl Members {
             states: Vec::new(alloc),
             steps: Vec::new(alloc),
             closed: Vec::new(alloc),
-            limit: u64::MAX,
+            limit,
             executed,
         })
     }

@@ -1,8 +1,10 @@
 //! A question about all key scripts, and its answer.
 
-ghost use Rattle.std.specs.Prelude.{◌≡◌, ◌<◌, None, IfOk, IfSome, true};
-ghost use Rattle.chip_explore.specs.Answers.{Answers, AreExecuted};
+ghost use Rattle.std.specs.Prelude.{◌≡◌, ◌<◌, None, IfOk, IfSome, IsSome, true, false};
+ghost use Rattle.chip_explore.specs.Answers.{Answers, AreExecuted, IsFirst};
 ghost use Rattle.chip_explore.specs.Executed.{StaysAmong, is_at_one};
+ghost use Rattle.chip_explore.specs.inner.Deep.{later_of};
+ghost use Rattle.chip_explore.specs.declared.question.Outcome.TheVariants.{Within};
 ghost use Rattle.chip_explore.specs.inner.Cover.{view_of, Confirms, Goes, Holds, Safe};
 ghost use Rattle.chip_explore.specs.Scripts.{Avoids};
 ghost use Rattle.chip_explore.specs.Scripts as spec;
@@ -11,7 +13,7 @@ ghost use Rattle.chip_explore.specs.Target.{met_in};
 use crate::backdrop::Backdrops;
 use crate::confirm::{keys_of, met_under};
 use crate::executed::Executed;
-use crate::finder::{Finder, Origin};
+use crate::finder::{Finder, Order, Origin};
 use crate::kept::Base;
 use crate::leg::Runner;
 use crate::limits::END;
@@ -44,6 +46,9 @@ pub struct Bounds {
     pub steps: u64,
     /// None is taken up once more than so many are kept.
     pub states: usize,
+    /// Whether a search that ends there is followed by one that takes up the deepest states first,
+    /// within the same bounds, and whether a script may be answered that isn't a first one.
+    pub is_deep: bool,
 }
 
 /// What a search found.
@@ -55,6 +60,14 @@ pub enum Outcome {
         events: Vec<KeyEvent>,
         step: u32,
         met: Met,
+    },
+    /// With these events the machine meets this of the target at the step, and with no key script
+    /// does it at a step up to the one that is covered.
+    Later {
+        events: Vec<KeyEvent>,
+        step: u32,
+        met: Met,
+        covered: u64,
     },
     /// With no key script does it at a step up to this one.
     Within(u64),
@@ -68,13 +81,41 @@ pub struct Explored {
     pub outcome: Outcome,
     /// The causes that it met beside the wanted ones.
     pub seen: Seen,
-    /// How many states it kept.
+    /// How many states it kept, with those of the deep search behind it.
     pub states: usize,
-    /// The addresses at which it saw steps made: those of all steps, under any key script, that the
-    /// outcome speaks of, and maybe of later ones.
+    /// The addresses at which it saw steps made: those of all steps, under any key script, in which
+    /// the outcome says that the target isn't met, and maybe of later ones.
     pub executed: Executed,
     /// Whether memory ran out before the search was done, so that the outcome may say less.
     pub is_short: bool,
+}
+
+impl Outcome {
+    /// What this of a deep search says after a search that covered the steps up to one.
+    fn after(self, covered: u64) -> Outcome
+        ensures { result ≡ later_of covered self }
+    {
+        match self {
+            Outcome::Found { events, step, met } => Outcome::Later {
+                events,
+                step,
+                met,
+                covered,
+            },
+            Outcome::Later {
+                events,
+                step,
+                met,
+                ..
+            } => Outcome::Later {
+                events,
+                step,
+                met,
+                covered,
+            },
+            Outcome::Within(_) | Outcome::Never => Outcome::Within(covered),
+        }
+    }
 }
 
 impl Explored {
@@ -105,11 +146,41 @@ impl Explored {
             is_short,
         }
     }
+
+    /// What this search, which covered the steps up to one, says with what a deep one behind it found.
+    fn deepened_by(self, deep: Explored, covered: u64) -> Explored
+        ensures outcome { result.outcome ≡ later_of covered deep.outcome }
+        ensures executed { result.executed ≡ self.executed }
+    {
+        Explored {
+            seen: deep.seen,
+            states: self.states.saturating_add(deep.states),
+            executed: self.executed,
+            is_short: deep.is_short,
+            outcome: deep.outcome.after(covered),
+        }
+    }
+
+    /// The step up to which the target is avoided, where a deep search is to follow: one is asked
+    /// for, and the search ended since it kept the most states that it may.
+    fn covered_where_full(&self, bounds: &Bounds) -> Option<u64>
+        ensures within { IfSome result (λ covered. self.now.outcome ≡ Within covered) }
+        ensures deep { IsSome result → bounds.now.is_deep ≡ true }
+    {
+        match self.outcome {
+            Outcome::Within(covered)
+                if bounds.is_deep
+                    && !self.is_short
+                    && bounds.states < self.states
+                    && covered < bounds.steps => { Some(covered) }
+            _ => None,
+        }
+    }
 }
 
 /// Whether under some key script, of the allowed keys alone, a machine that has drawn no random
-/// byte yet meets the target. The timers are free first, and a step that sets the delay timer makes
-/// the search begin anew.
+/// byte yet meets the target. States are taken up by the least step first, and then, where the
+/// bounds say so, by the greatest.
 pub fn explore<W: Watcher>(
     alloc: Global,
     start: &Machine,
@@ -123,6 +194,7 @@ pub fn explore<W: Watcher>(
         result.outcome }
     ensures executed { AreExecuted question.now.rate question.now.allowed result.executed start.now
         result.outcome }
+    ensures first { bounds.now.is_deep ≡ false → IsFirst result.outcome }
 {
     if let Some(met) = question.target.met_in(start) {
         let outcome = Outcome::Found {
@@ -132,26 +204,33 @@ pub fn explore<W: Watcher>(
         };
         return Explored::at_once(outcome, Executed::none(), false);
     }
-    let mut setting = Setting {
+    let setting = Setting {
         rate: question.rate,
         allowed: question.allowed,
         target: question.target,
         free: true,
     };
-    let Ok(first) = search_once(alloc, start, &setting, bounds, watcher) else {
+    let order = Order::LeastStep;
+    let Ok(first) = search_timed(alloc, start, &setting, bounds, watcher, order, Seen::none())
+    else {
         return Explored::at_once(Outcome::Within(0), Executed::at(start), true);
     };
-    if !first.is_timer_set {
+    let Some(covered) = first.explored.covered_where_full(bounds) else {
         return first.explored;
-    }
-    setting.free = false;
-    match search_once(alloc, start, &setting, bounds, watcher) {
-        Ok(second) => second.explored,
-        Err(_) => Explored {
-            is_short: true,
-            ..first.explored
-        },
-    }
+    };
+    let setting = Setting {
+        free: !first.is_timer_set,
+        ..setting
+    };
+    deepened(
+        alloc,
+        start,
+        &setting,
+        bounds,
+        watcher,
+        first.explored,
+        covered,
+    )
 }
 
 /// What one search found.
@@ -160,6 +239,83 @@ struct Attempt {
     explored: Explored,
     /// A step set the delay timer where the timers were free, so another may find more.
     is_timer_set: bool,
+}
+
+/// What a search said that covered the steps up to one, after a search of the deepest states first,
+/// which is not to be trusted with what it covers.
+fn deepened<W: Watcher>(
+    alloc: Global,
+    start: &Machine,
+    setting: &Setting,
+    bounds: &Bounds,
+    watcher: &mut W,
+    first: Explored,
+    covered: u64,
+) -> Explored
+    requires rate { 0 < setting.now.rate }
+    requires fresh { start.now.core.draws ≡ 0 }
+    requires going { met_in setting.now.target start.now ≡ None }
+    requires avoids { Avoids setting.now.rate setting.now.allowed setting.now.target start.now
+        covered }
+    requires stays { StaysAmong setting.now.rate setting.now.allowed first.executed start.now
+        covered }
+    ensures answers { Answers setting.now.rate setting.now.allowed setting.now.target start.now
+        result.outcome }
+    ensures executed { AreExecuted setting.now.rate setting.now.allowed result.executed start.now
+        result.outcome }
+{
+    let order = Order::GreatestStep;
+    let seen = first.seen;
+    match search_timed(alloc, start, setting, bounds, watcher, order, seen) {
+        Ok(deep) => first.deepened_by(deep.explored, covered),
+        Err(_) => Explored {
+            outcome: Outcome::Within(covered),
+            is_short: true,
+            ..first
+        },
+    }
+}
+
+/// A search in an order, with the causes that were met before it. A step that sets the delay timer
+/// makes it begin anew where the timers were free.
+fn search_timed<W: Watcher>(
+    alloc: Global,
+    start: &Machine,
+    setting: &Setting,
+    bounds: &Bounds,
+    watcher: &mut W,
+    order: Order,
+    seen: Seen,
+) -> Result<Attempt, AllocError>
+    requires rate { 0 < setting.now.rate }
+    requires fresh { start.now.core.draws ≡ 0 }
+    requires going { met_in setting.now.target start.now ≡ None }
+    ensures answers { IfOk result (λ attempt. Answers setting.now.rate setting.now.allowed
+        setting.now.target start.now attempt.explored.outcome) }
+    ensures executed { IfOk result (λ attempt. AreExecuted setting.now.rate setting.now.allowed
+        attempt.explored.executed start.now attempt.explored.outcome) }
+    ensures first { IfOk result (λ attempt. bounds.now.is_deep ≡ false
+        → IsFirst attempt.explored.outcome) }
+{
+    let first = search_once(alloc, start, setting, bounds, watcher, order, seen)?;
+    if !first.is_timer_set {
+        return Ok(first);
+    }
+    let timed = Setting {
+        free: false,
+        ..*setting
+    };
+    let explored = match search_once(alloc, start, &timed, bounds, watcher, order, seen) {
+        Ok(second) => second.explored,
+        Err(_) => Explored {
+            is_short: true,
+            ..first.explored
+        },
+    };
+    Ok(Attempt {
+        explored,
+        is_timer_set: true,
+    })
 }
 
 /// The first state whose next step can tell keys apart, from which others differ in little.
@@ -178,6 +334,8 @@ fn search_once<W: Watcher>(
     setting: &Setting,
     bounds: &Bounds,
     watcher: &mut W,
+    order: Order,
+    seen: Seen,
 ) -> Result<Attempt, AllocError>
     requires rate { 0 < setting.now.rate }
     requires fresh { start.now.core.draws ≡ 0 }
@@ -186,17 +344,21 @@ fn search_once<W: Watcher>(
         setting.now.target start.now attempt.explored.outcome) }
     ensures executed { IfOk result (λ attempt. AreExecuted setting.now.rate setting.now.allowed
         attempt.explored.executed start.now attempt.explored.outcome) }
+    ensures first { IfOk result (λ attempt. bounds.now.is_deep ≡ false
+        → IsFirst attempt.explored.outcome) }
 {
+    let finder = Finder::new(alloc, order, seen);
+    let limit = finder.limit(bounds.steps);
     let mut search = Search {
-        members: Members::new(alloc, start, base_for(alloc, start, setting)?)?,
+        members: Members::new(alloc, start, base_for(alloc, start, setting)?, limit)?,
         runner: Runner::new(alloc, start)?,
-        finder: Finder::new(alloc),
+        finder,
         backdrops: Backdrops::new(alloc),
         probe: Base::of(alloc, start)?,
     };
     let is_short = search_all(&mut search, setting, bounds, watcher).is_err();
     Ok(Attempt {
-        explored: explored_by(alloc, setting, &search, is_short),
+        explored: explored_by(alloc, setting, &search, bounds.is_deep, is_short),
         is_timer_set: search.finder.is_timer_set,
     })
 }
@@ -234,7 +396,13 @@ fn covered_by(setting: &Setting, members: &Members) -> u64
 }
 
 /// What the states that were kept say.
-fn explored_by(alloc: Global, setting: &Setting, search: &Search, is_short: bool) -> Explored
+fn explored_by(
+    alloc: Global,
+    setting: &Setting,
+    search: &Search,
+    is_deep: bool,
+    is_short: bool,
+) -> Explored
     requires rate { 0 < setting.now.rate }
     requires fresh { search.now.members.start.core.draws ≡ 0 }
     requires going { met_in setting.now.target search.now.members.start ≡ None }
@@ -245,6 +413,7 @@ fn explored_by(alloc: Global, setting: &Setting, search: &Search, is_short: bool
         search.now.members.start result.outcome }
     ensures executed { AreExecuted setting.now.rate setting.now.allowed result.executed
         search.now.members.start result.outcome }
+    ensures first { is_deep ≡ false → IsFirst result.outcome }
 {
     let members = &search.members;
     if members.limit == 0 {
@@ -254,20 +423,22 @@ fn explored_by(alloc: Global, setting: &Setting, search: &Search, is_short: bool
     if covered + 1 == END {
         return Explored::after(search, Outcome::Never, false);
     }
-    match found_after(alloc, setting, members, &search.finder, covered) {
+    match found_after(alloc, setting, members, &search.finder, covered, is_deep) {
         Ok(Some(outcome)) => Explored::after(search, outcome, false),
         Ok(None) => Explored::after(search, Outcome::Within(covered), is_short),
         Err(_) => Explored::after(search, Outcome::Within(covered), true),
     }
 }
 
-/// What the search found at the step after those that are covered, if it did.
+/// What the search found at the step after those that are covered, or, where a script may be answered
+/// that isn't a first one, at a later step.
 fn found_after(
     alloc: Global,
     setting: &Setting,
     members: &Members,
     finder: &Finder,
     covered: u64,
+    is_deep: bool,
 ) -> Result<Option<Outcome>, AllocError>
     requires rate { 0 < setting.now.rate }
     requires below { covered < members.now.limit }
@@ -279,15 +450,26 @@ fn found_after(
         setting.now.allowed setting.now.target members.now.start outcome)) }
     ensures executed { IfOk result (λ answer. IfSome answer (λ outcome. AreExecuted
         setting.now.rate setting.now.allowed members.now.executed members.now.start outcome)) }
+    ensures first { IfOk result (λ answer. IfSome answer (λ outcome. is_deep ≡ false
+        → IsFirst outcome)) }
 {
     if let Some(origin) = finder.hit
         && members.limit <= u64::from(LAST_STEP)
-        && covered + 1 == members.limit
     {
         let step = members.limit as u32;
-        let events = script_to(alloc, members, finder, origin)?;
+        let events = script_to(alloc, finder, origin)?;
         if let Some(met) = met_by(alloc, setting, members, &events, step)? {
-            return Ok(Some(Outcome::Found { events, step, met }));
+            if covered + 1 == members.limit {
+                return Ok(Some(Outcome::Found { events, step, met }));
+            }
+            if is_deep {
+                return Ok(Some(Outcome::Later {
+                    events,
+                    step,
+                    met,
+                    covered,
+                }));
+            }
         }
     }
     Ok(None)

@@ -1,7 +1,6 @@
 //! A key script as events.
 
 use crate::finder::{Finder, Origin};
-use crate::members::Members;
 use chip_replay::KEYS;
 use std::alloc::{AllocError, Global};
 
@@ -14,44 +13,29 @@ pub struct KeyEvent {
     pub down: bool,
 }
 
-/// A step with some keys down.
-#[derive(Clone, Copy)]
-struct Press {
-    step: u64,
-    keys: u16,
-}
-
 /// The steps with some keys down on the way to a state that was reached so, the last first.
-fn presses(
-    alloc: Global,
-    members: &Members,
-    finder: &Finder,
-    last: Origin,
-) -> Result<Vec<Press>, AllocError> {
+fn presses(alloc: Global, finder: &Finder, last: Origin) -> Result<Vec<Origin>, AllocError> {
     let mut presses = Vec::new(alloc);
     let mut origin = last;
-    for _state in 0..=members.steps.len() {
+    for _state in 0..=finder.origins.len() {
         let Some(parent) = origin.parent() else {
             return Ok(presses);
         };
-        if parent >= members.steps.len() || parent >= finder.origins.len() {
-            return Ok(presses);
-        }
         if origin.keys != 0 {
-            presses.push(Press {
-                step: members.steps[parent],
-                keys: origin.keys,
-            })?;
+            presses.push(origin)?;
         }
-        origin = finder.origins[parent];
+        let Some(before) = finder.origins.get(parent) else {
+            return Ok(presses);
+        };
+        origin = *before;
     }
     Ok(presses)
 }
 
 /// Adds the events of a press: its keys go down, and up one step later, but a key that goes up at
 /// this very step stays down in place of that.
-fn push_press(events: &mut Vec<KeyEvent>, press: Press) -> Result<(), AllocError> {
-    let step = (press.step % (1 << 32)) as u32;
+fn push_press(events: &mut Vec<KeyEvent>, press: Origin) -> Result<(), AllocError> {
+    let step = press.step;
     for key in 0..KEYS {
         if press.keys >> key & 1 == 1 {
             let holds_on = match events.last() {
@@ -80,11 +64,10 @@ fn push_press(events: &mut Vec<KeyEvent>, press: Press) -> Result<(), AllocError
 /// The events of the keys on the way to a state that was reached so.
 pub(crate) fn script_to(
     alloc: Global,
-    members: &Members,
     finder: &Finder,
     last: Origin,
 ) -> Result<Vec<KeyEvent>, AllocError> {
-    let presses = presses(alloc, members, finder, last)?;
+    let presses = presses(alloc, finder, last)?;
     let mut events = Vec::new(alloc);
     for press in presses.iter().rev() {
         push_press(&mut events, *press)?;

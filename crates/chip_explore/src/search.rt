@@ -46,9 +46,12 @@ impl Search {
                 .members
                 .is_at(setting, place, machine, step, &mut self.probe)?
         {
-            if step < self.members.step(place) {
+            let before = self.members.step(place);
+            if step < before {
                 self.members.lower(setting, place, step);
-                return self.finder.note_earlier(Turn { step, place }, origin);
+                return self
+                    .finder
+                    .note_earlier(Turn { step, place }, before, origin);
             }
             return Ok(());
         }
@@ -135,7 +138,8 @@ impl Search {
         runner
             .machine
             .step(keys, setting.tick_at(step), &mut runner.touch);
-        self.run_on(setting, step + 1, Origin::from(place, keys))
+        let origin = self.finder.origin(place, step, keys);
+        self.run_on(setting, step + 1, origin)
     }
 
     /// Makes the step of a state with each of these keys down alone, and goes on from there.
@@ -208,7 +212,7 @@ impl Search {
         Ok(())
     }
 
-    /// Takes up states, by the least step, until none is left, or the limits are met.
+    /// Takes up states until none is left, or the limits are met.
     pub(crate) fn run<W: Watcher>(
         &mut self,
         setting: &Setting,

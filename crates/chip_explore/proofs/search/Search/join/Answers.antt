@@ -6,8 +6,8 @@ whatever : {T E P : Type 0} (result : Result T E) → P → OnOk result P
 whatever (Ok value) holds = holds
 whatever (Err error) holds = tt
 
-pub returns-then-step-clause-safe : goal.returns-then-step-clause-safe
-returns-then-step-clause-safe c =
+pub returns-then-step-before-clause-safe : goal.returns-then-step-before-clause-safe
+returns-then-step-before-clause-safe c =
     let p = c.args.setting.now in
     let m = c.args.self.now.members in
     whatever c.note_earlier.result
