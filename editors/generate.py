@@ -14,6 +14,8 @@ import sys
 
 HERE = pathlib.Path(__file__).resolve().parent
 CRATES = HERE.parent / "crates"
+# the options that take one of a few words
+CHOICES = {"profile": "schip vip", "color": "auto always never"}
 # a command of the shell that prints all codes
 CODES = "chipbench explain 2>/dev/null | cut -d ' ' -f 1"
 
@@ -91,7 +93,8 @@ def bash(words):
         cases.append(f'        {command.name}) options="{options} --help" ;;')
     names = " ".join(command.name for command in words.commands)
     seen = {option.long: option.value for command in words.commands for option in command.options}
-    untold = " | ".join(f"--{name}" for name, value in seen.items() if value not in (None, "FILE", "NAME"))
+    untold = " | ".join(f"--{name}" for name, value in seen.items() if value not in (None, "FILE") and name not in CHOICES)
+    choices = [f'        --{name}) COMPREPLY=($(compgen -W "{words}" -- "$word")); return ;;' for name, words in CHOICES.items()]
     return "\n".join([
         "# Completion of chipbench's words for bash; made by editors/generate.py.",
         "_chipbench() {",
@@ -101,7 +104,7 @@ def bash(words):
         "        return",
         "    fi",
         "    case $before in",
-        '        --profile) COMPREPLY=($(compgen -W "schip vip" -- "$word")); return ;;',
+        *choices,
         f"        {untold}) return ;;",
         # the program has the codes
         f'        explain) COMPREPLY=($(compgen -W "$({CODES})" -- "$word")); return ;;',
@@ -138,7 +141,7 @@ def zsh(words):
         rest = ["'*:file:_files'"] if command.places else []
         for option in command.options:
             text = re.sub(r"[\[\]:]", " ", option.help.split(",")[0].split(" [")[0])
-            action = ":name:(schip vip)" if option.long == "profile" else (
+            action = f":name:({CHOICES[option.long]})" if option.long in CHOICES else (
                 ":file:_files" if option.value == "FILE" else f":{option.value}:" if option.value else "")
             rest.append(quoted(f"--{option.long}[{text}]{action}"))
         lines.append("            _arguments " + " \\\n                ".join(rest) + " ;;")
@@ -155,7 +158,7 @@ def fish(words):
     for command in words.commands:
         for option in command.options:
             text = quoted(option.help.split(",")[0].split(" [")[0])
-            value = " -x -a 'schip vip'" if option.long == "profile" else (
+            value = f" -x -a '{CHOICES[option.long]}'" if option.long in CHOICES else (
                 " -r" if option.value == "FILE" else " -x" if option.value else "")
             takers.setdefault(f"-l {option.long}{value} -d {text}", []).append(command.name)
     takers[f"-f -a {quoted('(' + CODES + ')')}"] = ["explain"]
@@ -176,7 +179,7 @@ def manual(words):
         places = " ".join(command.places)
         if command.name in ("debug", "explain"):
             places = f"[{places}]"
-        elif command.name == "test":
+        elif command.name in ("check", "test"):
             places = f"{places} .."
         options = " ".join(
             f"--{o.long}{' ' + o.value if o.value else ''}" if o.long == "steps"

@@ -3,6 +3,7 @@
 use Rattle.std.specs.Prelude.{List, [], ◌∷◌, Some, codes, true, pos}
 use Rattle.clap.specs.Words.{App, Rule, new_app, new_rule, with_rule, with_subcommand}
 use Rattle.chip_replay.specs.declared.limits.TheConstants.{LAST_STEP, LEAST_SPACING, MOST_SPACING}
+use Rattle.chip_arguments.specs.declared.arguments.TheConstants.{COLOR_CHOICES}
 use Rattle.chip_arguments.specs.declared.limits.TheConstants.{MOST_RATE, MOST_STATES}
 use Rattle.clap.specs.declared.builder.action.ArgAction.TheVariants.{Append, Set, SetTrue}
 use Rattle.clap.specs.declared.builder.value_parser.ValueParser.TheVariants as vp
@@ -86,10 +87,26 @@ json = record (new_rule (codes "json")) { long = Some (codes "json"); action = S
 unfoldable pub allow : Rule
 allow = record (new_rule (codes "allow")) { long = Some (codes "allow"); value_names = 1 }
 
+-- the sources that are checked, one or more
+unfoldable pub sources : Rule
+sources = record (new_rule (codes "sources")) {
+  value_names = 1;
+  action = Some Append;
+  required = true;
+}
+
+-- when there are colours: one of three words
+unfoldable pub color : Rule
+color = record (new_rule (codes "color")) {
+  long = Some (codes "color");
+  value_names = 1;
+  parser = Some (vp.Names COLOR_CHOICES);
+}
+
 unfoldable pub check : App
 check =
-    with_rule (with_rule (with_rule (with_rule (new_app (codes "check")) needed_source) json) allow)
-    profile
+    with_rule (with_rule (with_rule (with_rule (with_rule (new_app (codes "check")) sources) json)
+    allow) color) profile
 
 unfoldable pub dis : App
 dis = with_rule (new_app (codes "dis")) image

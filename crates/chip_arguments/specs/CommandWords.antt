@@ -17,6 +17,8 @@ use Rattle.chip_arguments.specs.declared.limits.TheConstants.{USUAL_STATES}
 use Rattle.chip_arguments.specs.declared.command_line.CommandLine.{CommandLine}
 use Rattle.chip_arguments.specs.declared.command_line.CommandLine.TheVariants as line
 use Rattle.chip_arguments.specs.declared.command_line.CheckWords.{CheckWords}
+use Rattle.chip_arguments.specs.declared.command_line.ColorChoice.{ColorChoice}
+use Rattle.chip_arguments.specs.declared.command_line.ColorChoice.TheVariants.{Always, Auto, Never}
 use Rattle.chip_arguments.specs.declared.command_line.ExploreWords.{ExploreWords}
 use Rattle.chip_arguments.specs.declared.command_line.PictureWords.{PictureWords}
 use Rattle.chip_arguments.specs.declared.command_line.RunWords.{RunWords}
@@ -135,11 +137,20 @@ pub record AsksRun (rows : List Row) (words : RunWords) : Type 0 where
   pub keys : option_copied words.keys ≡ first_of (codes "keys") rows
   pub settings : AsksSettings rows words.settings
 
+-- when there are colours; without a word that is left to the program
+abbrev pub color_asked : Option (List ℕ) → ColorChoice
+color_asked None = Auto
+color_asked (Some word) =
+    if bytes_eq word (codes "always") then Always
+    else (if bytes_eq word (codes "never") then Never else Auto)
+
 -- the check that they ask for
 pub record AsksCheck (rows : List Row) (words : CheckWords) : Type 0 where
-  pub source : words.source.now ≡ needed (codes "source") rows
+  pub sources : map (λ source. source.now) words.sources.items
+      ≡ unwrap_or (all_of (codes "sources") rows) []
   pub is_json : AsksFlag (one_of (codes "json") rows) words.is_json
   pub allowed : option_copied words.allowed ≡ first_of (codes "allow") rows
+  pub color : words.color ≡ color_asked (first_of (codes "color") rows)
   pub profile : IsProfile (first_of (codes "profile") rows) words.profile
 
 -- the trace that they ask for

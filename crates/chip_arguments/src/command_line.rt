@@ -5,7 +5,7 @@ ghost use Rattle.std.specs.List.{list_all};
 ghost use Rattle.clap.specs.Matches.{found_of};
 ghost use Rattle.clap.specs.Words.{FailsBy, first_of, kind_of, one_of, rows_of};
 ghost use Rattle.chip_arguments.specs.SettingWords.{default_words};
-ghost use Rattle.chip_arguments.specs.CommandWords.{Asks, AsksFor, AsksSettings, IsProfile, ReadsNumber, AsksCheck, AsksExplore, AsksPicture, AsksRun, AsksTest, AsksTrace, clash_fault, clash_faults, first_fault, new_file_fault, new_files, number_fault, numbers, value_faults, word_faults, needed, profile_fault};
+ghost use Rattle.chip_arguments.specs.CommandWords.{Asks, AsksFor, AsksSettings, IsProfile, ReadsNumber, AsksCheck, color_asked, AsksExplore, AsksPicture, AsksRun, AsksTest, AsksTrace, clash_fault, clash_faults, first_fault, new_file_fault, new_files, number_fault, numbers, value_faults, word_faults, needed, profile_fault};
 ghost use Rattle.chip_arguments.specs.inner.Built.{IsOneOf, command_names};
 
 use crate::commands::chipbench;
@@ -57,7 +57,7 @@ pub enum CommandLine<'a> {
     List {
         source: &'a str,
     },
-    /// To print the faults of a source with their places.
+    /// To print the faults of sources with their places.
     Check(CheckWords<'a>),
     /// To print a source of an image.
     Dis {
@@ -80,15 +80,27 @@ pub enum CommandLine<'a> {
 }
 
 /// A check, as the words ask for it.
-#[derive(Clone, Copy)]
+#[derive(Drop)]
 pub struct CheckWords<'a> {
-    pub source: &'a str,
+    /// The sources, in the order of the words.
+    pub sources: Vec<&'a str>,
     /// Whether JSON objects are printed, and not text.
     pub is_json: bool,
     /// The warnings that are not printed, with commas between them.
     pub allowed: Option<&'a str>,
-    /// For which machine the source is written.
+    /// When the text has colours.
+    pub color: ColorChoice,
+    /// For which machine the sources are written.
     pub profile: Profile,
+}
+
+/// When a text has colours.
+#[derive(Clone, Copy)]
+pub enum ColorChoice {
+    /// Where the output takes them.
+    Auto,
+    Always,
+    Never,
 }
 
 /// A run, as the words ask for it.
@@ -240,7 +252,7 @@ fn command_asked<'a>(
         "list" => CommandLine::List {
             source: required_text(found, "source"),
         },
-        "check" => CommandLine::Check(check_words(found, profile)),
+        "check" => CommandLine::Check(check_words(alloc, found, profile)?),
         "dis" => CommandLine::Dis {
             image: required_text(found, "image"),
         },
@@ -458,15 +470,31 @@ fn run_words<'a>(found: &ArgMatches<'a>, profile: Profile) -> RunWords<'a>
     }
 }
 
-fn check_words<'a>(found: &ArgMatches<'a>, profile: Profile) -> CheckWords<'a>
+fn check_words<'a>(
+    alloc: Global,
+    found: &ArgMatches<'a>,
+    profile: Profile,
+) -> Result<CheckWords<'a>, AllocError>
     ensures { IsProfile (first_of (codes "profile") (rows_of (found_of found.now))) profile
-        → AsksCheck (rows_of (found_of found.now)) result }
+        → IfOk result (AsksCheck (rows_of (found_of found.now))) }
 {
-    CheckWords {
-        source: required_text(found, "source"),
+    Ok(CheckWords {
+        sources: Vec::from_slice(alloc, found.get_strs("sources").unwrap_or(&[]))?,
         is_json: found.get_flag("json"),
         allowed: found.get_str("allow"),
+        color: color_asked(found.get_str("color")),
         profile,
+    })
+}
+
+// When there are colours, by the word for it.
+fn color_asked(word: Option<&str>) -> ColorChoice
+    ensures { result ≡ color_asked (option_copied word.entry) }
+{
+    match word {
+        Some("always") => ColorChoice::Always,
+        Some("never") => ColorChoice::Never,
+        _ => ColorChoice::Auto,
     }
 }
 

@@ -1,0 +1,10 @@
+use Rattle.std.proofs.lemmas.Result.{err_from_is_err_and}
+use Rattle.std.proofs.Common.{◌∙◌, ap, Err}
+use Rattle.chip_bench.proofs.CheckLemmas.{one_opened, one_unopened, one_unread}
+use Rattle.chip_bench.proofs.checking.Checker.check_one.Goals as goal
+
+pub returns-in_err-bytes : goal.returns-in_err-bytes
+returns-in_err-bytes g c =
+    let p = err_from_is_err_and c.from_residual.result c.from_residual.ensures.1 in
+    one_unread g.I.Read.remaining g.O.Write.contents c.args.self.is_json c.args.self.is_painted c.args.self.is_alone c.args.input.now c.read_source.new.input
+    c.args.output.now c.args.name c.from_residual.result _ (p.1 ∙ ap (λ e. Err e) p.2) c.in_err-bytes.ensures.err
