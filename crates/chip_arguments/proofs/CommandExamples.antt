@@ -92,10 +92,6 @@ check_wants_a_source : fault_of chipbench (codes "check" ∷ codes "--json" ∷ 
 unfolding chipbench_on_literals
 check_wants_a_source = refl
 
-colors_are_one_of_three : fault_of chipbench (codes "check" ∷ codes "a" ∷ codes "--color" ∷ codes "on" ∷ []) ≡ kind.InvalidValue ∷ []
-unfolding chipbench_on_literals
-colors_are_one_of_three = refl
-
 takes_colors : fault_of chipbench (codes "check" ∷ codes "a" ∷ codes "--color" ∷ codes "never" ∷ []) ≡ []
 unfolding chipbench_on_literals
 takes_colors = refl

@@ -3,7 +3,6 @@
 use Rattle.std.specs.Prelude.{List, [], ◌∷◌, Some, codes, true, pos}
 use Rattle.clap.specs.Words.{App, Rule, new_app, new_rule, with_rule, with_subcommand}
 use Rattle.chip_replay.specs.declared.limits.TheConstants.{LAST_STEP, LEAST_SPACING, MOST_SPACING}
-use Rattle.chip_arguments.specs.declared.arguments.TheConstants.{COLOR_CHOICES}
 use Rattle.chip_arguments.specs.declared.limits.TheConstants.{MOST_RATE, MOST_STATES}
 use Rattle.clap.specs.declared.builder.action.ArgAction.TheVariants.{Append, Set, SetTrue}
 use Rattle.clap.specs.declared.builder.value_parser.ValueParser.TheVariants as vp
@@ -95,13 +94,9 @@ sources = record (new_rule (codes "sources")) {
   required = true;
 }
 
--- when there are colours: one of three words
+-- any text: the words for when there are colours are not part of what `clap` judges
 unfoldable pub color : Rule
-color = record (new_rule (codes "color")) {
-  long = Some (codes "color");
-  value_names = 1;
-  parser = Some (vp.Names COLOR_CHOICES);
-}
+color = record (new_rule (codes "color")) { long = Some (codes "color"); value_names = 1 }
 
 unfoldable pub check : App
 check =

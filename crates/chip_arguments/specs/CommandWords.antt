@@ -66,6 +66,14 @@ profile_fault None = []
 profile_fault (Some name) =
     if list_any (λ known. bytes_eq known name) profile_names then [] else kind.InvalidValue ∷ []
 
+-- a word for when there are colours that there is not
+abbrev pub color_fault : Option (List ℕ) → Kinds
+color_fault None = []
+color_fault (Some word) =
+    if bytes_eq word (codes "auto") then []
+    else (if bytes_eq word (codes "always") then []
+    else (if bytes_eq word (codes "never") then [] else kind.InvalidValue ∷ []))
+
 -- the first fault of the values of these arguments
 abbrev pub first_fault : (Option (List ℕ) → Kinds) → List (List ℕ) → List Row → Kinds
 first_fault fault [] rows = []
@@ -77,7 +85,8 @@ value_faults rows =
     or_else (first_fault number_fault numbers rows)
     (or_else (first_fault new_file_fault new_files rows)
     (or_else (clash_faults rows)
-    (profile_fault (first_of (codes "profile") rows))))
+    (or_else (color_fault (first_of (codes "color") rows))
+    (profile_fault (first_of (codes "profile") rows)))))
 
 -- the same, of the words of a command
 abbrev pub faults_below : Option (List ℕ × List Row) → Kinds

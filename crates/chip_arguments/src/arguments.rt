@@ -18,10 +18,8 @@ How many steps lie between two checkpoints of the run, 1000 to 100000: more take
 questions faster; no answer depends on it [default: 1000]";
 
 const COLOR_HELP: &str = "\
-When the text has colours, with `auto` where standard output is a terminal and NO_COLOR is unset or empty [default: auto]";
-
-// The words for when there are colours.
-const COLOR_CHOICES: &[&str] = &["auto", "always", "never"];
+When the text has colours, `auto`, `always` or `never`: with `auto` where standard output is a terminal and NO_COLOR is \
+unset or empty [default: auto]";
 
 /// An argument of a command.
 #[derive(Clone, Copy)]
@@ -449,7 +447,7 @@ fn color_argument<'a>(alloc: Global) -> Arg<'a>
     ensures rule { rule_of result ≡ line.color }
     ensures local { result.global ≡ false }
 {
-    option(alloc, "color", "WHEN", COLOR_HELP).value_parser(COLOR_CHOICES)
+    option(alloc, "color", "WHEN", COLOR_HELP)
 }
 
 #[tactic(auto, unfolding(crate::specs::CommandLine::json))]

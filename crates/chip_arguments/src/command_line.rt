@@ -5,7 +5,7 @@ ghost use Rattle.std.specs.List.{list_all};
 ghost use Rattle.clap.specs.Matches.{found_of};
 ghost use Rattle.clap.specs.Words.{FailsBy, first_of, kind_of, one_of, rows_of};
 ghost use Rattle.chip_arguments.specs.SettingWords.{default_words};
-ghost use Rattle.chip_arguments.specs.CommandWords.{Asks, AsksFor, AsksSettings, IsProfile, ReadsNumber, AsksCheck, color_asked, AsksExplore, AsksPicture, AsksRun, AsksTest, AsksTrace, clash_fault, clash_faults, first_fault, new_file_fault, new_files, number_fault, numbers, value_faults, word_faults, needed, profile_fault};
+ghost use Rattle.chip_arguments.specs.CommandWords.{Asks, AsksFor, AsksSettings, IsProfile, ReadsNumber, AsksCheck, color_asked, AsksExplore, AsksPicture, AsksRun, AsksTest, AsksTrace, clash_fault, clash_faults, color_fault, first_fault, new_file_fault, new_files, number_fault, numbers, value_faults, word_faults, needed, profile_fault};
 ghost use Rattle.chip_arguments.specs.inner.Built.{IsOneOf, command_names};
 
 use crate::commands::chipbench;
@@ -281,6 +281,7 @@ fn judged(alloc: Global, found: &ArgMatches<'_>) -> Result<Profile, Error>
     check_numbers(alloc, found, &NUMBERS)?;
     check_new_files(alloc, found, &NEW_FILES)?;
     check_clashes(alloc, found)?;
+    check_color(alloc, found.get_str("color"))?;
     profile_asked(alloc, found.get_str("profile"))
 }
 
@@ -359,6 +360,24 @@ fn check_new_file(alloc: Global, name: Option<&str>, shown: &str) -> Result<(), 
         Some("-") => Err(no_new_file(alloc, shown)?),
         _ => Ok(()),
     }
+}
+
+fn check_color(alloc: Global, word: Option<&str>) -> Result<(), Error>
+    ensures { FailsBy (color_fault (option_copied word.entry)) result }
+{
+    match word {
+        None | Some("auto" | "always" | "never") => Ok(()),
+        Some(word) => Err(no_such_color(alloc, word)?),
+    }
+}
+
+fn no_such_color(alloc: Global, word: &str) -> Result<Error, AllocError>
+    ensures { IfOk result (λ error. kind_of error ≡ ErrorKind.InvalidValue) }
+{
+    let message = format!(in alloc;
+        "invalid value '{word}' for '--color <WHEN>'\n  [possible values: auto, always, never]"
+    )?;
+    usage_error(alloc, ErrorKind::InvalidValue, message.as_str())
 }
 
 fn no_number(alloc: Global, text: &str, shown: &str) -> Result<Error, AllocError>

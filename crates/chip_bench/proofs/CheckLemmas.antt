@@ -1,18 +1,21 @@
 -- What `check` did with sources, one after another.
-use Rattle.std.proofs.Common.{◌≡◌, ◌⊎◌, inl, inr, ℕ, suc, ◌+◌, ◌<◌, ◌≤◌, Bool, List, [], ◌∷◌, drop, length, get_or, Option, Some, None, Ok, Err, refl, sym, ◌∙◌, ap, subst, add-one, drop-cons}
+use Rattle.std.proofs.Common.{◌≡◌, ◌⊎◌, inl, inr, ℕ, suc, ◌+◌, ◌<◌, ◌≤◌, ◌==◌, Bool, List, [], ◌∷◌, drop, length, get_or, Option, Some, None, Ok, Err, refl, sym, ◌∙◌, ap, subst, add-one, drop-cons}
 use Rattle.std.proofs.lemmas.List.{drop_all}
 use Rattle.std.specs.Borrow.{Bor}
+use Rattle.std.specs.Prelude.{option_copied}
 use Rattle.chip_asm.specs.Lines.{lines_of, open_fault}
 use Rattle.chip_asm.specs.declared.refusal.OpenError.{OpenError}
 use Rattle.chip_asm.specs.declared.refusal.OpenError.TheVariants as unopened
 use Rattle.chip_session.specs.Tally.{Tally}
-use Rattle.chip_bench.specs.Doing.{ChecksEach, ChecksOne, FromSource, GivesSource, IsSourceUnread, Outcome, with_ending, worse}
+use Rattle.chip_arguments.specs.declared.command_line.CheckWords.{CheckWords}
+use Rattle.chip_bench.specs.Exploring.{AsksSet, warning_named}
+use Rattle.chip_bench.specs.Doing.{Checks, ChecksEach, ChecksOne, FromSource, GivesSource, IsBadSet, IsSourceUnread, Outcome, paints, with_ending, worse}
 use Rattle.chip_bench.specs.Printing.{IsPrintedCheck, IsPrintedCheckOf, Prints, PrintsSuch, printed, unopened_check}
 use Rattle.chip_bench.specs.declared.ending.Ending.{Ending}
 use Rattle.chip_bench.specs.declared.ending.Ending.TheVariants.{Done, Faulty, Short}
 use Rattle.chip_bench.specs.declared.ending.Failure.{Failure}
 use Rattle.chip_bench.specs.declared.ending.Failure.TheVariants as failure
-use Rattle.chip_bench.proofs.DoingLemmas.{source_read, source_unread}
+use Rattle.chip_bench.proofs.DoingLemmas.{declines, source_read, source_unread}
 
 done_first : (later : Outcome) → with_ending Done later ≡ later
 done_first (Ok ending) = refl
@@ -100,3 +103,17 @@ module _ {R W : Type 0} (remaining : R → Option (List ℕ)) (contents : W → 
     checks_all place in_new out_new ending past so_far =
         subst (Each names in_old in_new out_old out_new) (ap (λ e. Ok e) (done_last ending))
         (so_far in_new out_new (Ok Done) (subst (λ these. Each these in_new in_new out_new out_new (Ok Done)) (sym (drop_all place names past)) (refl, refl, refl)))
+
+module _ {R W : Type 0} (remaining : R → Option (List ℕ)) (contents : W → Option (List ℕ)) where
+  -- the argument for warnings names none
+  pub checks_bad : (input : Tally R) (output : Tally W) (takes_color : Bool) (words : CheckWords) (ended : Outcome) (why : Failure) → ended ≡ Err why →
+      IsBadSet why → AsksSet warning_named 0 (option_copied words.allowed) None → Checks remaining contents input input output output takes_color words ended
+  checks_bad input output takes_color words ended why e bad asks =
+      (None, asks, declines remaining input input (output ≡ output) refl IsBadSet ended why e bad refl)
+
+  pub checks : (in_old in_new : Tally R) (out_old out_new : Tally W) (takes_color : Bool) (words : CheckWords) (set : ℕ) (painted alone : Bool)
+      (names : List (Bor (List ℕ))) (ended : Outcome) → AsksSet warning_named 0 (option_copied words.allowed) (Some set) →
+      painted ≡ paints words.color takes_color → alone ≡ (length words.sources.items == 1) → names ≡ words.sources.items →
+      ChecksEach remaining contents words.is_json painted alone names in_old in_new out_old out_new ended →
+      Checks remaining contents in_old in_new out_old out_new takes_color words ended
+  checks in_old in_new out_old out_new takes_color words set painted alone names ended asks p a n did = (Some set, asks, rw (sym p, sym a, sym n) did)

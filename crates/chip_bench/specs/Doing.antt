@@ -6,7 +6,7 @@
 --     FromSource, FromGiven, FromFile, FromKeys, WithAsked    what a command did with the bytes that
 --                                                  it read, or why it read none
 --     worse, with_ending              how a list of sources ends
---     is_painted                     whether what `check` prints has colours
+--     paints                         whether what `check` prints has colours
 --     ChecksOne, ChecksEach          what `check` did with a source, and with each of some
 --     Debugs, Assembles, Lists, Checks, Disassembles, Runs, Traces, Pictures, Explores, Explains
 --                                    what each command did
@@ -84,10 +84,10 @@ with_ending ending (Ok later) = Ok (worse ending later)
 with_ending ending (Err why) = Err why
 
 -- whether what is printed has colours: where the words leave that open, whether the output takes them
-abbrev pub is_painted : ColorChoice → (takes_color : Bool) → Bool
-is_painted color.Auto takes_color = takes_color
-is_painted color.Always takes_color = true
-is_painted color.Never takes_color = false
+abbrev pub paints : ColorChoice → (takes_color : Bool) → Bool
+paints color.Auto takes_color = takes_color
+paints color.Always takes_color = true
+paints color.Never takes_color = false
 
 -- the name of standard input, in the place of a source's file
 abbrev pub standard_input : List ℕ
@@ -446,7 +446,7 @@ module _ {R W : Type 0} (remaining : R → Option (List ℕ)) (contents : W → 
   Checks takes_color words ended =
       (allowed : Option ℕ) × AsksSet warning_named 0 (option_copied words.allowed) allowed
       × IfSet remaining in_old in_new (out_new ≡ out_old) allowed (λ set.
-      ChecksEach remaining contents words.is_json (is_painted words.color takes_color)
+      ChecksEach remaining contents words.is_json (paints words.color takes_color)
       (length words.sources.items == 1) words.sources.items in_old in_new out_old out_new) ended
 
   abbrev pub Disassembles : Bor (List ℕ) → Outcome → Type 0

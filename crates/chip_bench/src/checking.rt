@@ -1,7 +1,7 @@
 //! `check`: the faults of sources with their places, and their warnings.
 ghost use Rattle.std.specs.Prelude.{◌≡◌, Err, IfOk};
 ghost use Rattle.chip_asm.specs.Lines.{lines_of};
-ghost use Rattle.chip_bench.specs.Doing.{Checks, ChecksEach, ChecksOne, is_painted, worse};
+ghost use Rattle.chip_bench.specs.Doing.{Checks, ChecksEach, ChecksOne, paints, worse};
 ghost use Rattle.chip_bench.specs.Printing.{IsCheckText, IsPrintedCheck, Prints, PrintsSuch, printed, unopened_check, unopened_text};
 
 use crate::ending::{Ending, Failure};
@@ -45,19 +45,20 @@ pub(crate) fn check<'a, F: Files, I: Read, O: Write>(
     ensures { Checks I.remaining O.contents input.old input.new output.old output.new takes_color
         words.now result }
 {
+    let allowed = warnings_of(words.allowed)?;
     let checker = Checker {
-        allowed: warnings_of(words.allowed)?,
+        allowed,
         profile: words.profile,
         is_json: words.is_json,
-        is_painted: is_painted(words.color, takes_color),
+        is_painted: paints(words.color, takes_color),
         is_alone: words.sources.len() == 1,
     };
     checker.check_each(alloc, files, &words.sources, input, output)
 }
 
 // Whether what is printed has colours.
-fn is_painted(choice: ColorChoice, takes_color: bool) -> bool
-    ensures { result ≡ is_painted choice takes_color }
+fn paints(choice: ColorChoice, takes_color: bool) -> bool
+    ensures { result ≡ paints choice takes_color }
 {
     match choice {
         ColorChoice::Auto => takes_color,

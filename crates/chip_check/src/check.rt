@@ -78,11 +78,7 @@ pub fn check_json(
 /// # Errors
 ///
 /// Out of memory.
-pub fn unopened_json(
-    alloc: Global,
-    name: &[u8],
-    error: OpenError,
-) -> Result<Vec<u8>, AllocError>
+pub fn unopened_json(alloc: Global, name: &[u8], error: OpenError) -> Result<Vec<u8>, AllocError>
     ensures { IfOk result (λ text. text.items ≡ unopened_object name.now error) }
 {
     let finding = Finding::of_unopened(alloc, error)?;

@@ -135,7 +135,12 @@ fn push_hints(text: &mut Vec<u8>, is_painted: bool, hints: &[Hint]) -> Result<()
 fn push_hint(text: &mut Vec<u8>, is_painted: bool, hint: &Hint) -> Result<(), AllocError>
     ensures { OnOk result (text.new.items ≡ text.old.items ++ hint_line is_painted hint.now) }
 {
-    push_painted(text, is_painted, hint_style(hint.kind), beginning(hint.kind))?;
+    push_painted(
+        text,
+        is_painted,
+        hint_style(hint.kind),
+        beginning(hint.kind),
+    )?;
     text.extend_from_slice(b" ")?;
     text.extend_from_slice(&hint.sentence[..line_length(&hint.sentence)])?;
     text.extend_from_slice(b"\n")?;

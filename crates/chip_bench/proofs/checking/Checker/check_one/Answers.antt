@@ -1,5 +1,5 @@
 use Rattle.std.proofs.lemmas.Result.{err_from_is_err_and}
-use Rattle.std.proofs.Common.{◌∙◌, ap, Err}
+use Rattle.std.proofs.Common.{◌∙◌, ap, refl, Err}
 use Rattle.chip_bench.proofs.CheckLemmas.{one_opened, one_unopened, one_unread}
 use Rattle.chip_bench.proofs.checking.Checker.check_one.Goals as goal
 
@@ -8,3 +8,15 @@ returns-in_err-bytes g c =
     let p = err_from_is_err_and c.from_residual.result c.from_residual.ensures.1 in
     one_unread g.I.Read.remaining g.O.Write.contents c.args.self.is_json c.args.self.is_painted c.args.self.is_alone c.args.input.now c.read_source.new.input
     c.args.output.now c.args.name c.from_residual.result _ (p.1 ∙ ap (λ e. Err e) p.2) c.in_err-bytes.ensures.err
+
+pub returns-in-Ok : goal.returns-in-Ok
+returns-in-Ok g c =
+    one_opened g.I.Read.remaining g.O.Write.contents c.args.self.is_json c.args.self.is_painted c.args.self.is_alone c.args.input.now c.read_source.new.input
+    c.args.output.now c.print_found.new.output c.args.name c.in_ok-bytes.bytes.items c.deref.result.now c.print_found.result c.deref.ensures.value
+    c.in_ok-bytes.ensures.ok _ c.in-Ok.ensures.ok.0 c.in-Ok.ensures.ok.1 c.print_found.ensures
+
+pub returns-in-Err : goal.returns-in-Err
+returns-in-Err g c =
+    one_unopened g.I.Read.remaining g.O.Write.contents c.args.self.is_json c.args.self.is_painted c.args.self.is_alone c.args.input.now c.read_source.new.input
+    c.args.output.now c.refuse.new.output c.args.name c.in_ok-bytes.bytes.items c.deref.result.now c.refuse.result c.deref.ensures.value
+    c.in_ok-bytes.ensures.ok _ c.in-Err.ensures.err c.refuse.ensures.why c.refuse.ensures.memory
