@@ -1,5 +1,5 @@
 -- What `check` did with sources, one after another.
-use Rattle.std.proofs.Common.{◌≡◌, ◌⊎◌, inl, inr, ℕ, suc, ◌+◌, ◌<◌, ◌≤◌, ◌==◌, Bool, List, [], ◌∷◌, drop, length, get_or, Option, Some, None, Ok, Err, refl, sym, ◌∙◌, ap, subst, add-one, drop-cons}
+use Rattle.std.proofs.Common.{◌≡◌, ◌⊎◌, inl, inr, ℕ, suc, ◌+◌, ◌<◌, ◌≤◌, ◌==◌, Bool, List, ◌∷◌, drop, length, get_or, Option, Some, None, Ok, Err, refl, sym, ◌∙◌, ap, subst, add-one, drop-cons}
 use Rattle.std.proofs.lemmas.List.{drop_all}
 use Rattle.std.specs.Borrow.{Bor}
 use Rattle.std.specs.Prelude.{option_copied}
@@ -9,13 +9,13 @@ use Rattle.chip_asm.specs.declared.refusal.OpenError.TheVariants as unopened
 use Rattle.chip_session.specs.Tally.{Tally}
 use Rattle.chip_arguments.specs.declared.command_line.CheckWords.{CheckWords}
 use Rattle.chip_bench.specs.Exploring.{AsksSet, warning_named}
-use Rattle.chip_bench.specs.Doing.{Checks, ChecksEach, ChecksOne, FromSource, GivesSource, IsBadSet, IsSourceUnread, Outcome, paints, with_ending, worse}
+use Rattle.chip_bench.specs.Doing.{Checks, ChecksEach, ChecksOne, GivesSource, IsBadSet, IsSourceUnread, Outcome, paints, with_ending, worse}
 use Rattle.chip_bench.specs.Printing.{IsPrintedCheck, IsPrintedCheckOf, Prints, PrintsSuch, printed, unopened_check}
 use Rattle.chip_bench.specs.declared.ending.Ending.{Ending}
 use Rattle.chip_bench.specs.declared.ending.Ending.TheVariants.{Done, Faulty, Short}
 use Rattle.chip_bench.specs.declared.ending.Failure.{Failure}
 use Rattle.chip_bench.specs.declared.ending.Failure.TheVariants as failure
-use Rattle.chip_bench.proofs.DoingLemmas.{declines, source_read, source_unread}
+use Rattle.chip_bench.proofs.DoingLemmas.{declines, source_unread}
 
 done_first : (later : Outcome) → with_ending Done later ≡ later
 done_first (Ok ending) = refl
@@ -44,21 +44,25 @@ module _ {R W : Type 0} (remaining : R → Option (List ℕ)) (contents : W → 
       (gives : GivesSource remaining in_old in_new name.now bytes) where
     of_text : PrintsSuch contents out_old out_new (IsPrintedCheckOf is_json is_painted is_alone name.now (open_fault text) (lines_of text)) ended →
         One name in_old in_new out_old out_new ended
-    of_text such =
-        source_read remaining in_old in_new (out_new ≡ out_old) name bytes text
-        (λ bytes. PrintsSuch contents out_old out_new (IsPrintedCheckOf is_json is_painted is_alone name.now (open_fault bytes) (lines_of bytes))) ended same gives such
+    of_text such = inl (
+      bytes,
+      gives,
+      subst (λ (t : List ℕ). PrintsSuch contents out_old out_new (IsPrintedCheckOf is_json is_painted is_alone name.now (open_fault t) (lines_of t)) ended) same such,
+    )
 
     -- a source that opens
-    pub one_opened : (lines : List (List ℕ)) → open_fault text ≡ None → lines ≡ lines_of text →
-        PrintsSuch contents out_old out_new (IsPrintedCheck is_json is_painted name.now lines) ended → One name in_old in_new out_old out_new ended
-    one_opened lines opens are such = of_text (rw (opens, sym are) such)
+    pub one_opened : (shown : List ℕ) (lines : List (List ℕ)) → shown ≡ name.now → open_fault text ≡ None → lines ≡ lines_of text →
+        PrintsSuch contents out_old out_new (IsPrintedCheck is_json is_painted shown lines) ended → One name in_old in_new out_old out_new ended
+    one_opened shown lines called opens are such =
+        of_text (rw (opens, sym are) (subst (λ n. PrintsSuch contents out_old out_new (IsPrintedCheck is_json is_painted n lines) ended) called such))
 
     -- or doesn't
-    pub one_unopened : (error : OpenError) → (error ≡ unopened.OutOfMemory) ⊎ (open_fault text ≡ Some error) →
-        Prints contents out_old out_new (printed (unopened_check is_json is_alone name.now error) Faulty) ended →
+    pub one_unopened : (shown : List ℕ) (error : OpenError) → shown ≡ name.now → (error ≡ unopened.OutOfMemory) ⊎ (open_fault text ≡ Some error) →
+        Prints contents out_old out_new (printed (unopened_check is_json is_alone shown error) Faulty) ended →
         (error ≡ unopened.OutOfMemory → (ended ≡ Err failure.OutOfMemory) × (out_new ≡ out_old)) → One name in_old in_new out_old out_new ended
-    one_unopened error (inl memory) prints short = of_text (inr (short memory))
-    one_unopened error (inr fault) prints short = of_text (rw fault (inl (printed (unopened_check is_json is_alone name.now error) Faulty, refl, prints)))
+    one_unopened shown error called (inl memory) prints short = of_text (inr (short memory))
+    one_unopened shown error called (inr fault) prints short =
+        of_text (rw fault (inl (printed (unopened_check is_json is_alone shown error) Faulty, ap (λ n. printed (unopened_check is_json is_alone n error) Faulty) called, prints)))
 
   -- a source that can't be read
   pub one_unread : (in_old in_new : Tally R) (output : Tally W) (name : Bor (List ℕ)) (ended : Outcome) (why : Failure) → ended ≡ Err why →

@@ -15,7 +15,7 @@
 --     Ends                           how the program ended after that
 -- No contract says what bytes a file gives or takes: of a file's bytes these words say that there
 -- are some.
-use Rattle.std.specs.Prelude.{◌≡◌, ◌≢◌, ◌⊎◌, ℕ, ◌<◌, ◌≤◌, ◌==◌, Bool, true, false, List, [], ◌∷◌, codes, length, take, Option, Some, None, option_copied, IfSome, Result, Ok, IsErrAnd, if◌then◌else◌}
+use Rattle.std.specs.Prelude.{◌≡◌, ◌≢◌, ◌⊎◌, ℕ, ◌<◌, ◌≤◌, ◌==◌, Bool, true, false, List, [], ◌∷◌, codes, length, take, Option, Some, None, option_copied, IfSome, Result, Ok, Err, IsErrAnd, if◌then◌else◌}
 use Rattle.std.specs.Borrow.{Bor}
 use Rattle.std.specs.Io.KnownBytes.{Keeps}
 use Rattle.std.specs.declared.io.Error.{Error as IoError}

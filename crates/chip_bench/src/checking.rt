@@ -46,14 +46,15 @@ pub(crate) fn check<'a, F: Files, I: Read, O: Write>(
         words.now result }
 {
     let allowed = warnings_of(words.allowed)?;
+    let names: &[&'a str] = &words.sources;
     let checker = Checker {
         allowed,
         profile: words.profile,
         is_json: words.is_json,
         is_painted: paints(words.color, takes_color),
-        is_alone: words.sources.len() == 1,
+        is_alone: names.len() == 1,
     };
-    checker.check_each(alloc, files, &words.sources, input, output)
+    checker.check_each(alloc, files, names, input, output)
 }
 
 // Whether what is printed has colours.
@@ -178,12 +179,7 @@ impl Checker {
     }
 
     // Why a source doesn't open: an object, or its code, after its name where there are others.
-    fn unopened(
-        self,
-        alloc: Global,
-        name: &[u8],
-        error: OpenError,
-    ) -> Result<Vec<u8>, AllocError>
+    fn unopened(self, alloc: Global, name: &[u8], error: OpenError) -> Result<Vec<u8>, AllocError>
         ensures { IfOk result (λ text.
             text.items ≡ unopened_check self.is_json self.is_alone name.now error) }
     {

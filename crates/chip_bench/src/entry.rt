@@ -17,8 +17,8 @@ use crate::ending::{Ending, Failure};
 use crate::exploring::explore;
 use crate::limits::TRACE_FILE_BYTES;
 use crate::output::{
-    answer_script, explain, image_or_faults, list_source, print, print_source,
-    print_version, run_source,
+    answer_script, explain, image_or_faults, list_source, print, print_source, print_version,
+    run_source,
 };
 use crate::picturing::picture;
 use crate::reading::{
@@ -27,9 +27,7 @@ use crate::reading::{
 };
 use crate::testing::test_files;
 use crate::tracing::{Shown, compare_source, trace_source};
-use chip_arguments::{
-    CommandLine, RunWords, SettingWords, TraceWords, not_text, parse_words,
-};
+use chip_arguments::{CommandLine, RunWords, SettingWords, TraceWords, not_text, parse_words};
 use chip_files::{first_line, write_file};
 use chip_machine::limits::IMAGE_BYTES;
 use chip_session::Counted;
@@ -176,7 +174,15 @@ fn perform<'a, F: Files, I: Read, O: Write, E: Write>(
             settings,
         } => {
             let given = Given { source, is_image };
-            debug(alloc, files, host.name_seed, given, &settings, input, output)
+            debug(
+                alloc,
+                files,
+                host.name_seed,
+                given,
+                &settings,
+                input,
+                output,
+            )
         }
         CommandLine::Asm { source, image } => asm(alloc, files, source, image, input, output),
         CommandLine::List { source } => list(alloc, files, source, input, output),

@@ -1,5 +1,5 @@
 use Rattle.std.proofs.lemmas.Result.{err_from_is_err_and}
-use Rattle.std.proofs.Common.{◌==◌, ◌∙◌, ap, Err}
+use Rattle.std.proofs.Common.{◌==◌, ◌∙◌, ap, length, Err}
 use Rattle.chip_bench.proofs.CheckLemmas.{checks, checks_bad}
 use Rattle.chip_bench.proofs.checking.check.Goals as goal
 
@@ -12,5 +12,5 @@ returns-in_err-allowed g c =
 pub returns : goal.returns
 returns g c =
     checks g.I.Read.remaining g.O.Write.contents c.args.input.now c.check_each.new.input c.args.output.now c.check_each.new.output c.args.takes_color c.args.words.now
-    c.in_ok-allowed.allowed c.paints.result _ c.deref.result.now c.check_each.result c.in_ok-allowed.ensures.ok c.paints.ensures
-    (ap (λ n. n == 1) c.len.ensures) c.deref.ensures.value c.check_each.ensures
+    c.in_ok-allowed.allowed c.paints.result _ c.deref-names.result.now c.check_each.result c.in_ok-allowed.ensures.ok c.paints.ensures
+    (ap (λ n. n == 1) (ap length c.deref-names.ensures.value)) c.deref-names.ensures.value c.check_each.ensures
