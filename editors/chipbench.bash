@@ -7,6 +7,7 @@ _chipbench() {
     fi
     case $before in
         --profile) COMPREPLY=($(compgen -W "schip vip" -- "$word")); return ;;
+        --color) COMPREPLY=($(compgen -W "auto always never" -- "$word")); return ;;
         --rate | --tape | --seed | --every | --steps | --from | --allow | --states | --want | --reach | --keys-allowed) return ;;
         explain) COMPREPLY=($(compgen -W "$(chipbench explain 2>/dev/null | cut -d ' ' -f 1)" -- "$word")); return ;;
     esac
@@ -18,7 +19,7 @@ _chipbench() {
         run) options="--steps --rate --tape --seed --profile --keys --image --help" ;;
         trace) options="--steps --rate --tape --seed --profile --keys --image --from --hash --json --against --help" ;;
         picture) options="--steps --rate --tape --seed --profile --keys --image --ascii --pbm --png --help" ;;
-        check) options="--json --allow --profile --help" ;;
+        check) options="--json --allow --color --profile --help" ;;
         test) options="--update --tap --help" ;;
         explore) options="--steps --states --deep --want --reach --keys-allowed --keys-to --cover --progress --rate --tape --seed --profile --image --help" ;;
         explain) options=" --help" ;;

@@ -35,6 +35,10 @@ def profiles():
     return " ".join(names[word] for word in re.findall(r"\w+", listed))
 
 
+# the options that take one of a few words
+CHOICES = {"profile": profiles(), "color": "auto always never"}
+
+
 class Language:
     """The reserved words, and the words of OPTION and ALIGN."""
 
@@ -100,7 +104,8 @@ def bash(words):
         cases.append(f'        {command.name}) options="{options} --help" ;;')
     names = " ".join(command.name for command in words.commands)
     seen = {option.long: option.value for command in words.commands for option in command.options}
-    untold = " | ".join(f"--{name}" for name, value in seen.items() if value not in (None, "FILE", "NAME"))
+    untold = " | ".join(f"--{name}" for name, value in seen.items() if value not in (None, "FILE") and name not in CHOICES)
+    choices = [f'        --{name}) COMPREPLY=($(compgen -W "{words}" -- "$word")); return ;;' for name, words in CHOICES.items()]
     return "\n".join([
         "# Completion of chipbench's words for bash; made by editors/generate.py.",
         "_chipbench() {",
@@ -110,7 +115,7 @@ def bash(words):
         "        return",
         "    fi",
         "    case $before in",
-        f'        --profile) COMPREPLY=($(compgen -W "{profiles()}" -- "$word")); return ;;',
+        *choices,
         f"        {untold}) return ;;",
         # the program has the codes
         f'        explain) COMPREPLY=($(compgen -W "$({CODES})" -- "$word")); return ;;',
@@ -147,7 +152,7 @@ def zsh(words):
         rest = ["'*:file:_files'"] if command.places else []
         for option in command.options:
             text = re.sub(r"[\[\]:]", " ", option.help.split(",")[0].split(" [")[0])
-            action = f":name:({profiles()})" if option.long == "profile" else (
+            action = f":name:({CHOICES[option.long]})" if option.long in CHOICES else (
                 ":file:_files" if option.value == "FILE" else f":{option.value}:" if option.value else "")
             rest.append(quoted(f"--{option.long}[{text}]{action}"))
         lines.append("            _arguments " + " \\\n                ".join(rest) + " ;;")
@@ -164,7 +169,7 @@ def fish(words):
     for command in words.commands:
         for option in command.options:
             text = quoted(option.help.split(",")[0].split(" [")[0])
-            value = f" -x -a '{profiles()}'" if option.long == "profile" else (
+            value = f" -x -a '{CHOICES[option.long]}'" if option.long in CHOICES else (
                 " -r" if option.value == "FILE" else " -x" if option.value else "")
             takers.setdefault(f"-l {option.long}{value} -d {text}", []).append(command.name)
     takers[f"-f -a {quoted('(' + CODES + ')')}"] = ["explain"]
@@ -185,7 +190,7 @@ def manual(words):
         places = " ".join(command.places)
         if command.name in ("debug", "explain"):
             places = f"[{places}]"
-        elif command.name == "test":
+        elif command.name in ("check", "test"):
             places = f"{places} .."
         options = " ".join(
             f"--{o.long}{' ' + o.value if o.value else ''}" if o.long == "steps"

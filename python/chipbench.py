@@ -45,6 +45,8 @@ ENDED_BY_DOT = {b"syms", b"list", b"faults", b"screen", b"dis"}
 LINES = {b"regs": 3}
 # What the program prints in place of all answers where the source doesn't open.
 NOT_OPENED = b"no O"
+# The codes of sources that don't open.
+UNOPENED = ("O1", "O2")
 
 OK = b"ok\n"
 MEMORY_BYTES = 4096
@@ -374,11 +376,12 @@ def check(source: str | bytes, program: str | None = None, profile: str | None =
     content, program = to_bytes(source), program or find_program()
     options = ["--profile", profile] if profile else []
     status, output, errors = run_once([program, "check", "--json", *options, "-"], content)
-    if output.startswith(NOT_OPENED):
-        raise refusal(program, output[3:].strip().decode())
     if status not in (0, 1):
         raise Ended(status, errors.strip(), [])
-    return read_check(output)
+    found = read_check(output)
+    if found and found[0].code in UNOPENED:
+        raise refusal(program, found[0].code)
+    return found
 
 
 def read_check(output: bytes) -> list[Fault]:

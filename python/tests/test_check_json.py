@@ -89,10 +89,12 @@ class CheckAsJson(NeedsWords):
         text_status, text = self.printed(*words, source=source, folder=folder)
         status, printed = self.printed("--json", *words, source=source, folder=folder)
         self.assertEqual(status, text_status)
+        found = self.objects(printed)
         if text.startswith(b"no O"):
+            places = [(one["line"], one["column"], one["end"], one["code"], one["help"], one["file"]) for one in found]
+            self.assertEqual(places, [(1, 1, 1, text[3:].strip().decode(), [], name.decode(errors="replace"))])
             return 0
         said = read_text(text, name)
-        found = self.objects(printed)
         self.assertEqual(len(found), len(said), source)
         for one, other in zip(found, said):
             # one caret stands where the place has no bytes, too
@@ -111,6 +113,18 @@ class CheckAsJson(NeedsWords):
         lines = source.split(b"\n")
         marked = [(one["code"], lines[one["line"] - 1][one["column"] - 1:one["end"] - 1]) for one in found]
         self.assertEqual(marked, [("F9", b"none"), ("F4", '"éé", 1'.encode()), ("F4", b"")])
+
+    def test_a_source_that_does_not_open(self) -> None:
+        for source in (b"CLS\n;" + b"x" * 200, b"\n" * 4001):
+            self.assertEqual(self.compare(source, "-"), 0)
+
+    def test_each_object_names_its_file(self) -> None:
+        with tempfile.TemporaryDirectory() as folder:
+            for name, source in (("a.asm", b"JP\nJP\n"), ("b.asm", b";" * 201), ("c.asm", b"CLS\n"), ("d.asm", b"LD V0, none\n")):
+                Path(folder, name).write_bytes(source)
+            status, printed = self.printed("--json", "a.asm", "b.asm", "c.asm", "d.asm", folder=folder)
+            found = [(one["file"], one["line"], one["code"]) for one in self.objects(printed)]
+            self.assertEqual((status, found), (1, [("a.asm", 1, "F4"), ("a.asm", 2, "F4"), ("b.asm", 1, "O1"), ("d.asm", 1, "F9")]))
 
     def test_names_of_files_are_escaped(self) -> None:
         for name in ('a "quote".asm', "a\\b.asm", "tab\there.asm", "two\nlines.asm", "\x01\x1f\x7f.asm", "é😀.asm"):

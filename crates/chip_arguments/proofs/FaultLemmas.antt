@@ -43,9 +43,14 @@ pub fails_last : {T : Type 0} (first second last : Kinds) (result : Result T Err
     FailsBy (or_else first (or_else second last)) result
 fails_last first second last result none_first none_second fails = rw (none_first, none_second) fails
 
-pub fails_fourth : {T : Type 0} (first second third last : Kinds) (result : Result T Error) → first ≡ [] → second ≡ [] → third ≡ [] → FailsBy last result →
-    FailsBy (or_else first (or_else second (or_else third last))) result
-fails_fourth first second third last result none_first none_second none_third fails = rw (none_first, none_second, none_third) fails
+pub fails_fifth : {T : Type 0} (first second third fourth last : Kinds) (result : Result T Error) → first ≡ [] → second ≡ [] → third ≡ [] → fourth ≡ [] →
+    FailsBy last result → FailsBy (or_else first (or_else second (or_else third (or_else fourth last)))) result
+fails_fifth first second third fourth last result none_first none_second none_third none_fourth fails =
+    rw (none_first, none_second, none_third, none_fourth) fails
+
+pub fails_fourth : (first second third fourth last : Kinds) (e : Error) → first ≡ [] → second ≡ [] → third ≡ [] → HasKind fourth e →
+    HasKind (or_else first (or_else second (or_else third (or_else fourth last)))) e
+fails_fourth first second third fourth last e none_first none_second none_third has = rw (none_first, none_second, none_third) (still_fails fourth last e has)
 
 pub fails_third : (first second third last : Kinds) (e : Error) → first ≡ [] → second ≡ [] → HasKind third e →
     HasKind (or_else first (or_else second (or_else third last))) e

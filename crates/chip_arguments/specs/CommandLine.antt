@@ -86,10 +86,22 @@ json = record (new_rule (codes "json")) { long = Some (codes "json"); action = S
 unfoldable pub allow : Rule
 allow = record (new_rule (codes "allow")) { long = Some (codes "allow"); value_names = 1 }
 
+-- the sources that are checked, one or more
+unfoldable pub sources : Rule
+sources = record (new_rule (codes "sources")) {
+  value_names = 1;
+  action = Some Append;
+  required = true;
+}
+
+-- any text: the words for when there are colours are not part of what `clap` judges
+unfoldable pub color : Rule
+color = record (new_rule (codes "color")) { long = Some (codes "color"); value_names = 1 }
+
 unfoldable pub check : App
 check =
-    with_rule (with_rule (with_rule (with_rule (new_app (codes "check")) needed_source) json) allow)
-    profile
+    with_rule (with_rule (with_rule (with_rule (with_rule (new_app (codes "check")) sources) json)
+    allow) color) profile
 
 unfoldable pub dis : App
 dis = with_rule (new_app (codes "dis")) image

@@ -17,6 +17,8 @@ use Rattle.chip_arguments.specs.declared.limits.TheConstants.{USUAL_STATES}
 use Rattle.chip_arguments.specs.declared.command_line.CommandLine.{CommandLine}
 use Rattle.chip_arguments.specs.declared.command_line.CommandLine.TheVariants as line
 use Rattle.chip_arguments.specs.declared.command_line.CheckWords.{CheckWords}
+use Rattle.chip_arguments.specs.declared.command_line.ColorChoice.{ColorChoice}
+use Rattle.chip_arguments.specs.declared.command_line.ColorChoice.TheVariants.{Always, Auto, Never}
 use Rattle.chip_arguments.specs.declared.command_line.ExploreWords.{ExploreWords}
 use Rattle.chip_arguments.specs.declared.command_line.PictureWords.{PictureWords}
 use Rattle.chip_arguments.specs.declared.command_line.RunWords.{RunWords}
@@ -64,6 +66,14 @@ profile_fault None = []
 profile_fault (Some name) =
     if list_any (λ known. bytes_eq known name) profile_names then [] else kind.InvalidValue ∷ []
 
+-- a word for when there are colours that there is not
+abbrev pub color_fault : Option (List ℕ) → Kinds
+color_fault None = []
+color_fault (Some word) =
+    if bytes_eq word (codes "auto") then []
+    else (if bytes_eq word (codes "always") then []
+    else (if bytes_eq word (codes "never") then [] else kind.InvalidValue ∷ []))
+
 -- the first fault of the values of these arguments
 abbrev pub first_fault : (Option (List ℕ) → Kinds) → List (List ℕ) → List Row → Kinds
 first_fault fault [] rows = []
@@ -75,7 +85,8 @@ value_faults rows =
     or_else (first_fault number_fault numbers rows)
     (or_else (first_fault new_file_fault new_files rows)
     (or_else (clash_faults rows)
-    (profile_fault (first_of (codes "profile") rows))))
+    (or_else (color_fault (first_of (codes "color") rows))
+    (profile_fault (first_of (codes "profile") rows)))))
 
 -- the same, of the words of a command
 abbrev pub faults_below : Option (List ℕ × List Row) → Kinds
@@ -135,11 +146,20 @@ pub record AsksRun (rows : List Row) (words : RunWords) : Type 0 where
   pub keys : option_copied words.keys ≡ first_of (codes "keys") rows
   pub settings : AsksSettings rows words.settings
 
+-- when there are colours; without a word that is left to the program
+abbrev pub color_asked : Option (List ℕ) → ColorChoice
+color_asked None = Auto
+color_asked (Some word) =
+    if bytes_eq word (codes "always") then Always
+    else (if bytes_eq word (codes "never") then Never else Auto)
+
 -- the check that they ask for
 pub record AsksCheck (rows : List Row) (words : CheckWords) : Type 0 where
-  pub source : words.source.now ≡ needed (codes "source") rows
+  pub sources : map (λ source. source.now) words.sources.items
+      ≡ unwrap_or (all_of (codes "sources") rows) []
   pub is_json : AsksFlag (one_of (codes "json") rows) words.is_json
   pub allowed : option_copied words.allowed ≡ first_of (codes "allow") rows
+  pub color : words.color ≡ color_asked (first_of (codes "color") rows)
   pub profile : IsProfile (first_of (codes "profile") rows) words.profile
 
 -- the trace that they ask for

@@ -17,6 +17,10 @@ const EVERY_HELP: &str = "\
 How many steps lie between two checkpoints of the run, 1000 to 100000: more take less memory, fewer make edits and \
 questions faster; no answer depends on it [default: 1000]";
 
+const COLOR_HELP: &str = "\
+When the text has colours, `auto`, `always` or `never`: with `auto` where standard output is a terminal and NO_COLOR is \
+unset or empty [default: auto]";
+
 /// An argument of a command.
 #[derive(Clone, Copy)]
 pub(crate) enum Argument {
@@ -48,6 +52,8 @@ pub(crate) enum Argument {
     Want,
     AllowedKeys,
     KeysTo,
+    Sources,
+    Color,
     Json,
     Allow,
     Reach,
@@ -90,6 +96,8 @@ impl Argument {
             Argument::Want => want_argument(alloc),
             Argument::AllowedKeys => allowed_keys_argument(alloc),
             Argument::KeysTo => keys_to_argument(alloc),
+            Argument::Sources => sources_argument(alloc),
+            Argument::Color => color_argument(alloc),
             Argument::Json => json_argument(alloc),
             Argument::Allow => allow_argument(alloc),
             Argument::Reach => reach_argument(alloc),
@@ -431,6 +439,29 @@ fn keys_to_argument<'a>(alloc: Global) -> Arg<'a>
         "FILE",
         "Writes the key events of the script that was found to a file, as `run --keys` takes them",
     )
+}
+
+#[tactic(auto, unfolding(crate::specs::CommandLine::sources))]
+fn sources_argument<'a>(alloc: Global) -> Arg<'a>
+    ensures rule { rule_of result ≡ line.sources }
+    ensures local { result.global ≡ false }
+{
+    place(
+        alloc,
+        "sources",
+        "SOURCE",
+        "The sources, files of text, one or more",
+    )
+    .action(ArgAction::Append)
+    .required(true)
+}
+
+#[tactic(auto, unfolding(crate::specs::CommandLine::color))]
+fn color_argument<'a>(alloc: Global) -> Arg<'a>
+    ensures rule { rule_of result ≡ line.color }
+    ensures local { result.global ≡ false }
+{
+    option(alloc, "color", "WHEN", COLOR_HELP)
 }
 
 #[tactic(auto, unfolding(crate::specs::CommandLine::json))]

@@ -5,7 +5,7 @@ ghost use Rattle.std.specs.List.{list_all};
 ghost use Rattle.clap.specs.Matches.{found_of};
 ghost use Rattle.clap.specs.Words.{FailsBy, first_of, kind_of, one_of, rows_of};
 ghost use Rattle.chip_arguments.specs.SettingWords.{default_words};
-ghost use Rattle.chip_arguments.specs.CommandWords.{Asks, AsksFor, AsksSettings, IsProfile, ReadsNumber, AsksCheck, AsksExplore, AsksPicture, AsksRun, AsksTest, AsksTrace, clash_fault, clash_faults, first_fault, new_file_fault, new_files, number_fault, numbers, value_faults, word_faults, needed, profile_fault};
+ghost use Rattle.chip_arguments.specs.CommandWords.{Asks, AsksFor, AsksSettings, IsProfile, ReadsNumber, AsksCheck, color_asked, AsksExplore, AsksPicture, AsksRun, AsksTest, AsksTrace, clash_fault, clash_faults, color_fault, first_fault, new_file_fault, new_files, number_fault, numbers, value_faults, word_faults, needed, profile_fault};
 ghost use Rattle.chip_arguments.specs.inner.Built.{IsOneOf, command_names};
 
 use crate::commands::chipbench;
@@ -57,7 +57,7 @@ pub enum CommandLine<'a> {
     List {
         source: &'a str,
     },
-    /// To print the faults of a source with their places.
+    /// To print the faults of sources with their places.
     Check(CheckWords<'a>),
     /// To print a source of an image.
     Dis {
@@ -80,15 +80,27 @@ pub enum CommandLine<'a> {
 }
 
 /// A check, as the words ask for it.
-#[derive(Clone, Copy)]
+#[derive(Drop)]
 pub struct CheckWords<'a> {
-    pub source: &'a str,
+    /// The sources, in the order of the words.
+    pub sources: Vec<&'a str>,
     /// Whether JSON objects are printed, and not text.
     pub is_json: bool,
     /// The warnings that are not printed, with commas between them.
     pub allowed: Option<&'a str>,
-    /// For which machine the source is written.
+    /// When the text has colours.
+    pub color: ColorChoice,
+    /// For which machine the sources are written.
     pub profile: Profile,
+}
+
+/// When a text has colours.
+#[derive(Clone, Copy)]
+pub enum ColorChoice {
+    /// Where the output takes them.
+    Auto,
+    Always,
+    Never,
 }
 
 /// A run, as the words ask for it.
@@ -242,7 +254,7 @@ fn command_asked<'a>(
         "list" => CommandLine::List {
             source: required_text(found, "source"),
         },
-        "check" => CommandLine::Check(check_words(found, profile)),
+        "check" => CommandLine::Check(check_words(alloc, found, profile)?),
         "dis" => CommandLine::Dis {
             image: required_text(found, "image"),
         },
@@ -271,6 +283,7 @@ fn judged(alloc: Global, found: &ArgMatches<'_>) -> Result<Profile, Error>
     check_numbers(alloc, found, &NUMBERS)?;
     check_new_files(alloc, found, &NEW_FILES)?;
     check_clashes(alloc, found)?;
+    check_color(alloc, found.get_str("color"))?;
     profile_asked(alloc, found.get_str("profile"))
 }
 
@@ -349,6 +362,24 @@ fn check_new_file(alloc: Global, name: Option<&str>, shown: &str) -> Result<(), 
         Some("-") => Err(no_new_file(alloc, shown)?),
         _ => Ok(()),
     }
+}
+
+fn check_color(alloc: Global, word: Option<&str>) -> Result<(), Error>
+    ensures { FailsBy (color_fault (option_copied word.entry)) result }
+{
+    match word {
+        None | Some("auto" | "always" | "never") => Ok(()),
+        Some(word) => Err(no_such_color(alloc, word)?),
+    }
+}
+
+fn no_such_color(alloc: Global, word: &str) -> Result<Error, AllocError>
+    ensures { IfOk result (λ error. kind_of error ≡ ErrorKind.InvalidValue) }
+{
+    let message = format!(in alloc;
+        "invalid value '{word}' for '--color <WHEN>'\n  [possible values: auto, always, never]"
+    )?;
+    usage_error(alloc, ErrorKind::InvalidValue, message.as_str())
 }
 
 fn no_number(alloc: Global, text: &str, shown: &str) -> Result<Error, AllocError>
@@ -460,15 +491,31 @@ fn run_words<'a>(found: &ArgMatches<'a>, profile: Profile) -> RunWords<'a>
     }
 }
 
-fn check_words<'a>(found: &ArgMatches<'a>, profile: Profile) -> CheckWords<'a>
+fn check_words<'a>(
+    alloc: Global,
+    found: &ArgMatches<'a>,
+    profile: Profile,
+) -> Result<CheckWords<'a>, AllocError>
     ensures { IsProfile (first_of (codes "profile") (rows_of (found_of found.now))) profile
-        → AsksCheck (rows_of (found_of found.now)) result }
+        → IfOk result (AsksCheck (rows_of (found_of found.now))) }
 {
-    CheckWords {
-        source: required_text(found, "source"),
+    Ok(CheckWords {
+        sources: Vec::from_slice(alloc, found.get_strs("sources").unwrap_or(&[]))?,
         is_json: found.get_flag("json"),
         allowed: found.get_str("allow"),
+        color: color_asked(found.get_str("color")),
         profile,
+    })
+}
+
+// When there are colours, by the word for it.
+fn color_asked(word: Option<&str>) -> ColorChoice
+    ensures { result ≡ color_asked (option_copied word.entry) }
+{
+    match word {
+        Some("always") => ColorChoice::Always,
+        Some("never") => ColorChoice::Never,
+        _ => ColorChoice::Auto,
     }
 }
 

@@ -173,9 +173,10 @@ const COMMANDS: [CommandRow; 11] = [
         about: "Prints each fault of a source with its place and a sentence, and warnings",
         notes: "Example: chipbench check game.asm --allow W2",
         arguments: &[
-            Argument::NeededSource,
+            Argument::Sources,
             Argument::Json,
             Argument::Allow,
+            Argument::Color,
             Argument::Profile,
         ],
     },

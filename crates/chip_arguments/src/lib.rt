@@ -7,7 +7,7 @@ mod commands;
 pub mod limits;
 
 pub use command_line::{
-    CheckWords, CommandLine, ExploreWords, PictureWords, RunWords, SettingWords, TestWords,
-    TraceWords, not_text, number, parse_words, seed,
+    CheckWords, ColorChoice, CommandLine, ExploreWords, PictureWords, RunWords, SettingWords,
+    TestWords, TraceWords, not_text, number, parse_words, seed,
 };
 pub use commands::VERSION;

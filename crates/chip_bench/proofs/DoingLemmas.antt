@@ -1,18 +1,16 @@
 -- What each command did, from what its steps did.
 use Rattle.std.proofs.Common.{◌≡◌, ◌⊎◌, inl, inr, ℕ, Bool, true, false, List, [], ◌++◌, append_assoc, Option, Some, None, Result, Ok, Err, IfOk, IfErr, length, ◌<◌, ◌≤◌, arith, refl, sym, ◌∙◌, ap, subst}
-use Rattle.std.specs.Prelude.{IsErrAnd, option_copied}
+use Rattle.std.specs.Prelude.{IsErrAnd}
 use Rattle.std.specs.Borrow.{Bor}
 use Rattle.std.specs.declared.io.Error.{Error as IoError}
 use Rattle.chip_asm.specs.Lines.{lines_of, open_fault}
 use Rattle.chip_lang.specs.declared.limits.TheConstants.{IMAGE_BYTES}
 use Rattle.chip_views.specs.Dis.{source_of_image}
-use Rattle.chip_bench.specs.Doing.{AsSource, Assembles, AssemblesBy, Checks, Debugs, Declined, Disassembles, DisassemblesBytes, Does, Explains, FromGiven, FromKeys, FromSource, GivesSource, IfSettled, IsBadSet, IsFileWritten, IsImageRefused, IsShort, IsSourceUnread, IsUnsettled, Lists, Outcome, Pictures, PicturesBy, PrintsPage, PrintsPicture, Runs, Traces, TracesBy, WithAsked, image_in}
+use Rattle.chip_bench.specs.Doing.{AsSource, Assembles, AssemblesBy, Debugs, Declined, Disassembles, DisassemblesBytes, Does, Explains, FromGiven, FromKeys, FromSource, GivesSource, IfSettled, IsFileWritten, IsImageRefused, IsShort, IsSourceUnread, IsUnsettled, Lists, Outcome, Pictures, PicturesBy, PrintsPage, PrintsPicture, Runs, Traces, TracesBy, WithAsked, image_in}
 use Rattle.chip_bench.specs.inner.Reads.{IsAsked, IsGiven, IsImageHindered, IsImageOrFaults, IsKeysUnread, IsNotGiven, IsNotTaken, IsTaken, IsUnasked}
 use Rattle.chip_pages.specs.Pages.{IsExplained}
-use Rattle.chip_bench.specs.Printing.{IsPrintedCheck, IsPrintedOf, Prints, PrintsSuch, PrintsUnder, printed_listing, printed_picture, printed, printed_of, printed_run}
-use Rattle.chip_arguments.specs.declared.command_line.CheckWords.{CheckWords}
+use Rattle.chip_bench.specs.Printing.{Prints, PrintsUnder, printed_listing, printed_picture, printed, printed_of, printed_run}
 use Rattle.chip_arguments.specs.declared.command_line.PictureWords.{PictureWords}
-use Rattle.chip_bench.specs.Exploring.{AsksSet, warning_named}
 use Rattle.chip_session.specs.declared.question.PictureForm.{PictureForm}
 use Rattle.chip_bench.specs.Running.{AnswersScript, IsUnread}
 use Rattle.chip_session.specs.Settings.{SessionSettings}
@@ -193,10 +191,10 @@ module _ {R W : Type 0} (remaining : R → Option (List ℕ)) (contents : W → 
       Debugs remaining contents in_old in_new out_old out_new source is_image words ended
   debugs_none source is_image words settings ended none asked script = rw (none, asked) script
 
-  pub does_it : (asked other : CommandLine) (ended : Outcome) → asked ≡ other → Does remaining contents in_old in_new out_old out_new other ended →
-      Does remaining contents in_old in_new out_old out_new asked ended
-  does_it asked other ended e did =
-      subst (λ (line : CommandLine). Does remaining contents in_old in_new out_old out_new line ended) (sym e) did
+  pub does_it : (takes_color : Bool) (asked other : CommandLine) (ended : Outcome) → asked ≡ other →
+      Does remaining contents in_old in_new out_old out_new takes_color other ended → Does remaining contents in_old in_new out_old out_new takes_color asked ended
+  does_it takes_color asked other ended e did =
+      subst (λ (line : CommandLine). Does remaining contents in_old in_new out_old out_new takes_color line ended) (sym e) did
 
   -- the image of a source is written
   pub assembles_image : (source name : Bor (List ℕ)) (bytes text image : List ℕ) (ended : Outcome) → text ≡ bytes →
@@ -285,22 +283,6 @@ module _ {R W : Type 0} (remaining : R → Option (List ℕ)) (contents : W → 
       source_unread remaining in_old in_new (output ≡ output) refl source
       (λ bytes. Prints contents output output (printed_of (open_fault bytes) (printed_listing (lines_of bytes)))) ended why e w
 
-  -- the argument for warnings names none
-  pub checks_bad : (words : CheckWords) (ended : Outcome) (why : Failure) → ended ≡ Err why → in_new ≡ in_old → IsBadSet why →
-      AsksSet warning_named 0 (option_copied words.allowed) None → Checks remaining contents in_old in_new output output words ended
-  checks_bad words ended why e same bad asks =
-      (None, asks, declines remaining in_old in_new (output ≡ output) refl IsBadSet ended why e bad same)
-
-  pub checks_not : (words : CheckWords) (set : ℕ) (ended : Outcome) (why : Failure) → AsksSet warning_named 0 (option_copied words.allowed) (Some set) →
-      ended ≡ Err why → IsSourceUnread in_old in_new words.source why → Checks remaining contents in_old in_new output output words ended
-  checks_not words set ended why asks e w = (
-    Some set,
-    asks,
-    source_unread remaining in_old in_new (output ≡ output) refl words.source
-        (λ bytes. PrintsSuch contents output output
-        (IsPrintedOf (open_fault bytes) (IsPrintedCheck words.is_json words.source.now (lines_of bytes)))) ended why e w,
-  )
-
   pub disassembles_not : (image : Bor (List ℕ)) (ended : Outcome) (why : Failure) → ended ≡ Err why → IsSourceUnread in_old in_new image why →
       Disassembles remaining contents in_old in_new output output image ended
   disassembles_not image ended why e w =
@@ -332,21 +314,6 @@ module _ {R W : Type 0} (remaining : R → Option (List ℕ)) (contents : W → 
       Lists remaining contents in_old in_new old new source ended
   lists source bytes text ended same gives did =
       inl (bytes, gives, subst (λ (t : List ℕ). Prints contents old new (printed_of (open_fault t) (printed_listing (lines_of t))) ended) same did)
-
-  pub checks : (words : CheckWords) (set : ℕ) (bytes text : List ℕ) (ended : Outcome) → AsksSet warning_named 0 (option_copied words.allowed) (Some set) →
-      text ≡ bytes → GivesSource remaining in_old in_new words.source.now bytes →
-      PrintsSuch contents old new (IsPrintedOf (open_fault text) (IsPrintedCheck words.is_json words.source.now (lines_of text))) ended →
-      Checks remaining contents in_old in_new old new words ended
-  checks words set bytes text ended asks same gives did = (
-    Some set,
-    asks,
-    inl (
-      bytes,
-      gives,
-      subst (λ (t : List ℕ). PrintsSuch contents old new
-          (IsPrintedOf (open_fault t) (IsPrintedCheck words.is_json words.source.now (lines_of t))) ended) same did,
-    ),
-  )
 
   pub disassembles : (image : Bor (List ℕ)) (bytes text : List ℕ) (ended : Outcome) → text ≡ bytes → length bytes ≤ IMAGE_BYTES →
       GivesSource remaining in_old in_new image.now bytes → Prints contents old new (printed (source_of_image text) Done) ended →

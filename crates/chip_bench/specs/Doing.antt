@@ -5,6 +5,9 @@
 --     AsSource                       what a command did with the source that some bytes are
 --     FromSource, FromGiven, FromFile, FromKeys, WithAsked    what a command did with the bytes that
 --                                                  it read, or why it read none
+--     worse, with_ending              how a list of sources ends
+--     paints                         whether what `check` prints has colours
+--     ChecksOne, ChecksEach          what `check` did with a source, and with each of some
 --     Debugs, Assembles, Lists, Checks, Disassembles, Runs, Traces, Pictures, Explores, Explains
 --                                    what each command did
 --     Does                           the same, by what was asked
@@ -12,7 +15,7 @@
 --     Ends                           how the program ended after that
 -- No contract says what bytes a file gives or takes: of a file's bytes these words say that there
 -- are some.
-use Rattle.std.specs.Prelude.{◌≡◌, ◌≢◌, ◌⊎◌, ℕ, ◌<◌, ◌≤◌, Bool, true, false, List, [], codes, length, take, Option, Some, None, option_copied, IfSome, Result, Ok, IsErrAnd, if◌then◌else◌}
+use Rattle.std.specs.Prelude.{◌≡◌, ◌≢◌, ◌⊎◌, ℕ, ◌<◌, ◌≤◌, ◌==◌, Bool, true, false, List, [], ◌∷◌, codes, length, take, Option, Some, None, option_copied, IfSome, Result, Ok, Err, IsErrAnd, if◌then◌else◌}
 use Rattle.std.specs.Borrow.{Bor}
 use Rattle.std.specs.Io.KnownBytes.{Keeps}
 use Rattle.std.specs.declared.io.Error.{Error as IoError}
@@ -38,7 +41,7 @@ use Rattle.chip_bench.specs.Tracing.{IsCompared, header_of, lines_after, printed
 use Rattle.chip_bench.specs.declared.tracing.Shown.{Shown}
 use Rattle.chip_pages.specs.Pages.{IsContents, IsExplained}
 use Rattle.chip_arguments.specs.Version.{version_text}
-use Rattle.chip_bench.specs.Printing.{IsPrintedCheck, IsPrintedOf, Printed, PrintsSuch, PrintsSuchUnder, PrintsUnder, Prints, RefusesKeys, StreamsUnder, fault_under, printed_faults, printed_listing, printed_picture, printed, printed_of, printed_run}
+use Rattle.chip_bench.specs.Printing.{IsPrintedCheckOf, Printed, PrintsSuch, PrintsSuchUnder, PrintsUnder, Prints, RefusesKeys, StreamsUnder, fault_under, printed_faults, printed_listing, printed_picture, printed, printed_of, printed_run}
 use Rattle.chip_bench.specs.Running.{AnswersIfAsked, AnswersScript, IsUnread, source_bytes_read, status_of}
 use Rattle.chip_bench.specs.SettingWords.{settings_asked}
 use Rattle.chip_session.specs.Settings.{SessionSettings}
@@ -53,6 +56,8 @@ use Rattle.chip_machine.specs.State.{State}
 use Rattle.chip_arguments.specs.declared.command_line.CommandLine.{CommandLine}
 use Rattle.chip_arguments.specs.declared.command_line.CommandLine.TheVariants as line
 use Rattle.chip_arguments.specs.declared.command_line.CheckWords.{CheckWords}
+use Rattle.chip_arguments.specs.declared.command_line.ColorChoice.{ColorChoice}
+use Rattle.chip_arguments.specs.declared.command_line.ColorChoice.TheVariants as color
 use Rattle.chip_arguments.specs.declared.command_line.ExploreWords.{ExploreWords}
 use Rattle.chip_arguments.specs.declared.command_line.PictureWords.{PictureWords}
 use Rattle.chip_arguments.specs.declared.command_line.RunWords.{RunWords}
@@ -67,6 +72,22 @@ use Rattle.chip_session.specs.declared.question.PictureForm.TheVariants as form
 
 abbrev pub Outcome : Type 0
 Outcome = Result Ending Failure
+
+-- the worse of two endings: faulty where one of them is
+abbrev pub worse : Ending → Ending → Ending
+worse Done later = later
+worse ending later = ending
+
+-- sources one after another end as the worst of them, or with what hinders a later one
+abbrev pub with_ending : Ending → Outcome → Outcome
+with_ending ending (Ok later) = Ok (worse ending later)
+with_ending ending (Err why) = Err why
+
+-- whether what is printed has colours: where the words leave that open, whether the output takes them
+abbrev pub paints : ColorChoice → (takes_color : Bool) → Bool
+paints color.Auto takes_color = takes_color
+paints color.Always takes_color = true
+paints color.Never takes_color = false
 
 -- the name of standard input, in the place of a source's file
 abbrev pub standard_input : List ℕ
@@ -366,6 +387,34 @@ module _ {W : Type 0} (contents : W → Option (List ℕ)) (out_old out_new : Ta
       × Prints contents out_old out_new (printed text Done) ended) ⊎ Fails IsShort ended
   Explains (Some code) ended = ExplainsCode code ended
 
+-- `check`, source by source. No contract speaks of the warnings.
+module _ {R W : Type 0} (remaining : R → Option (List ℕ)) (contents : W → Option (List ℕ))
+    (is_json is_painted is_alone : Bool) where
+  -- what it did with one source
+  abbrev pub ChecksOne : Bor (List ℕ) → (in_old in_new : Tally R) → (out_old out_new : Tally W)
+      → Outcome → Type 0
+  ChecksOne name in_old in_new out_old out_new ended =
+      FromSource remaining in_old in_new (out_new ≡ out_old) name (λ bytes.
+      PrintsSuch contents out_old out_new (IsPrintedCheckOf is_json is_painted is_alone name.now
+      (open_fault bytes) (lines_of bytes))) ended
+
+  -- after one source: what hinders it ends the check, and else the others follow
+  abbrev pub GoesOn : Outcome → (Others : Outcome → Type 0) → (Quiet : Type 0) → Outcome → Type 0
+  GoesOn (Ok ending) Others Quiet ended =
+      (later : Outcome) × Others later × (ended ≡ with_ending ending later)
+  GoesOn (Err why) Others Quiet ended = Quiet × (ended ≡ Err why)
+
+  -- with each of these, one after another
+  abbrev pub ChecksEach : List (Bor (List ℕ)) → (in_old in_new : Tally R)
+      → (out_old out_new : Tally W) → Outcome → Type 0
+  ChecksEach [] in_old in_new out_old out_new ended =
+      (in_new ≡ in_old) × (out_new ≡ out_old) × (ended ≡ Ok Done)
+  ChecksEach (name ∷ names) in_old in_new out_old out_new ended =
+      (in_mid : Tally R) × (out_mid : Tally W) × (first : Outcome)
+      × ChecksOne name in_old in_mid out_old out_mid first
+      × GoesOn first (ChecksEach names in_mid in_new out_mid out_new)
+      ((in_new ≡ in_mid) × (out_new ≡ out_mid)) ended
+
 -- What is done.
 module _ {R W : Type 0} (remaining : R → Option (List ℕ)) (contents : W → Option (List ℕ))
     (in_old in_new : Tally R) (out_old out_new : Tally W) where
@@ -393,13 +442,12 @@ module _ {R W : Type 0} (remaining : R → Option (List ℕ)) (contents : W → 
       (printed_of (open_fault bytes) (printed_listing (lines_of bytes)))) ended
 
   -- `check`: no contract speaks of the warnings, but of which ones the argument names
-  abbrev pub Checks : CheckWords → Outcome → Type 0
-  Checks words ended =
+  abbrev pub Checks : (takes_color : Bool) → CheckWords → Outcome → Type 0
+  Checks takes_color words ended =
       (allowed : Option ℕ) × AsksSet warning_named 0 (option_copied words.allowed) allowed
       × IfSet remaining in_old in_new (out_new ≡ out_old) allowed (λ set.
-      FromSource remaining in_old in_new (out_new ≡ out_old) words.source (λ bytes.
-      PrintsSuch contents out_old out_new (IsPrintedOf (open_fault bytes)
-      (IsPrintedCheck words.is_json words.source.now (lines_of bytes))))) ended
+      ChecksEach remaining contents words.is_json (paints words.color takes_color)
+      (length words.sources.items == 1) words.sources.items in_old in_new out_old out_new) ended
 
   abbrev pub Disassembles : Bor (List ℕ) → Outcome → Type 0
   Disassembles image ended =
@@ -434,25 +482,25 @@ module _ {R W : Type 0} (remaining : R → Option (List ℕ)) (contents : W → 
       FromGiven remaining in_old in_new (out_new ≡ out_old) words.is_image words.source (λ source.
       Searches contents out_old out_new words settings causes keys (image_in source) source))) ended
 
-  -- what the program did for what it was asked
-  abbrev pub Does : CommandLine → Outcome → Type 0
-  Does (line.Debug source is_image words) ended = Debugs source is_image words ended
-  Does (line.Asm source image) ended = Assembles source image ended
-  Does (line.List source) ended = Lists source ended
-  Does (line.Check words) ended = Checks words ended
-  Does (line.Dis image) ended = Disassembles image ended
-  Does (line.Run words) ended = Runs words ended
-  Does (line.Trace words) ended = Traces words ended
-  Does (line.Picture words) ended = Pictures words ended
-  Does (line.Test words) ended = Tests words ended × (in_new ≡ in_old)
-  Does (line.Explore words) ended = Explores words ended
-  Does (line.Explain code) ended = Explains contents out_old out_new code ended × (in_new ≡ in_old)
+  -- what the program did for what it was asked; its output takes colours, or it doesn't
+  abbrev pub Does : (takes_color : Bool) → CommandLine → Outcome → Type 0
+  Does takes_color (line.Debug source is_image words) ended = Debugs source is_image words ended
+  Does takes_color (line.Asm source image) ended = Assembles source image ended
+  Does takes_color (line.List source) ended = Lists source ended
+  Does takes_color (line.Check words) ended = Checks takes_color words ended
+  Does takes_color (line.Dis image) ended = Disassembles image ended
+  Does takes_color (line.Run words) ended = Runs words ended
+  Does takes_color (line.Trace words) ended = Traces words ended
+  Does takes_color (line.Picture words) ended = Pictures words ended
+  Does takes_color (line.Test words) ended = Tests words ended × (in_new ≡ in_old)
+  Does takes_color (line.Explore words) ended = Explores words ended
+  Does takes_color (line.Explain code) ended = Explains contents out_old out_new code ended × (in_new ≡ in_old)
 
   -- what it did for words without a fault: what they ask for, unless there was no memory to read
   -- them
-  abbrev pub Performs : List (List ℕ) → Outcome → Type 0
-  Performs words ended =
-      ((asked : CommandLine) × AsksFor words asked × Does asked ended)
+  abbrev pub Performs : (takes_color : Bool) → List (List ℕ) → Outcome → Type 0
+  Performs takes_color words ended =
+      ((asked : CommandLine) × AsksFor words asked × Does takes_color asked ended)
       ⊎ Declined remaining in_old in_new (out_new ≡ out_old) IsShort ended
 
   -- what it did for the word for help

@@ -7,7 +7,7 @@ use Rattle.chip_asm.specs.Listing.{listing_of}
 use Rattle.chip_asm.specs.declared.refusal.OpenError.{OpenError}
 use Rattle.chip_asm.specs.declared.refusal.OpenError.TheVariants as unopened
 use Rattle.chip_check.specs.Check.{IsChecked}
-use Rattle.chip_check.specs.Json.{IsCheckJson}
+use Rattle.chip_check.specs.Json.{IsCheckJson, unopened_object}
 use Rattle.chip_session.specs.Answers.{answer_to, faults_text, listing_text}
 use Rattle.std.specs.Borrow.{Bor}
 use Rattle.chip_session.specs.KeyFile.{key_fault, session_under}
@@ -65,17 +65,32 @@ ending_with None = Faulty
 abbrev pub printed_listing : List (List ℕ) → Printed
 printed_listing lines = printed (listing_text (listing_of lines)) (ending_with (image_of lines))
 
--- what `check` prints: text or JSON objects
-abbrev pub IsCheckText : (is_json : Bool) → (name : List ℕ) (lines : List (List ℕ))
+-- what `check` prints: text, in colours or without, or JSON objects
+abbrev pub IsCheckText : (is_json is_painted : Bool) → (name : List ℕ) (lines : List (List ℕ))
     → (text : List ℕ) → Type 0
-IsCheckText false name lines text = IsChecked name lines text
-IsCheckText true name lines text = IsCheckJson name lines text
+IsCheckText false is_painted name lines text = IsChecked is_painted name lines text
+IsCheckText true is_painted name lines text = IsCheckJson name lines text
 
 -- `check`: the reports of the faults, with lines of help among them, and then warnings
-pub record IsPrintedCheck (is_json : Bool) (name : List ℕ) (lines : List (List ℕ))
+pub record IsPrintedCheck (is_json is_painted : Bool) (name : List ℕ) (lines : List (List ℕ))
     (wanted : Printed) : Type 0 where
-  pub text : IsCheckText is_json name lines wanted.text
+  pub text : IsCheckText is_json is_painted name lines wanted.text
   pub ending : wanted.ending ≡ ending_with (image_of lines)
+
+-- why a source doesn't open, as `check` prints it: where it is one of several, after its name; as JSON
+-- an object
+abbrev pub unopened_check : (is_json is_alone : Bool) → (name : List ℕ) → OpenError → List ℕ
+unopened_check false true name fault = unopened_text fault
+unopened_check false false name fault = name ++ codes ": " ++ unopened_text fault
+unopened_check true is_alone name fault = unopened_object name fault
+
+-- what `check` prints of a source: why it doesn't open, where it doesn't
+abbrev pub IsPrintedCheckOf : (is_json is_painted is_alone : Bool) → (name : List ℕ)
+    → Option OpenError → (lines : List (List ℕ)) → Printed → Type 0
+IsPrintedCheckOf is_json is_painted is_alone name (Some fault) lines wanted =
+    wanted ≡ printed (unopened_check is_json is_alone name fault) Faulty
+IsPrintedCheckOf is_json is_painted is_alone name None lines wanted =
+    IsPrintedCheck is_json is_painted name lines wanted
 
 -- a question that isn't answered: the faults where there is no image, else the refusal's code
 abbrev pub unanswered : Refusal → Printed → Printed

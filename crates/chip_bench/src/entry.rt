@@ -7,29 +7,27 @@ ghost use Rattle.chip_bench.specs.Printing.{Prints, printed};
 ghost use Rattle.chip_session.specs.Settings.{default_settings};
 ghost use Rattle.chip_bench.specs.Running.{AnswersScript, RunsSession, status_of, failure_status, AreFaulty, IsWithoutWords};
 ghost use Rattle.chip_bench.specs.inner.Reads.{IsUsage};
-ghost use Rattle.chip_bench.specs.Doing.{Assembles, Checks, Debugs, Disassembles, Does, Ends, IsFileWritten, Lists, Performs, PrintsText, Runs, ShowsHelp, ShowsVersion, Traces, TracesAlone, TracesBeside, form_of};
+ghost use Rattle.chip_bench.specs.Doing.{Assembles, Debugs, Disassembles, Does, Ends, IsFileWritten, Lists, Performs, PrintsText, Runs, ShowsHelp, ShowsVersion, Traces, TracesAlone, TracesBeside, form_of};
 ghost use Rattle.chip_arguments.specs.CommandWords.{word_faults};
 ghost use Rattle.std.specs.Io.KnownBytes.{Keeps};
 ghost use Rattle.std.specs.IoError.{error_kind};
 
+use crate::checking::check;
 use crate::ending::{Ending, Failure};
 use crate::exploring::explore;
 use crate::limits::TRACE_FILE_BYTES;
 use crate::output::{
-    answer_script, check_source, explain, image_or_faults, list_source, print, print_source,
-    print_version, run_source,
+    answer_script, explain, image_or_faults, list_source, print, print_source, print_version,
+    run_source,
 };
 use crate::picturing::picture;
 use crate::reading::{
     Asked, MOST_SOURCE, as_source, file_name, read_asked, read_bounded, read_file, read_source,
     settings_of,
 };
-use crate::sets::warnings_of;
 use crate::testing::test_files;
 use crate::tracing::{Shown, compare_source, trace_source};
-use chip_arguments::{
-    CheckWords, CommandLine, RunWords, SettingWords, TraceWords, not_text, parse_words,
-};
+use chip_arguments::{CommandLine, RunWords, SettingWords, TraceWords, not_text, parse_words};
 use chip_files::{first_line, write_file};
 use chip_machine::limits::IMAGE_BYTES;
 use chip_session::Counted;
@@ -41,6 +39,15 @@ use std::io;
 use std::io::{Read, Write};
 use std::rt::Files;
 
+/// What the program is told of the system that it runs on.
+#[derive(Clone, Copy)]
+pub struct Host {
+    /// From which number on the names of a session's source are hashed. No answer depends on it.
+    pub name_seed: u64,
+    /// Whether the output takes colours, as a terminal does.
+    pub takes_color: bool,
+}
+
 /// The program, with the words after its name. The answer is its status: 0 where it did what it was
 /// asked, 1 where the source has faults or doesn't open, 2 for words that it doesn't take, 3 where
 /// a file, input or output failed or there was too much input, and 4 where memory ran out.
@@ -48,14 +55,12 @@ use std::rt::Files;
 /// `asm` writes the whole image to its file, or leaves what was there. Only what is written in
 /// place, such as a pipe or a file of several names, may have taken some bytes before a failure.
 ///
-/// The names of a session's source are hashed from `name_seed` on; no answer depends on it.
-///
 /// Without words it carries out the script that `input` gives, on the empty source, and writes the
 /// answers to `output`. What hinders it is said on `errors`; a failure there is ignored.
 pub fn program<F: Files, S: AsStr, I: Read, O: Write, E: Write>(
     alloc: Global,
     files: &F,
-    name_seed: u64,
+    host: Host,
     words: &[S],
     input: &mut Counted<I>,
     output: &mut Counted<O>,
@@ -69,7 +74,7 @@ pub fn program<F: Files, S: AsStr, I: Read, O: Write, E: Write>(
         × Keeps (O.contents output.old.inner) (O.contents output.new.inner) }
     // Words without a fault ask for something, and that is done.
     ensures good { word_faults (map S.text words.now) ≡ [] → Ends O.contents (λ written ended.
-        Performs I.remaining O.contents input.old input.new output.old written
+        Performs I.remaining O.contents input.old input.new output.old written host.takes_color
         (map S.text words.now) ended)
         output.new result }
     // The word for help has help printed: of its text, which `clap` makes, no contract speaks.
@@ -83,7 +88,7 @@ pub fn program<F: Files, S: AsStr, I: Read, O: Write, E: Write>(
         ShowsVersion I.remaining O.contents input.old input.new output.old written ended)
         output.new result }
 {
-    let ended = carry_out(alloc, files, name_seed, words, input, output, errors);
+    let ended = carry_out(alloc, files, host, words, input, output, errors);
     let flushed = output.flush();
     finish(ended, flushed.is_ok(), errors)
 }
@@ -124,7 +129,7 @@ fn report<E: Write>(failure: Failure<'_>, errors: &mut E) -> u8
 fn carry_out<'a, F: Files, S: AsStr, I: Read, O: Write, E: Write>(
     alloc: Global,
     files: &F,
-    name_seed: u64,
+    host: Host,
     words: &'a [S],
     input: &mut Counted<I>,
     output: &mut Counted<O>,
@@ -136,14 +141,15 @@ fn carry_out<'a, F: Files, S: AsStr, I: Read, O: Write, E: Write>(
     ensures usage { AreFaulty (word_faults (map S.text words.entry.now)) → IsUsage result
         × (input.new ≡ input.old) × (output.new ≡ output.old) }
     ensures good { word_faults (map S.text words.entry.now) ≡ [] → Performs I.remaining O.contents
-        input.old input.new output.old output.new (map S.text words.entry.now) result }
+        input.old input.new output.old output.new host.takes_color (map S.text words.entry.now)
+        result }
     ensures help { word_faults (map S.text words.entry.now) ≡ ErrorKind.DisplayHelp ∷ []
         → ShowsHelp I.remaining O.contents input.old input.new output.old output.new result }
     ensures version { word_faults (map S.text words.entry.now) ≡ ErrorKind.DisplayVersion ∷ []
         → ShowsVersion I.remaining O.contents input.old input.new output.old output.new result }
 {
     match parse_words(alloc, words) {
-        Ok(line) => perform(alloc, files, name_seed, line, input, output, errors),
+        Ok(line) => perform(alloc, files, host, line, input, output, errors),
         Err(help) if !help.use_stderr() => show_help(alloc, &help, output),
         Err(fault) => Err(Failure::from(fault)),
     }
@@ -152,14 +158,14 @@ fn carry_out<'a, F: Files, S: AsStr, I: Read, O: Write, E: Write>(
 fn perform<'a, F: Files, I: Read, O: Write, E: Write>(
     alloc: Global,
     files: &F,
-    name_seed: u64,
+    host: Host,
     line: CommandLine<'a>,
     input: &mut Counted<I>,
     output: &mut Counted<O>,
     errors: &mut E,
 ) -> Result<Ending, Failure<'a>>
     ensures { Does I.remaining O.contents input.old input.new output.old output.new
-        line.entry result }
+        host.takes_color line.entry result }
 {
     match line {
         CommandLine::Debug {
@@ -169,12 +175,23 @@ fn perform<'a, F: Files, I: Read, O: Write, E: Write>(
         } => {
             let given = Given { source, is_image };
             debug(
-                alloc, files, name_seed, given, &settings, input, output, errors,
+            debug(
+                alloc,
+                files,
+                host.name_seed,
+                given,
+                &settings,
+                input,
+                output,
+                errors,
+            )
             )
         }
         CommandLine::Asm { source, image } => asm(alloc, files, source, image, input, output),
         CommandLine::List { source } => list(alloc, files, source, input, output),
-        CommandLine::Check(words) => check(alloc, files, &words, input, output),
+        CommandLine::Check(words) => {
+            check(alloc, files, host.takes_color, &words, input, output)
+        }
         CommandLine::Dis { image } => dis(alloc, files, image, input, output),
         CommandLine::Run(words) => run(alloc, files, &words, input, output, errors),
         CommandLine::Trace(words) => trace(alloc, files, &words, input, output, errors),
@@ -268,21 +285,6 @@ fn list<'a, F: Files, I: Read, O: Write>(
 {
     let bytes = read_source(alloc, files, source, input)?;
     list_source(alloc, bytes, output)
-}
-
-fn check<'a, F: Files, I: Read, O: Write>(
-    alloc: Global,
-    files: &F,
-    words: &CheckWords<'a>,
-    input: &mut Counted<I>,
-    output: &mut Counted<O>,
-) -> Result<Ending, Failure<'a>>
-    ensures { Checks I.remaining O.contents input.old input.new output.old output.new
-        words.entry.now result }
-{
-    let allowed = warnings_of(words.allowed)?;
-    let bytes = read_source(alloc, files, words.source, input)?;
-    check_source(alloc, words, allowed, &bytes, output)
 }
 
 // Writes a file whole, or leaves what was there. A file of the names that are taken stays.

@@ -4,6 +4,7 @@
 mod case_report;
 mod case_run;
 mod case_setup;
+mod checking;
 mod ending;
 mod entry;
 mod exploring;
@@ -24,4 +25,4 @@ pub use chip_session::{
     Bench, Change, Command, CommandFault, Counted, Letters, OpenError, PictureForm, Question,
     Refusal, ServeError, SetError, Settings, StateQuestion, read_command, serve, tape_of,
 };
-pub use entry::{program, refuse_words};
+pub use entry::{Host, program, refuse_words};

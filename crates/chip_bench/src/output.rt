@@ -4,7 +4,7 @@ ghost use Rattle.chip_asm.specs.Lines.{lines_of, open_fault};
 ghost use Rattle.chip_asm.specs.Program.{image_of};
 ghost use Rattle.chip_views.specs.Dis.{source_of_image};
 ghost use Rattle.chip_session.specs.Transcript.{refused};
-ghost use Rattle.chip_bench.specs.Printing.{IsCheckText, IsPrintedCheck, IsPrintedOf, Prints, PrintsSuch, Refuses, printed, printed_of, printed_faults, printed_listing, printed_run, printed_picture, unanswered, keys_failure, PrintsUnder, PrintsUnless};
+ghost use Rattle.chip_bench.specs.Printing.{Prints, Refuses, printed, printed_of, printed_faults, printed_listing, printed_run, printed_picture, unanswered, keys_failure, PrintsUnder, PrintsUnless};
 ghost use Rattle.chip_session.specs.KeyFile.{key_fault, session_under};
 ghost use Rattle.chip_bench.specs.Running.{AnswersScript};
 ghost use Rattle.chip_bench.specs.Doing.{Explains};
@@ -12,9 +12,8 @@ ghost use Rattle.chip_bench.specs.inner.Reads.{IsImageHindered, IsImageOrFaults}
 ghost use Rattle.chip_arguments.specs.Version.{version_text};
 
 use crate::ending::{Code, Ending, Failure};
-use chip_arguments::{CheckWords, VERSION};
+use chip_arguments::VERSION;
 use chip_asm::{OpenError, Source};
-use chip_check::{check_json, check_text};
 use chip_machine::limits::IMAGE_BYTES;
 use chip_pages::{contents, page_text};
 use chip_session::{
@@ -22,8 +21,7 @@ use chip_session::{
     faults_answer, insert_keys, listing_answer, refuse, serve, write_all,
 };
 use chip_views::source_of_image;
-use chip_warnings::{Warning, warnings};
-use std::alloc::{AllocError, Global};
+use std::alloc::Global;
 use std::io::{Read, Write};
 use std::mem;
 
@@ -97,24 +95,6 @@ pub(crate) fn list_source<'a, O: Write>(
             mem::forget(opened);
             Ok(ending)
         }
-        Err(error) => refuse_source(error, output),
-    }
-}
-
-/// `check`: the faults of a source with their places, and its warnings but for the allowed ones, Wk at
-/// bit k.
-pub(crate) fn check_source<'a, O: Write>(
-    alloc: Global,
-    words: &CheckWords<'_>,
-    allowed: u16,
-    source: &[u8],
-    output: &mut Counted<O>,
-) -> Result<Ending, Failure<'a>>
-    ensures { PrintsSuch O.contents output.old output.new (IsPrintedOf (open_fault source.now)
-        (IsPrintedCheck words.now.is_json words.now.source.now (lines_of source.now))) result }
-{
-    match Source::open(alloc, source) {
-        Ok(opened) => print_check(alloc, words, allowed, source, &opened, output),
         Err(error) => refuse_source(error, output),
     }
 }
@@ -336,46 +316,6 @@ fn print_listing<'a, O: Write>(
     match source.image() {
         Some(_) => print(&listing, Ending::Done, output),
         None => print(&listing, Ending::Faulty, output),
-    }
-}
-
-fn print_check<'a, O: Write>(
-    alloc: Global,
-    words: &CheckWords<'_>,
-    allowed: u16,
-    bytes: &[u8],
-    source: &Source,
-    output: &mut Counted<O>,
-) -> Result<Ending, Failure<'a>>
-    requires { source.now.lines ≡ lines_of bytes.now }
-    ensures { PrintsSuch O.contents output.old output.new
-        (IsPrintedCheck words.now.is_json words.now.source.now source.now.lines) result }
-{
-    let warnings = warnings(alloc, bytes, source, words.profile, allowed)?;
-    let text = check_of(alloc, words, bytes, source, &warnings)?;
-    match source.image() {
-        Some(_) => print(&text, Ending::Done, output),
-        None => print(&text, Ending::Faulty, output),
-    }
-}
-
-// What `check` prints of a source and its warnings, as text or as JSON.
-fn check_of(
-    alloc: Global,
-    words: &CheckWords<'_>,
-    bytes: &[u8],
-    source: &Source,
-    warnings: &[Warning],
-) -> Result<Vec<u8>, AllocError>
-    requires { source.now.lines ≡ lines_of bytes.now }
-    ensures { IfOk result (λ text. IsCheckText words.now.is_json words.now.source.now
-        source.now.lines text.items) }
-{
-    let name = words.source.as_bytes();
-    if words.is_json {
-        check_json(alloc, name, bytes, source, warnings)
-    } else {
-        check_text(alloc, name, bytes, source, warnings)
     }
 }
 

@@ -24,7 +24,7 @@ mod streams;
 use crate::session::Session;
 use crate::streams::{Feed, Plan, Sink, each, talk};
 use anyhow::{Error, bail};
-use chip_bench::{Counted, Settings, program, refuse_words, tape_of};
+use chip_bench::{Counted, Host, Settings, program, refuse_words, tape_of};
 use std::alloc::Global;
 use std::io;
 use std::io::{BufRead, BufReader, Read, Write};
@@ -136,7 +136,10 @@ fn run(rt: &HostRuntime, words: &str, script: &[u8], plan: &Plan) -> Result<Stri
     let status = program(
         rt.alloc(),
         rt,
-        0,
+        Host {
+            name_seed: 0,
+            takes_color: false,
+        },
         &list,
         &mut input,
         &mut output,

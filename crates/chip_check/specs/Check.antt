@@ -1,6 +1,6 @@
 -- The faults of a source as compilers print them: place, sentence, line and marks, and below them
 -- lines of help, of which only the beginnings are told (own).
-use Rattle.std.specs.Prelude.{◌≡◌, ℕ, ◌+◌, ◌-◌, ◌==◌, List, [], ◌∷◌, ◌++◌, take, replicate, if◌then◌else◌, Option, Some, None, codes}
+use Rattle.std.specs.Prelude.{◌≡◌, ℕ, ◌+◌, ◌-◌, ◌==◌, Bool, true, false, List, [], ◌∷◌, ◌++◌, take, replicate, if◌then◌else◌, Option, Some, None, codes}
 use Rattle.std.specs.Fmt.{decimal}
 use Rattle.std.specs.List.{flat_map, position_or_len}
 use Rattle.chip_lang.specs.declared.fault.Fault.{Fault}
@@ -44,11 +44,34 @@ sentence_with fault mnemonic = sentence_of fault
 abbrev pub code_of : Fault → List ℕ
 code_of fault = codes "F" ++ decimal (number_of_fault fault)
 
+-- How a part of a text is painted: from its style on, and reset at its end. A style is the numbers
+-- of ECMA-48's Select Graphic Rendition; 27 is ESC.
+abbrev pub opening : (is_painted : Bool) (style : List ℕ) → List ℕ
+opening false style = []
+opening true style = 27 ∷ codes "[" ++ style ++ codes "m"
+
+abbrev pub closing : (is_painted : Bool) → List ℕ
+closing false = []
+closing true = 27 ∷ codes "[0m"
+
+abbrev pub painted : (is_painted : Bool) (style text : List ℕ) → List ℕ
+painted is_painted style text = opening is_painted style ++ text ++ closing is_painted
+
+-- a code is bold: that of a warning yellow, as in `W1`, and that of a fault red
+abbrev pub code_style : (code : List ℕ) → List ℕ
+code_style [] = codes "1;31"
+code_style (c ∷ cs) = if c == 87 then codes "1;33" else codes "1;31"
+
+-- marks are bold and blue
+abbrev pub mark_style : List ℕ
+mark_style = codes "1;34"
+
 -- file, line and column, each counted from 1, the column in bytes; the code, and the sentence
-unfoldable pub head : (name : List ℕ) (number : ℕ) → Span → (code sentence : List ℕ) → List ℕ
-head name number span code sentence =
+unfoldable pub head : (is_painted : Bool) (name : List ℕ) (number : ℕ) → Span
+    → (code sentence : List ℕ) → List ℕ
+head is_painted name number span code sentence =
     name ++ codes ":" ++ decimal number ++ codes ":" ++ decimal (span.start + 1) ++ codes ": "
-    ++ code ++ codes ": " ++ sentence ++ codes "\n"
+    ++ painted is_painted (code_style code) code ++ codes ": " ++ sentence ++ codes "\n"
 
 -- what stands below a byte of the line: a tab stays, and the further bytes of a character in UTF-8
 -- take no place
@@ -56,20 +79,26 @@ abbrev pub blank_of : ℕ → List ℕ
 blank_of b = if b == 9 then 9 ∷ [] else (if is_between 128 191 b then [] else 32 ∷ [])
 
 -- a caret below the first byte of the place, and a tilde below each further one
-unfoldable pub marks : (line : List ℕ) → Span → List ℕ
-marks line span =
-    flat_map blank_of (take span.start line) ++ codes "^"
-    ++ replicate (span.end - span.start - 1) 126 ++ codes "\n"
+unfoldable pub marks : (is_painted : Bool) (line : List ℕ) → Span → List ℕ
+marks is_painted line span =
+    flat_map blank_of (take span.start line)
+    ++ painted is_painted mark_style (codes "^" ++ replicate (span.end - span.start - 1) 126)
+    ++ codes "\n"
 
 -- how a line of help begins
 abbrev pub beginning : HintKind → List ℕ
-beginning Help = codes "help: "
-beginning Note = codes "note: "
+beginning Help = codes "help:"
+beginning Note = codes "note:"
+
+-- that beginning is bold: green, and cyan for a note
+abbrev pub hint_style : HintKind → List ℕ
+hint_style Help = codes "1;32"
+hint_style Note = codes "1;36"
 
 -- a line of help: its beginning, and a sentence up to a newline
-abbrev pub hint_line : Hint → List ℕ
-hint_line hint =
-    beginning hint.kind
+abbrev pub hint_line : (is_painted : Bool) → Hint → List ℕ
+hint_line is_painted hint =
+    painted is_painted (hint_style hint.kind) (beginning hint.kind) ++ codes " "
     ++ take (position_or_len is_newline hint.sentence.items) hint.sentence.items ++ codes "\n"
 
 -- How a place of a line is printed: from the line's number and text, the place, the code, the
@@ -77,11 +106,12 @@ hint_line hint =
 abbrev pub Print : Type 0
 Print = (number : ℕ) (line : List ℕ) → Span → (code sentence : List ℕ) → List Hint → List ℕ
 
--- as text: the head, the line, the marks below the place, and the lines of help
-unfoldable pub report : (name : List ℕ) → Print
-report name number line span code sentence hints =
-    head name number span code sentence ++ line ++ codes "\n" ++ marks line span
-    ++ flat_map hint_line hints
+-- as text: the head, the line, the marks below the place, and the lines of help; the line itself is
+-- never painted
+unfoldable pub report : (is_painted : Bool) (name : List ℕ) → Print
+report is_painted name number line span code sentence hints =
+    head is_painted name number span code sentence ++ line ++ codes "\n"
+    ++ marks is_painted line span ++ flat_map (hint_line is_painted) hints
 
 -- what is printed of a line: its fault, with some lines of help; nothing where it has no fault
 abbrev pub report_of : Print → (all : List (List ℕ)) (number : ℕ) (line : List ℕ)
@@ -109,9 +139,11 @@ IsCheckedIn print lines text =
     × (text ≡ reports ++ others)
 
 -- a text is the reports of a source's faults, in the order of the lines
-abbrev pub IsCheck : (name : List ℕ) (lines : List (List ℕ)) (text : List ℕ) → Type 0
-IsCheck name lines text = AreReports (report name) lines 1 lines text
+abbrev pub IsCheck : (is_painted : Bool) (name : List ℕ) (lines : List (List ℕ)) (text : List ℕ)
+    → Type 0
+IsCheck is_painted name lines text = AreReports (report is_painted name) lines 1 lines text
 
 -- a text begins with those reports
-abbrev pub IsChecked : (name : List ℕ) (lines : List (List ℕ)) (text : List ℕ) → Type 0
-IsChecked name lines text = IsCheckedIn (report name) lines text
+abbrev pub IsChecked : (is_painted : Bool) (name : List ℕ) (lines : List (List ℕ)) (text : List ℕ)
+    → Type 0
+IsChecked is_painted name lines text = IsCheckedIn (report is_painted name) lines text

@@ -5,6 +5,8 @@ use Rattle.std.specs.List.{flat_map}
 use Rattle.std.specs.Str.Lossy.{utf8_lossy}
 use Rattle.chip_lang.specs.declared.fault_place.Span.{Span}
 use Rattle.chip_lang.specs.Show.{hex_byte}
+use Rattle.chip_asm.specs.declared.refusal.OpenError.{OpenError}
+use Rattle.chip_asm.specs.declared.refusal.OpenError.TheVariants as unopened
 use Rattle.chip_check.specs.declared.hint.Hint.{Hint}
 use Rattle.chip_check.specs.declared.hint.HintKind.{HintKind}
 use Rattle.chip_check.specs.declared.hint.HintKind.TheVariants.{Help, Note}
@@ -47,6 +49,24 @@ object name number span code sentence hints =
     ++ codes ",\"end\":" ++ decimal (span.end + 1) ++ codes ",\"code\":\"" ++ code
     ++ codes "\",\"message\":" ++ quoted sentence ++ codes ",\"help\":[" ++ hint_strings hints
     ++ codes "],\"file\":" ++ quoted name ++ codes "}\n"
+
+-- the code of why a source doesn't open, and a sentence
+abbrev pub unopened_code : OpenError → List ℕ
+unopened_code (unopened.LineTooLong number) = codes "O1"
+unopened_code unopened.TooManyLines = codes "O2"
+unopened_code unopened.OutOfMemory = codes "O3"
+
+abbrev pub unopened_sentence : OpenError → List ℕ
+unopened_sentence (unopened.LineTooLong number) =
+    codes "line " ++ decimal number ++ codes " is too long"
+unopened_sentence unopened.TooManyLines = codes "too many lines"
+unopened_sentence unopened.OutOfMemory = codes "out of memory"
+
+-- The object of a source that doesn't open. What is said is said of the whole source, so the place is
+-- its beginning.
+abbrev pub unopened_object : (name : List ℕ) → OpenError → List ℕ
+unopened_object name fault =
+    object name 1 (record { start = 0; end = 0 }) (unopened_code fault) (unopened_sentence fault) []
 
 -- how a place is printed as JSON: the text of the line is left out
 abbrev pub as_object : (name : List ℕ) → Print

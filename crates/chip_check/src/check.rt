@@ -4,14 +4,15 @@ ghost use Rattle.std.specs.Prelude.{◌≡◌, ◌≤◌, ◌++◌, ℕ, List, [
 ghost use Rattle.chip_asm.specs.Lines.{lines_of};
 ghost use Rattle.chip_asm.specs.Program.{fault_at, symbols_of};
 ghost use Rattle.chip_check.specs.Check.{AreReports, IsCheck, IsChecked, IsCheckedIn, report_of};
-ghost use Rattle.chip_check.specs.Json.{AreObjects, IsCheckJson};
+ghost use Rattle.chip_check.specs.Json.{AreObjects, IsCheckJson, unopened_object};
 ghost use Rattle.chip_check.specs.inner.Printing.{print_in};
 ghost use Rattle.chip_check.specs.declared.hint.Hint.{Hint};
 
 use crate::finding::Finding;
+use crate::json::push_object;
 use crate::known::Known;
 use crate::printing::{Form, Style, push_finding};
-use chip_asm::Source;
+use chip_asm::{OpenError, Source};
 use chip_files::first_line;
 use chip_warnings::Warning;
 use std::alloc::{AllocError, Global};
@@ -21,24 +22,27 @@ use std::alloc::{AllocError, Global};
 /// and sentence, the line, a caret below the first byte of the fault's place and a tilde below each
 /// further one, and lines of help, which begin with `help: ` or `note: `. Then the same of each
 /// warning, in the given order; one that doesn't lie in the source is left out. Nothing where there
-/// is neither.
+/// is neither. Where it is painted, the code, the marks and the beginnings of the lines of help have
+/// colours, as a terminal takes them.
 ///
 /// # Errors
 ///
 /// Out of memory.
 pub fn check_text(
     alloc: Global,
+    is_painted: bool,
     name: &[u8],
     bytes: &[u8],
     source: &Source,
     warnings: &[Warning],
 ) -> Result<Vec<u8>, AllocError>
     requires { source.now.lines ≡ lines_of bytes.now }
-    ensures checked { IfOk result (λ text. IsChecked name.now source.now.lines text.items) }
+    ensures checked { IfOk result (λ text.
+        IsChecked is_painted name.now source.now.lines text.items) }
     ensures alone { warnings.now ≡ []
-        → IfOk result (λ text. IsCheck name.now source.now.lines text.items) }
+        → IfOk result (λ text. IsCheck is_painted name.now source.now.lines text.items) }
 {
-    let form = Form::Text;
+    let form = Form::Text { is_painted };
     check_in(alloc, Style { form, name }, bytes, source, warnings)
 }
 
@@ -66,6 +70,21 @@ pub fn check_json(
 {
     let form = Form::Json;
     check_in(alloc, Style { form, name }, bytes, source, warnings)
+}
+
+/// What `check --json` prints of a source of this name that doesn't open: an object at its beginning,
+/// with the code O1 or O2.
+///
+/// # Errors
+///
+/// Out of memory.
+pub fn unopened_json(alloc: Global, name: &[u8], error: OpenError) -> Result<Vec<u8>, AllocError>
+    ensures { IfOk result (λ text. text.items ≡ unopened_object name.now error) }
+{
+    let finding = Finding::of_unopened(alloc, error)?;
+    let mut text = Vec::new(alloc);
+    push_object(alloc, &mut text, name, 1, &finding)?;
+    Ok(text)
 }
 
 /// What is printed of the faults, and then of the warnings.

@@ -1,16 +1,17 @@
 //! What is found in a line: a fault or a warning.
 
-ghost use Rattle.std.specs.Prelude.{◌≡◌, ◌≤◌, IfOk, length};
+ghost use Rattle.std.specs.Prelude.{◌≡◌, ◌≤◌, [], IfOk, length};
 ghost use Rattle.chip_lang.specs.FaultPlace.{mnemonic_of};
 ghost use Rattle.chip_asm.specs.Program.{symbols_of};
 ghost use Rattle.chip_check.specs.Check.{code_of, sentence_of, sentence_with};
+ghost use Rattle.chip_check.specs.Json.{unopened_code, unopened_sentence};
 ghost use Rattle.chip_check.specs.Place.{place_in};
 
 use crate::advice::push_advice;
 use crate::hint::{Hint, HintKind};
 use crate::known::Known;
 use crate::place::place_in;
-use chip_asm::Source;
+use chip_asm::{OpenError, Source};
 use chip_lang::{Bytes, Fault, Span, mnemonic_of};
 use chip_warnings::Warning;
 use std::alloc::{AllocError, Global};
@@ -58,6 +59,32 @@ impl Finding {
             code,
             sentence,
             hints,
+        })
+    }
+
+    /// Why a source doesn't open, at its beginning.
+    pub(crate) fn of_unopened(alloc: Global, error: OpenError) -> Result<Finding, AllocError>
+        ensures span { IfOk result (λ finding. (finding.span.start ≡ 0) × (finding.span.end ≡ 0)) }
+        ensures code { IfOk result (λ finding. finding.code.items ≡ unopened_code error) }
+        ensures sentence { IfOk result (λ finding.
+            finding.sentence.items ≡ unopened_sentence error) }
+        ensures hints { IfOk result (λ finding. finding.hints.items ≡ []) }
+    {
+        let code = match error {
+            OpenError::LineTooLong(_) => b"O1",
+            OpenError::TooManyLines => b"O2",
+            OpenError::OutOfMemory => b"O3",
+        };
+        let sentence = match error {
+            OpenError::LineTooLong(number) => format!(in alloc; "line {number} is too long")?,
+            OpenError::TooManyLines => String::from_str(alloc, "too many lines")?,
+            OpenError::OutOfMemory => String::from_str(alloc, "out of memory")?,
+        };
+        Ok(Finding {
+            span: Span { start: 0, end: 0 },
+            code: Vec::from_slice(alloc, code)?,
+            sentence: sentence.into_bytes(),
+            hints: Vec::new(alloc),
         })
     }
 

@@ -17,4 +17,4 @@ mod printing;
 mod report;
 mod words;
 
-pub use check::{check_json, check_text};
+pub use check::{check_json, check_text, unopened_json};

@@ -11,8 +11,8 @@ use std::alloc::{AllocError, Global};
 /// How what is found is printed.
 #[derive(Clone, Copy)]
 pub(crate) enum Form {
-    /// With the line and marks below it.
-    Text,
+    /// With the line and marks below it, in colours or without.
+    Text { is_painted: bool },
     /// As an object on a line of its own.
     Json,
 }
@@ -40,7 +40,9 @@ pub(crate) fn push_finding(
         finding.now.code.items finding.now.sentence.items finding.now.hints.items) }
 {
     match style.form {
-        Form::Text => push_report(alloc, text, style.name, number, line, finding),
+        Form::Text { is_painted } => {
+            push_report(alloc, text, is_painted, style.name, number, line, finding)
+        }
         Form::Json => push_object(alloc, text, style.name, number, finding),
     }
 }

@@ -1,10 +1,11 @@
-//! A finding as compilers print it: place, sentence, line and marks, and lines of help.
+//! A finding as compilers print it: place, sentence, line and marks, and lines of help, in colours or
+//! without.
 
 ghost use Rattle.std.specs.Prelude.{◌≡◌, ◌≤◌, ◌+◌, ◌-◌, ◌++◌, List, OnOk, length, take, replicate};
 ghost use Rattle.std.specs.Fmt.{decimal};
 ghost use Rattle.std.specs.List.{flat_map, position_or_len};
 ghost use Rattle.chip_asm.specs.Lines.{is_newline};
-ghost use Rattle.chip_check.specs.Check.{head, blank_of, marks, beginning, hint_line, report};
+ghost use Rattle.chip_check.specs.Check.{head, blank_of, marks, beginning, hint_line, report, painted, opening, closing, code_style, mark_style, hint_style};
 
 use crate::finding::Finding;
 use crate::hint::{Hint, HintKind};
@@ -12,11 +13,15 @@ use chip_lang::Span;
 use memchr::memchr;
 use std::alloc::{AllocError, Global};
 
+/// The style of marks: bold and blue.
+const MARK_STYLE: &[u8] = b"1;34";
+
 /// Adds the report of a finding, which lies in this line of a number.
 #[tactic(auto, unfolding(crate::specs::Check::report))]
 pub(crate) fn push_report(
     alloc: Global,
     text: &mut Vec<u8>,
+    is_painted: bool,
     name: &[u8],
     number: usize,
     line: &[u8],
@@ -25,14 +30,14 @@ pub(crate) fn push_report(
     requires rises { finding.now.span.start ≤ finding.now.span.end }
     requires inside { finding.now.span.end ≤ length line.now }
     ensures { OnOk result (text.new.items ≡ text.old.items
-        ++ report name.now number line.now finding.now.span finding.now.code.items
+        ++ report is_painted name.now number line.now finding.now.span finding.now.code.items
         finding.now.sentence.items finding.now.hints.items) }
 {
-    push_head(alloc, text, name, number, finding)?;
+    push_head(alloc, text, is_painted, name, number, finding)?;
     text.extend_from_slice(line)?;
     text.extend_from_slice(b"\n")?;
-    push_marks(text, line, finding.span)?;
-    push_hints(text, &finding.hints)
+    push_marks(text, is_painted, line, finding.span)?;
+    push_hints(text, is_painted, &finding.hints)
 }
 
 /// Adds the file, the place, the code and the sentence of a finding.
@@ -40,20 +45,21 @@ pub(crate) fn push_report(
 fn push_head(
     alloc: Global,
     text: &mut Vec<u8>,
+    is_painted: bool,
     name: &[u8],
     number: usize,
     finding: &Finding,
 ) -> Result<(), AllocError>
     requires { finding.now.span.start + 1 ≤ usize.MAX }
     ensures { OnOk result (text.new.items ≡ text.old.items
-        ++ head name.now number finding.now.span finding.now.code.items
+        ++ head is_painted name.now number finding.now.span finding.now.code.items
         finding.now.sentence.items) }
 {
     let column = finding.span.start + 1;
     let place = format!(in alloc; ":{number}:{column}: ")?;
     text.extend_from_slice(name)?;
     text.extend_from_slice(place.as_bytes())?;
-    text.extend_from_slice(&finding.code)?;
+    push_painted(text, is_painted, code_style(&finding.code), &finding.code)?;
     text.extend_from_slice(b": ")?;
     text.extend_from_slice(&finding.sentence)?;
     text.extend_from_slice(b"\n")?;
@@ -62,14 +68,22 @@ fn push_head(
 
 /// Adds the marks below a line.
 #[tactic(auto, unfolding(crate::specs::Check::marks))]
-fn push_marks(text: &mut Vec<u8>, line: &[u8], span: Span) -> Result<(), AllocError>
+fn push_marks(
+    text: &mut Vec<u8>,
+    is_painted: bool,
+    line: &[u8],
+    span: Span,
+) -> Result<(), AllocError>
     requires rises { span.start ≤ span.end }
     requires inside { span.end ≤ length line.now }
-    ensures { OnOk result (text.new.items ≡ text.old.items ++ marks line.now span) }
+    ensures { OnOk result (text.new.items ≡ text.old.items
+        ++ marks is_painted line.now span) }
 {
     push_blanks(text, &line[..span.start])?;
+    push_opening(text, is_painted, MARK_STYLE)?;
     text.extend_from_slice(b"^")?;
     push_tildes(text, (span.end - span.start).saturating_sub(1))?;
+    push_closing(text, is_painted)?;
     text.extend_from_slice(b"\n")?;
     Ok(())
 }
@@ -107,20 +121,27 @@ fn push_tildes(text: &mut Vec<u8>, count: usize) -> Result<(), AllocError>
 }
 
 /// Adds lines of help.
-fn push_hints(text: &mut Vec<u8>, hints: &[Hint]) -> Result<(), AllocError>
-    ensures { OnOk result (text.new.items ≡ text.old.items ++ flat_map hint_line hints.now) }
+fn push_hints(text: &mut Vec<u8>, is_painted: bool, hints: &[Hint]) -> Result<(), AllocError>
+    ensures { OnOk result (text.new.items ≡ text.old.items
+        ++ flat_map (hint_line is_painted) hints.now) }
 {
     for hint in hints {
-        push_hint(text, hint)?;
+        push_hint(text, is_painted, hint)?;
     }
     Ok(())
 }
 
 /// Adds a line of help. A newline in its sentence would end it.
-fn push_hint(text: &mut Vec<u8>, hint: &Hint) -> Result<(), AllocError>
-    ensures { OnOk result (text.new.items ≡ text.old.items ++ hint_line hint.now) }
+fn push_hint(text: &mut Vec<u8>, is_painted: bool, hint: &Hint) -> Result<(), AllocError>
+    ensures { OnOk result (text.new.items ≡ text.old.items ++ hint_line is_painted hint.now) }
 {
-    text.extend_from_slice(beginning(hint.kind))?;
+    push_painted(
+        text,
+        is_painted,
+        hint_style(hint.kind),
+        beginning(hint.kind),
+    )?;
+    text.extend_from_slice(b" ")?;
     text.extend_from_slice(&hint.sentence[..line_length(&hint.sentence)])?;
     text.extend_from_slice(b"\n")?;
     Ok(())
@@ -142,7 +163,64 @@ fn beginning(kind: HintKind) -> &'static [u8]
     ensures { result.now ≡ beginning kind }
 {
     match kind {
-        HintKind::Help => b"help: ",
-        HintKind::Note => b"note: ",
+        HintKind::Help => b"help:",
+        HintKind::Note => b"note:",
     }
+}
+
+/// The style of the beginning of a line of help: bold and green, or cyan for a note.
+fn hint_style(kind: HintKind) -> &'static [u8]
+    ensures { result.now ≡ hint_style kind }
+{
+    match kind {
+        HintKind::Help => b"1;32",
+        HintKind::Note => b"1;36",
+    }
+}
+
+/// The style of a code: bold and red, or yellow for a warning's.
+fn code_style(code: &[u8]) -> &'static [u8]
+    ensures { result.now ≡ code_style code.now }
+{
+    match code {
+        [b'W', ..] => b"1;33",
+        _ => b"1;31",
+    }
+}
+
+/// Adds a part of the text in a style.
+fn push_painted(
+    text: &mut Vec<u8>,
+    is_painted: bool,
+    style: &[u8],
+    part: &[u8],
+) -> Result<(), AllocError>
+    ensures { OnOk result (text.new.items ≡ text.old.items
+        ++ painted is_painted style.now part.now) }
+{
+    push_opening(text, is_painted, style)?;
+    text.extend_from_slice(part)?;
+    push_closing(text, is_painted)
+}
+
+/// Begins a style, where the text is painted.
+fn push_opening(text: &mut Vec<u8>, is_painted: bool, style: &[u8]) -> Result<(), AllocError>
+    ensures { OnOk result (text.new.items ≡ text.old.items ++ opening is_painted style.now) }
+{
+    if !is_painted {
+        return Ok(());
+    }
+    text.extend_from_slice(b"\x1b[")?;
+    text.extend_from_slice(style)?;
+    text.extend_from_slice(b"m")
+}
+
+/// Ends it.
+fn push_closing(text: &mut Vec<u8>, is_painted: bool) -> Result<(), AllocError>
+    ensures { OnOk result (text.new.items ≡ text.old.items ++ closing is_painted) }
+{
+    if !is_painted {
+        return Ok(());
+    }
+    text.extend_from_slice(b"\x1b[0m")
 }

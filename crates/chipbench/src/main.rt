@@ -1,7 +1,8 @@
 //! An assembler and replay debugger for SUPER-CHIP 1.1.
 #![tactic(auto)]
 
-use chip_bench::{Counted, program, refuse_words};
+use chip_bench::{Counted, Host, program, refuse_words};
+use std::io::IsTerminal;
 use std::process::ExitCode;
 use std::random::RandomSource;
 use std::rt::Env;
@@ -16,11 +17,14 @@ fn main(rt: HostRuntime) -> ExitCode {
     };
     let mut input = Counted::new(rt.stdin());
     let mut output = Counted::new(rt.stdout());
-    let seed = name_seed(&rt);
+    let host = Host {
+        name_seed: name_seed(&rt),
+        takes_color: rt.stdout().is_terminal() && wants_color(&rt),
+    };
     let status = program(
         alloc,
         &rt,
-        seed,
+        host,
         &words,
         &mut input,
         &mut output,
@@ -35,6 +39,16 @@ fn name_seed(rt: &impl RandomSource) -> u64 {
     match rt.fill_bytes(&mut bytes) {
         Ok(()) => u64::from_le_bytes(bytes),
         Err(_) => 0,
+    }
+}
+
+// Whether the user hasn't asked for no colours, by a variable NO_COLOR that isn't empty.
+fn wants_color(rt: &impl Env) -> bool {
+    let mut first = [0];
+    match rt.var("NO_COLOR", &mut first) {
+        Ok(length) => length == 0,
+        Err(env::FillError::NotPresent) => true,
+        Err(env::FillError::TooLong) => false,
     }
 }
 

@@ -7,5 +7,5 @@ use Rattle.chip_check.specs.Json.{as_object}
 
 -- how a form prints a place of a line
 abbrev pub print_in : Form → (name : List ℕ) → Print
-print_in Text name = report name
+print_in (Text is_painted) name = report is_painted name
 print_in Json name = as_object name

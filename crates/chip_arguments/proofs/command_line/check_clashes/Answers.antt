@@ -1,8 +1,7 @@
 use Rattle.std.proofs.Common.{◌∙◌, codes, subst, sym}
 use Rattle.std.proofs.lemmas.Result.{err_from_is_err_and}
 use Rattle.clap.specs.Kinds.{Kinds, HasKind}
-use Rattle.clap.specs.Words.{FailsBy, first_of, found_of, rows_of}
-use Rattle.chip_arguments.specs.CommandWords.{clash_fault}
+use Rattle.clap.specs.Words.{FailsBy, found_of}
 use Rattle.chip_arguments.proofs.FaultLemmas.{fails_last, fails_second}
 use Rattle.chip_arguments.proofs.WordLemmas.{clash_is, still_fails}
 use Rattle.chip_arguments.proofs.command_line.check_clashes.Goals as goal

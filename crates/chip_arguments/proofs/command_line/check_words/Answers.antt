@@ -1,12 +1,19 @@
-use Rattle.std.proofs.Common.{codes}
+use Rattle.std.proofs.Common.{◌∙◌, ap, map, ℕ, List, Bor, codes, refl}
 use Rattle.clap.specs.Words.{found_of}
-use Rattle.chip_arguments.proofs.WordLemmas.{first_is, flag_is}
+use Rattle.clap.proofs.WalkLemmas.{raw_values-rows}
+use Rattle.chip_arguments.specs.CommandWords.{color_asked}
+use Rattle.chip_arguments.proofs.WordLemmas.{first_is, flag_is, texts_are}
 use Rattle.chip_arguments.proofs.command_line.check_words.Goals as goal
 
 pub returns : goal.returns
-returns c = λ named. record {
-  source = c.required_text.ensures;
-  is_json = flag_is (found_of c.args.found.now) (codes "json") c.get_flag.result c.get_flag.ensures.value c.get_flag.ensures.other c.get_flag.ensures.none;
-  allowed = first_is (found_of c.args.found.now) (codes "allow") _ c.get_str.ensures;
-  profile = named;
-}
+returns c = λ named.
+    let found = found_of c.args.found.now in
+    record {
+      sources =
+          ap (λ (texts : List (Bor (List ℕ))). map (λ text. text.now) texts) (c.in_ok-from_slice.ensures.items ∙ ap (λ texts. texts.now) c.unwrap_or.ensures)
+          ∙ texts_are c.get_strs.result _ _ refl (c.get_strs.ensures ∙ raw_values-rows found (codes "sources"));
+      is_json = flag_is found (codes "json") c.get_flag.result c.get_flag.ensures.value c.get_flag.ensures.other c.get_flag.ensures.none;
+      allowed = first_is found (codes "allow") _ c.get_str.ensures;
+      color = c.color_asked.ensures ∙ ap color_asked (first_is found (codes "color") _ c.get_str-2.ensures);
+      profile = named;
+    }

@@ -3,7 +3,7 @@ use Rattle.clap.specs.Words.{found_of}
 use Rattle.chip_arguments.proofs.NameLemmas.{debug_is_left}
 use Rattle.chip_arguments.proofs.WordLemmas.{first_is, flag_is}
 use Rattle.chip_arguments.proofs.command_line.command_asked.Goals as goal
-use Rattle.chip_arguments.proofs.command_line.command_asked.Goals.{in-asm, in-list, in-check, in-dis, in-run, in-trace, in-picture, in-test+in_ok-test_words-in-test, in-explore, in-explain, in_default}
+use Rattle.chip_arguments.proofs.command_line.command_asked.Goals.{in-asm, in-list, in-check+in_ok-check_words-in-check, in-dis, in-run, in-trace, in-picture, in-test+in_ok-test_words-in-test, in-explore, in-explain, in_default}
 
 pub returns-clause-asked : goal.returns-clause-asked
 returns-clause-asked c =
@@ -15,9 +15,9 @@ returns-clause-asked c =
       | in-list w ↦
           let named : c.args.name.now ≡ codes "list" = search rules in
           rw w.result-is (named, w.required_text-in-list.ensures)
-      | in-check w ↦
+      | in-check+in_ok-check_words-in-check w ↦
           let named : c.args.name.now ≡ codes "check" = search rules in
-          rw w.result-is (named, w.check_words.ensures profile)
+          rw w.result-is (named, w.in_ok-check_words-in-check.ensures profile)
       | in-dis w ↦
           let named : c.args.name.now ≡ codes "dis" = search rules in
           rw w.result-is (named, w.required_text-in-dis.ensures)

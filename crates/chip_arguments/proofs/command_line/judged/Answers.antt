@@ -1,8 +1,9 @@
-use Rattle.std.proofs.Common.{ℕ, List, Option, IfOk, codes, subst}
+use Rattle.std.proofs.Common.{◌∙◌, ℕ, List, Option, IfOk, ap, codes, subst, sym}
 use Rattle.std.proofs.lemmas.Result.{err_from_is_err_and}
+use Rattle.clap.specs.Kinds.{HasKind, Kinds}
 use Rattle.clap.specs.Words.{FailsBy, first_of, found_of, rows_of}
-use Rattle.chip_arguments.specs.CommandWords.{IsProfile, clash_faults, first_fault, new_file_fault, new_files, number_fault, numbers, profile_fault}
-use Rattle.chip_arguments.proofs.FaultLemmas.{fails_fourth, fails_second, fails_third}
+use Rattle.chip_arguments.specs.CommandWords.{IsProfile, clash_faults, color_fault, first_fault, new_file_fault, new_files, number_fault, numbers, profile_fault}
+use Rattle.chip_arguments.proofs.FaultLemmas.{fails_fifth, fails_fourth, fails_second, fails_third}
 use Rattle.chip_arguments.proofs.WordLemmas.{first_is, still_fails}
 use Rattle.chip_arguments.proofs.command_line.judged.Goals as goal
 
@@ -28,16 +29,30 @@ returns-in_err-check_clashes-clause-fault c =
     (fails_third (first_fault number_fault numbers rows) (first_fault new_file_fault new_files rows) (clash_faults rows) _ c.in_err-check_clashes.field-0.0
     c.in_ok-check_numbers.ensures c.in_ok-check_new_files.ensures c.in_err-check_clashes.ensures)
 
+pub returns-in_err-check_color-clause-fault : goal.returns-in_err-check_color-clause-fault
+returns-in_err-check_color-clause-fault c =
+    let given = err_from_is_err_and c.from_residual-in_err-check_color.result c.from_residual-in_err-check_color.ensures.1 in
+    let rows = rows_of (found_of c.args.found.now) in
+    let word = first_is (found_of c.args.found.now) (codes "color") _ c.get_str.ensures in
+    let e = c.in_err-check_color.field-0.0 in
+    rw (given.1, given.2)
+    (fails_fourth (first_fault number_fault numbers rows) (first_fault new_file_fault new_files rows) (clash_faults rows)
+    (color_fault (first_of (codes "color") rows)) _ e
+    c.in_ok-check_numbers.ensures c.in_ok-check_new_files.ensures c.in_ok-check_clashes.ensures
+    (subst (λ (kinds : Kinds). HasKind kinds e) (ap color_fault word) c.in_err-check_color.ensures))
+
 pub returns-clause-profile : goal.returns-clause-profile
 returns-clause-profile c =
-    let name = first_is (found_of c.args.found.now) (codes "profile") _ c.get_str.ensures in
+    let name = first_is (found_of c.args.found.now) (codes "profile") _ c.get_str-2.ensures in
     subst (λ (text : Option (List ℕ)). IfOk c.profile_asked.result (IsProfile text)) name c.profile_asked.ensures.asked
 
 pub returns-clause-fault : goal.returns-clause-fault
 returns-clause-fault c =
     let rows = rows_of (found_of c.args.found.now) in
-    let name = first_is (found_of c.args.found.now) (codes "profile") _ c.get_str.ensures in
-    fails_fourth (first_fault number_fault numbers rows) (first_fault new_file_fault new_files rows) (clash_faults rows)
-    (profile_fault (first_of (codes "profile") rows))
+    let name = first_is (found_of c.args.found.now) (codes "profile") _ c.get_str-2.ensures in
+    let word = first_is (found_of c.args.found.now) (codes "color") _ c.get_str.ensures in
+    fails_fifth (first_fault number_fault numbers rows) (first_fault new_file_fault new_files rows) (clash_faults rows)
+    (color_fault (first_of (codes "color") rows)) (profile_fault (first_of (codes "profile") rows))
     c.profile_asked.result c.in_ok-check_numbers.ensures c.in_ok-check_new_files.ensures c.in_ok-check_clashes.ensures
+    (sym (ap color_fault word) ∙ c.in_ok-check_color.ensures)
     (subst (λ (text : Option (List ℕ)). FailsBy (profile_fault text) c.profile_asked.result) name c.profile_asked.ensures.fault)

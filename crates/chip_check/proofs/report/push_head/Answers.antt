@@ -6,11 +6,13 @@ pub returns : goal.returns
 unfolding head
 returns c =
     rw (
-      c.in_ok-extend_from_slice-6.ensures.items,
       c.in_ok-extend_from_slice-5.ensures.items,
-      c.deref-2.ensures.value,
       c.in_ok-extend_from_slice-4.ensures.items,
+      c.deref-3.ensures.value,
       c.in_ok-extend_from_slice-3.ensures.items,
+      c.in_ok-push_painted.ensures,
+      c.code_style.ensures,
+      c.deref-2.ensures.value,
       c.deref.ensures.value,
       c.in_ok-extend_from_slice-2.ensures.items,
       c.in_ok-extend_from_slice.ensures.items,

@@ -1,0 +1,123 @@
+-- What `check` did with sources, one after another.
+use Rattle.std.proofs.Common.{◌≡◌, ◌⊎◌, inl, inr, ℕ, suc, ◌+◌, ◌<◌, ◌≤◌, ◌==◌, Bool, List, ◌∷◌, drop, length, get_or, Option, Some, None, Ok, Err, refl, sym, ◌∙◌, ap, subst, add-one, drop-cons}
+use Rattle.std.proofs.lemmas.List.{drop_all}
+use Rattle.std.specs.Borrow.{Bor}
+use Rattle.std.specs.Prelude.{option_copied}
+use Rattle.chip_asm.specs.Lines.{lines_of, open_fault}
+use Rattle.chip_asm.specs.declared.refusal.OpenError.{OpenError}
+use Rattle.chip_asm.specs.declared.refusal.OpenError.TheVariants as unopened
+use Rattle.chip_session.specs.Tally.{Tally}
+use Rattle.chip_arguments.specs.declared.command_line.CheckWords.{CheckWords}
+use Rattle.chip_bench.specs.Exploring.{AsksSet, warning_named}
+use Rattle.chip_bench.specs.Doing.{Checks, ChecksEach, ChecksOne, GivesSource, IsBadSet, IsSourceUnread, Outcome, paints, with_ending, worse}
+use Rattle.chip_bench.specs.Printing.{IsPrintedCheck, IsPrintedCheckOf, Prints, PrintsSuch, printed, unopened_check}
+use Rattle.chip_bench.specs.declared.ending.Ending.{Ending}
+use Rattle.chip_bench.specs.declared.ending.Ending.TheVariants.{Done, Faulty, Short}
+use Rattle.chip_bench.specs.declared.ending.Failure.{Failure}
+use Rattle.chip_bench.specs.declared.ending.Failure.TheVariants as failure
+use Rattle.chip_bench.proofs.DoingLemmas.{declines, source_unread}
+
+done_first : (later : Outcome) → with_ending Done later ≡ later
+done_first (Ok ending) = refl
+done_first (Err why) = refl
+
+done_last : (ending : Ending) → worse ending Done ≡ ending
+done_last Done = refl
+done_last Faulty = refl
+done_last Short = refl
+
+one_after_another : (first second : Ending) (later : Outcome) → with_ending first (with_ending second later) ≡ with_ending (worse first second) later
+one_after_another Done second later = done_first (with_ending second later)
+one_after_another Faulty second (Ok later) = refl
+one_after_another Faulty second (Err why) = refl
+one_after_another Short second (Ok later) = refl
+one_after_another Short second (Err why) = refl
+
+module _ {R W : Type 0} (remaining : R → Option (List ℕ)) (contents : W → Option (List ℕ)) (is_json is_painted is_alone : Bool) where
+  abbrev Each : List (Bor (List ℕ)) → Tally R → Tally R → Tally W → Tally W → Outcome → Type 0
+  Each = ChecksEach remaining contents is_json is_painted is_alone
+
+  abbrev One : Bor (List ℕ) → Tally R → Tally R → Tally W → Tally W → Outcome → Type 0
+  One = ChecksOne remaining contents is_json is_painted is_alone
+
+  module _ (in_old in_new : Tally R) (out_old out_new : Tally W) (name : Bor (List ℕ)) (bytes text : List ℕ) (ended : Outcome) (same : text ≡ bytes)
+      (gives : GivesSource remaining in_old in_new name.now bytes) where
+    of_text : PrintsSuch contents out_old out_new (IsPrintedCheckOf is_json is_painted is_alone name.now (open_fault text) (lines_of text)) ended →
+        One name in_old in_new out_old out_new ended
+    of_text such = inl (
+      bytes,
+      gives,
+      subst (λ (t : List ℕ). PrintsSuch contents out_old out_new (IsPrintedCheckOf is_json is_painted is_alone name.now (open_fault t) (lines_of t)) ended) same such,
+    )
+
+    -- a source that opens
+    pub one_opened : (shown : List ℕ) (lines : List (List ℕ)) → shown ≡ name.now → open_fault text ≡ None → lines ≡ lines_of text →
+        PrintsSuch contents out_old out_new (IsPrintedCheck is_json is_painted shown lines) ended → One name in_old in_new out_old out_new ended
+    one_opened shown lines called opens are such =
+        of_text (rw (opens, sym are) (subst (λ n. PrintsSuch contents out_old out_new (IsPrintedCheck is_json is_painted n lines) ended) called such))
+
+    -- or doesn't
+    pub one_unopened : (shown : List ℕ) (error : OpenError) → shown ≡ name.now → (error ≡ unopened.OutOfMemory) ⊎ (open_fault text ≡ Some error) →
+        Prints contents out_old out_new (printed (unopened_check is_json is_alone shown error) Faulty) ended →
+        (error ≡ unopened.OutOfMemory → (ended ≡ Err failure.OutOfMemory) × (out_new ≡ out_old)) → One name in_old in_new out_old out_new ended
+    one_unopened shown error called (inl memory) prints short = of_text (inr (short memory))
+    one_unopened shown error called (inr fault) prints short =
+        of_text (rw fault (inl (printed (unopened_check is_json is_alone shown error) Faulty, ap (λ n. printed (unopened_check is_json is_alone n error) Faulty) called, prints)))
+
+  -- a source that can't be read
+  pub one_unread : (in_old in_new : Tally R) (output : Tally W) (name : Bor (List ℕ)) (ended : Outcome) (why : Failure) → ended ≡ Err why →
+      IsSourceUnread in_old in_new name why → One name in_old in_new output output ended
+  one_unread in_old in_new output name ended why e w =
+      source_unread remaining in_old in_new (output ≡ output) refl name
+      (λ bytes. PrintsSuch contents output output (IsPrintedCheckOf is_json is_painted is_alone name.now (open_fault bytes) (lines_of bytes))) ended why e w
+
+  module _ (names : List (Bor (List ℕ))) (in_old : Tally R) (out_old : Tally W) where
+    -- what was done with all of them, by what is done with those that are left
+    abbrev pub ChecksSoFar : ℕ → Tally R → Tally W → Ending → Type 0
+    ChecksSoFar place in_mid out_mid ending =
+        (in_new : Tally R) (out_new : Tally W) (later : Outcome) → Each (drop place names) in_mid in_new out_mid out_new later →
+        Each names in_old in_new out_old out_new (with_ending ending later)
+
+    pub checks_none : ChecksSoFar 0 in_old out_old Done
+    checks_none in_new out_new later left = subst (Each names in_old in_new out_old out_new) (sym (done_first later)) left
+
+    next_left : (place : ℕ) (name nothing : Bor (List ℕ)) → place < length names → name ≡ get_or names place nothing →
+        drop place names ≡ name ∷ drop (place + 1) names
+    next_left place name nothing within is =
+        drop-cons names place nothing within ∙ ap (λ n. n ∷ drop (suc place) names) (sym is) ∙ ap (λ n. name ∷ drop n names) (sym (add-one place))
+
+    module _ (place : ℕ) (name nothing : Bor (List ℕ)) (in_mid in_next : Tally R) (out_mid out_next : Tally W) (ending : Ending)
+        (within : place < length names) (is : name ≡ get_or names place nothing) (so_far : ChecksSoFar place in_mid out_mid ending) where
+      pub checks_more : (one : Ending) → One name in_mid in_next out_mid out_next (Ok one) → ChecksSoFar (place + 1) in_next out_next (worse ending one)
+      checks_more one did in_new out_new later left =
+          subst (Each names in_old in_new out_old out_new) (one_after_another ending one later)
+          (so_far in_new out_new (with_ending one later)
+          (subst (λ these. Each these in_mid in_new out_mid out_new (with_ending one later)) (sym (next_left place name nothing within is))
+          (in_next, out_next, Ok one, did, (later, left, refl))))
+
+      -- one of them ends it
+      pub checks_stop : (why : Failure) → One name in_mid in_next out_mid out_next (Err why) → Each names in_old in_next out_old out_next (Err why)
+      checks_stop why did =
+          so_far in_next out_next (Err why)
+          (subst (λ these. Each these in_mid in_next out_mid out_next (Err why)) (sym (next_left place name nothing within is))
+          (in_next, out_next, Err why, did, ((refl, refl), refl)))
+
+    pub checks_all : (place : ℕ) (in_new : Tally R) (out_new : Tally W) (ending : Ending) → length names ≤ place → ChecksSoFar place in_new out_new ending →
+        Each names in_old in_new out_old out_new (Ok ending)
+    checks_all place in_new out_new ending past so_far =
+        subst (Each names in_old in_new out_old out_new) (ap (λ e. Ok e) (done_last ending))
+        (so_far in_new out_new (Ok Done) (subst (λ these. Each these in_new in_new out_new out_new (Ok Done)) (sym (drop_all place names past)) (refl, refl, refl)))
+
+module _ {R W : Type 0} (remaining : R → Option (List ℕ)) (contents : W → Option (List ℕ)) where
+  -- the argument for warnings names none
+  pub checks_bad : (input : Tally R) (output : Tally W) (takes_color : Bool) (words : CheckWords) (ended : Outcome) (why : Failure) → ended ≡ Err why →
+      IsBadSet why → AsksSet warning_named 0 (option_copied words.allowed) None → Checks remaining contents input input output output takes_color words ended
+  checks_bad input output takes_color words ended why e bad asks =
+      (None, asks, declines remaining input input (output ≡ output) refl IsBadSet ended why e bad refl)
+
+  pub checks : (in_old in_new : Tally R) (out_old out_new : Tally W) (takes_color : Bool) (words : CheckWords) (set : ℕ) (painted alone : Bool)
+      (names : List (Bor (List ℕ))) (ended : Outcome) → AsksSet warning_named 0 (option_copied words.allowed) (Some set) →
+      painted ≡ paints words.color takes_color → alone ≡ (length words.sources.items == 1) → names ≡ words.sources.items →
+      ChecksEach remaining contents words.is_json painted alone names in_old in_new out_old out_new ended →
+      Checks remaining contents in_old in_new out_old out_new takes_color words ended
+  checks in_old in_new out_old out_new takes_color words set painted alone names ended asks p a n did = (Some set, asks, rw (sym p, sym a, sym n) did)

@@ -1,0 +1,207 @@
+//! `check`: the faults of sources with their places, and their warnings.
+ghost use Rattle.std.specs.Prelude.{◌≡◌, Err, IfOk};
+ghost use Rattle.chip_asm.specs.Lines.{lines_of};
+ghost use Rattle.chip_bench.specs.Doing.{Checks, ChecksEach, ChecksOne, paints, worse};
+ghost use Rattle.chip_bench.specs.Printing.{IsCheckText, IsPrintedCheck, Prints, PrintsSuch, printed, unopened_check, unopened_text};
+
+use crate::ending::{Ending, Failure};
+use crate::output::print;
+use crate::reading::read_source;
+use crate::sets::warnings_of;
+use chip_arguments::{CheckWords, ColorChoice};
+use chip_asm::{OpenError, Source};
+use chip_check::{check_json, check_text, unopened_json};
+use chip_machine::Profile;
+use chip_session::Counted;
+use chip_warnings::{Warning, warnings};
+use std::alloc::{AllocError, Global};
+use std::io::{Read, Write};
+use std::rt::Files;
+
+/// How sources are checked, and how what is found in them is printed.
+#[derive(Clone, Copy)]
+pub(crate) struct Checker {
+    /// The warnings that are not printed, Wk at bit k.
+    allowed: u16,
+    profile: Profile,
+    /// Whether JSON objects are printed, and not text.
+    is_json: bool,
+    /// Whether the text has colours.
+    is_painted: bool,
+    /// Whether there is no other source.
+    is_alone: bool,
+}
+
+/// `check`: what is found in each of the sources, one after another. The warnings that are allowed
+/// are judged before the first is read, and a source that can't be read ends the check.
+pub(crate) fn check<'a, F: Files, I: Read, O: Write>(
+    alloc: Global,
+    files: &F,
+    takes_color: bool,
+    words: &CheckWords<'a>,
+    input: &mut Counted<I>,
+    output: &mut Counted<O>,
+) -> Result<Ending, Failure<'a>>
+    ensures { Checks I.remaining O.contents input.old input.new output.old output.new takes_color
+        words.now result }
+{
+    let allowed = warnings_of(words.allowed)?;
+    let names: &[&'a str] = &words.sources;
+    let checker = Checker {
+        allowed,
+        profile: words.profile,
+        is_json: words.is_json,
+        is_painted: paints(words.color, takes_color),
+        is_alone: names.len() == 1,
+    };
+    checker.check_each(alloc, files, names, input, output)
+}
+
+// Whether what is printed has colours.
+fn paints(choice: ColorChoice, takes_color: bool) -> bool
+    ensures { result ≡ paints choice takes_color }
+{
+    match choice {
+        ColorChoice::Auto => takes_color,
+        ColorChoice::Always => true,
+        ColorChoice::Never => false,
+    }
+}
+
+// The worse of two endings.
+fn worse(ending: Ending, later: Ending) -> Ending
+    ensures { result ≡ worse ending later }
+{
+    match ending {
+        Ending::Done => later,
+        Ending::Faulty | Ending::Short => ending,
+    }
+}
+
+impl Checker {
+    fn check_each<'a, F: Files, I: Read, O: Write>(
+        self,
+        alloc: Global,
+        files: &F,
+        names: &[&'a str],
+        input: &mut Counted<I>,
+        output: &mut Counted<O>,
+    ) -> Result<Ending, Failure<'a>>
+        ensures { ChecksEach I.remaining O.contents self.is_json self.is_painted self.is_alone
+            names.now input.old input.new output.old output.new result }
+    {
+        let mut ending = Ending::Done;
+        for name in names {
+            let one = self.check_one(alloc, files, name, input, output)?;
+            ending = worse(ending, one);
+        }
+        Ok(ending)
+    }
+
+    fn check_one<'a, F: Files, I: Read, O: Write>(
+        self,
+        alloc: Global,
+        files: &F,
+        name: &'a str,
+        input: &mut Counted<I>,
+        output: &mut Counted<O>,
+    ) -> Result<Ending, Failure<'a>>
+        ensures { ChecksOne I.remaining O.contents self.is_json self.is_painted self.is_alone
+            name.entry input.old input.new output.old output.new result }
+    {
+        let bytes = read_source(alloc, files, name, input)?;
+        match Source::open(alloc, &bytes) {
+            Ok(source) => self.print_found(alloc, name.as_bytes(), &bytes, &source, output),
+            Err(error) => self.refuse(alloc, name.as_bytes(), error, output),
+        }
+    }
+
+    // Prints what is found in a source that was opened from these bytes.
+    fn print_found<'a, O: Write>(
+        self,
+        alloc: Global,
+        name: &[u8],
+        bytes: &[u8],
+        source: &Source,
+        output: &mut Counted<O>,
+    ) -> Result<Ending, Failure<'a>>
+        requires { source.now.lines ≡ lines_of bytes.now }
+        ensures { PrintsSuch O.contents output.old output.new
+            (IsPrintedCheck self.is_json self.is_painted name.now source.now.lines) result }
+    {
+        let warnings = warnings(alloc, bytes, source, self.profile, self.allowed)?;
+        let text = self.text_of(alloc, name, bytes, source, &warnings)?;
+        match source.image() {
+            Some(_) => print(&text, Ending::Done, output),
+            None => print(&text, Ending::Faulty, output),
+        }
+    }
+
+    // What is printed of a source and its warnings.
+    fn text_of(
+        self,
+        alloc: Global,
+        name: &[u8],
+        bytes: &[u8],
+        source: &Source,
+        warnings: &[Warning],
+    ) -> Result<Vec<u8>, AllocError>
+        requires { source.now.lines ≡ lines_of bytes.now }
+        ensures { IfOk result (λ text. IsCheckText self.is_json self.is_painted name.now
+            source.now.lines text.items) }
+    {
+        if self.is_json {
+            check_json(alloc, name, bytes, source, warnings)
+        } else {
+            check_text(alloc, self.is_painted, name, bytes, source, warnings)
+        }
+    }
+
+    // Prints why a source doesn't open.
+    fn refuse<'a, O: Write>(
+        self,
+        alloc: Global,
+        name: &[u8],
+        error: OpenError,
+        output: &mut Counted<O>,
+    ) -> Result<Ending, Failure<'a>>
+        ensures why { Prints O.contents output.old output.new
+            (printed (unopened_check self.is_json self.is_alone name.now error) Ending.Faulty)
+            result }
+        ensures memory { error ≡ OpenError.OutOfMemory
+            → (result ≡ Err Failure.OutOfMemory) × (output.new ≡ output.old) }
+    {
+        if error == OpenError::OutOfMemory {
+            return Err(Failure::OutOfMemory);
+        }
+        let text = self.unopened(alloc, name, error)?;
+        print(&text, Ending::Faulty, output)
+    }
+
+    // Why a source doesn't open: an object, or its code, after its name where there are others.
+    fn unopened(self, alloc: Global, name: &[u8], error: OpenError) -> Result<Vec<u8>, AllocError>
+        ensures { IfOk result (λ text.
+            text.items ≡ unopened_check self.is_json self.is_alone name.now error) }
+    {
+        if self.is_json {
+            return unopened_json(alloc, name, error);
+        }
+        let mut text = Vec::new(alloc);
+        if !self.is_alone {
+            text.extend_from_slice(name)?;
+            text.extend_from_slice(b": ")?;
+        }
+        text.extend_from_slice(unopened_text(error))?;
+        Ok(text)
+    }
+}
+
+fn unopened_text(error: OpenError) -> &'static [u8]
+    ensures { result.now ≡ unopened_text error }
+{
+    match error {
+        OpenError::LineTooLong(_) => b"no O1\n",
+        OpenError::TooManyLines => b"no O2\n",
+        OpenError::OutOfMemory => b"",
+    }
+}
