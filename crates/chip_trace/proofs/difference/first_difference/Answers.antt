@@ -1,4 +1,4 @@
-use Rattle.std.proofs.Common.{◌≡◌, ap, sym, ◌∙◌, refl, arith, ℕ, ◌+◌, ◌≤◌, length, Some, [], ◌∷◌}
+use Rattle.std.proofs.Common.{ap, sym, ◌∙◌, refl, arith, Some}
 use Rattle.chip_trace.proofs.Comparing.{taken, none_taken, alike_more, is_first, none_differs, none_some, some_none, some_same, same_runs, no_lines}
 use Rattle.chip_trace.proofs.TraceLemmas.{same_states}
 use Rattle.chip_trace.proofs.difference.first_difference.Goals as goal

@@ -1,4 +1,4 @@
-use Rattle.std.proofs.Common.{◌≤◌, ◌+◌, length, map, ℕ, ◌-◌}
+use Rattle.std.proofs.Common.{◌≤◌, ◌+◌, length, map}
 use Rattle.std.specs.Str.Lines.{lines}
 use Rattle.chip_trace.specs.Difference.{bytes_of}
 use Rattle.chip_trace.specs.Lines.{remaining, states_of, SameRun}

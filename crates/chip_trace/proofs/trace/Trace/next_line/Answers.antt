@@ -1,4 +1,4 @@
-use Rattle.std.proofs.Common.{rules, ◌≡◌, sym, ◌∙◌, refl, false, true}
+use Rattle.std.proofs.Common.{refl}
 use Rattle.chip_trace.specs.Lines.{states_of}
 use Rattle.chip_trace.proofs.TraceLemmas.{takes_none, takes_last, takes_more}
 use Rattle.chip_trace.proofs.trace.Trace.next_line.Goals as goal

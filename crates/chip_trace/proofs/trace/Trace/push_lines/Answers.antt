@@ -1,5 +1,5 @@
-use Rattle.std.proofs.Common.{◌≡◌, ap, sym, ◌∙◌, refl, arith, ℕ, ◌++◌, [], ◌≤◌, length, take, drop, ◌∷◌, rules, true, append-nil}
-use Rattle.chip_trace.specs.Lines.{Progress, remaining, newline_ended, states_of}
+use Rattle.std.proofs.Common.{◌≡◌, ap, sym, ◌∙◌, refl, arith, ◌++◌, [], take, drop, ◌∷◌, rules, append-nil}
+use Rattle.chip_trace.specs.Lines.{remaining, newline_ended, states_of}
 use Rattle.chip_trace.proofs.Comparing.{same_run, same_runs, none_taken}
 use Rattle.chip_trace.proofs.LinesLemmas.{one_line_more, all_taken, more_remain, same_text, none_after}
 use Rattle.chip_trace.proofs.TraceLemmas.{same_states}
