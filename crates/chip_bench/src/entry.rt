@@ -174,17 +174,9 @@ fn perform<'a, F: Files, I: Read, O: Write, E: Write>(
             settings,
         } => {
             let given = Given { source, is_image };
+            let seed = host.name_seed;
             debug(
-            debug(
-                alloc,
-                files,
-                host.name_seed,
-                given,
-                &settings,
-                input,
-                output,
-                errors,
-            )
+                alloc, files, seed, given, &settings, input, output, errors,
             )
         }
         CommandLine::Asm { source, image } => asm(alloc, files, source, image, input, output),
