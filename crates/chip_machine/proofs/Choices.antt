@@ -141,7 +141,7 @@ row_represents allowed (row.SkipUnlessEqual x y) c = tt
 row_represents allowed (row.LoadIndex address) c = tt
 row_represents allowed (row.JumpOffset address) c = tt
 row_represents allowed (row.Random x byte) c = tt
-row_represents allowed (row.Draw x y n) c = either_represents (n == 0 && not (quirks c.profile).draws_sixteen) allowed 0 _ _ tt tt
+row_represents allowed (row.Draw x y n) c = either_represents (not (quirks c.profile).draws_sixteen && n == 0) allowed 0 _ _ tt tt
 row_represents allowed (row.SkipIfKey x) c = skip_represents allowed (reg c x % 16) (λ down. skip_if down c)
 row_represents allowed (row.SkipUnlessKey x) c = skip_represents allowed (reg c x % 16) (λ down. skip_if (not down) c)
 row_represents allowed (row.ReadDelay x) c = tt

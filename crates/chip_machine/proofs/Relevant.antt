@@ -100,7 +100,7 @@ module _ (c : Core) (z e : ℕ) (same : c.draws % length c.tape ≡ e % length c
   row_like (row.LoadIndex address) = alike (next (with_index address c))
   row_like (row.JumpOffset address) = let x = if (quirks c.profile).jumps_by_first then 0 else address / 256 in alike (go_to (address + reg c x) c)
   row_like (row.Random x byte) = random x byte
-  row_like (row.Draw x y n) = let draws_nothing = n == 0 && not (quirks c.profile).draws_sixteen in either_like _ (draws_nothing) _ _ _ _ (alike (next (with_reg 15 0 c))) ((refl, λ sprite. alike (next (with_sprite (reg c x) (reg c y) n sprite c))))
+  row_like (row.Draw x y n) = let draws_nothing = not (quirks c.profile).draws_sixteen && n == 0 in either_like _ (draws_nothing) _ _ _ _ (alike (next (with_reg 15 0 c))) ((refl, λ sprite. alike (next (with_sprite (reg c x) (reg c y) n sprite c))))
   row_like (row.SkipIfKey x) = λ keys. alike (skip_if (is_down keys (reg c x % 16)) c)
   row_like (row.SkipUnlessKey x) = λ keys. alike (skip_if (not (is_down keys (reg c x % 16))) c)
   row_like (row.ReadDelay x) = alike (next (with_reg x c.delay c))

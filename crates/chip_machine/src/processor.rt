@@ -290,9 +290,9 @@ impl Processor {
     /// Whether a sprite of this number of rows is nothing at all: of number 0, where that doesn't
     /// stand for sixteen rows.
     pub(crate) fn draws_nothing(&self, n: Nibble) -> bool
-        ensures { result ≡ (n == 0 && not (quirks self.now.profile).draws_sixteen) }
+        ensures { result ≡ (not (quirks self.now.profile).draws_sixteen && n == 0) }
     {
-        n.number() == 0 && !self.profile.quirks().draws_sixteen
+        !self.profile.quirks().draws_sixteen && n.number() == 0
     }
 
     /// Which of the allowed keys an instruction can tell apart.
