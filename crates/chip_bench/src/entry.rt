@@ -175,9 +175,7 @@ fn perform<'a, F: Files, I: Read, O: Write, E: Write>(
         } => {
             let given = Given { source, is_image };
             let seed = host.name_seed;
-            debug(
-                alloc, files, seed, given, &settings, input, output, errors,
-            )
+            debug(alloc, files, seed, given, &settings, input, output, errors)
         }
         CommandLine::Asm { source, image } => asm(alloc, files, source, image, input, output),
         CommandLine::List { source } => list(alloc, files, source, input, output),

@@ -39,14 +39,7 @@ pub(crate) fn explore<'a, F: Files, I: Read, O: Write, E: Write>(
 {
     let settings = settings_of(alloc, &words.settings)?;
     let sets = sets_of(words)?;
-    let source = read_given(
-        alloc,
-        files,
-        words.source,
-        words.is_image,
-        input,
-        errors,
-    )?;
+    let source = read_given(alloc, files, words.source, words.is_image, input, errors)?;
     search_source(alloc, files, words, source, &settings, sets, output, errors)
 }
 

@@ -205,10 +205,8 @@ pub(crate) fn as_source<'a, E: Write>(
 
 // Whether one of the first bytes is a control byte that no text has.
 fn looks_like_image(bytes: &[u8]) -> bool {
-    bytes
-        .iter()
-        .take(FIRST_BYTES)
-        .any(|byte| *byte < b' ' && !matches!(*byte, b'\t' | b'\n' | b'\r' | 0x0c | 0x1b))
+    bytes.iter().take(FIRST_BYTES).any(|byte| *byte < b' '
+        && !matches!(*byte, b'\t' | b'\n' | b'\r' | 0x0c | 0x1b))
 }
 
 // The source that `dis` prints of an image.
