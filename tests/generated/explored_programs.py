@@ -3,6 +3,9 @@
 The programs store into their own code, call, skip and stop. The answers are computed with the machine of
 tests/trace/emulator.py: a state for each way that the keys can go, and equal states at the same step taken as one. Each
 script that is found is replayed by it. What `--cover` marks is compared with the addresses at which those states make steps.
+
+The first 500 are searched once more with `--deep` and room for few states: what it says is covered is covered, and each script
+that it finds leads where it says.
 """
 import importlib.util
 import pathlib
@@ -16,6 +19,9 @@ STEPS = 120
 KEYS = (0, 1, 2)
 RATE = 10
 TAPE = "3b5a91c7042fe866"
+# how many programs are searched with --deep, and with room for how many states
+DEEP_PROGRAMS = 500
+FEW_STATES = 10
 # a program with more states at one step is left out
 MOST_STATES = 300
 # how far steps that read no keys are followed after the last one
@@ -147,13 +153,13 @@ def replayed(code, lines, step):
     return cause(machine) if machine.stopped else None
 
 
-def asked(program, code, folder):
-    """The lines of the answer, those of the listing below it, and those of the file of keys."""
+def asked(program, code, folder, *options):
+    """The lines of the answer with these options, those of the listing below it, and those of the file of keys."""
     file, keys = pathlib.Path(folder, "image"), pathlib.Path(folder, "keys")
     file.write_bytes(bytes(code))
     keys.unlink(missing_ok=True)
     settings = ["--rate", str(RATE), "--tape", TAPE, "--keys-allowed", ",".join(map(str, KEYS))]
-    ran = program.run(["explore", "--image", "image", "--steps", str(STEPS), *settings, "--keys-to", "keys", "--cover"], b"", folder)
+    ran = program.run(["explore", "--image", "image", "--steps", str(STEPS), *settings, "--keys-to", "keys", *options], b"", folder)
     lines = [line for line in keys.read_text().splitlines() if line[:1].isdigit()] if keys.exists() else []
     answer = ran.stdout.decode().splitlines()
     below = next((place + 1 for place, line in enumerate(answer) if line.startswith("states ")), len(answer))
@@ -205,14 +211,58 @@ def wrong_group(program, numbers):
             if found is None:
                 continue
             first, made, after = found
-            answer, listing, keys = asked(program, code, folder)
+            answer, listing, keys = asked(program, code, folder, "--cover")
             wrong = wrong_answer(answer, keys, code, first) or wrong_marks(listing, answer, made, after)
             if wrong:
                 return f"program {number} ({code.hex()}): {wrong}"
     return ""
 
 
+def wrong_deep_answer(answer, keys, code, first):
+    """What is wrong with an answer to `--deep`, where the first stops are these."""
+    wanted = min((step for number, step in first.items() if number != 1), default=STEPS + 1)
+    head = answer[0].split()
+    covered = next((int(line.split()[1]) for line in answer if line.startswith("within ")), None)
+    if head == ["never"]:
+        return "" if wanted > STEPS else f"{answer}, and keys stop it at {wanted}"
+    if covered is not None and min(covered, STEPS) >= wanted:
+        return f"{answer}, and keys stop it at {wanted}"
+    if head[0] == "within":
+        return ""
+    step = int(head[1])
+    if covered is None and min(step, STEPS + 1) != wanted or covered is not None and covered >= step:
+        return f"{answer}, and keys stop it at {wanted} first"
+    if answer[1] != f"keys {len(keys)}":
+        return f"{answer} and {len(keys)} keys"
+    stop = replayed(code, keys, step)
+    return "" if stop == int(head[0][1]) else f"{answer}, but its keys lead to {stop}"
+
+
+def wrong_deep_group(program, numbers, deep):
+    """What is wrong with the answers to `--deep` for some programs. How many gave a script with `within` is added to a list."""
+    with tempfile.TemporaryDirectory() as folder:
+        for number in numbers:
+            code = image(number)
+            found = searched(code)
+            if found is None:
+                continue
+            answer, _, keys = asked(program, code, folder, "--states", str(FEW_STATES), "--deep")
+            deep.append(answer[0][:1] == "S" and any(line.startswith("within ") for line in answer))
+            wrong = wrong_deep_answer(answer, keys, code, found[0])
+            if wrong:
+                return f"program {number} ({code.hex()}): {wrong}"
+    return ""
+
+
+def wrong_deep_groups(program):
+    """What is wrong with the answers to `--deep` for all programs that it is asked about."""
+    deep = []
+    wrong = wrong_deep_group(program, range(DEEP_PROGRAMS), deep)
+    return wrong or ("" if sum(deep) >= 10 else f"only {sum(deep)} programs have a script past what is covered")
+
+
 def checks(program):
+    yield f"programs 0 to {DEEP_PROGRAMS - 1} with --deep", lambda: wrong_deep_groups(program)
     for start in range(0, PROGRAMS, GROUP):
         numbers = range(start, min(start + GROUP, PROGRAMS))
         yield f"programs {numbers[0]} to {numbers[-1]}", lambda numbers=numbers: wrong_group(program, numbers)
