@@ -202,15 +202,19 @@ def wrong_marks(listing, answer, made, after):
     return "" if marked else "no line is marked"
 
 
+def searched_programs(numbers):
+    """The number of each program that isn't left out, its code, and what keys can do with it."""
+    for number in numbers:
+        code = image(number)
+        found = searched(code)
+        if found is not None:
+            yield number, code, found
+
+
 def wrong_group(program, numbers):
     """What is wrong with the answers for some programs."""
     with tempfile.TemporaryDirectory() as folder:
-        for number in numbers:
-            code = image(number)
-            found = searched(code)
-            if found is None:
-                continue
-            first, made, after = found
+        for number, code, (first, made, after) in searched_programs(numbers):
             answer, listing, keys = asked(program, code, folder, "--cover")
             wrong = wrong_answer(answer, keys, code, first) or wrong_marks(listing, answer, made, after)
             if wrong:
@@ -238,31 +242,21 @@ def wrong_deep_answer(answer, keys, code, first):
     return "" if stop == int(head[0][1]) else f"{answer}, but its keys lead to {stop}"
 
 
-def wrong_deep_group(program, numbers, deep):
-    """What is wrong with the answers to `--deep` for some programs. How many gave a script with `within` is added to a list."""
+def wrong_deep_group(program, numbers):
+    """What is wrong with the answers to `--deep` for some programs. Ten at least give a script past what is covered."""
+    deep = 0
     with tempfile.TemporaryDirectory() as folder:
-        for number in numbers:
-            code = image(number)
-            found = searched(code)
-            if found is None:
-                continue
+        for number, code, (first, _, _) in searched_programs(numbers):
             answer, _, keys = asked(program, code, folder, "--states", str(FEW_STATES), "--deep")
-            deep.append(answer[0][:1] == "S" and any(line.startswith("within ") for line in answer))
-            wrong = wrong_deep_answer(answer, keys, code, found[0])
+            deep += answer[0][:1] == "S" and any(line.startswith("within ") for line in answer)
+            wrong = wrong_deep_answer(answer, keys, code, first)
             if wrong:
                 return f"program {number} ({code.hex()}): {wrong}"
-    return ""
-
-
-def wrong_deep_groups(program):
-    """What is wrong with the answers to `--deep` for all programs that it is asked about."""
-    deep = []
-    wrong = wrong_deep_group(program, range(DEEP_PROGRAMS), deep)
-    return wrong or ("" if sum(deep) >= 10 else f"only {sum(deep)} programs have a script past what is covered")
+    return "" if deep >= 10 else f"only {deep} programs have a script past what is covered"
 
 
 def checks(program):
-    yield f"programs 0 to {DEEP_PROGRAMS - 1} with --deep", lambda: wrong_deep_groups(program)
+    yield f"programs 0 to {DEEP_PROGRAMS - 1} with --deep", lambda: wrong_deep_group(program, range(DEEP_PROGRAMS))
     for start in range(0, PROGRAMS, GROUP):
         numbers = range(start, min(start + GROUP, PROGRAMS))
         yield f"programs {numbers[0]} to {numbers[-1]}", lambda numbers=numbers: wrong_group(program, numbers)
