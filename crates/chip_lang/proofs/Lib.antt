@@ -17,6 +17,7 @@ pub mod Scan
 pub mod SaidForm
 pub mod Shown
 pub mod ShownForm
+pub mod ShownText
 pub mod Sound
 pub mod Steps
 pub mod TokenList

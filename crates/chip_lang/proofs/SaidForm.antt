@@ -15,7 +15,6 @@ use Rattle.chip_lang.proofs.Decoding.{entries_proper}
 use Rattle.chip_lang.specs.inner.ByDigits.{digit, takes_top, takes_x, takes_y, takes_n}
 use Rattle.chip_lang.proofs.Digits.{has_digits, HasDigits, is_proper, gives_digits, word_digits}
 use Rattle.chip_lang.proofs.OwnDigits.{own_digit, own_digits, found_same}
-use Rattle.chip_lang.proofs.ShownForm.{is_sys}
 
 -- ---- the entry of some digits
 
@@ -56,6 +55,9 @@ Sign = Option (List ℕ × ℕ)
 abbrev sign_of : Option Entry → Sign
 sign_of None = None
 sign_of (Some e) = Some (e.form.name, e.form.base)
+
+abbrev is_sys : Row → Bool
+is_sys r = bytes_eq r.name (codes "SYS")
 
 abbrev unless_sys : Row → Sign → Sign
 unless_sys r s = if is_sys r then None else s

@@ -1,43 +1,32 @@
--- The form that a word is shown in is the first but SYS that gives it.
-use Rattle.std.proofs.Common.{◌≡◌, ℕ, Bool, true, false, not, ◌&&◌, is_some, List, [], ◌∷◌, ◌++◌, map, codes, Option, Some, None, refl, ◌∙◌}
+-- The form that a word is shown in is the first with its first digit that gives it.
+use Rattle.std.proofs.Common.{◌≡◌, ℕ, ◌/◌, ◌==◌, Bool, true, false, is_some, List, [], ◌∷◌, map, Option, Some, None, refl, ◌∙◌, arith}
 use Rattle.std.specs.Prelude.{option_map}
-use Rattle.std.specs.List.{list_all, find}
-use Rattle.std.specs.Str.{bytes_eq}
-use Rattle.std.proofs.lemmas.Bool.{and_parts}
-use Rattle.chip_lang.specs.Table.{Row, row, Entry, table, forms}
-use Rattle.chip_lang.specs.declared.form.Pattern.TheVariants.{Address}
+use Rattle.std.specs.List.{filter, find}
+use Rattle.std.proofs.lemmas.Bool.Decides.{nat_tests}
+use Rattle.chip_lang.specs.Table.{Row, Entry, table}
 use Rattle.chip_lang.specs.Decoding.{gives, entry_of, decode_of}
 use Rattle.chip_lang.specs.Show.{form_shown}
+use Rattle.chip_lang.proofs.TopDigit.{gives_other}
 
-abbrev pub is_sys : Row → Bool
-is_sys r = bytes_eq r.name (codes "SYS")
-
--- a form but SYS gives a word
-abbrev shows : ℕ → Row → Bool
-shows w r = not (is_sys r) && gives r w
-
-last_sys : (w : ℕ) (s : Row) → is_sys s ≡ true → find (shows w) (s ∷ []) ≡ None
-last_sys w s h = rw h refl
-
--- of some entries without SYS, and SYS after them, the first form that shows a word is the form of
--- the first entry that gives it
-first_shown : (w : ℕ) (s : Row) (es : List Entry) → is_sys s ≡ true → list_all (λ e. not (is_sys e.form)) es ≡ true →
-    find (shows w) (map (λ e. e.form) es ++ s ∷ []) ≡ option_map (λ e. e.form) (find (λ e. gives e.form w) es)
-first_shown w s [] last h = last_sys w s last
-first_shown w s (e ∷ es) last h =
-    let both = and_parts (not (is_sys e.form)) (list_all (λ e. not (is_sys e.form)) es) h in
-    step w s e es (not (is_sys e.form)) refl both.0 (gives e.form w) refl (first_shown w s es last both.1)
+-- of the forms of some entries, the first with a word's first digit that gives the word is that of
+-- the first entry which gives it
+first_shown : (w : ℕ) (es : List Entry) →
+    find (λ r. gives r w) (filter (λ r. r.base / 4096 == w / 4096) (map (λ e. e.form) es)) ≡ option_map (λ e. e.form) (find (λ e. gives e.form w) es)
+first_shown w [] = refl
+first_shown w (e ∷ es) = step w e es (e.form.base / 4096 == w / 4096) refl (gives e.form w) refl (first_shown w es)
   where
-    step : (w : ℕ) (s : Row) (e : Entry) (es : List Entry) (a : Bool) → not (is_sys e.form) ≡ a → a ≡ true → (b : Bool) → gives e.form w ≡ b →
-        find (shows w) (map (λ e. e.form) es ++ s ∷ []) ≡ option_map (λ e. e.form) (find (λ e. gives e.form w) es) →
-        find (shows w) (map (λ e. e.form) (e ∷ es) ++ s ∷ []) ≡ option_map (λ e. e.form) (find (λ e. gives e.form w) (e ∷ es))
-    step w s e es true p q true g rest = rw (p, g) refl
-    step w s e es true p q false g rest = rw (p, g) rest
-    step w s e es false p q b g rest = cc
+    step : (w : ℕ) (e : Entry) (es : List Entry) (a : Bool) → (e.form.base / 4096 == w / 4096) ≡ a → (b : Bool) → gives e.form w ≡ b →
+        find (λ r. gives r w) (filter (λ r. r.base / 4096 == w / 4096) (map (λ e. e.form) es)) ≡ option_map (λ e. e.form) (find (λ e. gives e.form w) es) →
+        find (λ r. gives r w) (filter (λ r. r.base / 4096 == w / 4096) (map (λ e. e.form) (e ∷ es))) ≡ option_map (λ e. e.form) (find (λ e. gives e.form w) (e ∷ es))
+    step w e es true p true g rest = rw (p, g) refl
+    step w e es true p false g rest = rw (p, g) rest
+    step w e es false p b g rest =
+        let not_given : gives e.form w ≡ false = gives_other e.form w (λ same. grind (arith, nat_tests, p, same)) in
+        rw (p, not_given) rest
 
-pub form_found : (w : ℕ) (found : Option Row) → found ≡ find (λ r. not (bytes_eq r.name (codes "SYS")) && gives r w) forms → found ≡ form_shown w
+pub form_found : (w : ℕ) (found : Option Row) → found ≡ find (λ r. gives r w) (filter (λ r. r.base / 4096 == w / 4096) (map (λ e. e.form) table)) → found ≡ form_shown w
 unfolding entry_of
-form_found w found h = h ∙ first_shown w (row (codes "SYS") (Address ∷ []) 0) table refl refl
+form_found w found h = h ∙ first_shown w table
 
 both_made : {A B : Type 0} (f : Entry → A) (g : Entry → B) (o : Option Entry) → is_some (option_map f o) ≡ is_some (option_map g o)
 both_made f g None = refl
