@@ -6,9 +6,11 @@ use Rattle.std.proofs.lemmas.Nat.{or_shr, or_mod, or_of_16}
 use Rattle.std.proofs.lemmas.Bool.{and_parts, and_from}
 use Rattle.std.proofs.lemmas.Bool.Decides.{nat_tests}
 use Rattle.chip_lang.specs.declared.fault.Fault.{Fault}
+use Rattle.chip_lang.specs.declared.fault.Fault.TheVariants.{WrongOperands}
 use Rattle.chip_lang.specs.declared.form.Pattern.{Pattern}
 use Rattle.chip_lang.specs.declared.form.Pattern.TheVariants.{Vx, Vy, Nibble, Byte, Address}
 use Rattle.chip_lang.specs.Operand.{Operand, register, expression, is_of_machine}
+use Rattle.chip_lang.specs.Form.{matches}
 use Rattle.chip_lang.specs.Table.{Row, forms}
 use Rattle.chip_lang.specs.Value.{◌>>=◌, Symbols, value}
 use Rattle.chip_lang.specs.Encoding.{number_below, signed_below, field_of, fields_of, word_of_form}
@@ -106,7 +108,7 @@ in_place Byte (expression e) symbols f h m =
 in_place Address (expression e) symbols f h m =
     let t = first-value (value e symbols) (number_below 4096) f h in
     omega (arith, number_is 4096 t.first f t.then)
-in_place p o symbols f h m = no_field p f (cc)
+in_place p o symbols f h m = no_field p f (if_ok (matches p o) 0 f WrongOperands h).1
 
 fields_are : (r s : Result ℕ Fault) (f : ℕ) → (r >>= λ a. s >>= λ b. Ok (bit_or a b)) ≡ Ok f →
     (a : ℕ) × (b : ℕ) × (r ≡ Ok a) × (s ≡ Ok b) × (bit_or a b ≡ f)
@@ -172,8 +174,9 @@ module _ (takes : Pattern → Bool) (bits : ℕ) (own : HasOwn bits takes) (noth
 
   fields_digit : (ps : List Pattern) (os : List Operand) (symbols : Symbols) (f : ℕ) → fields_of ps os symbols ≡ Ok f → list_all is_of_machine os ≡ true → list_any takes ps ≡ false →
       digit bits f ≡ 0
-  fields_digit [] os symbols f h m t = let e : 0 ≡ f = cc in rw (← e) nothing
-  fields_digit (p ∷ ps) [] symbols f h m t = let e : 0 ≡ f = cc in rw (← e) nothing
+  fields_digit [] [] symbols f h m t = let e : 0 ≡ f = cc in rw (← e) nothing
+  fields_digit [] (o ∷ os) symbols f h m t = cc
+  fields_digit (p ∷ ps) [] symbols f h m t = cc
   fields_digit (p ∷ ps) (o ∷ os) symbols f h m t =
       let both = fields_are (field_of p o symbols) (fields_of ps os symbols) f h in
       let free = neither (takes p) (list_any takes ps) t in
@@ -219,8 +222,9 @@ parts_bound [] w = omega arith
 parts_bound (p ∷ ps) w = or_of_16 (part_in p w) (parts_in ps w) (part_bound p w) (parts_bound ps w)
 
 fields_bound : (ps : List Pattern) (os : List Operand) (symbols : Symbols) (f : ℕ) → fields_of ps os symbols ≡ Ok f → list_all is_of_machine os ≡ true → f < 65536
-fields_bound [] os symbols f h m = let e : 0 ≡ f = cc in omega (arith, e)
-fields_bound (p ∷ ps) [] symbols f h m = let e : 0 ≡ f = cc in omega (arith, e)
+fields_bound [] [] symbols f h m = let e : 0 ≡ f = cc in omega (arith, e)
+fields_bound [] (o ∷ os) symbols f h m = cc
+fields_bound (p ∷ ps) [] symbols f h m = cc
 fields_bound (p ∷ ps) (o ∷ os) symbols f h m =
     let both = fields_are (field_of p o symbols) (fields_of ps os symbols) f h in
     let real = and_parts _ _ m in

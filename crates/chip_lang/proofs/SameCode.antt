@@ -62,7 +62,8 @@ same_field S T p (special w) h = same_special S T p w
 same_field S T p (expression e) h = same_number S T p e (same_value S T e h)
 
 same_fields : (S T : Symbols) (ps : List Pattern) (os : List Operand) → list_all (has_same_value S T) (flat_map names_in_operand os) ≡ true → fields_of ps os S ≡ fields_of ps os T
-same_fields S T [] os h = refl
+same_fields S T [] [] h = refl
+same_fields S T [] (o ∷ os) h = refl
 same_fields S T (p ∷ ps) [] h = refl
 same_fields S T (p ∷ ps) (o ∷ os) h =
     let both = parts (has_same_value S T) (names_in_operand o) (flat_map names_in_operand os) h in

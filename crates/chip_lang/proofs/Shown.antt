@@ -24,7 +24,7 @@ below_4096 : (n : ℕ) → ltb (n % 4096) 4096 ≡ true
 below_4096 n = grind (arith, nat_tests)
 
 field_shown : (w : ℕ) (p : Pattern) (symbols : Symbols) → field_of p (operand_in w p) symbols ≡ Ok (part_in p w)
-unfolding field_of
+unfolding field_of matches is_special
 field_shown w Nibble symbols = rw (below_16 w) refl
 field_shown w Byte symbols = rw (below_256 w) refl
 field_shown w Address symbols = rw (below_4096 w) refl

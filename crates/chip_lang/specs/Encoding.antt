@@ -2,9 +2,10 @@
 -- the ranges of values).
 use Rattle.std.specs.Prelude.{ℕ, ◌+◌, ◌*◌, ◌-◌, ◌/◌, ℤ, pos, negsuc, nat_lt, if◌then◌else◌, bit_or, List, [], ◌∷◌, Result, Ok, Err}
 use Rattle.chip_lang.specs.declared.fault.Fault.{Fault}
-use Rattle.chip_lang.specs.declared.fault.Fault.TheVariants.{OutOfRange}
+use Rattle.chip_lang.specs.declared.fault.Fault.TheVariants.{OutOfRange, WrongOperands}
 use Rattle.chip_lang.specs.declared.form.Pattern.{Pattern}
 use Rattle.chip_lang.specs.declared.form.Pattern.TheVariants.{Vx, Vy, Nibble, Byte, Address}
+use Rattle.chip_lang.specs.Form.{matches}
 use Rattle.chip_lang.specs.Operand.{Operand, register, expression}
 use Rattle.chip_lang.specs.Table.{Row}
 use Rattle.chip_lang.specs.Value.{◌>>=◌, Symbols, value}
@@ -20,19 +21,22 @@ signed_below limit (pos n) = if nat_lt n limit then Ok n else Err OutOfRange
 signed_below limit (negsuc n) =
     if nat_lt n (limit / 2) then Ok (limit - (n + 1)) else Err OutOfRange
 
--- what an operand puts into the word
+-- what an operand puts into the word: a register its number, an expression its value, and a part of
+-- the machine that fits its pattern nothing; an operand that doesn't fit is a fault
 unfoldable pub field_of : Pattern → Operand → Symbols → Result ℕ Fault
 field_of Vx (register x) symbols = Ok (256 * x)
 field_of Vy (register y) symbols = Ok (16 * y)
 field_of Nibble (expression e) symbols = value e symbols >>= number_below 16
 field_of Byte (expression e) symbols = value e symbols >>= signed_below 256
 field_of Address (expression e) symbols = value e symbols >>= number_below 4096
-field_of p o symbols = Ok 0
+field_of p o symbols = if matches p o then Ok 0 else Err WrongOperands
 
--- the operands' fields together, or the first fault from the left
+-- the operands' fields together, or the first fault from the left; an operand too few or too many is
+-- one
 abbrev pub fields_of : List Pattern → List Operand → Symbols → Result ℕ Fault
-fields_of [] os symbols = Ok 0
-fields_of (p ∷ ps) [] symbols = Ok 0
+fields_of [] [] symbols = Ok 0
+fields_of [] (o ∷ os) symbols = Err WrongOperands
+fields_of (p ∷ ps) [] symbols = Err WrongOperands
 fields_of (p ∷ ps) (o ∷ os) symbols =
     field_of p o symbols >>= λ field. fields_of ps os symbols >>= λ rest. Ok (bit_or field rest)
 

@@ -12,7 +12,7 @@ ghost use Rattle.chip_lang.specs.Encoding.{number_below, signed_below, field_of,
 
 use crate::expr::Expr;
 use crate::fault::Fault;
-use crate::form::{Form, Operand, Pattern};
+use crate::form::{Form, Operand, Pattern, is_special};
 use crate::line::{Body, Line};
 use crate::meter::Meter;
 use crate::names::Names;
@@ -142,17 +142,21 @@ fn fields_of<N: Names>(patterns: &[Pattern], operands: &[Operand], names: &N) ->
     ensures { result ≡ fields_of patterns.now (map operand_of operands.now) (N.symbols names.now) }
 {
     let Some((pattern, patterns)) = patterns.split_first() else {
-        return Ok(0);
+        if operands.is_empty() {
+            return Ok(0);
+        }
+        return Err(Fault::WrongOperands);
     };
     let Some((operand, operands)) = operands.split_first() else {
-        return Ok(0);
+        return Err(Fault::WrongOperands);
     };
     let field = field_of(*pattern, operand, names)?;
     let rest = fields_of(patterns, operands, names)?;
     Ok(field | rest)
 }
 
-#[tactic(auto, unfolding(crate::specs::Encoding::field_of))]
+/// What an operand puts into the word. One that doesn't fit its pattern is a fault.
+#[tactic(auto, unfolding(crate::specs::Encoding::field_of, crate::specs::Form::matches))]
 fn field_of<N: Names>(pattern: Pattern, operand: &Operand, names: &N) -> Result<u16, Fault>
     ensures { result ≡ field_of pattern (operand_of operand.now) (N.symbols names.now) }
 {
@@ -160,14 +164,16 @@ fn field_of<N: Names>(pattern: Pattern, operand: &Operand, names: &N) -> Result<
         Operand::Register(register) => match pattern {
             Pattern::Vx => Ok(u16::from(register.number()) * 256),
             Pattern::Vy => Ok(u16::from(register.number()) * 16),
-            _ => Ok(0),
+            Pattern::V0 if register.number() == 0 => Ok(0),
+            _ => Err(Fault::WrongOperands),
         },
-        Operand::Special(_) => Ok(0),
+        Operand::Special(special) if is_special(*special, pattern) => Ok(0),
+        Operand::Special(_) => Err(Fault::WrongOperands),
         Operand::Value(expr) => match pattern {
             Pattern::Nibble => number_below(16, eval(expr, names)?),
             Pattern::Byte => signed_below(256, eval(expr, names)?),
             Pattern::Address => number_below(4096, eval(expr, names)?),
-            _ => Ok(0),
+            _ => Err(Fault::WrongOperands),
         },
     }
 }

@@ -416,7 +416,7 @@ fn matches(pattern: Pattern, operand: &Operand) -> bool
 }
 
 #[tactic(auto, unfolding(crate::specs::Form::is_special))]
-fn is_special(special: Special, pattern: Pattern) -> bool
+pub(crate) fn is_special(special: Special, pattern: Pattern) -> bool
     ensures { result ≡ is_special special pattern }
 {
     matches!(
