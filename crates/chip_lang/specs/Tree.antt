@@ -17,4 +17,4 @@ abbrev pub tree_of : Expr → Tree
 tree_of (Number value) = number value
 tree_of (Name bytes) = name bytes
 tree_of (Unary' sign p operand) = unary sign (tree_of operand)
-tree_of (Binary' sign p left q right) = binary sign (tree_of left) (tree_of right)
+tree_of (Binary' sign p left right) = binary sign (tree_of left) (tree_of right)

@@ -38,6 +38,7 @@ pub enum Operator {
 
 /// An expression.
 #[derive(Drop)]
+#[cycle(expression)]
 pub enum Expr {
     /// A number, or the byte of a text of one byte.
     Number(i32),
@@ -46,5 +47,15 @@ pub enum Expr {
     /// A sign before an operand.
     Unary(Prefix, Box<Expr>),
     /// A sign between two operands.
-    Binary(Operator, Box<Expr>, Box<Expr>),
+    Binary(Operator, Box<Sides>),
+}
+
+/// The operands of a sign between two.
+#[derive(Drop)]
+#[cycle(expression)]
+pub struct Sides {
+    /// The one before the sign.
+    pub left: Expr,
+    /// The one after it.
+    pub right: Expr,
 }

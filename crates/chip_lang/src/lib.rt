@@ -35,7 +35,7 @@ pub mod value;
 
 pub use crate::bytes::Bytes;
 pub use crate::code::{Coded, encode};
-pub use crate::expr::{Expr, Operator, Prefix};
+pub use crate::expr::{Expr, Operator, Prefix, Sides};
 pub use crate::fault::Fault;
 pub use crate::fault_place::{Span, fault_span, mnemonic_of, name_of_token};
 pub use crate::form::{Form, Operand, Pattern, Special};

@@ -7,7 +7,7 @@ ghost use Rattle.chip_lang.specs.inner.Seen.{seen, seen_whole};
 ghost use Rattle.chip_lang.specs.Tree.{Tree, tree_of, binary};
 ghost use Rattle.chip_lang.specs.Reserved.{is_reserved};
 
-use crate::expr::{Expr, Operator, Prefix};
+use crate::expr::{Expr, Operator, Prefix, Sides};
 use crate::front::{
     closed, free_name, level_in_front, name_atom, operator_in_front, prefix_in_front, text_atom,
     text_number,
@@ -154,9 +154,8 @@ fn parse_further<'a>(
 fn binary(alloc: Global, sign: Operator, left: Expr, right: Expr) -> Result<Expr, AllocError>
     ensures { IfOk result (λ e. tree_of e ≡ binary sign (tree_of left) (tree_of right)) }
 {
-    let left = Box::new(alloc, left)?;
-    let right = Box::new(alloc, right)?;
-    Ok(Expr::Binary(sign, left, right))
+    let sides = Box::new(alloc, Sides { left, right })?;
+    Ok(Expr::Binary(sign, sides))
 }
 
 /// The signs before an operand, and the tokens after them.

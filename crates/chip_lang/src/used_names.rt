@@ -90,7 +90,9 @@ fn agree_in<N: Names>(expr: &Expr, old: &N, new: &N) -> bool
         Expr::Number(_) => true,
         Expr::Name(name) => old.value(name.get()) == new.value(name.get()),
         Expr::Unary(_, operand) => agree_in(operand, old, new),
-        Expr::Binary(_, left, right) => agree_in(left, old, new) && agree_in(right, old, new),
+        Expr::Binary(_, sides) => {
+            agree_in(&sides.left, old, new) && agree_in(&sides.right, old, new)
+        }
     }
 }
 
@@ -153,7 +155,7 @@ fn has_name_in(expr: &Expr) -> bool
         Expr::Number(_) => false,
         Expr::Name(_) => true,
         Expr::Unary(_, operand) => has_name_in(operand),
-        Expr::Binary(_, left, right) => has_name_in(left) || has_name_in(right),
+        Expr::Binary(_, sides) => has_name_in(&sides.left) || has_name_in(&sides.right),
     }
 }
 
@@ -241,9 +243,9 @@ fn name_in(expr: &Expr, place: usize) -> Result<&[u8], usize>
             }
         }
         Expr::Unary(_, operand) => name_in(operand, place),
-        Expr::Binary(_, left, right) => match name_in(left, place) {
+        Expr::Binary(_, sides) => match name_in(&sides.left, place) {
             Ok(name) => Ok(name),
-            Err(past) => name_in(right, past),
+            Err(past) => name_in(&sides.right, past),
         },
     }
 }

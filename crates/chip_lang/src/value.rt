@@ -20,9 +20,9 @@ pub fn eval<N: Names>(expr: &Expr, names: &N) -> Result<i32, Fault>
             let value = eval(operand, names)?;
             apply_prefix(*sign, value)
         }
-        Expr::Binary(sign, left, right) => {
-            let a = eval(left, names)?;
-            let b = eval(right, names)?;
+        Expr::Binary(sign, sides) => {
+            let a = eval(&sides.left, names)?;
+            let b = eval(&sides.right, names)?;
             apply(*sign, a, b)
         }
     }
@@ -43,9 +43,9 @@ pub fn constant(expr: &Expr) -> Option<i32>
             let value = constant(operand)?;
             apply_prefix(*sign, value).ok()
         }
-        Expr::Binary(sign, left, right) => {
-            let a = constant(left)?;
-            let b = constant(right)?;
+        Expr::Binary(sign, sides) => {
+            let a = constant(&sides.left)?;
+            let b = constant(&sides.right)?;
             apply(*sign, a, b).ok()
         }
     }
