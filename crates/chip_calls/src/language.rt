@@ -6,8 +6,7 @@
 //!   value, name or code; or the fault of its reading. `read-length LINE`: how long that answer is.
 //! - `tokens LINE`: each token with its first byte and the place after its last one.
 //! - `defines LINE`, `name PLACE LINE`: the name that it defines, and the name that it uses at a
-//!   place. `uses-names LINE`: whether it uses any. `agrees LINE`: whether two empty tables agree on
-//!   them.
+//!   place.
 //! - `constant LINE`: the value of an EQU without names. `nothing LINE`: how many lines were read
 //!   where only a line without a statement is. `copy LINE`: a copy of its bytes.
 //! - `place FAULT LINE`: the bytes at which such a fault of it lies. `mnemonic LINE`: its mnemonic.
@@ -19,8 +18,8 @@ ghost use Rattle.std.specs.FinMap as map;
 use crate::output::{Refused, Reply};
 use crate::text::{line_bytes, number, split_word};
 use chip_lang::{
-    Body, Bytes, Coded, Fault, Line, Meter, Names, agree_on, constant, defines, encode, eval,
-    fault_span, mnemonic_of, read_line, read_nothing, tokens, uses, uses_names,
+    Body, Bytes, Coded, Fault, Line, Meter, Names, constant, defines, encode, eval, fault_span,
+    mnemonic_of, read_line, read_nothing, tokens, uses,
 };
 use std::alloc::{AllocError, Global};
 
@@ -45,7 +44,7 @@ pub(crate) fn answer(
 ) -> Result<(), Refused> {
     let bytes = line_bytes(built, rest);
     match word {
-        "read" | "read-length" | "defines" | "uses-names" | "agrees" | "constant" => {
+        "read" | "read-length" | "defines" | "constant" => {
             push_said(alloc, out, word, &*read(alloc, &mut Meter::new(), bytes)?)?
         }
         "tokens" => push_tokens(alloc, out, bytes)?,
@@ -76,8 +75,6 @@ fn push_said(alloc: Global, out: &mut Reply, word: &str, line: &Line) -> Result<
             out.show(&text.text.len());
         }
         "defines" => out.name(defines(line)),
-        "uses-names" => out.show(&uses_names(line)),
-        "agrees" => out.show(&agree_on(line, &NoNames, &NoNames)),
         _ => out.debug(&constant_of(line)),
     }
     Ok(())

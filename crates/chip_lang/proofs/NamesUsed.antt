@@ -1,9 +1,8 @@
 -- The names of a whole and of its parts.
-use Rattle.std.proofs.Common.{◌≡◌, refl, ℕ, zero, suc, ◌+◌, ◌||◌, Some, is_some, List, [], ◌∷◌, ◌++◌, length, arith}
+use Rattle.std.proofs.Common.{◌≡◌, ℕ, zero, suc, ◌+◌, Some, List, [], ◌∷◌, ◌++◌, length, arith}
 use Rattle.std.specs.List.{slice_get}
-use Rattle.std.proofs.lemmas.List.Folds.{list_all-append}
 use Rattle.std.proofs.lemmas.List.Concat.{flat_map-cons}
-use Rattle.std.proofs.lemmas.Option.{slice_get_past, slice_get_within}
+use Rattle.std.proofs.lemmas.Option.{slice_get_past}
 
 -- a name of the first part is one of the whole
 pub slice_get-left : {A : Type 0} (xs ys : List A) (k : ℕ) (x : A) → slice_get xs k ≡ Some x → slice_get (xs ++ ys) k ≡ Some x
@@ -17,13 +16,4 @@ slice_get-right [] ys k n h = let e : k ≡ n = omega arith in cc e
 slice_get-right (y ∷ xs) ys k zero h = absurd (omega arith)
 slice_get-right (y ∷ xs) ys k (suc n) h = slice_get-right xs ys k n (omega arith)
 
-pub ruleset names_together = (list_all-append, flat_map-cons, slice_get_past)
-
 pub ruleset places_together = (slice_get-left, slice_get-right, flat_map-cons, slice_get_past)
-
--- a whole has a first name if one of its parts has one
-pub first-either : {A : Type 0} (xs ys : List A) → is_some (slice_get (xs ++ ys) 0) ≡ (is_some (slice_get xs 0) || is_some (slice_get ys 0))
-first-either [] ys = refl
-first-either (x ∷ xs) ys = refl
-
-pub ruleset first_together = (first-either, flat_map-cons)

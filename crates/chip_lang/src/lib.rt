@@ -46,5 +46,5 @@ pub use crate::names::Names;
 pub use crate::number::{Addr, Nibble, Reg};
 pub use crate::source_text::{push_shown, show};
 pub use crate::token::{Kind, Token, tokens};
-pub use crate::used_names::{agree_on, defines, uses, uses_names};
+pub use crate::used_names::{defines, uses};
 pub use crate::value::{constant, eval};
