@@ -6,7 +6,7 @@ use Rattle.std.proofs.lemmas.Bool.{cases_eq, eqb-true}
 use Rattle.std.proofs.lemmas.Nat.Bits.{bit_at-zero, bit_at_and, bit_at-pow_same, bit_at-pow_other, bit_at-lt}
 use Rattle.chip_lang.specs.declared.instr.Instr.{Instr}
 use Rattle.chip_lang.specs.declared.instr.Instr.TheVariants as row
-use Rattle.chip_machine.specs.declared.limits.TheConstants.{FLAGS, FRAMES}
+use Rattle.chip_machine.specs.declared.limits.TheConstants.{FRAMES}
 use Rattle.chip_machine.specs.declared.stop.Stop.{Stop}
 use Rattle.chip_machine.specs.declared.stop.Stop.TheVariants as cause
 use Rattle.chip_machine.specs.Profile.{quirks}
@@ -154,8 +154,8 @@ row_represents allowed (row.BigDigit x) c = super_represents c allowed 0 _ tt
 row_represents allowed (row.StoreDecimal x) c = tt
 row_represents allowed (row.StoreRegisters x) c = tt
 row_represents allowed (row.LoadRegisters x) c = tt
-row_represents allowed (row.StoreFlags x) c = super_represents c allowed 0 _ (either_represents (nat_le FLAGS x) allowed 0 _ _ tt tt)
-row_represents allowed (row.LoadFlags x) c = super_represents c allowed 0 _ (either_represents (nat_le FLAGS x) allowed 0 _ _ tt tt)
+row_represents allowed (row.StoreFlags x) c = super_represents c allowed 0 _ (either_represents (nat_le (length c.flags) x) allowed 0 _ _ tt tt)
+row_represents allowed (row.LoadFlags x) c = super_represents c allowed 0 _ (either_represents (nat_le (length c.flags) x) allowed 0 _ _ tt tt)
 
 perform_acts : (allowed some : ℕ) (s : State) (effect : Effect) → Acts allowed some effect → (keys : ℕ) → IsWithin allowed keys
     → (one : ℕ) × IsChoice some one × (perform keys s effect ≡ perform one s effect)

@@ -10,6 +10,7 @@
 --   Touched   whether a step touches an address
 --   Keyless   which steps depend on the keys, and the law of those that don't
 --   Choices   which keys the next step can tell apart
+--   Forgotten which parts of a state a step reads and sets
 --   Relevant  what of a state later steps depend on
 --   Restored  a machine that is put back from its parts
 --   Block     some steps, one after another
@@ -22,6 +23,7 @@
 pub mod Block
 pub mod Choices
 pub mod Digits
+pub mod Forgotten
 pub mod Frame
 pub mod ImageLaw
 pub mod Keyless

@@ -1,32 +1,49 @@
--- What of a state later steps depend on.
+-- What of a state later steps depend on, where some of its parts are forgotten.
 -- Source: own.
---     relevant         a state whose sound timer is 0 and whose draws are counted from the tape's
---                      last start on
---     AlikeSteps       the law: two states that agree in what is relevant, with draws below the
---                      greatest count, still do after the same step
+--     Alike            two states that agree in all but the sound timer, how often the tape was gone
+--                      through, and some parts that are forgotten; of a state that has stopped, which
+--                      stays as it is, none of these parts counts
+--     AlikeSteps       the law: two states that are alike, with draws below the greatest count, still
+--                      are after the same step, where it reads nothing that is forgotten, in what is
+--                      forgotten after it
 --     DrawsGrow        the law: a step draws one random byte at most
-use Rattle.std.specs.Prelude.{◌≡◌, ℕ, ◌+◌, ◌-◌, ◌%◌, ◌^◌, ◌<◌, ◌≤◌, Bool, true, false, length}
-use Rattle.chip_machine.specs.State.{Core, State}
-use Rattle.chip_machine.specs.Step.{step_of}
+--     QuietTick        the law: a step that leaves the delay timer at 0 does so whether the timers
+--                      tick or not
+use Rattle.std.specs.Prelude.{◌≡◌, ℕ, ◌+◌, ◌-◌, ◌%◌, ◌^◌, ◌<◌, ◌≤◌, Bool, true, false, [], length, is_some}
+use Rattle.std.specs.FinSet as set
+use Rattle.chip_machine.specs.Forgotten.{has_part, index_part, screen_part, register_part, IsUnread, IsForgottenAfter}
+use Rattle.chip_machine.specs.State.{Core, State, IsProper}
+use Rattle.chip_machine.specs.Step.{reg, step_of}
 
-abbrev pub relevant_core : Core → Core
-relevant_core c = record c { sound = 0; draws = c.draws % length c.tape }
+-- all but the parts that may be forgotten, the sound timer and the draws
+abbrev pub others : Core → Core
+others c = record c { registers = []; index = 0; lit = set.empty; sound = 0; draws = 0 }
 
-abbrev pub relevant : State → State
-relevant s = record s { core = relevant_core s.core }
+pub record Alike (forgotten : ℕ) (a b : State) : Type 0 where
+  pub proper : IsProper a
+  pub others : others a.core ≡ others b.core
+  pub memory : a.memory ≡ b.memory
+  pub draws : a.core.draws % length a.core.tape ≡ b.core.draws % length b.core.tape
+  pub count : length a.core.registers ≡ length b.core.registers
+  pub registers : is_some a.core.stopped ≡ false → (x : ℕ)
+      → has_part forgotten (register_part x) ≡ false → reg a.core x ≡ reg b.core x
+  pub index : is_some a.core.stopped ≡ false → has_part forgotten index_part ≡ false
+      → a.core.index ≡ b.core.index
+  pub screen : is_some a.core.stopped ≡ false → has_part forgotten screen_part ≡ false
+      → a.core.lit ≡ b.core.lit
 
 abbrev pub AlikeSteps : Type 0
 AlikeSteps =
-    (a b : State) (keys : ℕ) (tick : Bool) → relevant a ≡ relevant b
+    (before after : ℕ) (a b : State) (keys : ℕ) (tick : Bool) → Alike before a b
+    → IsUnread before a → IsForgottenAfter before a (step_of a keys tick).core.pc after
     → a.core.draws < 2 ^ 64 - 1 → b.core.draws < 2 ^ 64 - 1
-    → relevant (step_of a keys tick) ≡ relevant (step_of b keys tick)
+    → Alike after (step_of a keys tick) (step_of b keys tick)
 
 abbrev pub DrawsGrow : Type 0
 DrawsGrow =
     (s : State) (keys : ℕ) (tick : Bool) → (step_of s keys tick).core.draws ≤ s.core.draws + 1
 
--- a step that leaves the delay timer at 0 does so whether the timers tick or not
 abbrev pub QuietTick : Type 0
 QuietTick =
-    (s : State) (keys : ℕ) → (step_of s keys false).core.delay ≡ 0
-    → relevant (step_of s keys true) ≡ relevant (step_of s keys false)
+    (s : State) (keys : ℕ) → IsProper s → (step_of s keys false).core.delay ≡ 0
+    → Alike 0 (step_of s keys true) (step_of s keys false)
