@@ -1,178 +1,478 @@
--- What later steps depend on, by the rows of the table: two states that differ in the sound timer and
--- the count of the draws alone, and what the same step makes of them.
-use Rattle.std.proofs.Common.{◌≡◌, ℕ, ◌+◌, ◌-◌, ◌*◌, ◌/◌, ◌%◌, ◌^◌, ◌<◌, ◌≤◌, ◌==◌, ◌&&◌, min, bit_and, bit_or, bit_xor, Bool, true, false, not, List, length, slice_index, slice_set, Option, Some, None, Result, Ok, Err, refl, sym, nat_le, find, is_some, ap, subst, if◌then◌else◌, take, drop, nat_lt, ◌∙◌, arith}
+-- What later steps depend on where some parts are forgotten, by the rows of the table: two cores that
+-- agree in what is known, and what the same step makes of them.
+use Rattle.std.proofs.Common.{◌≡◌, ◌≢◌, ℕ, zero, suc, ◌+◌, ◌-◌, ◌*◌, ◌/◌, ◌%◌, ◌^◌, ◌<◌, ◌≤◌, ◌==◌, ◌&&◌, ◌||◌, min, bit_and, bit_or, bit_xor, Bool, true, false, not, List, [], ◌∷◌, ◌++◌, length, get_or, slice_index, slice_set, Option, Some, None, Result, Ok, Err, refl, sym, nat_le, find, is_some, ap, subst, if◌then◌else◌, take, drop, nat_lt, ◌∙◌, ◌⊎◌, inl, inr, arith, eq-eqb}
 use Rattle.std.specs.FinSet as set
-use Rattle.std.specs.List.{range_with_len}
+use Rattle.std.specs.List.{list_all, range_with_len}
 use Rattle.std.proofs.Math.Nat.{mod-add-div', add-mul-mod_self_right}
+use Rattle.std.proofs.lemmas.Bool.{cases_Bool, cases_eq, cases_lt, eqb-true, ltb-false, leb-false, or_cases, or_parts, or_right}
+use Rattle.std.proofs.lemmas.Grind.{same_number_lists}
+use Rattle.std.proofs.lemmas.List.{get_or-append_right, get_or-drop, get_or-set_other, get_or-set_same, get_or-take, get_or_append_left, get_or_past, length-append, length-drop, length-set, length-take, set_past}
+use Rattle.std.proofs.lemmas.List.Folds.{list_all_at}
+use Rattle.std.proofs.lemmas.List.FromFn.{get_or-range_with_len, length-range_with_len}
+use Rattle.std.proofs.lemmas.Nat.Bits.{bit_at-zero}
 use Rattle.chip_lang.specs.Decoding.{decode_of}
 use Rattle.chip_lang.specs.declared.instr.Instr.{Instr}
 use Rattle.chip_lang.specs.declared.instr.Instr.TheVariants as row
-use Rattle.chip_machine.specs.declared.limits.TheConstants.{FLAGS, FRAMES, LAST_WORD}
+use Rattle.chip_lang.specs.declared.limits.TheConstants.{MEMORY_BYTES}
+use Rattle.chip_machine.specs.declared.limits.TheConstants.{FRAMES, LAST_WORD}
 use Rattle.chip_machine.specs.declared.stop.Stop.{Stop}
 use Rattle.chip_machine.specs.declared.stop.Stop.TheVariants as cause
+use Rattle.chip_machine.specs.Forgotten.{IsForgottenAfter, IsUnread, first_registers, flag_part, has_part, index_part, is_forgotten_by, is_one_of, next_instr, parts_by, reads, register_part, screen_part, sets, spoils}
+use Rattle.chip_machine.specs.Points.{Points, meets, symmetric_difference}
 use Rattle.chip_machine.specs.Profile.{quirks}
-use Rattle.chip_machine.specs.Relevant.{relevant, relevant_core, AlikeSteps, DrawsGrow, QuietTick}
+use Rattle.chip_machine.specs.Relevant.{Alike, AlikeSteps, DrawsGrow, QuietTick, others}
 use Rattle.chip_machine.specs.Scroll.{scrolled_down, scrolled_right, scrolled_left}
-use Rattle.chip_machine.specs.State.{Core, State, overwrite}
-use Rattle.chip_machine.specs.Step.{Effect, Stops, Changes, Keyed, Loads, Stores, bit_of, call, drawn, effect, effect_at, effect_of_word, go_to, is_down, is_past, load_flags, load_registers, next, past_registers, perform, random_byte, reg, return, settle, skip_if, step_of, store_flags, take_key, with_flag, with_index, with_lit, with_reg, with_size, with_sprite, word_at}
+use Rattle.chip_machine.specs.Sprite.{covered, sprite_bytes}
+use Rattle.chip_machine.specs.State.{Core, State, IsProper, overwrite}
+use Rattle.chip_machine.specs.Step.{Effect, Stops, Changes, Keyed, Loads, Stores, bit_of, call, decimal_digits, effect, effect_at, effect_of_word, go_to, is_down, is_past, load_flags, next, perform, reg, return, settle, skip_if, step_of, store_flags, super_only, take_key, ticked, with_flag, with_index, with_lit, with_reg, with_size, with_sprite, word_at}
+use Rattle.chip_machine.specs.inner.FrameTheorem.{step_keeps_proper}
 
--- two cores agree in what is relevant, and the first has drawn so many bytes at most
-abbrev Near : ℕ → Core → Core → Type 0
-Near most a b = (relevant_core a ≡ relevant_core b) × (a.draws ≤ most)
+-- ---- values
 
--- likewise two effects
-abbrev Like : ℕ → Effect → Effect → Type 0
-Like most (Stops a) (Stops b) = a ≡ b
-Like most (Changes a) (Changes b) = Near most a b
-Like most (Keyed f) (Keyed g) = (keys : ℕ) → Near most (f keys) (g keys)
-Like most (Loads m f) (Loads n g) = (m ≡ n) × ((bytes : List ℕ) → Near most (f bytes) (g bytes))
-Like most (Stores a c) (Stores b d) = (a ≡ b) × Near most c d
-Like most _ _ = ⊥
+both : {A : Type 0} (f : ℕ → ℕ → A) {x y u v : ℕ} → x ≡ u → y ≡ v → f x y ≡ f u v
+both f {x} {y} {u} {v} p q = ap (λ (n : ℕ). f n y) p ∙ ap (f u) q
 
-either_like : (most : ℕ) (test : Bool) (a b c d : Effect) → Like most a c → Like most b d → Like most (if test then a else b) (if test then c else d)
-either_like most true a b c d h k = h
-either_like most false a b c d h k = k
+set_alike : (r s : List ℕ) (x v w : ℕ) → length r ≡ length s → v ≡ w → slice_index (slice_set r x v) x ≡ slice_index (slice_set s x w) x
+set_alike r s x v w size e =
+    elim (cases_lt x (length r)) [
+      inl low ↦ get_or-set_same r x v 0 low ∙ e ∙ sym (get_or-set_same s x w 0 (omega arith))
+      | inr high ↦
+          let other : length s ≤ x = omega arith in
+          ap (λ (xs : List ℕ). slice_index xs x) (set_past r x v high) ∙ get_or_past r x 0 high
+          ∙ sym (ap (λ (xs : List ℕ). slice_index xs x) (set_past s x w other) ∙ get_or_past s x 0 other)
+    ]
 
-super_like : (most : ℕ) (has_super : Bool) (one other : Effect) → Like most one other → Like most (if has_super then one else Stops cause.NoInstruction) (if has_super then other else Stops cause.NoInstruction)
-super_like most has_super one other h = either_like most has_super one (Stops cause.NoInstruction) other (Stops cause.NoInstruction) h refl
+-- ---- registers, I and screens that agree in the parts that are known
 
-next_near : (most : ℕ) (a b : Core) → Near most a b → Near most (next a) (next b)
-next_near most a b h = (ap next h.0, h.1)
+record Agree (K : ℕ → Type 0) (r s : List ℕ) (i j : ℕ) (l m : Points) : Type 0 where
+  pub count : length r ≡ length s
+  pub registers : (x : ℕ) → K (register_part x) → slice_index r x ≡ slice_index s x
+  pub index : K index_part → i ≡ j
+  pub screen : K screen_part → l ≡ m
 
-logic_like : (most : ℕ) (test : Bool) (a b c d : Core) → Near most a c → Near most b d → Near most (next (if test then a else b)) (next (if test then c else d))
-logic_like most true a b c d h k = next_near most a c h
-logic_like most false a b c d h k = next_near most b d k
+module _ {K L : ℕ → Type 0} {r s : List ℕ} {i j : ℕ} {l m : Points} where
+  less : ((part : ℕ) → L part → K part) → Agree K r s i j l m → Agree L r s i j l m
+  less sub k = record { count = k.count; registers = λ x h. k.registers x (sub _ h); index = λ h. k.index (sub _ h); screen = λ h. k.screen (sub _ h) }
 
--- the states that differ in the sound timer and the count of the draws
-abbrev counted : ℕ → ℕ → Core → Core
-counted sound draws c = record c { sound = sound; draws = draws }
+  put : (x v w : ℕ) → (L (register_part x) → v ≡ w) → ((part : ℕ) → L part → (part ≡ register_part x) ⊎ K part) → Agree K r s i j l m → Agree L (slice_set r x v) (slice_set s x w) i j l m
+  put x v w e rest k =
+      record {
+        count = length-set r x v ∙ k.count ∙ sym (length-set s x w);
+        registers = λ y h.
+        elim (cases_eq y x) [
+          inl same ↦
+              subst (λ (n : ℕ). slice_index (slice_set r x v) n ≡ slice_index (slice_set s x w) n) (sym same)
+              (set_alike r s x v w k.count (e (subst (λ (n : ℕ). L (register_part n)) same h)))
+          | inr other ↦
+              let known : K (register_part y) = elim (rest _ h) [ inl same ↦ absurd (other (omega arith)) | inr known ↦ known ] in
+              get_or-set_other r x y v 0 other ∙ k.registers y known ∙ sym (get_or-set_other s x y w 0 other)
+        ];
+        index = λ h. elim (rest _ h) [ inl same ↦ absurd (omega arith) | inr known ↦ k.index known ];
+        screen = λ h. elim (rest _ h) [ inl same ↦ absurd (omega arith) | inr known ↦ k.screen known ];
+      }
+
+  reindex : (v w : ℕ) → (L index_part → v ≡ w) → ((part : ℕ) → L part → (part ≡ index_part) ⊎ K part) → Agree K r s i j l m → Agree L r s v w l m
+  reindex v w e rest k =
+      record {
+        count = k.count;
+        registers = λ y h. elim (rest _ h) [ inl same ↦ absurd (omega arith) | inr known ↦ k.registers y known ];
+        index = e;
+        screen = λ h. elim (rest _ h) [ inl same ↦ absurd (omega arith) | inr known ↦ k.screen known ];
+      }
+
+  relight : (v w : Points) → (L screen_part → v ≡ w) → ((part : ℕ) → L part → (part ≡ screen_part) ⊎ K part) → Agree K r s i j l m → Agree L r s i j v w
+  relight v w e rest k =
+      record {
+        count = k.count;
+        registers = λ y h. elim (rest _ h) [ inl same ↦ absurd (omega arith) | inr known ↦ k.registers y known ];
+        index = λ h. elim (rest _ h) [ inl same ↦ absurd (omega arith) | inr known ↦ k.index known ];
+        screen = e;
+      }
+
+  load : (bytes : List ℕ) (n : ℕ) → length bytes ≡ n → ((part : ℕ) → L part → ((register_part 0 ≤ part) × (part < register_part n)) ⊎ K part) → Agree K r s i j l m
+      → Agree L (bytes ++ drop n r) (bytes ++ drop n s) i j l m
+  load bytes n size rest k =
+      record {
+        count =
+        length-append bytes (drop n r) ∙ ap (λ m. length bytes + m) (length-drop n r ∙ ap (λ m. m - n) k.count ∙ sym (length-drop n s))
+            ∙ sym (length-append bytes (drop n s));
+        registers = λ y h.
+        elim (cases_lt y n) [
+          inl low ↦
+              let inside : y < length bytes = omega arith in
+              get_or_append_left bytes (drop n r) 0 y inside ∙ sym (get_or_append_left bytes (drop n s) 0 y inside)
+          | inr high ↦
+              let known : K (register_part y) = elim (rest _ h) [ inl within ↦ absurd (omega arith) | inr known ↦ known ] in
+              let place : n + (y - n) ≡ y = omega arith in
+              get_or-append_right bytes (drop n r) n y 0 size high ∙ get_or-drop n r (y - n) 0
+              ∙ ap (slice_index r) place ∙ k.registers y known ∙ ap (slice_index s) (sym place)
+              ∙ sym (get_or-append_right bytes (drop n s) n y 0 size high ∙ get_or-drop n s (y - n) 0)
+        ];
+        index = λ h. elim (rest _ h) [ inl within ↦ absurd (omega arith) | inr known ↦ k.index known ];
+        screen = λ h. elim (rest _ h) [ inl within ↦ absurd (omega arith) | inr known ↦ k.screen known ];
+      }
+
+-- ---- parts
+
+off_by : (x q : Bool) → (x ≡ true → q ≡ true) → q ≡ false → x ≡ false
+off_by true q h off = absurd (let on = h refl in cc)
+off_by false q h off = refl
+
+unset : (b o : Bool) → (b && not o || false) ≡ false → (o ≡ true) ⊎ (b ≡ false)
+unset b true h = inl refl
+unset true false h = absurd (cc)
+unset false false h = inr refl
+
+first_off : (a : Bool) → (a && true) ≡ false → a ≡ false
+first_off true h = absurd (cc)
+first_off false h = refl
+
+first_known : (a rest : Bool) → (not a && rest) ≡ true → (a ≡ false) × (rest ≡ true)
+first_known true rest h = absurd (cc)
+first_known false rest h = (refl, h)
+
+in_row : (start n part : ℕ) → is_one_of (range_with_len start n) part ≡ true → (start ≤ part) × (part < start + n)
+in_row start zero part h = absurd (cc)
+in_row start (suc n) part h =
+    elim (or_cases _ _ h) [
+      inl here ↦ let same = eqb-true part start here in (omega arith, omega arith)
+      | inr later ↦ let there = in_row (start + 1) n part later in (omega arith, omega arith)
+    ]
+
+known_at : (before : ℕ) (parts : List ℕ) (k : ℕ) → list_all (λ part. not (has_part before part)) parts ≡ true → k < length parts → has_part before (get_or parts k 0) ≡ false
+known_at before parts k h inside =
+    elim (cases_Bool (has_part before (get_or parts k 0))) [
+      inl on ↦ let none = list_all_at (λ part. not (has_part before part)) parts k 0 inside (ap not on) in absurd (cc)
+      | inr off ↦ off
+    ]
+
+none_known : (parts : List ℕ) → list_all (λ part. not (has_part 0 part)) parts ≡ true
+none_known [] = refl
+none_known (p ∷ ps) = ap (λ b. not (b == 1) && list_all (λ part. not (has_part 0 part)) ps) (bit_at-zero p) ∙ none_known ps
+
+-- ---- cores and effects
+
+abbrev Near : (after : ℕ → Bool) (most : ℕ) → Core → Core → Type 0
+Near after most a b =
+    (others a ≡ others b) × (Agree (λ part. after part ≡ false) a.registers b.registers a.index b.index a.lit b.lit)
+    × ((a.draws % length a.tape ≡ b.draws % length b.tape) × (a.draws ≤ most))
+
+-- bytes have a length, unless nothing is known
+abbrev HasSize : (after : ℕ → Bool) → ℕ → List ℕ → Type 0
+HasSize after size bytes = (part : ℕ) → after part ≡ false → length bytes ≡ size
+
+abbrev Like : (after : ℕ → Bool) (most keys i j : ℕ) → Effect → Effect → Type 0
+Like after most keys i j (Stops a) (Stops b) = a ≡ b
+Like after most keys i j (Changes a) (Changes b) = Near after most a b
+Like after most keys i j (Keyed f) (Keyed g) = Near after most (f keys) (g keys)
+Like after most keys i j (Loads m f) (Loads n g) = (m ≡ n) × (i ≡ j) × ((bytes : List ℕ) → HasSize after m bytes → Near after most (f bytes) (g bytes))
+Like after most keys i j (Stores x a) (Stores y b) = (x ≡ y) × (i ≡ j) × Near after most a b
+Like after most keys i j _ _ = ⊥
+
+-- where pc is after an effect of the keys
+abbrev Leads : (keys to : ℕ) → Effect → Type 0
+Leads keys to (Keyed f) = (f keys).pc ≡ to
+Leads keys to _ = Unit {0}
+
+abbrev Left : (before : ℕ) (after : ℕ → Bool) (set spoilt : List ℕ) → Type 0
+Left before after set spoilt = (part : ℕ) → is_forgotten_by before set spoilt part ≡ true → after part ≡ true
 
 abbrev top : ℕ
 top = 2 ^ 64 - 1
 
-module _ (c : Core) (z e : ℕ) (same : c.draws % length c.tape ≡ e % length c.tape)
+-- the same core with other registers, I, screen, sound timer and draws
+abbrev twin : Core → List ℕ → ℕ → Points → ℕ → ℕ → Core
+twin c r i l z e = record c { registers = r; index = i; lit = l; sound = z; draws = e }
+
+module _ (before : ℕ) (after : ℕ → Bool) (keys to : ℕ) (c : Core) (r : List ℕ) (i : ℕ) (l : Points) (z e : ℕ)
+    (base : Agree (λ part. has_part before part ≡ false) c.registers r c.index i c.lit l)
+    (same : c.draws % length c.tape ≡ e % length c.tape)
     (more : min (c.draws + 1) top % length c.tape ≡ min (e + 1) top % length c.tape) where
-  abbrev other : Core
-  other = counted z e c
+  abbrev d : Core
+  d = twin c r i l z e
 
-  alike : (core : Core) → (record core { sound = 0; draws = c.draws % length c.tape } ≡ record core { sound = 0; draws = e % length c.tape }) × (c.draws ≤ c.draws + 1)
-  alike core = (ap (λ (m : ℕ). record core { sound = 0; draws = m }) same, omega arith)
+  abbrev NearBy : Core → Core → Type 0
+  NearBy = Near after (c.draws + 1)
 
-  waits : (key : Option ℕ) (x : ℕ) → Near (c.draws + 1) (take_key key x c) (take_key key x other)
-  waits None x = alike c
-  waits (Some k) x = alike (next (with_reg x k c))
+  abbrev LikeBy : Effect → Effect → Type 0
+  LikeBy = Like after (c.draws + 1) keys c.index i
 
-  random : (x byte : ℕ) → Near (c.draws + 1) (next (with_reg x (bit_and (random_byte c) byte) (drawn c))) (next (with_reg x (bit_and (random_byte other) byte) (drawn other)))
-  random x byte =
-      let made : ℕ → ℕ → Core = λ place left. record c { registers = slice_set c.registers x (bit_and (slice_index c.tape place) byte); pc = c.pc + 2; sound = 0; draws = left } in (
-        ap (λ (place : ℕ). made place (min (c.draws + 1) top % length c.tape)) same
-            ∙ ap (made (e % length c.tape)) more,
-        omega arith,
+  abbrev LeftBy : List ℕ → List ℕ → Type 0
+  LeftBy = Left before after
+
+  either : (test : Bool) (why : Stop) (f : Core → Effect) → (test ≡ false → LikeBy (f c) (f d)) → LikeBy (if test then Stops why else f c) (if test then Stops why else f d)
+  either true why f h = refl
+  either false why f h = h refl
+
+  super_by : (test : Bool) (f : Core → Effect) → LikeBy (f c) (f d) → LikeBy (if test then f c else Stops cause.NoInstruction) (if test then f d else Stops cause.NoInstruction)
+  super_by true f h = h
+  super_by false f h = refl
+
+  super : (f : Core → Effect) → LikeBy (f c) (f d) → LikeBy (super_only c (f c)) (super_only d (f d))
+  super f h = super_by (quirks c.profile).has_super_instructions f h
+
+  steady : (c.draws % length c.tape ≡ e % length c.tape) × (c.draws ≤ c.draws + 1)
+  steady = (same, omega arith)
+
+  abbrev known : List ℕ → Bool
+  known parts = list_all (λ part. not (has_part before part)) parts
+
+  split : (p : ℕ) (parts : List ℕ) → known (p ∷ parts) ≡ true → (has_part before p ≡ false) × (known parts ≡ true)
+  split p parts u = first_known (has_part before p) (known parts) u
+
+  value : (x : ℕ) → known (register_part x ∷ []) ≡ true → reg c x ≡ slice_index r x
+  value x u = base.registers x (split (register_part x) [] u).0
+
+  values : {A : Type 0} (f : ℕ → ℕ → A) (x y : ℕ) → known (register_part x ∷ register_part y ∷ []) ≡ true → f (reg c x) (reg c y) ≡ f (slice_index r x) (slice_index r y)
+  values f x y u = both f (base.registers x (split (register_part x) (register_part y ∷ []) u).0) (value y (split (register_part x) (register_part y ∷ []) u).1)
+
+  taken : (x : ℕ) → known (first_registers x) ≡ true → take (x + 1) c.registers ≡ take (x + 1) r
+  taken x u =
+      same_number_lists _ _ (length-take (x + 1) c.registers ∙ ap (min (x + 1)) base.count ∙ sym (length-take (x + 1) r))
+      (λ k h.
+      let below : k < x + 1 = omega (arith, length-take (x + 1) c.registers) in
+      let place : get_or (first_registers x) k 0 ≡ register_part k = get_or-range_with_len (register_part 0) (x + 1) k 0 below ∙ omega arith in
+      let known : has_part before (register_part k) ≡ false =
+      ap (has_part before) (sym place) ∙ known_at before (first_registers x) k u (omega (arith, length-range_with_len (register_part 0) (x + 1))) in
+      get_or-take (x + 1) c.registers k 0 below ∙ base.registers k known ∙ sym (get_or-take (x + 1) r k 0 below))
+
+  -- what is known after an instruction that sets some parts was known before, but for these
+  rest : (set : List ℕ) → LeftBy set [] → (part : ℕ) → after part ≡ false → (is_one_of set part ≡ true) ⊎ (has_part before part ≡ false)
+  rest set h part off = unset _ _ (off_by _ _ (h part) off)
+
+  rest_of_one : (p : ℕ) → LeftBy (p ∷ []) [] → (part : ℕ) → after part ≡ false → (part ≡ p) ⊎ (has_part before part ≡ false)
+  rest_of_one p h part off =
+      elim (rest (p ∷ []) h part off) [
+        inl o ↦ elim (or_cases _ _ o) [ inl same ↦ inl (eqb-true part p same) | inr never ↦ absurd (cc) ]
+        | inr known ↦ inr known
+      ]
+
+  rest_of_row : (x : ℕ) → LeftBy (first_registers x) [] → (part : ℕ) → after part ≡ false → ((register_part 0 ≤ part) × (part < register_part (x + 1))) ⊎ (has_part before part ≡ false)
+  rest_of_row x h part off =
+      elim (rest (first_registers x) h part off) [
+        inl o ↦ inl (let within = in_row (register_part 0) (x + 1) part o in (within.0, omega arith))
+        | inr known ↦ inr known
+      ]
+
+  keep : LeftBy [] [] → Agree (λ part. after part ≡ false) c.registers r c.index i c.lit l
+  keep h = less (λ part off. elim (rest [] h part off) [ inl o ↦ absurd (cc) | inr known ↦ known ]) base
+
+  set_one : (x v w : ℕ) → v ≡ w → LeftBy (register_part x ∷ []) [] → Agree (λ part. after part ≡ false) (slice_set c.registers x v) (slice_set r x w) c.index i c.lit l
+  set_one x v w same h = put x v w (λ _. same) (rest_of_one (register_part x) h) base
+
+  set_two : (x v w f g : ℕ) → v ≡ w → f ≡ g → LeftBy (flag_part ∷ register_part x ∷ []) []
+      → Agree (λ part. after part ≡ false) (slice_set (slice_set c.registers x v) 15 f) (slice_set (slice_set r x w) 15 g) c.index i c.lit l
+  set_two x v w f g same flags h =
+      put {K = λ part. (part ≡ register_part x) ⊎ (has_part before part ≡ false)} 15 f g (λ _. flags)
+      (λ part off.
+      elim (rest (flag_part ∷ register_part x ∷ []) h part off) [
+        inl o ↦
+            elim (or_cases _ _ o) [
+              inl flag ↦ inl (eqb-true part flag_part flag)
+              | inr there ↦ elim (or_cases _ _ there) [ inl one ↦ inr (inl (eqb-true part (register_part x) one)) | inr never ↦ absurd (cc) ]
+            ]
+        | inr known ↦ inr (inr known)
+      ])
+      (put x v w (λ _. same) (λ part known. known) base)
+
+  logic : (clears : Bool) (x v w : ℕ) → v ≡ w → LeftBy (if clears then flag_part ∷ register_part x ∷ [] else register_part x ∷ []) []
+      → NearBy (next (if clears then with_flag x v 0 c else with_reg x v c)) (next (if clears then with_flag x w 0 d else with_reg x w d))
+  logic true x v w same h = (refl, set_two x v w 0 0 same refl h, steady)
+  logic false x v w same h = (refl, set_one x v w same h, steady)
+
+  rest_of_draw : (dark : Bool) → LeftBy (if dark then [] else flag_part ∷ []) (if dark then flag_part ∷ [] else []) → (part : ℕ) → after part ≡ false → (part ≡ flag_part) ⊎ (has_part before part ≡ false)
+  rest_of_draw true h part off =
+      inr (first_off _ (or_parts _ _ (off_by _ _ (h part) off)).0)
+  rest_of_draw false h part off = rest_of_one flag_part h part off
+
+  seen : (dark : Bool) → LeftBy (if dark then [] else flag_part ∷ []) (if dark then flag_part ∷ [] else []) → after flag_part ≡ false → dark ≡ false
+  seen true h off = absurd (let on = h flag_part (or_right _ _ refl) in cc)
+  seen false h off = refl
+
+  drawn_near : (x y n : ℕ) (sprite : List ℕ) → LeftBy (if has_part before screen_part then [] else flag_part ∷ []) (if has_part before screen_part then flag_part ∷ [] else [])
+      → NearBy (next (with_sprite x y n sprite c)) (next (with_sprite x y n sprite d))
+  drawn_near x y n sprite h =
+      let under = covered c.high x y n sprite in (
+        refl,
+        put 15 _ _ (λ off. ap (λ (p : Points). bit_of (meets p under)) (base.screen (seen _ h off))) (rest_of_draw _ h)
+        (relight (symmetric_difference c.lit under) (symmetric_difference l under) (λ known. ap (λ (p : Points). symmetric_difference p under) (base.screen known)) (λ part known. inr known) base),
+        steady,
       )
 
-  row_like : (i : Instr) → Like (c.draws + 1) (effect i c) (effect i other)
-  unfolding effect
-  row_like (row.ScrollDown n) = super_like _ (quirks c.profile).has_super_instructions _ _ (alike (next (with_lit (scrolled_down n c.lit) c)))
-  row_like row.ClearScreen = alike (next (with_lit set.empty c))
-  row_like row.Return = either_like _ (length c.frames == 0) _ _ _ _ (refl) (alike (return c))
-  row_like row.ScrollRight = super_like _ (quirks c.profile).has_super_instructions _ _ (alike (next (with_lit (scrolled_right 4 c.lit) c)))
-  row_like row.ScrollLeft = super_like _ (quirks c.profile).has_super_instructions _ _ (alike (next (with_lit (scrolled_left 4 c.lit) c)))
-  row_like row.Exit = super_like _ (quirks c.profile).has_super_instructions _ _ (refl)
-  row_like row.LowSize = super_like _ (quirks c.profile).has_super_instructions _ _ (alike (next (with_size false c)))
-  row_like row.HighSize = super_like _ (quirks c.profile).has_super_instructions _ _ (alike (next (with_size true c)))
-  row_like (row.Jump address) = alike (go_to address c)
-  row_like (row.Call address) = either_like _ (length c.frames == FRAMES) _ _ _ _ (refl) (alike (call address c))
-  row_like (row.SkipIfByte x byte) = alike (skip_if (reg c x == byte) c)
-  row_like (row.SkipUnlessByte x byte) = alike (skip_if (not (reg c x == byte)) c)
-  row_like (row.SkipIfEqual x y) = alike (skip_if (reg c x == reg c y) c)
-  row_like (row.LoadByte x byte) = alike (next (with_reg x byte c))
-  row_like (row.AddByte x byte) = alike (next (with_reg x ((reg c x + byte) % 256) c))
-  row_like (row.Copy x y) = alike (next (with_reg x (reg c y) c))
-  row_like (row.Or x y) = let value = bit_or (reg c x) (reg c y) in logic_like _ (quirks c.profile).clears_flag _ _ _ _ (alike (with_flag x value 0 c)) (alike (with_reg x value c))
-  row_like (row.And x y) = let value = bit_and (reg c x) (reg c y) in logic_like _ (quirks c.profile).clears_flag _ _ _ _ (alike (with_flag x value 0 c)) (alike (with_reg x value c))
-  row_like (row.Xor x y) = let value = bit_xor (reg c x) (reg c y) in logic_like _ (quirks c.profile).clears_flag _ _ _ _ (alike (with_flag x value 0 c)) (alike (with_reg x value c))
-  row_like (row.Add x y) = let sum = reg c x + reg c y in alike (next (with_flag x (sum % 256) (bit_of (nat_lt 255 sum)) c))
-  row_like (row.Subtract x y) = alike (next (with_flag x ((256 + reg c x - reg c y) % 256) (bit_of (nat_le (reg c y) (reg c x))) c))
-  row_like (row.ShiftRight x y) = let value = reg c (if (quirks c.profile).shifts_second then y else x) in alike (next (with_flag x (value / 2) (value % 2) c))
-  row_like (row.SubtractFrom x y) = alike (next (with_flag x ((256 + reg c y - reg c x) % 256) (bit_of (nat_le (reg c x) (reg c y))) c))
-  row_like (row.ShiftLeft x y) = let value = reg c (if (quirks c.profile).shifts_second then y else x) in alike (next (with_flag x (value * 2 % 256) (value / 128) c))
-  row_like (row.SkipUnlessEqual x y) = alike (skip_if (not (reg c x == reg c y)) c)
-  row_like (row.LoadIndex address) = alike (next (with_index address c))
-  row_like (row.JumpOffset address) = let x = if (quirks c.profile).jumps_by_first then 0 else address / 256 in alike (go_to (address + reg c x) c)
-  row_like (row.Random x byte) = random x byte
-  row_like (row.Draw x y n) = let draws_nothing = not (quirks c.profile).draws_sixteen && n == 0 in either_like _ (draws_nothing) _ _ _ _ (alike (next (with_reg 15 0 c))) ((refl, λ sprite. alike (next (with_sprite (reg c x) (reg c y) n sprite c))))
-  row_like (row.SkipIfKey x) = λ keys. alike (skip_if (is_down keys (reg c x % 16)) c)
-  row_like (row.SkipUnlessKey x) = λ keys. alike (skip_if (not (is_down keys (reg c x % 16))) c)
-  row_like (row.ReadDelay x) = alike (next (with_reg x c.delay c))
-  row_like (row.WaitKey x) = λ keys. waits (find (is_down keys) (range_with_len 0 16)) x
-  row_like (row.SetDelay x) = alike (next (record c { delay = reg c x }))
-  row_like (row.SetSound x) = alike (next (record c { sound = reg c x }))
-  row_like (row.AddIndex x) = alike (next (with_index ((c.index + reg c x) % 65536) c))
-  row_like (row.SmallDigit x) = alike (next (with_index (5 * (reg c x % 16)) c))
-  row_like (row.BigDigit x) = super_like _ (quirks c.profile).has_super_instructions _ _ (alike (next (with_index (80 + 10 * (reg c x % 16)) c)))
-  row_like (row.StoreDecimal x) = (refl, alike (next c))
-  row_like (row.StoreRegisters x) = let index = if (quirks c.profile).moves_index then past_registers x c else c.index in (refl, alike (next (with_index index c)))
-  row_like (row.LoadRegisters x) = let index = if (quirks c.profile).moves_index then past_registers x c else c.index in (refl, λ bytes. alike (next (with_index index (load_registers c bytes))))
-  row_like (row.StoreFlags x) = super_like _ (quirks c.profile).has_super_instructions _ _ (either_like _ (nat_le FLAGS x) _ _ _ _ (refl) (alike (next (store_flags x c))))
-  row_like (row.LoadFlags x) = super_like _ (quirks c.profile).has_super_instructions _ _ (either_like _ (nat_le FLAGS x) _ _ _ _ (refl) (alike (next (load_flags x c))))
+  draw_like : (draws_nothing : Bool) (x y n : ℕ) → known (index_part ∷ register_part x ∷ register_part y ∷ []) ≡ true
+      → LeftBy (if has_part before screen_part then [] else flag_part ∷ []) (if has_part before screen_part then flag_part ∷ [] else [])
+      → LikeBy (if draws_nothing then Changes (next (with_reg 15 0 c)) else Loads (sprite_bytes c.high n) (λ sprite. next (with_sprite (reg c x) (reg c y) n sprite c)))
+      (if draws_nothing then Changes (next (with_reg 15 0 d)) else Loads (sprite_bytes c.high n) (λ sprite. next (with_sprite (reg d x) (reg d y) n sprite d)))
+  draw_like true x y n u h = (refl, put 15 0 0 (λ _. refl) (rest_of_draw _ h) base, steady)
+  draw_like false x y n u h =
+      let at = split index_part (register_part x ∷ register_part y ∷ []) u in
+      (refl, base.index at.0, λ sprite _.
+      subst (λ (k : Core). NearBy (next (with_sprite (reg c x) (reg c y) n sprite c)) k) (values (λ p q. next (with_sprite p q n sprite d)) x y at.1) (drawn_near (reg c x) (reg c y) n sprite h))
 
-  word_like : (word : Option Instr) → Like (c.draws + 1) (effect_of_word word c) (effect_of_word word other)
-  word_like None = refl
-  word_like (Some i) = row_like i
+  rest_of_wait : (test : Bool) (x : ℕ) → LeftBy (if test then register_part x ∷ [] else []) [] → (part : ℕ) → after part ≡ false → (part ≡ register_part x) ⊎ (has_part before part ≡ false)
+  rest_of_wait true x h part off = rest_of_one (register_part x) h part off
+  rest_of_wait false x h part off = elim (rest [] h part off) [ inl o ↦ absurd (cc) | inr known ↦ inr known ]
 
--- two states, or the same stop cause
-abbrev Outcomes : ℕ → Result State Stop → Result State Stop → Type 0
-Outcomes most (Ok a) (Ok b) = (relevant a ≡ relevant b) × (a.core.draws ≤ most)
-Outcomes most (Err a) (Err b) = a ≡ b
-Outcomes most _ _ = ⊥
+  waits : (key : Option ℕ) (x : ℕ) → (take_key key x c).pc ≡ to → LeftBy (if not (to == c.pc) then register_part x ∷ [] else []) [] → NearBy (take_key key x c) (take_key key x d)
+  waits None x leads h =
+      (refl, keep (subst (λ (b : Bool). LeftBy (if not b then register_part x ∷ [] else []) []) (eq-eqb to c.pc (sym leads)) h), steady)
+  waits (Some k) x leads h = (refl, put x k k (λ _. refl) (rest_of_wait _ x h) base, steady)
 
-past_like : (most : ℕ) (past : Bool) (a b : State) → (relevant a ≡ relevant b) × (a.core.draws ≤ most) → Outcomes most (if past then Err cause.AddressOutOfRange else Ok a) (if past then Err cause.AddressOutOfRange else Ok b)
-past_like most true a b h = refl
-past_like most false a b h = h
+  row_like : (instr : Instr) → known (reads (quirks c.profile) instr) ≡ true
+      → LeftBy (sets (quirks c.profile) (not (to == c.pc)) before instr) (spoils before instr) → Leads keys to (effect instr c) → LikeBy (effect instr c) (effect instr d)
+  unfolding effect reads sets spoils
+  row_like (row.ScrollDown n) u h g = super (λ k. Changes (next (with_lit (scrolled_down n k.lit) k))) (refl, relight _ _ (λ off. ap (scrolled_down n) ((keep h).screen off)) (λ part off. inr off) (keep h), steady)
+  row_like row.ClearScreen u h g = (refl, relight set.empty set.empty (λ _. refl) (rest_of_one screen_part h) base, steady)
+  row_like row.Return u h g = either _ _ (λ k. Changes (return k)) (λ _. (refl, keep h, steady))
+  row_like row.ScrollRight u h g = super (λ k. Changes (next (with_lit (scrolled_right 4 k.lit) k))) (refl, relight _ _ (λ off. ap (scrolled_right 4) ((keep h).screen off)) (λ part off. inr off) (keep h), steady)
+  row_like row.ScrollLeft u h g = super (λ k. Changes (next (with_lit (scrolled_left 4 k.lit) k))) (refl, relight _ _ (λ off. ap (scrolled_left 4) ((keep h).screen off)) (λ part off. inr off) (keep h), steady)
+  row_like row.Exit u h g = super (λ k. Stops cause.Exit) refl
+  row_like row.LowSize u h g = super (λ k. Changes (next (with_size false k))) (refl, keep h, steady)
+  row_like row.HighSize u h g = super (λ k. Changes (next (with_size true k))) (refl, keep h, steady)
+  row_like (row.Jump address) u h g = (refl, keep h, steady)
+  row_like (row.Call address) u h g = either _ _ (λ k. Changes (call address k)) (λ _. (refl, keep h, steady))
+  row_like (row.SkipIfByte x byte) u h g = (ap (λ (n : ℕ). others (skip_if (n == byte) c)) (value x u), keep h, steady)
+  row_like (row.SkipUnlessByte x byte) u h g = (ap (λ (n : ℕ). others (skip_if (not (n == byte)) c)) (value x u), keep h, steady)
+  row_like (row.SkipIfEqual x y) u h g = (values (λ m n. others (skip_if (m == n) c)) x y u, keep h, steady)
+  row_like (row.LoadByte x byte) u h g = (refl, set_one x byte byte refl h, steady)
+  row_like (row.AddByte x byte) u h g = (refl, put x _ _ (λ off. ap (λ (n : ℕ). (n + byte) % 256) ((keep h).registers x off)) (λ part off. inr off) (keep h), steady)
+  row_like (row.Copy x y) u h g = (refl, set_one x _ _ (value y u) h, steady)
+  row_like (row.Or x y) u h g = logic (quirks c.profile).clears_flag x _ _ (values bit_or x y u) h
+  row_like (row.And x y) u h g = logic (quirks c.profile).clears_flag x _ _ (values bit_and x y u) h
+  row_like (row.Xor x y) u h g = logic (quirks c.profile).clears_flag x _ _ (values bit_xor x y u) h
+  row_like (row.Add x y) u h g = (refl, set_two x _ _ _ _ (values (λ m n. (m + n) % 256) x y u) (values (λ m n. bit_of (nat_lt 255 (m + n))) x y u) h, steady)
+  row_like (row.Subtract x y) u h g = (refl, set_two x _ _ _ _ (values (λ m n. (256 + m - n) % 256) x y u) (values (λ m n. bit_of (nat_le n m)) x y u) h, steady)
+  row_like (row.ShiftRight x y) u h g = (refl, set_two x _ _ _ _ (ap (λ (n : ℕ). n / 2) (value _ u)) (ap (λ (n : ℕ). n % 2) (value _ u)) h, steady)
+  row_like (row.SubtractFrom x y) u h g = (refl, set_two x _ _ _ _ (values (λ m n. (256 + n - m) % 256) x y u) (values (λ m n. bit_of (nat_le m n)) x y u) h, steady)
+  row_like (row.ShiftLeft x y) u h g = (refl, set_two x _ _ _ _ (ap (λ (n : ℕ). n * 2 % 256) (value _ u)) (ap (λ (n : ℕ). n / 128) (value _ u)) h, steady)
+  row_like (row.SkipUnlessEqual x y) u h g = (values (λ m n. others (skip_if (not (m == n)) c)) x y u, keep h, steady)
+  row_like (row.LoadIndex address) u h g = (refl, reindex address address (λ _. refl) (rest_of_one index_part h) base, steady)
+  row_like (row.JumpOffset address) u h g = (ap (λ (n : ℕ). others (go_to (address + n) c)) (value _ u), keep h, steady)
+  row_like (row.Random x byte) u h g = (refl, set_one x _ _ (ap (λ (place : ℕ). bit_and (slice_index c.tape place) byte) same) h, (more, omega arith))
+  row_like (row.Draw x y n) u h g = draw_like _ x y n u h
+  row_like (row.SkipIfKey x) u h g = (ap (λ (n : ℕ). others (skip_if (is_down keys (n % 16)) c)) (value x u), keep h, steady)
+  row_like (row.SkipUnlessKey x) u h g = (ap (λ (n : ℕ). others (skip_if (not (is_down keys (n % 16))) c)) (value x u), keep h, steady)
+  row_like (row.ReadDelay x) u h g = (refl, set_one x c.delay c.delay refl h, steady)
+  row_like (row.WaitKey x) u h g = waits (find (is_down keys) (range_with_len 0 16)) x g h
+  row_like (row.SetDelay x) u h g = (ap (λ (n : ℕ). others (next (record c { delay = n }))) (value x u), keep h, steady)
+  row_like (row.SetSound x) u h g = (refl, keep h, steady)
+  row_like (row.AddIndex x) u h g = (refl, reindex _ _ (λ off. both (λ m n. (m + n) % 65536) ((keep h).index off) (value x u)) (λ part off. inr off) (keep h), steady)
+  row_like (row.SmallDigit x) u h g = (refl, reindex _ _ (λ _. ap (λ (n : ℕ). 5 * (n % 16)) (value x u)) (rest_of_one index_part h) base, steady)
+  row_like (row.BigDigit x) u h g = super (λ k. Changes (next (with_index (80 + 10 * (reg k x % 16)) k))) (refl, reindex _ _ (λ _. ap (λ (n : ℕ). 80 + 10 * (n % 16)) (value x u)) (rest_of_one index_part h) base, steady)
+  row_like (row.StoreDecimal x) u h g = let at = split index_part (register_part x ∷ []) u in (ap decimal_digits (value x at.1), base.index at.0, (refl, keep h, steady))
+  row_like (row.StoreRegisters x) u h g =
+      let first = split index_part (first_registers x) u in
+      let at = base.index first.0 in
+      (taken x first.1, at, (refl, reindex _ _ (λ _. ap (λ (n : ℕ). if (quirks c.profile).moves_index then (n + x + 1) % 65536 else n) at) (λ part off. inr off) (keep h), steady))
+  row_like (row.LoadRegisters x) u h g =
+      let at = base.index (split index_part [] u).0 in
+      (refl, at, λ bytes size. (
+        refl,
+        load bytes (length bytes) refl (λ part off. subst (λ (n : ℕ). ((register_part 0 ≤ part) × (part < register_part n)) ⊎ (has_part before part ≡ false)) (sym (size part off)) (rest_of_row x h part off))
+        (reindex _ _ (λ _. ap (λ (n : ℕ). if (quirks c.profile).moves_index then (n + x + 1) % 65536 else n) at) (λ part known. inr known) base),
+        steady,
+      ))
+  row_like (row.StoreFlags x) u h g =
+      super (λ k. if nat_le (length k.flags) x then Stops cause.NoFlag else Changes (next (store_flags x k))) (either _ _ (λ k. Changes (next (store_flags x k))) (λ _. (ap (λ (xs : List ℕ). others (next (record c { flags = xs ++ drop (x + 1) c.flags }))) (taken x u), keep h, steady)))
+  row_like (row.LoadFlags x) u h g =
+      super (λ k. if nat_le (length k.flags) x then Stops cause.NoFlag else Changes (next (load_flags x k))) (either _ _ (λ k. Changes (next (load_flags x k))) (λ low.
+      let many : x < length c.flags = leb-false (length c.flags) x low in
+      (refl, load (take (x + 1) c.flags) (x + 1) (omega (arith, length-take (x + 1) c.flags)) (rest_of_row x h) base, steady)))
 
-near_state : (most : ℕ) (memory : List ℕ) (a b : Core) → Near most a b → Outcomes most (Ok (record { core = a; memory = memory })) (Ok (record { core = b; memory = memory }))
-near_state most memory a b h = (ap (λ (core : Core). let s : State = record { core = core; memory = memory } in s) h.0, h.1)
+  word_like : (word : Option Instr) → known (parts_by (reads (quirks c.profile)) word) ≡ true
+      → LeftBy (parts_by (sets (quirks c.profile) (not (to == c.pc)) before) word) (parts_by (spoils before) word) → Leads keys to (effect_of_word word c) → LikeBy (effect_of_word word c) (effect_of_word word d)
+  word_like None u h g = refl
+  word_like (Some instr) u h g = row_like instr u h g
 
-module _ (s : State) (z e : ℕ) where
-  abbrev twin : State
-  twin = record s { core = counted z e s.core }
+  at_like : (past : Bool) (word : Option Instr) → (let instr : Option Instr = if past then None else word in
+      known (parts_by (reads (quirks c.profile)) instr) ≡ true
+      → LeftBy (parts_by (sets (quirks c.profile) (not (to == c.pc)) before) instr) (parts_by (spoils before) instr)
+      → Leads keys to (if past then Stops cause.PcOutOfRange else effect_of_word word c)
+      → LikeBy (if past then Stops cause.PcOutOfRange else effect_of_word word c) (if past then Stops cause.PcOutOfRange else effect_of_word word d))
+  at_like true word u h g = refl
+  at_like false word u h g = word_like word u h g
 
-  perform_like : (most keys : ℕ) (one two : Effect) → Like most one two → Outcomes most (perform keys s one) (perform keys twin two)
-  perform_like most keys (Stops a) (Stops b) h = h
-  perform_like most keys (Changes a) (Changes b) h = near_state most s.memory a b h
-  perform_like most keys (Keyed f) (Keyed g) h = near_state most s.memory (f keys) (g keys) (h keys)
-  perform_like most keys (Loads m f) (Loads n g) h =
-      subst (λ (k : ℕ). Outcomes most (perform keys s (Loads m f)) (perform keys twin (Loads k g))) h.0
-      (let bytes = take m (drop s.core.index s.memory) in past_like most (is_past s.core.index m) (record s { core = f bytes }) (record s { core = g bytes }) (near_state most s.memory (f bytes) (g bytes) (h.1 bytes)))
-  perform_like most keys (Stores a c) (Stores b d) h =
-      subst (λ (bytes : List ℕ). Outcomes most (perform keys s (Stores a c)) (perform keys twin (Stores bytes d))) h.0
-      (let memory = overwrite s.memory s.core.index a in past_like most (is_past s.core.index (length a)) (record { core = c; memory = memory }) (record { core = d; memory = memory }) (near_state most memory c d h.1))
-  perform_like most keys _ _ h = absurd h
+-- ---- outcomes and states
 
-  outcome_like : (most : ℕ) (tick : Bool) (one two : Result State Stop) → s.core.draws ≤ most → relevant s ≡ relevant twin → Outcomes most one two
-      → (relevant (settle tick s one) ≡ relevant (settle tick twin two)) × ((settle tick s one).core.draws ≤ most)
-  outcome_like most true (Ok a) (Ok b) few same h = (ap (λ (r : State). record r { core = record r.core { delay = r.core.delay - 1 } }) h.0, h.1)
-  outcome_like most false (Ok a) (Ok b) few same h = h
-  outcome_like most tick (Err a) (Err b) few same h = (
-    ap (λ (r : State). record r { core = record r.core { stopped = Some a } }) same
-        ∙ ap (λ (why : Stop). relevant (record twin { core = record twin.core { stopped = Some why } })) h,
-    few,
-  )
-  outcome_like most tick _ _ few same h = absurd h
+abbrev Outcomes : (after : ℕ → Bool) (most : ℕ) → Result State Stop → Result State Stop → Type 0
+Outcomes after most (Ok a) (Ok b) = Near after most a.core b.core × (a.memory ≡ b.memory)
+Outcomes after most (Err a) (Err b) = a ≡ b
+Outcomes after most _ _ = ⊥
 
-  step_like : (stopped : Bool) (keys : ℕ) (tick : Bool) → relevant s ≡ relevant twin → Like (s.core.draws + 1) (effect_at s) (effect_at twin)
-      → (relevant (if stopped then s else settle tick s (perform keys s (effect_at s))) ≡ relevant (if stopped then twin else settle tick twin (perform keys twin (effect_at twin))))
-      × ((if stopped then s else settle tick s (perform keys s (effect_at s))).core.draws ≤ s.core.draws + 1)
-  step_like true keys tick same h = (same, omega arith)
-  step_like false keys tick same h = outcome_like (s.core.draws + 1) tick _ _ (omega arith) same (perform_like (s.core.draws + 1) keys _ _ h)
+record Ends (after : ℕ → Bool) (most : ℕ) (a b : State) : Type 0 where
+  pub outside : others a.core ≡ others b.core
+  pub memory : a.memory ≡ b.memory
+  pub draws : a.core.draws % length a.core.tape ≡ b.core.draws % length b.core.tape
+  pub few : a.core.draws ≤ most
+  pub count : length a.core.registers ≡ length b.core.registers
+  pub agree : is_some a.core.stopped ≡ false → Agree (λ part. after part ≡ false) a.core.registers b.core.registers a.core.index b.core.index a.core.lit b.core.lit
 
-  twins : (same : s.core.draws % length s.core.tape ≡ e % length s.core.tape) → min (s.core.draws + 1) top % length s.core.tape ≡ min (e + 1) top % length s.core.tape → (keys : ℕ) (tick : Bool)
-      → (relevant (step_of s keys tick) ≡ relevant (step_of twin keys tick)) × ((step_of s keys tick).core.draws ≤ s.core.draws + 1)
+leads_by : (keys : ℕ) (tick : Bool) (s : State) (e : Effect) → Leads keys (settle tick s (perform keys s e)).core.pc e
+leads_by keys true s (Keyed f) = refl
+leads_by keys false s (Keyed f) = refl
+leads_by keys tick s _ = tt
+
+module _ (after : ℕ → Bool) (most keys : ℕ) (s : State) (r : List ℕ) (i : ℕ) (l : Points) (z e : ℕ) (fits : HasSize after MEMORY_BYTES s.memory) where
+  abbrev t : State
+  t = record s { core = twin s.core r i l z e }
+
+  past_like : (past : Bool) (a b : State) → (past ≡ false → Outcomes after most (Ok a) (Ok b)) → Outcomes after most (if past then Err cause.AddressOutOfRange else Ok a) (if past then Err cause.AddressOutOfRange else Ok b)
+  past_like true a b h = refl
+  past_like false a b h = h refl
+
+  perform_like : (one two : Effect) → Like after most keys s.core.index i one two → Outcomes after most (perform keys s one) (perform keys t two)
+  perform_like (Stops a) (Stops b) h = h
+  perform_like (Changes a) (Changes b) h = (h, refl)
+  perform_like (Keyed f) (Keyed g) h = (h, refl)
+  perform_like (Loads m f) (Loads n g) h =
+      let outcome : ℕ → ℕ → Result State Stop = λ at size. if is_past at size then Err cause.AddressOutOfRange else Ok (record s { core = g (take size (drop at s.memory)) }) in
+      subst (λ (at : ℕ). Outcomes after most (perform keys s (Loads m f)) (outcome at n)) h.1
+      (subst (λ (size : ℕ). Outcomes after most (perform keys s (Loads m f)) (outcome s.core.index size)) h.0
+      (past_like (is_past s.core.index m) _ _ (λ inside.
+      let low : s.core.index + m ≤ MEMORY_BYTES = ltb-false MEMORY_BYTES (s.core.index + m) inside in
+      (h.2 (take m (drop s.core.index s.memory)) (λ part off.
+      let size = fits part off in
+      omega (arith, length-take m (drop s.core.index s.memory), length-drop s.core.index s.memory)), refl))))
+  perform_like (Stores x a) (Stores y b) h =
+      let outcome : ℕ → List ℕ → Result State Stop = λ at bytes. if is_past at (length bytes) then Err cause.AddressOutOfRange else Ok (record { core = b; memory = overwrite s.memory at bytes }) in
+      subst (λ (at : ℕ). Outcomes after most (perform keys s (Stores x a)) (outcome at y)) h.1
+      (subst (λ (bytes : List ℕ). Outcomes after most (perform keys s (Stores x a)) (outcome s.core.index bytes)) h.0
+      (past_like (is_past s.core.index (length x)) _ _ (λ _. (h.2, refl))))
+  perform_like _ _ h = absurd h
+
+  settle_like : (tick : Bool) (one two : Result State Stop) → s.core.draws % length s.core.tape ≡ e % length s.core.tape → s.core.draws ≤ most → length s.core.registers ≡ length r
+      → Outcomes after most one two → Ends after most (settle tick s one) (settle tick t two)
+  settle_like true (Ok a) (Ok b) same few count h =
+      record { outside = ap (λ (o : Core). others (ticked o)) h.0.0; memory = h.1; draws = h.0.2.0; few = h.0.2.1; count = h.0.1.count; agree = λ _. h.0.1 }
+  settle_like false (Ok a) (Ok b) same few count h =
+      record { outside = h.0.0; memory = h.1; draws = h.0.2.0; few = h.0.2.1; count = h.0.1.count; agree = λ _. h.0.1 }
+  settle_like tick (Err a) (Err b) same few count h =
+      record { outside = ap (λ (why : Stop). others (record s.core { stopped = Some why })) h; memory = refl; draws = same; few = few; count = count; agree = λ going. absurd (cc) }
+  settle_like tick _ _ same few count h = absurd h
+
+module _ (before : ℕ) (after : ℕ → Bool) (s : State) (r : List ℕ) (i : ℕ) (l : Points) (z e : ℕ) (fits : HasSize after MEMORY_BYTES s.memory)
+    (base : is_some s.core.stopped ≡ false → Agree (λ part. has_part before part ≡ false) s.core.registers r s.core.index i s.core.lit l)
+    (count : length s.core.registers ≡ length r) (same : s.core.draws % length s.core.tape ≡ e % length s.core.tape)
+    (more : min (s.core.draws + 1) top % length s.core.tape ≡ min (e + 1) top % length s.core.tape) (keys : ℕ) (tick : Bool)
+    (unread : list_all (λ part. not (has_part before part)) (parts_by (reads (quirks s.core.profile)) (next_instr s)) ≡ true) where
+  abbrev stepped : Bool → State → State
+  stepped stopped a = if stopped then a else settle tick a (perform keys a (effect_at a))
+
+  abbrev LeftAt : ℕ → Type 0
+  LeftAt to = Left before after (parts_by (sets (quirks s.core.profile) (not (to == s.core.pc)) before) (next_instr s)) (parts_by (spoils before) (next_instr s))
+
+  step_by : (stopped : Bool) → is_some s.core.stopped ≡ stopped → LeftAt (stepped stopped s).core.pc
+      → Ends after (s.core.draws + 1) (stepped stopped s) (stepped stopped (record s { core = twin s.core r i l z e }))
+  step_by true stays left =
+      record { outside = refl; memory = refl; draws = same; few = omega arith; count = count; agree = λ going. absurd (cc) }
+  step_by false going left =
+      settle_like after (s.core.draws + 1) keys s r i l z e fits tick _ _ same (omega arith) count
+      (perform_like after (s.core.draws + 1) keys s r i l z e fits _ _
+      (at_like before after keys _ s.core r i l z e (base going) same more (nat_lt LAST_WORD s.core.pc) (decode_of (word_at s.memory s.core.pc)) unread left (leads_by keys tick s (effect_at s))))
+
+  step_like : LeftAt (step_of s keys tick).core.pc → Ends after (s.core.draws + 1) (step_of s keys tick) (step_of (record s { core = twin s.core r i l z e }) keys tick)
   unfolding step_of
-  twins same more keys tick =
-      step_like (is_some s.core.stopped) keys tick
-      (ap (λ (m : ℕ). record s { core = record s.core { sound = 0; draws = m } }) same)
-      (either_like _ (nat_lt LAST_WORD s.core.pc) _ _ _ _ refl (word_like s.core z e same more (decode_of (word_at s.memory s.core.pc))))
+  step_like left = step_by (is_some s.core.stopped) refl left
 
 one_more : (n r : ℕ) → (n + 1) % r ≡ (n % r + 1) % r
 one_more n r =
@@ -182,28 +482,58 @@ one_more n r =
 below_top : (n : ℕ) → n < top → min (n + 1) top ≡ n + 1
 below_top n h = omega arith
 
+alike_by : (after most : ℕ) (a b : State) → IsProper a → Ends (has_part after) most a b → Alike after a b
+alike_by after most a b proper h =
+    record {
+      proper = proper;
+      others = h.outside;
+      memory = h.memory;
+      draws = h.draws;
+      count = h.count;
+      registers = λ going. (h.agree going).registers;
+      index = λ going. (h.agree going).index;
+      screen = λ going. (h.agree going).screen;
+    }
+
 pub alike_steps : AlikeSteps
-alike_steps a b keys tick h low_a low_b =
+alike_steps before after a b keys tick h unread left low_a low_b =
     let n = length a.core.tape in
-    let same : a.core.draws % n ≡ b.core.draws % n = ap (λ (r : State). r.core.draws) h ∙ ap (λ (r : State). b.core.draws % length r.core.tape) (sym h) in
+    let same : a.core.draws % n ≡ b.core.draws % n = h.draws ∙ ap (λ (o : Core). b.core.draws % length o.tape) (sym h.others) in
     let more : min (a.core.draws + 1) top % n ≡ min (b.core.draws + 1) top % n =
     ap (λ m. m % n) (below_top a.core.draws low_a) ∙ one_more a.core.draws n ∙ ap (λ m. (m + 1) % n) same ∙ sym (one_more b.core.draws n) ∙ ap (λ m. m % n) (sym (below_top b.core.draws low_b)) in
-    let is : twin a b.core.sound b.core.draws ≡ b = ap (λ (r : State). record r { core = counted b.core.sound b.core.draws r.core }) h in
-    (twins a b.core.sound b.core.draws same more keys tick).0 ∙ ap (λ (s : State). relevant (step_of s keys tick)) is
+    let is : (record { core = twin a.core b.core.registers b.core.index b.core.lit b.core.sound b.core.draws; memory = a.memory }) ≡ b =
+    ap (λ (o : Core). let s : State = record { core = twin o b.core.registers b.core.index b.core.lit b.core.sound b.core.draws; memory = a.memory } in s) h.others ∙ ap (λ (m : List ℕ). record b { memory = m }) h.memory in
+    subst (λ (t : State). Alike after (step_of a keys tick) (step_of t keys tick)) is
+    (alike_by after _ _ _ (step_keeps_proper a keys tick h.proper)
+    (step_like before (has_part after) a b.core.registers b.core.index b.core.lit b.core.sound b.core.draws (λ _ _. h.proper.memory_size)
+    (λ going. record { count = h.count; registers = h.registers going; index = h.index going; screen = h.screen going })
+    h.count same more keys tick unread left))
 
 pub draws_grow : DrawsGrow
-draws_grow s keys tick = (twins s s.core.sound s.core.draws refl refl keys tick).1
+draws_grow s keys tick =
+    (step_like 0 (λ _. true) s s.core.registers s.core.index s.core.lit s.core.sound s.core.draws (λ part off. absurd (cc))
+    (λ _. record { count = refl; registers = λ _ _. refl; index = λ _. refl; screen = λ _. refl }) refl refl refl keys tick (none_known (parts_by (reads (quirks s.core.profile)) (next_instr s))) (λ _ _. refl)).few
 
-quiet_outcome : (s : State) (r : Result State Stop) → (settle false s r).core.delay ≡ 0 → relevant (settle true s r) ≡ relevant (settle false s r)
-quiet_outcome s (Ok a) h =
-    let stays : a.core.delay - 1 ≡ a.core.delay = omega arith in
-    ap (λ (d : ℕ). relevant (record a { core = record a.core { delay = d } })) stays
-quiet_outcome s (Err why) h = refl
+quieted : (a : State) (d z : ℕ) → d ≡ a.core.delay → length a.memory ≡ MEMORY_BYTES → Alike 0 (record a { core = record a.core { delay = d; sound = z } }) a
+quieted a d z stays size =
+    record {
+      proper = record { memory_size = size };
+      others = ap (λ (n : ℕ). others (record a.core { delay = n })) stays;
+      memory = refl;
+      draws = refl;
+      count = refl;
+      registers = λ _ _ _. refl;
+      index = λ _ _. refl;
+      screen = λ _ _. refl;
+    }
 
-quiet_by : (stopped : Bool) (s : State) (r : Result State Stop) → (if stopped then s else settle false s r).core.delay ≡ 0 → relevant (if stopped then s else settle true s r) ≡ relevant (if stopped then s else settle false s r)
-quiet_by true s r h = refl
-quiet_by false s r h = quiet_outcome s r h
+quiet_by : (stopped : Bool) (s : State) (r : Result State Stop) → length (if stopped then s else settle true s r).memory ≡ MEMORY_BYTES → (if stopped then s else settle false s r).core.delay ≡ 0
+    → Alike 0 (if stopped then s else settle true s r) (if stopped then s else settle false s r)
+quiet_by true s r size h = quieted s s.core.delay s.core.sound refl size
+quiet_by false s (Ok a) size h = quieted a (a.core.delay - 1) (a.core.sound - 1) (omega arith) size
+quiet_by false s (Err why) size h = quieted (record s { core = record s.core { stopped = Some why } }) s.core.delay s.core.sound refl size
 
 pub quiet_tick : QuietTick
 unfolding step_of
-quiet_tick s keys h = quiet_by (is_some s.core.stopped) s (perform keys s (effect_at s)) h
+quiet_tick s keys proper h =
+    quiet_by (is_some s.core.stopped) s (perform keys s (effect_at s)) (step_keeps_proper s keys true proper).memory_size h

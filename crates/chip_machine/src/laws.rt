@@ -25,9 +25,10 @@ pub fn keyless_step()
     ensures { KeylessStep }
 {}
 
-/// What later steps depend on: neither the sound timer nor how often the tape was gone through, and
-/// of the ticks nothing while the delay timer stays at 0.
-pub fn relevant_steps()
+/// What later steps depend on: neither the sound timer, nor how often the tape was gone through, nor
+/// what is forgotten where they don't read it, and of the ticks nothing while the delay timer stays
+/// at 0.
+pub fn alike_steps()
     ensures alike { AlikeSteps }
     ensures draws { DrawsGrow }
     ensures quiet { QuietTick }

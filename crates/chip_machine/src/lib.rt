@@ -6,6 +6,7 @@ mod decoded;
 mod digits;
 mod doubled;
 mod execute;
+pub mod forgotten;
 pub mod keys;
 pub mod laws;
 pub mod limits;
@@ -20,6 +21,7 @@ mod sprite;
 pub mod stop;
 pub mod touch;
 
+pub use forgotten::Forgotten;
 pub use keys::{HeldKeys, SameKeys};
 pub use machine::{Machine, StartError};
 pub use parts::Parts;

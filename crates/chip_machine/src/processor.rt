@@ -1,6 +1,6 @@
 //! All of the machine but its memory.
 
-ghost use Rattle.std.specs.Prelude.{◌≡◌, ◌+◌, ◌*◌, ◌/◌, ◌-◌, ◌<◌, ◌≤◌, ◌^◌, ◌%◌, length, slice_index, OnOk, OnErr, IfOk, IfErr, IsOk, ◌↔◌, ◌==◌, ◌&&◌, not, false, if◌then◌else◌, IsTrue, ℕ};
+ghost use Rattle.std.specs.Prelude.{◌≡◌, ◌+◌, ◌*◌, ◌/◌, ◌-◌, ◌<◌, ◌≤◌, ◌^◌, ◌%◌, length, slice_index, OnOk, OnErr, IfOk, IfErr, IsOk, ◌↔◌, ◌==◌, ◌&&◌, not, false, if◌then◌else◌, IsTrue, ℕ, List};
 ghost use Rattle.chip_machine.specs.Step.{reg, with_reg, with_flag, go_to, skip_if, next, call, return, with_index, random_byte, drawn, store_flags, load_flags, load_registers, past_registers, ticked, with_size, with_lit, with_sprite, Effect, Stops, super_only};
 ghost use Rattle.chip_machine.specs.Profile.{quirks};
 ghost use Rattle.chip_machine.specs.inner.KeyRows.{choices_of};
@@ -8,14 +8,17 @@ ghost use Rattle.chip_machine.specs.Points.{is_lit, IsOnScreen, lights};
 ghost use Rattle.chip_machine.specs.Sprite.{sprite_bytes};
 ghost use Rattle.chip_machine.specs.Scroll.{scrolled_down, scrolled_right, scrolled_left};
 ghost use Rattle.std.specs.FinSet as set;
-ghost use Rattle.chip_machine.specs.Relevant.{relevant_core};
+ghost use Rattle.chip_machine.specs.Forgotten.{has_part, register_part};
+ghost use Rattle.chip_machine.specs.Relevant.{Alike, others};
+ghost use Rattle.chip_machine.specs.State.{State};
 ghost use Rattle.chip_machine.specs.Restored.{core_with_parts};
 ghost use Rattle.chip_machine.specs.inner.Stored.{in_rows};
 ghost use Rattle.chip_machine.specs.Start.{IsTape, start_core};
 
-use crate::limits::{FLAGS, FRAMES, IMAGE_START, LAST_WORD, TAPE_BYTES};
+use crate::forgotten::Forgotten;
+use crate::limits::{FLAGS, FRAMES, IMAGE_START, LAST_WORD, MEMORY_BYTES, TAPE_BYTES};
 use crate::parts::Parts;
-use crate::profile::Profile;
+use crate::profile::{Profile, Quirks};
 use crate::screen::Screen;
 use crate::stop::Stop;
 use chip_lang::instr::Instr;
@@ -187,13 +190,26 @@ impl Processor {
         self.screen.set_rows(rows);
     }
 
-    /// Whether another agrees in what is relevant: true only where it does.
-    pub(crate) fn is_alike(&self, other: &Processor) -> bool
-        ensures { IsTrue result → relevant_core self.now ≡ relevant_core other.now }
+    /// Whether another agrees in what later steps depend on, where some parts are forgotten: true
+    /// only where it does.
+    pub(crate) fn is_alike(&self, other: &Processor, forgotten: Forgotten) -> bool
+        ensures { IsTrue result → (memory : List ℕ) → length memory ≡ MEMORY_BYTES
+            → Alike forgotten (record { core = self.now; memory = memory })
+            (record { core = other.now; memory = memory }) }
     {
-        self.registers == other.registers
-            && self.index == other.index
-            && self.pc == other.pc
+        self.has_same_others(other)
+            && (forgotten.has_index() || self.index == other.index)
+            && self.has_same_registers(other, forgotten)
+            && (forgotten.has_screen() || self.screen.is_same(&other.screen))
+    }
+
+    /// Whether another agrees in all that can't be forgotten: true only where it does.
+    fn has_same_others(&self, other: &Processor) -> bool
+        ensures others { IsTrue result → others self.now ≡ others other.now }
+        ensures draws { IsTrue result → self.now.draws % length self.now.tape
+            ≡ other.now.draws % length other.now.tape }
+    {
+        self.pc == other.pc
             && self.frames() == other.frames()
             && self.delay == other.delay
             && self.flags == other.flags
@@ -202,7 +218,25 @@ impl Processor {
             && self.high == other.high
             && self.stopped == other.stopped
             && self.profile == other.profile
-            && self.screen.is_same(&other.screen)
+    }
+
+    /// Whether another has the same value in each register that isn't forgotten: true only where it
+    /// has.
+    fn has_same_registers(&self, other: &Processor, forgotten: Forgotten) -> bool
+        ensures same { IsTrue result → (x : ℕ) → has_part forgotten (register_part x) ≡ false
+            → reg self.now x ≡ reg other.now x }
+        ensures count { length self.now.registers ≡ length other.now.registers }
+    {
+        if forgotten.has_no_register() {
+            return self.registers == other.registers;
+        }
+        for x in 0..16_u8 {
+            let differs = self.registers[x as usize] != other.registers[x as usize];
+            if differs && !forgotten.has_register(x) {
+                return false;
+            }
+        }
+        true
     }
 
     /// The value of a register.
@@ -263,6 +297,14 @@ impl Processor {
         } else {
             self.registers[address.number() as usize / 256]
         }
+    }
+
+    /// The quirks of the machine.
+    #[inline(always)]
+    pub(crate) fn quirks(&self) -> Quirks
+        ensures { result ≡ quirks self.now.profile }
+    {
+        self.profile.quirks()
     }
 
     /// Sets a register to what a logical operation gives: VF stays, or is 0 then.

@@ -1,5 +1,5 @@
 use Rattle.chip_machine.proofs.Relevant.{alike_steps, draws_grow, quiet_tick}
-use Rattle.chip_machine.proofs.laws.relevant_steps.Goals as goal
+use Rattle.chip_machine.proofs.laws.alike_steps.Goals as goal
 
 pub returns-clause-alike : goal.returns-clause-alike
 returns-clause-alike c = alike_steps
