@@ -4,6 +4,7 @@ pub mod Choices
 pub mod Examples
 pub mod KeptParts
 pub mod Keyless
+pub mod Masks
 pub mod NextStep
 pub mod Notes
 pub mod PointLemmas

@@ -124,9 +124,9 @@ impl Forgotten {
             → is_forgotten_by self (sets quirks moved self instr) (spoils self instr) part ≡ true
             → has_part after part ≡ true) }
     {
-        let set = self.set_by(instr, quirks, moved);
-        let spoilt = self.spoilt_by(instr);
-        let read = self.parts & reads_of(instr, quirks);
+        let set = self.set_by(&instr, quirks, moved);
+        let spoilt = self.spoilt_by(&instr);
+        let read = self.parts & reads_of(&instr, quirks);
         if read != 0 {
             return Err(Forgotten { parts: read });
         }
@@ -138,10 +138,10 @@ impl Forgotten {
     /// The parts that an instruction sets.
     #[inline(always)]
     #[tactic(auto, unfolding(crate::specs::Forgotten::sets))]
-    fn set_by(&self, instr: Instr, quirks: Quirks, moved: bool) -> u32
-        ensures { result ≡ mask_of (sets quirks moved self.now instr) }
+    fn set_by(&self, instr: &Instr, quirks: Quirks, moved: bool) -> u32
+        ensures { result ≡ mask_of (sets quirks moved self.now instr.now) }
     {
-        match instr {
+        match *instr {
             Instr::ClearScreen => SCREEN,
             Instr::LoadByte(x, _byte) => register(x),
             Instr::Copy(x, _y) => register(x),
@@ -169,10 +169,10 @@ impl Forgotten {
     /// The parts that an instruction spoils.
     #[inline(always)]
     #[tactic(auto, unfolding(crate::specs::Forgotten::spoils))]
-    fn spoilt_by(&self, instr: Instr) -> u32
-        ensures { result ≡ mask_of (spoils self.now instr) }
+    fn spoilt_by(&self, instr: &Instr) -> u32
+        ensures { result ≡ mask_of (spoils self.now instr.now) }
     {
-        match instr {
+        match *instr {
             Instr::Draw(_x, _y, _n) if self.has_screen() => FLAG,
             _ => 0,
         }
@@ -182,10 +182,10 @@ impl Forgotten {
 /// The parts that an instruction reads.
 #[inline(always)]
 #[tactic(auto, unfolding(crate::specs::Forgotten::reads))]
-fn reads_of(instr: Instr, quirks: Quirks) -> u32
-    ensures { result ≡ mask_of (reads quirks instr) }
+fn reads_of(instr: &Instr, quirks: Quirks) -> u32
+    ensures { result ≡ mask_of (reads quirks instr.now) }
 {
-    match instr {
+    match *instr {
         Instr::SkipIfByte(x, _byte) => register(x),
         Instr::SkipUnlessByte(x, _byte) => register(x),
         Instr::SkipIfEqual(x, y) => registers(x, y),

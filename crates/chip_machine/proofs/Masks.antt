@@ -1,0 +1,98 @@
+-- Masks of parts: their bits, that one has none of another, and what one has after others are taken out
+-- and put in.
+use Rattle.std.proofs.Common.{◌≡◌, ℕ, ◌+◌, ◌-◌, ◌*◌, ◌%◌, ◌^◌, ◌<◌, ◌≤◌, ◌==◌, ◌&&◌, ◌||◌, min, max, bit_and, bit_or, Bool, true, false, not, List, [], ◌∷◌, refl, sym, ap, ◌∙◌, inl, inr, arith, rules, eq-eqb, w32}
+use Rattle.std.specs.Int.{bit_at, bit_not}
+use Rattle.std.specs.List.{list_all}
+use Rattle.std.proofs.lemmas.Bool.{agree_below_at, and_from, and_parts, cases_eq, cases_lt, eqb-true, ne_eqb, not-true, not_from_false, or_cases, or_left, or_right}
+use Rattle.std.proofs.lemmas.Nat.{or_comm}
+use Rattle.std.proofs.lemmas.Nat.Bits.{bit_at-lt, bit_at-pow_other, bit_at-pow_same, bit_at-zero, bit_at_above, bit_at_and, bit_at_not, bit_at_or}
+use Rattle.chip_machine.specs.Forgotten.{first_registers, has_part, is_forgotten_by, is_one_of}
+use Rattle.chip_machine.specs.inner.Masks.{mask_of}
+
+-- ---- masks as they are computed
+
+pub mask_of_one : (p : ℕ) → p < 32 → 1 * 2 ^ p % 4294967296 ≡ mask_of (p ∷ [])
+mask_of_one p low =
+    let shifted : 1 * 2 ^ p % 4294967296 ≡ 2 ^ p = search rules in
+    shifted ∙ or_comm 0 (2 ^ p)
+
+pub mask_of_two : (p q : ℕ) → p < 32 → q < 32 → bit_or (1 * 2 ^ p % 4294967296) (1 * 2 ^ q % 4294967296) ≡ mask_of (p ∷ q ∷ [])
+mask_of_two p q low small =
+    let shifted : 1 * 2 ^ p % 4294967296 ≡ 2 ^ p = search rules in
+    ap (λ m. bit_or m (1 * 2 ^ q % 4294967296)) shifted ∙ ap (bit_or (2 ^ p)) (mask_of_one q small)
+
+pub mask_of_first : (x : ℕ) → x < 16 → 8 * 2 ^ x % 4294967296 - 4 ≡ mask_of (first_registers x)
+mask_of_first x low =
+    eqb-true _ _ (agree_below_at (λ n. 8 * 2 ^ n % 4294967296 - 4 == mask_of (first_registers n)) (λ _. true) 16 x refl low)
+
+-- ---- their bits
+
+is_on : (m part : ℕ) → bit_at m part ≡ 1 → has_part m part ≡ true
+is_on m part one = eq-eqb _ _ one
+
+is_off : (m part : ℕ) → bit_at m part ≡ 0 → has_part m part ≡ false
+is_off m part zero = ap (λ b. b == 1) zero
+
+on : (m part : ℕ) → has_part m part ≡ true → bit_at m part ≡ 1
+on m part h = eqb-true _ _ h
+
+off : (m part : ℕ) → has_part m part ≡ false → bit_at m part ≡ 0
+off m part h =
+    elim (cases_eq (bit_at m part) 1) [
+      inl one ↦ absurd (let is = is_on m part one in cc)
+      | inr other ↦ omega (arith, bit_at-lt m part)
+    ]
+
+mask_has : (parts : List ℕ) (part : ℕ) → has_part (mask_of parts) part ≡ is_one_of parts part
+mask_has [] part = is_off 0 part (bit_at-zero part)
+mask_has (p ∷ ps) part =
+    elim (cases_eq part p) [
+      inl same ↦
+          let one : bit_at (2 ^ p) part ≡ 1 = ap (bit_at (2 ^ p)) same ∙ bit_at-pow_same p in
+          is_on _ part (bit_at_or (2 ^ p) (mask_of ps) part ∙ omega (arith, bit_at-lt (mask_of ps) part))
+          ∙ sym (or_left (part == p) (is_one_of ps part) (eq-eqb part p same))
+      | inr other ↦
+          let none : bit_at (2 ^ p) part ≡ 0 = bit_at-pow_other p part other in
+          let rest : bit_at (bit_or (2 ^ p) (mask_of ps)) part ≡ bit_at (mask_of ps) part = bit_at_or (2 ^ p) (mask_of ps) part ∙ omega arith in
+          ap (λ b. b == 1) rest ∙ mask_has ps part ∙ ap (λ b. b || is_one_of ps part) (sym (ne_eqb part p other))
+    ]
+
+all_off : (m : ℕ) (parts : List ℕ) → ((part : ℕ) → is_one_of parts part ≡ true → has_part m part ≡ false) → list_all (λ part. not (has_part m part)) parts ≡ true
+all_off m [] h = refl
+all_off m (p ∷ ps) h =
+    and_from _ _ (not_from_false _ (h p (or_left (p == p) (is_one_of ps p) (eq-eqb p p refl))))
+    (all_off m ps (λ part one. h part (or_right (part == p) (is_one_of ps part) one)))
+
+-- what has none of some parts
+pub none_read : (m : ℕ) (parts : List ℕ) → bit_and m (mask_of parts) ≡ 0 → list_all (λ part. not (has_part m part)) parts ≡ true
+none_read m parts none =
+    all_off m parts (λ part one.
+    let set : bit_at (mask_of parts) part ≡ 1 = on (mask_of parts) part (mask_has parts part ∙ one) in
+    let both : min (bit_at m part) (bit_at (mask_of parts) part) ≡ 0 = sym (bit_at_and m (mask_of parts) part) ∙ ap (λ n. bit_at n part) none ∙ bit_at-zero part in
+    is_off m part (omega arith))
+
+-- what is forgotten is left where it isn't set, and is put in where it is spoilt
+pub left_or_spoilt : (m : ℕ) (set spoilt : List ℕ) → m < 2 ^ 32 → mask_of set < 2 ^ 32 → (part : ℕ) → is_forgotten_by m set spoilt part ≡ true
+    → has_part (bit_or (bit_and m (bit_not w32 (mask_of set))) (mask_of spoilt)) part ≡ true
+left_or_spoilt m set spoilt small fits part h =
+    let kept = bit_and m (bit_not w32 (mask_of set)) in
+    elim (or_cases _ _ h) [
+      inl left ↦
+          let parts = and_parts _ _ left in
+          let here : bit_at m part ≡ 1 = on m part parts.0 in
+          let place : part < 32 = elim (cases_lt part 32) [ inl low ↦ low | inr high ↦ absurd (let none = bit_at_above m 32 part small high in omega arith) ] in
+          let unset : bit_at (mask_of set) part ≡ 0 = off (mask_of set) part (mask_has set part ∙ not-true _ parts.1) in
+          let stays : bit_at (bit_not w32 (mask_of set)) part ≡ 1 = bit_at_not w32 (mask_of set) part fits place ∙ omega arith in
+          let keeps : bit_at kept part ≡ 1 = bit_at_and m (bit_not w32 (mask_of set)) part ∙ omega arith in
+          is_on _ part (bit_at_or kept (mask_of spoilt) part ∙ omega (arith, bit_at-lt (mask_of spoilt) part))
+      | inr now ↦
+          let put : bit_at (mask_of spoilt) part ≡ 1 = on (mask_of spoilt) part (mask_has spoilt part ∙ now) in
+          is_on _ part (bit_at_or kept (mask_of spoilt) part ∙ omega (arith, bit_at-lt kept part))
+    ]
+
+-- what has no more than another
+pub within : (m n : ℕ) → bit_or m n ≡ n → (part : ℕ) → has_part m part ≡ true → has_part n part ≡ true
+within m n same part h =
+    let one : bit_at m part ≡ 1 = on m part h in
+    let both : bit_at n part ≡ max (bit_at m part) (bit_at n part) = ap (λ k. bit_at k part) (sym same) ∙ bit_at_or m n part in
+    is_on n part (omega (arith, bit_at-lt n part))
