@@ -15,3 +15,4 @@ pub mod Spans
 pub mod SpriteLemmas
 pub mod StartMemory
 pub mod Ticks
+pub mod Unread

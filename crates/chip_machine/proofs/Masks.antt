@@ -36,7 +36,7 @@ is_off m part zero = ap (λ b. b == 1) zero
 on : (m part : ℕ) → has_part m part ≡ true → bit_at m part ≡ 1
 on m part h = eqb-true _ _ h
 
-off : (m part : ℕ) → has_part m part ≡ false → bit_at m part ≡ 0
+pub off : (m part : ℕ) → has_part m part ≡ false → bit_at m part ≡ 0
 off m part h =
     elim (cases_eq (bit_at m part) 1) [
       inl one ↦ absurd (let is = is_on m part one in cc)
@@ -76,9 +76,9 @@ pub left_or_spoilt : (m : ℕ) (set spoilt : List ℕ) → m < 2 ^ 32 → mask_o
     → has_part (bit_or (bit_and m (bit_not w32 (mask_of set))) (mask_of spoilt)) part ≡ true
 left_or_spoilt m set spoilt small fits part h =
     let kept = bit_and m (bit_not w32 (mask_of set)) in
-    elim (or_cases _ _ h) [
+    elim (or_cases (has_part m part && not (is_one_of set part)) (is_one_of spoilt part) h) [
       inl left ↦
-          let parts = and_parts _ _ left in
+          let parts = and_parts (has_part m part) (not (is_one_of set part)) left in
           let here : bit_at m part ≡ 1 = on m part parts.0 in
           let place : part < 32 = elim (cases_lt part 32) [ inl low ↦ low | inr high ↦ absurd (let none = bit_at_above m 32 part small high in omega arith) ] in
           let unset : bit_at (mask_of set) part ≡ 0 = off (mask_of set) part (mask_has set part ∙ not-true _ parts.1) in

@@ -114,7 +114,7 @@ module _ {K L : ℕ → Type 0} {r s : List ℕ} {i j : ℕ} {l m : Points} wher
 
 -- ---- parts
 
-off_by : (x q : Bool) → (x ≡ true → q ≡ true) → q ≡ false → x ≡ false
+pub off_by : (x q : Bool) → (x ≡ true → q ≡ true) → q ≡ false → x ≡ false
 off_by true q h off = absurd (let on = h refl in cc)
 off_by false q h off = refl
 

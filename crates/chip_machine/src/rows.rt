@@ -415,7 +415,7 @@ impl Processor {
         ensures same { OnErr result (self.new ≡ self.old) }
     {
         self.needs_super_instructions()?;
-        if x.number() as usize >= FLAGS {
+        if x.number() as usize >= self.flags().len() {
             return Err(Stop::NoFlag);
         }
         self.store_flags(x);
@@ -432,7 +432,7 @@ impl Processor {
         ensures same { OnErr result (self.new ≡ self.old) }
     {
         self.needs_super_instructions()?;
-        if x.number() as usize >= FLAGS {
+        if x.number() as usize >= self.flags().len() {
             return Err(Stop::NoFlag);
         }
         self.load_flags(x);
