@@ -39,7 +39,7 @@ on m part h = eqb-true _ _ h
 pub off : (m part : ℕ) → has_part m part ≡ false → bit_at m part ≡ 0
 off m part h =
     elim (cases_eq (bit_at m part) 1) [
-      inl one ↦ absurd (let is = is_on m part one in cc)
+      | inl one ↦ absurd (let is = is_on m part one in cc)
       | inr other ↦ omega (arith, bit_at-lt m part)
     ]
 
@@ -47,7 +47,7 @@ mask_has : (parts : List ℕ) (part : ℕ) → has_part (mask_of parts) part ≡
 mask_has [] part = is_off 0 part (bit_at-zero part)
 mask_has (p ∷ ps) part =
     elim (cases_eq part p) [
-      inl same ↦
+      | inl same ↦
           let one : bit_at (2 ^ p) part ≡ 1 = ap (bit_at (2 ^ p)) same ∙ bit_at-pow_same p in
           is_on _ part (bit_at_or (2 ^ p) (mask_of ps) part ∙ omega (arith, bit_at-lt (mask_of ps) part))
           ∙ sym (or_left (part == p) (is_one_of ps part) (eq-eqb part p same))
@@ -77,7 +77,7 @@ pub left_or_spoilt : (m : ℕ) (set spoilt : List ℕ) → m < 2 ^ 32 → mask_o
 left_or_spoilt m set spoilt small fits part h =
     let kept = bit_and m (bit_not w32 (mask_of set)) in
     elim (or_cases (has_part m part && not (is_one_of set part)) (is_one_of spoilt part) h) [
-      inl left ↦
+      | inl left ↦
           let parts = and_parts (has_part m part) (not (is_one_of set part)) left in
           let here : bit_at m part ≡ 1 = on m part parts.0 in
           let place : part < 32 = elim (cases_lt part 32) [ inl low ↦ low | inr high ↦ absurd (let none = bit_at_above m 32 part small high in omega arith) ] in

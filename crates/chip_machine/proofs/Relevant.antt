@@ -35,7 +35,7 @@ both f {x} {y} {u} {v} p q = ap (λ (n : ℕ). f n y) p ∙ ap (f u) q
 set_alike : (r s : List ℕ) (x v w : ℕ) → length r ≡ length s → v ≡ w → slice_index (slice_set r x v) x ≡ slice_index (slice_set s x w) x
 set_alike r s x v w size e =
     elim (cases_lt x (length r)) [
-      inl low ↦ get_or-set_same r x v 0 low ∙ e ∙ sym (get_or-set_same s x w 0 (omega arith))
+      | inl low ↦ get_or-set_same r x v 0 low ∙ e ∙ sym (get_or-set_same s x w 0 (omega arith))
       | inr high ↦
           let other : length s ≤ x = omega arith in
           ap (λ (xs : List ℕ). slice_index xs x) (set_past r x v high) ∙ get_or_past r x 0 high
@@ -59,14 +59,14 @@ module _ {K L : ℕ → Type 0} {r s : List ℕ} {i j : ℕ} {l m : Points} wher
       record {
         count = length-set r x v ∙ k.count ∙ sym (length-set s x w);
         registers = λ y h.
-        elim (cases_eq y x) [
-          inl same ↦
-              subst (λ (n : ℕ). slice_index (slice_set r x v) n ≡ slice_index (slice_set s x w) n) (sym same)
-              (set_alike r s x v w k.count (e (subst (λ (n : ℕ). L (register_part n)) same h)))
-          | inr other ↦
-              let known : K (register_part y) = elim (rest _ h) [ inl same ↦ absurd (other (omega arith)) | inr known ↦ known ] in
-              get_or-set_other r x y v 0 other ∙ k.registers y known ∙ sym (get_or-set_other s x y w 0 other)
-        ];
+            elim (cases_eq y x) [
+              | inl same ↦
+                  subst (λ (n : ℕ). slice_index (slice_set r x v) n ≡ slice_index (slice_set s x w) n) (sym same)
+                  (set_alike r s x v w k.count (e (subst (λ (n : ℕ). L (register_part n)) same h)))
+              | inr other ↦
+                  let known : K (register_part y) = elim (rest _ h) [ inl same ↦ absurd (other (omega arith)) | inr known ↦ known ] in
+                  get_or-set_other r x y v 0 other ∙ k.registers y known ∙ sym (get_or-set_other s x y w 0 other)
+            ];
         index = λ h. elim (rest _ h) [ inl same ↦ absurd (omega arith) | inr known ↦ k.index known ];
         screen = λ h. elim (rest _ h) [ inl same ↦ absurd (omega arith) | inr known ↦ k.screen known ];
       }
@@ -94,20 +94,20 @@ module _ {K L : ℕ → Type 0} {r s : List ℕ} {i j : ℕ} {l m : Points} wher
   load bytes n size rest k =
       record {
         count =
-        length-append bytes (drop n r) ∙ ap (λ m. length bytes + m) (length-drop n r ∙ ap (λ m. m - n) k.count ∙ sym (length-drop n s))
+            length-append bytes (drop n r) ∙ ap (λ m. length bytes + m) (length-drop n r ∙ ap (λ m. m - n) k.count ∙ sym (length-drop n s))
             ∙ sym (length-append bytes (drop n s));
         registers = λ y h.
-        elim (cases_lt y n) [
-          inl low ↦
-              let inside : y < length bytes = omega arith in
-              get_or_append_left bytes (drop n r) 0 y inside ∙ sym (get_or_append_left bytes (drop n s) 0 y inside)
-          | inr high ↦
-              let known : K (register_part y) = elim (rest _ h) [ inl within ↦ absurd (omega arith) | inr known ↦ known ] in
-              let place : n + (y - n) ≡ y = omega arith in
-              get_or-append_right bytes (drop n r) n y 0 size high ∙ get_or-drop n r (y - n) 0
-              ∙ ap (slice_index r) place ∙ k.registers y known ∙ ap (slice_index s) (sym place)
-              ∙ sym (get_or-append_right bytes (drop n s) n y 0 size high ∙ get_or-drop n s (y - n) 0)
-        ];
+            elim (cases_lt y n) [
+              | inl low ↦
+                  let inside : y < length bytes = omega arith in
+                  get_or_append_left bytes (drop n r) 0 y inside ∙ sym (get_or_append_left bytes (drop n s) 0 y inside)
+              | inr high ↦
+                  let known : K (register_part y) = elim (rest _ h) [ inl within ↦ absurd (omega arith) | inr known ↦ known ] in
+                  let place : n + (y - n) ≡ y = omega arith in
+                  get_or-append_right bytes (drop n r) n y 0 size high ∙ get_or-drop n r (y - n) 0
+                  ∙ ap (slice_index r) place ∙ k.registers y known ∙ ap (slice_index s) (sym place)
+                  ∙ sym (get_or-append_right bytes (drop n s) n y 0 size high ∙ get_or-drop n s (y - n) 0)
+            ];
         index = λ h. elim (rest _ h) [ inl within ↦ absurd (omega arith) | inr known ↦ k.index known ];
         screen = λ h. elim (rest _ h) [ inl within ↦ absurd (omega arith) | inr known ↦ k.screen known ];
       }
@@ -135,14 +135,14 @@ in_row : (start n part : ℕ) → is_one_of (range_with_len start n) part ≡ tr
 in_row start zero part h = absurd (cc)
 in_row start (suc n) part h =
     elim (or_cases _ _ h) [
-      inl here ↦ let same = eqb-true part start here in (omega arith, omega arith)
+      | inl here ↦ let same = eqb-true part start here in (omega arith, omega arith)
       | inr later ↦ let there = in_row (start + 1) n part later in (omega arith, omega arith)
     ]
 
 known_at : (before : ℕ) (parts : List ℕ) (k : ℕ) → list_all (λ part. not (has_part before part)) parts ≡ true → k < length parts → has_part before (get_or parts k 0) ≡ false
 known_at before parts k h inside =
     elim (cases_Bool (has_part before (get_or parts k 0))) [
-      inl on ↦ let none = list_all_at (λ part. not (has_part before part)) parts k 0 inside (ap not on) in absurd (cc)
+      | inl on ↦ let none = list_all_at (λ part. not (has_part before part)) parts k 0 inside (ap not on) in absurd (cc)
       | inr off ↦ off
     ]
 
@@ -243,14 +243,14 @@ module _ (before : ℕ) (after : ℕ → Bool) (keys to : ℕ) (c : Core) (r : L
   rest_of_one : (p : ℕ) → LeftBy (p ∷ []) [] → (part : ℕ) → after part ≡ false → (part ≡ p) ⊎ (has_part before part ≡ false)
   rest_of_one p h part off =
       elim (rest (p ∷ []) h part off) [
-        inl o ↦ elim (or_cases _ _ o) [ inl same ↦ inl (eqb-true part p same) | inr never ↦ absurd (cc) ]
+        | inl o ↦ elim (or_cases _ _ o) [ inl same ↦ inl (eqb-true part p same) | inr never ↦ absurd (cc) ]
         | inr known ↦ inr known
       ]
 
   rest_of_row : (x : ℕ) → LeftBy (first_registers x) [] → (part : ℕ) → after part ≡ false → ((register_part 0 ≤ part) × (part < register_part (x + 1))) ⊎ (has_part before part ≡ false)
   rest_of_row x h part off =
       elim (rest (first_registers x) h part off) [
-        inl o ↦ inl (let within = in_row (register_part 0) (x + 1) part o in (within.0, omega arith))
+        | inl o ↦ inl (let within = in_row (register_part 0) (x + 1) part o in (within.0, omega arith))
         | inr known ↦ inr known
       ]
 
@@ -266,9 +266,9 @@ module _ (before : ℕ) (after : ℕ → Bool) (keys to : ℕ) (c : Core) (r : L
       put {K = λ part. (part ≡ register_part x) ⊎ (has_part before part ≡ false)} 15 f g (λ _. flags)
       (λ part off.
       elim (rest (flag_part ∷ register_part x ∷ []) h part off) [
-        inl o ↦
+        | inl o ↦
             elim (or_cases _ _ o) [
-              inl flag ↦ inl (eqb-true part flag_part flag)
+              | inl flag ↦ inl (eqb-true part flag_part flag)
               | inr there ↦ elim (or_cases _ _ there) [ inl one ↦ inr (inl (eqb-true part (register_part x) one)) | inr never ↦ absurd (cc) ]
             ]
         | inr known ↦ inr (inr known)
@@ -295,7 +295,7 @@ module _ (before : ℕ) (after : ℕ → Bool) (keys to : ℕ) (c : Core) (r : L
       let under = covered c.high x y n sprite in (
         refl,
         put 15 _ _ (λ off. ap (λ (p : Points). bit_of (meets p under)) (base.screen (seen _ h off))) (rest_of_draw _ h)
-        (relight (symmetric_difference c.lit under) (symmetric_difference l under) (λ known. ap (λ (p : Points). symmetric_difference p under) (base.screen known)) (λ part known. inr known) base),
+            (relight (symmetric_difference c.lit under) (symmetric_difference l under) (λ known. ap (λ (p : Points). symmetric_difference p under) (base.screen known)) (λ part known. inr known) base),
         steady,
       )
 
@@ -305,9 +305,12 @@ module _ (before : ℕ) (after : ℕ → Bool) (keys to : ℕ) (c : Core) (r : L
       (if draws_nothing then Changes (next (with_reg 15 0 d)) else Loads (sprite_bytes c.high n) (λ sprite. next (with_sprite (reg d x) (reg d y) n sprite d)))
   draw_like true x y n u h = (refl, put 15 0 0 (λ _. refl) (rest_of_draw _ h) base, steady)
   draw_like false x y n u h =
-      let at = split index_part (register_part x ∷ register_part y ∷ []) u in
-      (refl, base.index at.0, λ sprite _.
-      subst (λ (k : Core). NearBy (next (with_sprite (reg c x) (reg c y) n sprite c)) k) (values (λ p q. next (with_sprite p q n sprite d)) x y at.1) (drawn_near (reg c x) (reg c y) n sprite h))
+      let at = split index_part (register_part x ∷ register_part y ∷ []) u in (
+        refl,
+        base.index at.0,
+        λ sprite _.
+            subst (λ (k : Core). NearBy (next (with_sprite (reg c x) (reg c y) n sprite c)) k) (values (λ p q. next (with_sprite p q n sprite d)) x y at.1) (drawn_near (reg c x) (reg c y) n sprite h),
+      )
 
   rest_of_wait : (test : Bool) (x : ℕ) → LeftBy (if test then register_part x ∷ [] else []) [] → (part : ℕ) → after part ≡ false → (part ≡ register_part x) ⊎ (has_part before part ≡ false)
   rest_of_wait true x h part off = rest_of_one (register_part x) h part off
@@ -365,13 +368,16 @@ module _ (before : ℕ) (after : ℕ → Bool) (keys to : ℕ) (c : Core) (r : L
       let at = base.index first.0 in
       (taken x first.1, at, (refl, reindex _ _ (λ _. ap (λ (n : ℕ). if (quirks c.profile).moves_index then (n + x + 1) % 65536 else n) at) (λ part off. inr off) (keep h), steady))
   row_like (row.LoadRegisters x) u h g =
-      let at = base.index (split index_part [] u).0 in
-      (refl, at, λ bytes size. (
+      let at = base.index (split index_part [] u).0 in (
         refl,
-        load bytes (length bytes) refl (λ part off. subst (λ (n : ℕ). ((register_part 0 ≤ part) × (part < register_part n)) ⊎ (has_part before part ≡ false)) (sym (size part off)) (rest_of_row x h part off))
-        (reindex _ _ (λ _. ap (λ (n : ℕ). if (quirks c.profile).moves_index then (n + x + 1) % 65536 else n) at) (λ part known. inr known) base),
-        steady,
-      ))
+        at,
+        λ bytes size. (
+          refl,
+          load bytes (length bytes) refl (λ part off. subst (λ (n : ℕ). ((register_part 0 ≤ part) × (part < register_part n)) ⊎ (has_part before part ≡ false)) (sym (size part off)) (rest_of_row x h part off))
+              (reindex _ _ (λ _. ap (λ (n : ℕ). if (quirks c.profile).moves_index then (n + x + 1) % 65536 else n) at) (λ part known. inr known) base),
+          steady,
+        ),
+      )
   row_like (row.StoreFlags x) u h g =
       super (λ k. if nat_le (length k.flags) x then Stops cause.NoFlag else Changes (next (store_flags x k))) (either _ _ (λ k. Changes (next (store_flags x k))) (λ _. (ap (λ (xs : List ℕ). others (next (record c { flags = xs ++ drop (x + 1) c.flags }))) (taken x u), keep h, steady)))
   row_like (row.LoadFlags x) u h g =
@@ -429,10 +435,12 @@ module _ (after : ℕ → Bool) (most keys : ℕ) (s : State) (r : List ℕ) (i 
       subst (λ (at : ℕ). Outcomes after most (perform keys s (Loads m f)) (outcome at n)) h.1
       (subst (λ (size : ℕ). Outcomes after most (perform keys s (Loads m f)) (outcome s.core.index size)) h.0
       (past_like (is_past s.core.index m) _ _ (λ inside.
-      let low : s.core.index + m ≤ MEMORY_BYTES = ltb-false MEMORY_BYTES (s.core.index + m) inside in
-      (h.2 (take m (drop s.core.index s.memory)) (λ part off.
-      let size = fits part off in
-      omega (arith, length-take m (drop s.core.index s.memory), length-drop s.core.index s.memory)), refl))))
+      let low : s.core.index + m ≤ MEMORY_BYTES = ltb-false MEMORY_BYTES (s.core.index + m) inside in (
+        h.2 (take m (drop s.core.index s.memory)) (λ part off.
+            let size = fits part off in
+            omega (arith, length-take m (drop s.core.index s.memory), length-drop s.core.index s.memory)),
+        refl,
+      ))))
   perform_like (Stores x a) (Stores y b) h =
       let outcome : ℕ → List ℕ → Result State Stop = λ at bytes. if is_past at (length bytes) then Err cause.AddressOutOfRange else Ok (record { core = b; memory = overwrite s.memory at bytes }) in
       subst (λ (at : ℕ). Outcomes after most (perform keys s (Stores x a)) (outcome at y)) h.1

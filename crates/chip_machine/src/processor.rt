@@ -199,7 +199,7 @@ impl Processor {
     {
         self.has_same_others(other)
             && (forgotten.has_index() || self.index == other.index)
-            && self.has_same_registers(other, forgotten)
+            && have_same_values(self.registers(), other.registers(), forgotten)
             && (forgotten.has_screen() || self.screen.is_same(&other.screen))
     }
 
@@ -218,25 +218,6 @@ impl Processor {
             && self.high == other.high
             && self.stopped == other.stopped
             && self.profile == other.profile
-    }
-
-    /// Whether another has the same value in each register that isn't forgotten: true only where it
-    /// has.
-    fn has_same_registers(&self, other: &Processor, forgotten: Forgotten) -> bool
-        ensures same { IsTrue result → (x : ℕ) → has_part forgotten (register_part x) ≡ false
-            → reg self.now x ≡ reg other.now x }
-        ensures count { length self.now.registers ≡ length other.now.registers }
-    {
-        if forgotten.has_no_register() {
-            return self.registers == other.registers;
-        }
-        for x in 0..16_u8 {
-            let differs = self.registers[x as usize] != other.registers[x as usize];
-            if differs && !forgotten.has_register(x) {
-                return false;
-            }
-        }
-        true
     }
 
     /// The value of a register.
@@ -622,6 +603,27 @@ impl Processor {
     {
         self.draws
     }
+}
+
+/// Whether two machines have the same value in each register that isn't forgotten: true only where
+/// they have.
+#[inline]
+fn have_same_values(mine: &[u8], theirs: &[u8], forgotten: Forgotten) -> bool
+    requires sixteen { length mine.now ≡ 16 }
+    requires as_many { length theirs.now ≡ 16 }
+    ensures { IsTrue result → (x : ℕ) → has_part forgotten (register_part x) ≡ false
+        → slice_index mine.now x ≡ slice_index theirs.now x }
+{
+    if forgotten.has_no_register() {
+        return mine == theirs;
+    }
+    for x in 0..16_u8 {
+        let differs = mine[x as usize] != theirs[x as usize];
+        if differs && !forgotten.has_register(x) {
+            return false;
+        }
+    }
+    true
 }
 
 /// The place after one on a tape, of which the first follows the last.
