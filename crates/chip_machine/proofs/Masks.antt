@@ -1,6 +1,6 @@
 -- Masks of parts: their bits, that one has none of another, and what one has after others are taken out
 -- and put in.
-use Rattle.std.proofs.Common.{◌≡◌, ℕ, ◌+◌, ◌-◌, ◌*◌, ◌%◌, ◌^◌, ◌<◌, ◌≤◌, ◌==◌, ◌&&◌, ◌||◌, min, max, bit_and, bit_or, Bool, true, false, not, List, [], ◌∷◌, refl, sym, ap, ◌∙◌, inl, inr, arith, rules, eq-eqb, w32}
+use Rattle.std.proofs.Common.{◌≡◌, ℕ, ◌-◌, ◌*◌, ◌%◌, ◌^◌, ◌<◌, ◌==◌, ◌&&◌, ◌||◌, min, max, bit_and, bit_or, true, false, not, List, [], ◌∷◌, refl, sym, ap, ◌∙◌, inl, inr, arith, rules, eq-eqb, w32}
 use Rattle.std.specs.Int.{bit_at, bit_not}
 use Rattle.std.specs.List.{list_all}
 use Rattle.std.proofs.lemmas.Bool.{agree_below_at, and_from, and_parts, cases_eq, cases_lt, eqb-true, ne_eqb, not-true, not_from_false, or_cases, or_left, or_right}

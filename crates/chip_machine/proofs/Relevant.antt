@@ -1,6 +1,6 @@
 -- What later steps depend on where some parts are forgotten, by the rows of the table: two cores that
 -- agree in what is known, and what the same step makes of them.
-use Rattle.std.proofs.Common.{◌≡◌, ◌≢◌, ℕ, zero, suc, ◌+◌, ◌-◌, ◌*◌, ◌/◌, ◌%◌, ◌^◌, ◌<◌, ◌≤◌, ◌==◌, ◌&&◌, ◌||◌, min, bit_and, bit_or, bit_xor, Bool, true, false, not, List, [], ◌∷◌, ◌++◌, length, get_or, slice_index, slice_set, Option, Some, None, Result, Ok, Err, refl, sym, nat_le, find, is_some, ap, subst, if◌then◌else◌, take, drop, nat_lt, ◌∙◌, ◌⊎◌, inl, inr, arith, eq-eqb}
+use Rattle.std.proofs.Common.{◌≡◌, ℕ, zero, suc, ◌+◌, ◌-◌, ◌*◌, ◌/◌, ◌%◌, ◌^◌, ◌<◌, ◌≤◌, ◌==◌, ◌&&◌, ◌||◌, min, bit_and, bit_or, bit_xor, Bool, true, false, not, List, [], ◌∷◌, ◌++◌, length, get_or, slice_index, slice_set, Option, Some, None, Result, Ok, Err, refl, sym, nat_le, find, is_some, ap, subst, if◌then◌else◌, take, drop, nat_lt, ◌∙◌, ◌⊎◌, inl, inr, arith, eq-eqb}
 use Rattle.std.specs.FinSet as set
 use Rattle.std.specs.List.{list_all, range_with_len}
 use Rattle.std.proofs.Math.Nat.{mod-add-div', add-mul-mod_self_right}
@@ -14,10 +14,10 @@ use Rattle.chip_lang.specs.Decoding.{decode_of}
 use Rattle.chip_lang.specs.declared.instr.Instr.{Instr}
 use Rattle.chip_lang.specs.declared.instr.Instr.TheVariants as row
 use Rattle.chip_lang.specs.declared.limits.TheConstants.{MEMORY_BYTES}
-use Rattle.chip_machine.specs.declared.limits.TheConstants.{FRAMES, LAST_WORD}
+use Rattle.chip_machine.specs.declared.limits.TheConstants.{LAST_WORD}
 use Rattle.chip_machine.specs.declared.stop.Stop.{Stop}
 use Rattle.chip_machine.specs.declared.stop.Stop.TheVariants as cause
-use Rattle.chip_machine.specs.Forgotten.{IsForgottenAfter, IsUnread, first_registers, flag_part, has_part, index_part, is_forgotten_by, is_one_of, next_instr, parts_by, reads, register_part, screen_part, sets, spoils}
+use Rattle.chip_machine.specs.Forgotten.{first_registers, flag_part, has_part, index_part, is_forgotten_by, is_one_of, next_instr, parts_by, reads, register_part, screen_part, sets, spoils}
 use Rattle.chip_machine.specs.Points.{Points, meets, symmetric_difference}
 use Rattle.chip_machine.specs.Profile.{quirks}
 use Rattle.chip_machine.specs.Relevant.{Alike, AlikeSteps, DrawsGrow, QuietTick, others}

@@ -1,4 +1,4 @@
-use Rattle.std.proofs.Common.{arith, ◌≡◌, ◌+◌, ◌∙◌, ap}
+use Rattle.std.proofs.Common.{arith, ◌+◌}
 use Rattle.chip_machine.proofs.Masks.{mask_of_one}
 use Rattle.chip_machine.proofs.forgotten.register.Goals as goal
 

@@ -1,5 +1,5 @@
-use Rattle.std.proofs.Common.{◌≡◌, ◌<◌, ◌-◌, ◌^◌, ℕ, true, arith, sym, ap, ◌∙◌, subst, bit_and, bit_or}
-use Rattle.chip_machine.specs.Forgotten.{has_part, reads, sets, spoils, is_forgotten_by}
+use Rattle.std.proofs.Common.{◌<◌, ◌^◌, ℕ, arith, sym, ap, ◌∙◌, subst, bit_and}
+use Rattle.chip_machine.specs.Forgotten.{reads, sets, spoils}
 use Rattle.chip_machine.specs.inner.Masks.{mask_of}
 use Rattle.chip_machine.proofs.Masks.{left_or_spoilt, none_read}
 use Rattle.chip_machine.proofs.forgotten.Forgotten.after.Goals as goal

@@ -1,4 +1,4 @@
-use Rattle.std.proofs.Common.{◌≡◌, ℕ, bit_or, ap, sym, ◌∙◌}
+use Rattle.std.proofs.Common.{◌≡◌, bit_or}
 use Rattle.std.proofs.lemmas.Bool.{eqb-true}
 use Rattle.chip_machine.proofs.Masks.{within}
 use Rattle.chip_machine.proofs.forgotten.Forgotten.is_within.Goals as goal
