@@ -1,3 +1,4 @@
+pub mod Agree
 pub mod BitLemmas
 pub mod Blocks
 pub mod Choices
