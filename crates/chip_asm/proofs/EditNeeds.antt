@@ -15,7 +15,7 @@ use Rattle.chip_asm.proofs.EditTexts.{infos-insert, infos-remove, infos-set, rea
 use Rattle.chip_asm.proofs.Views.{needs-view}
 
 pub may-insert : (kept : Kept) (at : ℕ) (added : KeptLine) → IsKept kept → at ≤ vec_len kept.lines → vec_len kept.lines < MOST_LINES → reading_in added ≡ reading_of added.text
-    → IsInfo kept.names.keys added.info (reading_in added) → MayEdit kept (Insert at added)
+    → IsInfo kept.names.keys added.info added.several (reading_in added) → MayEdit kept (Insert at added)
 may-insert kept at added k within room read info = record {
   kept = k;
   within = within;
@@ -24,7 +24,7 @@ may-insert kept at added k within room read info = record {
   infos = infos-insert kept.names.keys kept.lines.items at added k.infos info;
 }
 
-pub may-replace : (kept : Kept) (at : ℕ) (added : KeptLine) → IsKept kept → at < vec_len kept.lines → reading_in added ≡ reading_of added.text → IsInfo kept.names.keys added.info (reading_in added)
+pub may-replace : (kept : Kept) (at : ℕ) (added : KeptLine) → IsKept kept → at < vec_len kept.lines → reading_in added ≡ reading_of added.text → IsInfo kept.names.keys added.info added.several (reading_in added)
     → MayEdit kept (Replace at added)
 may-replace kept at added k within read info = record {
   kept = k;

@@ -51,17 +51,17 @@ count-texts lines texts e = sym (length-map lines (λ (k : KeptLine). k.text)) �
 
 -- what is kept beside the lines stays right
 
-pub infos-insert : (keys : List Name) (lines : List KeptLine) (at : ℕ) (kept : KeptLine) → AreInfos keys lines → IsInfo keys kept.info (reading_in kept) → AreInfos keys (insert lines at kept)
+pub infos-insert : (keys : List Name) (lines : List KeptLine) (at : ℕ) (kept : KeptLine) → AreInfos keys lines → IsInfo keys kept.info kept.several (reading_in kept) → AreInfos keys (insert lines at kept)
 infos-insert keys lines at kept all one =
-    let P : KeptLine → Type 0 = λ k. IsInfo keys k.info (reading_in k) in
+    let P : KeptLine → Type 0 = λ k. IsInfo keys k.info k.several (reading_in k) in
     All-append P (take at lines) (kept ∷ drop at lines) (All-take P at lines all) (All-cons P kept (drop at lines) one (All-drop P at lines all))
 
-pub infos-set : (keys : List Name) (lines : List KeptLine) (at : ℕ) (kept : KeptLine) → AreInfos keys lines → IsInfo keys kept.info (reading_in kept) → AreInfos keys (set lines at kept)
-infos-set keys lines at kept all one = All-set (λ (k : KeptLine). IsInfo keys k.info (reading_in k)) lines at kept one all
+pub infos-set : (keys : List Name) (lines : List KeptLine) (at : ℕ) (kept : KeptLine) → AreInfos keys lines → IsInfo keys kept.info kept.several (reading_in kept) → AreInfos keys (set lines at kept)
+infos-set keys lines at kept all one = All-set (λ (k : KeptLine). IsInfo keys k.info k.several (reading_in k)) lines at kept one all
 
 pub infos-remove : (keys : List Name) (lines : List KeptLine) (at : ℕ) → AreInfos keys lines → AreInfos keys (remove lines at)
 infos-remove keys lines at all =
-    let P : KeptLine → Type 0 = λ k. IsInfo keys k.info (reading_in k) in
+    let P : KeptLine → Type 0 = λ k. IsInfo keys k.info k.several (reading_in k) in
     All-append P (take at lines) (drop (suc at) lines) (All-take P at lines all) (All-drop P (suc at) lines all)
 
 -- the readings after the swap
@@ -80,9 +80,9 @@ read-added lines at added inside e =
     ∙ get_or-map reading_of (texts_in made) at added.text (reading_in added) texts
     ∙ ap reading_of (get_or-map (λ (k : KeptLine). k.text) made at added added.text within ∙ ap (λ (k : KeptLine). k.text) there)
 
-pub info-added : (keys : List Name) (lines : List KeptLine) (at : ℕ) (added : KeptLine) → at < length lines → AreInfos keys (set lines at added) → IsInfo keys added.info (reading_in added)
+pub info-added : (keys : List Name) (lines : List KeptLine) (at : ℕ) (added : KeptLine) → at < length lines → AreInfos keys (set lines at added) → IsInfo keys added.info added.several (reading_in added)
 info-added keys lines at added inside all =
-    let P : KeptLine → Type 0 = λ k. IsInfo keys k.info (reading_in k) in
+    let P : KeptLine → Type 0 = λ k. IsInfo keys k.info k.several (reading_in k) in
     subst P (get_or-set_same lines at added added inside) (All-get_or P (set lines at added) at added (omega (arith, inside, length-set lines at added)) all)
 
 -- an insertion that isn't refused has room

@@ -48,7 +48,7 @@ no-names = refl
 -- of no lines all is right
 pub kept-none : (kept : Kept) → kept.lines.items ≡ [] → kept.names.symbols ≡ [] → IsLayoutOf kept.layout [] → AreCodesOf kept.codes [] → kept.settled ≡ 0 → IsKept kept
 kept-none kept none symbols laid_out codes settled =
-    kept-by kept [] none (omega arith) refl (All-nil (λ (k : KeptLine). IsInfo kept.names.keys k.info (reading_in k))) (symbols ∙ sym no-names) laid_out codes
+    kept-by kept [] none (omega arith) refl (All-nil (λ (k : KeptLine). IsInfo kept.names.keys k.info k.several (reading_in k))) (symbols ∙ sym no-names) laid_out codes
     (rw settled (none-settled [] kept.spare_layout kept.layout))
 
 -- what is kept stays right under another numbering of the names

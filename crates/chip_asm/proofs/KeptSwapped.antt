@@ -41,7 +41,7 @@ settled-swapped lines spare layout old new at added fewer before s = record {
 -- all is right again
 pub kept-swapped : (old new : Kept) (at : ℕ) (added : KeptLine) (q : Placement) → IsKept old → new.lines.items ≡ set old.lines.items at added → new.layout ≡ old.layout
     → new.spare_layout ≡ old.spare_layout → new.settled ≤ old.settled → new.settled ≤ at → new.names ≡ old.names
-    → reading_in added ≡ reading_of added.text → IsInfo old.names.keys added.info (reading_in added) → Exchange (readings_in old.lines.items) at (reading_in added) q
+    → reading_in added ≡ reading_of added.text → IsInfo old.names.keys added.info added.several (reading_in added) → Exchange (readings_in old.lines.items) at (reading_in added) q
     → AreCodesOf new.codes (set (readings_in old.lines.items) at (reading_in added)) → IsKept new
 kept-swapped old new at added q k lines layout spare fewer before names read info e codes =
     let made : readings_in (set old.lines.items at added) ≡ set (readings_in old.lines.items) at (reading_in added) = readings-set old.lines.items at added in

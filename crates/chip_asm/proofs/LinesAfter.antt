@@ -38,11 +38,11 @@ line-at xs n kept e = slice_get-map reading_in xs n ∙ ap (option_map reading_i
 pub read-at : (xs : List KeptLine) (n : ℕ) (kept : KeptLine) (line : Reading) → slice_get xs n ≡ Some kept → slice_get (readings_in xs) n ≡ Some line → reading_in kept ≡ line
 read-at xs n kept line e at = let both : Some (reading_in kept) ≡ Some line = sym (line-at xs n kept e) ∙ at in cc
 
-pub info-at : (keys : List Name) (xs : List KeptLine) (n : ℕ) (kept : KeptLine) (line : Reading) → AreInfos keys xs → slice_get xs n ≡ Some kept → slice_get (readings_in xs) n ≡ Some line → IsInfo keys kept.info line
+pub info-at : (keys : List Name) (xs : List KeptLine) (n : ℕ) (kept : KeptLine) (line : Reading) → AreInfos keys xs → slice_get xs n ≡ Some kept → slice_get (readings_in xs) n ≡ Some line → IsInfo keys kept.info kept.several line
 info-at keys xs n kept line infos e at =
-    let P : KeptLine → Type 0 = λ k. IsInfo keys k.info (reading_in k) in
-    let there : IsInfo keys kept.info (reading_in kept) = subst P (get_or_from_slice_get xs n kept kept e) (All-get_or P xs n kept (slice_get_within xs n kept e) infos) in
-    subst (λ (r : Reading). IsInfo keys kept.info r) (read-at xs n kept line e at) there
+    let P : KeptLine → Type 0 = λ k. IsInfo keys k.info k.several (reading_in k) in
+    let there : IsInfo keys kept.info kept.several (reading_in kept) = subst P (get_or_from_slice_get xs n kept kept e) (All-get_or P xs n kept (slice_get_within xs n kept e) infos) in
+    subst (λ (r : Reading). IsInfo keys kept.info kept.several r) (read-at xs n kept line e at) there
 
 some-same : (x y : ℕ) → Some x ≡ Some y → x ≡ y
 some-same x y e = cc

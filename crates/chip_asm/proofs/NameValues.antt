@@ -1,5 +1,5 @@
 -- The value of a name in the map that a table of symbols means.
-use Rattle.std.proofs.Common.{◌≡◌, ℤ, Bool, true, false, cond, List, [], ◌∷◌, map, refl, ap, sym, ◌∙◌, Option, None, Some, option_map}
+use Rattle.std.proofs.Common.{◌≡◌, ℤ, Bool, true, false, cond, List, [], ◌∷◌, map, refl, ap, ◌∙◌, Option, Some, option_map}
 use Rattle.std.specs.Str.{bytes_eq}
 use Rattle.std.specs.List.{list_all}
 use Rattle.std.specs.Option.{option_eq}
@@ -9,14 +9,13 @@ use Rattle.std.specs.Cmp.Lexicographic.{slice_cmp}
 use Rattle.std.specs.FinMap as finite
 use Rattle.std.specs.FinMap.{get-from_entries}
 use Rattle.std.proofs.lemmas.Cmp.{int_eq_equiv, nat_list_cmp_total}
-use Rattle.std.proofs.lemmas.Slice.Eq.{bytes_eq-Decides}
 use Rattle.std.proofs.lemmas.Map.Text.{is_eq-slice_cmp}
 use Rattle.chip_lang.specs.Line.{Reading}
 use Rattle.chip_lang.specs.Uses.{agree_on, has_same_value, names_used}
 use Rattle.chip_lang.specs.Value.{Symbols, value_of_name}
 use Rattle.chip_asm.specs.declared.table.Symbol.{Symbol}
 use Rattle.chip_asm.specs.Names.{Name, lookup_name, values_of}
-use Rattle.chip_asm.specs.inner.Tables.{only_symbol, value_among}
+use Rattle.chip_asm.specs.inner.Tables.{value_among}
 
 mapped : (b : Bool) (s : Symbol) (o : Option Symbol) (p : Option ℤ) → p ≡ option_map (λ (s : Symbol). s.value) o → cond b (Some s.value) p ≡ option_map (λ (s : Symbol). s.value) (cond b (Some s) o)
 mapped true s o p e = refl
@@ -41,25 +40,3 @@ all-agree old new same line = each (names_used line)
     each : (names : List Name) → list_all (has_same_value old new) names ≡ true
     each [] = refl
     each (n ∷ ns) = rw (same n, each ns) refl
-
--- the value of a name in the table of another one alone
-pub only-value : (name : Name) (value : Option ℤ) (asked : Name) → value_of_name (values_of (only_symbol name value)) asked ≡ cond (bytes_eq asked name) value None
-only-value name None asked = value-of-name [] asked ∙ none (bytes_eq asked name)
-  where
-    none : (b : Bool) → ◌≡◌ {A = Option ℤ} None (cond b None None)
-    none true = refl
-    none false = refl
-only-value name (Some v) asked = value-of-name (only_symbol name (Some v)) asked ∙ by (bytes_eq asked name)
-  where
-    by : (b : Bool) → option_map (λ (s : Symbol). s.value) (cond b (Some (record { value = v; line = 0 })) None) ≡ cond b (Some v) None
-    by true = refl
-    by false = refl
-
--- a line that uses one name needs no other
-pub only-agrees : (names : List (Name × Symbol)) (name : Name) (value : Option ℤ) (line : Reading) → names_used line ≡ name ∷ [] → value ≡ value_among names name
-    → agree_on (values_of (only_symbol name value)) (values_of names) line ≡ true
-only-agrees names name value line used is =
-    let itself : bytes_eq name name ≡ true = (bytes_eq-Decides name name).1 refl in
-    let same : has_same_value (values_of (only_symbol name value)) (values_of names) name ≡ true
-    = same-value (values_of (only_symbol name value)) (values_of names) name (only-value name value name ∙ ap (λ b. cond b value None) itself ∙ is ∙ sym (value-of-name names name)) in
-    ap (list_all (has_same_value (values_of (only_symbol name value)) (values_of names))) used ∙ (rw same refl)

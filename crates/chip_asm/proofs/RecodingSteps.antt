@@ -60,7 +60,7 @@ same-placed lines place q a x at = same_Some a.x x (sym a.at ∙ at)
 pub kept-line : (r : Recoding) (place : ℕ) (q : Placement) (a : AtPlace (lines_then r) place q) (kept : KeptLine) → slice_get (lines_after r.lines.now r.edit.now) place ≡ Some kept → reading_in kept ≡ a.x.line
 kept-line r place q a kept there = read-at (lines_after r.lines.now r.edit.now) place kept a.x.line there a.line
 
-pub kept-info : (r : Recoding) → IsRecoding r → (place : ℕ) (kept : KeptLine) → slice_get (lines_after r.lines.now r.edit.now) place ≡ Some kept → IsInfo r.names.now.keys kept.info (reading_in kept)
+pub kept-info : (r : Recoding) → IsRecoding r → (place : ℕ) (kept : KeptLine) → slice_get (lines_after r.lines.now r.edit.now) place ≡ Some kept → IsInfo r.names.now.keys kept.info kept.several (reading_in kept)
 kept-info r k place kept there =
     info-at r.names.now.keys (lines_after r.lines.now r.edit.now) place kept (reading_in kept) k.infos there (line-at (lines_after r.lines.now r.edit.now) place kept there)
 

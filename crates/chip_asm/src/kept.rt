@@ -19,7 +19,7 @@ use crate::edit::{Edit, first_changed, make_edit, replace_line};
 use crate::effect::has_same_effect;
 use crate::kept_line::BoxedLine;
 use crate::layout::Layout;
-use crate::line_info::LineInfo;
+use crate::line_info::{LineInfo, Numbered};
 use crate::recoding::{Recoding, code_of};
 use crate::relayout::{Relayout, steady_lines};
 use crate::table::Table;
@@ -35,15 +35,15 @@ const NAMES_A_LINE: usize = 4;
 const SPARE_LINES: usize = 16;
 
 /// Puts what is kept of some lines under other numbers in its place.
-fn set_infos(lines: &mut [BoxedLine], infos: &[LineInfo])
-    requires { length infos.now ≡ length lines.old }
+fn set_infos(lines: &mut [BoxedLine], infos: &mut [Numbered])
+    requires { length infos.old ≡ length lines.old }
     ensures texts { texts_in lines.new ≡ texts_in lines.old }
     ensures readings { readings_in lines.new ≡ readings_in lines.old }
-    ensures infos { (keys : List Name) → AreInfosOf keys infos.now (readings_in lines.old)
+    ensures infos { (keys : List Name) → AreInfosOf keys infos.old (readings_in lines.old)
         → AreInfos keys lines.new }
 {
     for place in 0..lines.len() {
-        lines[place].set_info(infos[place]);
+        lines[place].renumber(&mut infos[place]);
     }
 }
 
@@ -174,15 +174,15 @@ impl Kept {
         if self.names.count() / NAMES_A_LINE <= self.lines.len() + SPARE_LINES {
             return;
         }
-        if let Ok((names, infos)) = self.numbered_anew(alloc) {
+        if let Ok((names, mut infos)) = self.numbered_anew(alloc) {
             self.names = names;
             self.settled = 0;
-            set_infos(&mut self.lines, &infos);
+            set_infos(&mut self.lines, &mut infos);
         }
     }
 
     /// The table of the names that stand in lines, and what is kept of these lines under it.
-    fn numbered_anew(&self, alloc: Global) -> Result<(Table, Vec<LineInfo>), AllocError>
+    fn numbered_anew(&self, alloc: Global) -> Result<(Table, Vec<Numbered>), AllocError>
         ensures symbols { IfOk result (λ made. made.0.symbols ≡ self.now.names.symbols) }
         ensures infos { IfOk result (λ made. AreInfosOf made.0.keys made.1.items
             (readings_in self.now.lines.items)) }
@@ -238,7 +238,7 @@ impl Kept {
         requires kept { IsKept self.old }
         requires inside { at < vec_len self.old.lines }
         requires is_read { reading_in added ≡ reading_of added.text }
-        requires info { IsInfo self.old.names.keys added.info (reading_in added) }
+        requires info { IsInfo self.old.names.keys added.info added.several (reading_in added) }
         requires same { HasSameEffectAt (lines_kept self.old) at (reading_in added) }
         ensures ok { OnOk result (texts_kept self.new
             ≡ slice_set (texts_kept self.old) at added.text) }

@@ -8,17 +8,18 @@ ghost use Rattle.chip_asm.specs.Names.{Name};
 ghost use Rattle.chip_asm.specs.declared.table.Symbol.{Symbol};
 ghost use Rattle.chip_asm.specs.inner.HeldLine.{IsKnown};
 ghost use Rattle.chip_asm.specs.inner.HeldText.{SaysNothing, part_from};
-ghost use Rattle.chip_asm.specs.inner.Infos.{IsInfo};
+ghost use Rattle.chip_asm.specs.inner.Infos.{IsInfo, numbers_in};
 ghost use Rattle.chip_asm.specs.inner.Records.{reading_in};
 ghost use Rattle.chip_asm.specs.inner.Tables.{Extends};
 
-use crate::line_info::LineInfo;
+use crate::line_info::{LineInfo, Numbered, Uses};
 use crate::line_text::{LineText, SharedSource};
-use crate::table::Table;
+use crate::table::{NameId, Table};
 use chip_lang::{Body, Line, Meter, constant, read_line, read_nothing};
 use std::alloc::{AllocError, Global};
 use std::marker::Model;
 use std::rc::Rc;
+use std::{mem, slice};
 
 /// A line of the source: its text and its reading.
 #[derive(Drop)]
@@ -27,6 +28,8 @@ pub(crate) struct ReadLine {
     pub(crate) line: Line,
     /// The value of its expression, where that is constant.
     pub(crate) constant: Option<i32>,
+    /// The numbers of the names that it uses, where there are several.
+    pub(crate) several: Vec<NameId>,
 }
 
 /// How a line is held.
@@ -64,16 +67,19 @@ impl Model for BoxedLine {
 
 impl BoxedLine {
     #[inline(always)]
-    fn new(alloc: Global, text: LineText, line: Line, info: LineInfo) -> Result<Self, AllocError>
+    fn new(alloc: Global, text: LineText, line: Line, made: Numbered) -> Result<Self, AllocError>
         ensures text { IfOk result (λ kept. kept.text ≡ text) }
         ensures line { IfOk result (λ kept. kept.line ≡ line) }
-        ensures info { IfOk result (λ kept. kept.info ≡ info) }
+        ensures info { IfOk result (λ kept. kept.info ≡ made.info) }
+        ensures several { IfOk result (λ kept. kept.several ≡ made.several.items) }
     {
         let constant = constant_of(&line);
+        let Numbered { info, several } = made;
         let read = ReadLine {
             text,
             line,
             constant,
+            several,
         };
         Ok(BoxedLine {
             held: HeldLine::Boxed(Box::new(alloc, read)?),
@@ -120,11 +126,30 @@ impl BoxedLine {
         self.info
     }
 
-    /// Puts other numbers in the place of those of its names.
-    pub(crate) fn set_info(&mut self, info: LineInfo)
-        ensures { self.new ≡ record self.old { info = info } }
+    /// The numbers of the names that it uses.
+    #[inline]
+    pub(crate) fn numbers(&self) -> &[NameId]
+        ensures { result.now ≡ numbers_in self.now }
     {
-        self.info = info;
+        match (&self.info.uses, &self.held) {
+            (Uses::One(id), _) => slice::from_ref(id),
+            (Uses::Several, HeldLine::Boxed(kept)) => &kept.several,
+            _ => &[],
+        }
+    }
+
+    /// Puts other numbers in the place of those of its names.
+    pub(crate) fn renumber(&mut self, made: &mut Numbered)
+        ensures text { self.new.text ≡ self.old.text }
+        ensures line { self.new.line ≡ self.old.line }
+        ensures info { (keys : List Name)
+            → IsInfo keys made.old.info made.old.several.items (reading_in self.old)
+            → IsInfo keys self.new.info self.new.several (reading_in self.new) }
+    {
+        self.info = made.info;
+        if let HeldLine::Boxed(kept) = &mut self.held {
+            mem::swap(&mut kept.several, &mut made.several);
+        }
     }
 }
 
@@ -137,15 +162,16 @@ pub(crate) fn read_kept(
 ) -> Result<BoxedLine, AllocError>
     ensures text { IfOk result (λ kept. kept.text ≡ text.now) }
     ensures reading { IfOk result (λ kept. seen_line kept.line ≡ reading_of text.now) }
-    ensures info { IfOk result (λ kept. IsInfo table.new.keys kept.info (seen_line kept.line)) }
+    ensures info { IfOk result (λ kept. IsInfo table.new.keys kept.info kept.several
+        (reading_in kept)) }
     ensures counted { meter.new ≡ record meter.old { parsed = one_more meter.old.parsed } }
     ensures keys { Extends table.old.keys table.new.keys }
     ensures symbols { table.new.symbols ≡ table.old.symbols }
 {
     let line = read_line(alloc, meter, text)?;
-    let info = LineInfo::of(alloc, table, &line)?;
+    let made = LineInfo::of(alloc, table, &line)?;
     let text = LineText::own(alloc, text)?;
-    BoxedLine::new(alloc, text, line, info)
+    BoxedLine::new(alloc, text, line, made)
 }
 
 /// Reads a text that stands at a place of a shared source. Its names get their numbers.
@@ -163,7 +189,8 @@ pub(crate) fn read_part(
     requires part { text.now ≡ part_from source.now.value.bytes start (length text.now) }
     ensures text { IfOk result (λ kept. kept.text ≡ text.now) }
     ensures reading { IfOk result (λ kept. seen_line kept.line ≡ reading_of text.now) }
-    ensures info { IfOk result (λ kept. IsInfo table.new.keys kept.info (seen_line kept.line)) }
+    ensures info { IfOk result (λ kept. IsInfo table.new.keys kept.info kept.several
+        (reading_in kept)) }
     ensures counted { meter.new ≡ record meter.old { parsed = one_more meter.old.parsed } }
     ensures keys { Extends table.old.keys table.new.keys }
     ensures symbols { table.new.symbols ≡ table.old.symbols }
@@ -195,15 +222,16 @@ fn read_said(
     ensures text { IfOk result (λ kept. kept.text ≡ part_from source.now.value.bytes start count) }
     ensures reading { IfOk result (λ kept. seen_line kept.line
         ≡ reading_of (part_from source.now.value.bytes start count)) }
-    ensures info { IfOk result (λ kept. IsInfo table.new.keys kept.info (seen_line kept.line)) }
+    ensures info { IfOk result (λ kept. IsInfo table.new.keys kept.info kept.several
+        (reading_in kept)) }
     ensures counted { meter.new ≡ record meter.old { parsed = one_more meter.old.parsed } }
     ensures keys { Extends table.old.keys table.new.keys }
     ensures symbols { table.new.symbols ≡ table.old.symbols }
 {
     let line = read_line(alloc, meter, source.part(start, count))?;
-    let info = LineInfo::of(alloc, table, &line)?;
+    let made = LineInfo::of(alloc, table, &line)?;
     let text = LineText::part(Rc::clone(source)?, start, count);
-    BoxedLine::new(alloc, text, line, info)
+    BoxedLine::new(alloc, text, line, made)
 }
 
 /// The value of a line's own expression, where it is constant.

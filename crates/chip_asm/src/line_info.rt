@@ -1,5 +1,5 @@
 //! What is kept of a line beside its reading, for steps over all lines.
-ghost use Rattle.std.specs.Prelude.{◌≡◌, List, IfOk, IfSome, None};
+ghost use Rattle.std.specs.Prelude.{◌≡◌, List, IfOk, IfSome, None, OnOk, take, vec_len};
 ghost use Rattle.chip_lang.specs.Line.{Reading};
 ghost use Rattle.chip_lang.specs.SeenLine.{seen_line};
 ghost use Rattle.chip_lang.specs.Uses.{name_defined, names_used};
@@ -7,10 +7,11 @@ ghost use Rattle.chip_asm.specs.Layout.{body_of};
 ghost use Rattle.chip_asm.specs.Names.{Name};
 ghost use Rattle.chip_asm.specs.inner.Bare.{IsBare};
 ghost use Rattle.chip_asm.specs.inner.HeldText.{SaysNothing};
-ghost use Rattle.chip_asm.specs.inner.Infos.{AreInfosOf, AreUses, IsInfo, IsNumberOf, is_bare_line, is_steady};
+ghost use Rattle.chip_asm.specs.inner.Infos.{AreInfosOf, IsInfo, IsNumberOf, is_bare_line, is_steady, numbers_used};
 ghost use Rattle.chip_asm.specs.inner.Records.{readings_in};
 ghost use Rattle.chip_asm.specs.inner.Recode.{has_code};
-ghost use Rattle.chip_asm.specs.inner.Tables.{Extends};
+ghost use Rattle.chip_asm.specs.inner.Tables.{AreNumbers, Extends};
+ghost use Rattle.chip_asm.specs.declared.table.NameId.{NameId};
 
 use crate::kept_line::BoxedLine;
 use crate::table::{NameId, Table};
@@ -24,7 +25,7 @@ pub(crate) enum Uses {
     Nothing,
     /// There is this one, once.
     One(NameId),
-    /// There may be several.
+    /// There are several.
     Several,
 }
 
@@ -101,21 +102,54 @@ fn number_defined(
     }
 }
 
-/// What is known of the names that a line uses.
-fn uses_of(alloc: Global, table: &mut Table, line: &Line) -> Result<Uses, AllocError>
+/// Adds the numbers of the names that a line uses to those of the first ones.
+fn push_numbers(
+    alloc: Global,
+    table: &mut Table,
+    line: &Line,
+    numbers: &mut Vec<NameId>,
+) -> Result<(), AllocError>
+    requires { AreNumbers table.old.keys numbers.old.items
+        (take (vec_len numbers.old) (names_used (seen_line line.now))) }
     ensures keys { Extends table.old.keys table.new.keys }
     ensures symbols { table.new.symbols ≡ table.old.symbols }
     ensures before { table.new.before ≡ table.old.before }
-    ensures is { IfOk result (λ uses. AreUses table.new.keys uses (names_used (seen_line line.now))) }
+    ensures are { OnOk result (AreNumbers table.new.keys numbers.new.items
+        (names_used (seen_line line.now))) }
 {
-    let Some(name) = uses(line, 0) else {
-        return Ok(Uses::Nothing);
-    };
-    if uses(line, 1).is_some() {
-        return Ok(Uses::Several);
+    while let Some(name) = uses(line, numbers.len()) {
+        let id = table.number(alloc, name)?;
+        numbers.push(id)?;
     }
-    let id = table.number(alloc, name)?;
-    Ok(Uses::One(id))
+    Ok(())
+}
+
+/// What is known of the names that a line uses, and the numbers of several.
+fn uses_of(alloc: Global, table: &mut Table, line: &Line) -> Result<(Uses, Vec<NameId>), AllocError>
+    ensures keys { Extends table.old.keys table.new.keys }
+    ensures symbols { table.new.symbols ≡ table.old.symbols }
+    ensures before { table.new.before ≡ table.old.before }
+    ensures are { IfOk result (λ used. AreNumbers table.new.keys
+        (numbers_used used.0 used.1.items) (names_used (seen_line line.now))) }
+{
+    let mut numbers = Vec::new(alloc);
+    let Some(name) = uses(line, 0) else {
+        return Ok((Uses::Nothing, numbers));
+    };
+    if uses(line, 1).is_none() {
+        let id = table.number(alloc, name)?;
+        return Ok((Uses::One(id), numbers));
+    }
+    push_numbers(alloc, table, line, &mut numbers)?;
+    Ok((Uses::Several, numbers))
+}
+
+/// What is known of a line whose names have numbers.
+#[derive(Drop)]
+pub(crate) struct Numbered {
+    pub(crate) info: LineInfo,
+    /// The numbers of the names that it uses, where there are several.
+    pub(crate) several: Vec<NameId>,
 }
 
 impl LineInfo {
@@ -129,21 +163,23 @@ impl LineInfo {
     };
 
     /// That of a line, whose names get their numbers.
-    pub(crate) fn of(alloc: Global, table: &mut Table, line: &Line) -> Result<LineInfo, AllocError>
+    pub(crate) fn of(alloc: Global, table: &mut Table, line: &Line) -> Result<Numbered, AllocError>
         ensures keys { Extends table.old.keys table.new.keys }
         ensures symbols { table.new.symbols ≡ table.old.symbols }
         ensures before { table.new.before ≡ table.old.before }
-        ensures is { IfOk result (λ info. IsInfo table.new.keys info (seen_line line.now)) }
+        ensures is { IfOk result (λ made. IsInfo table.new.keys made.info made.several.items
+            (seen_line line.now)) }
     {
         let defines = number_defined(alloc, table, line)?;
-        let uses = uses_of(alloc, table, line)?;
-        Ok(LineInfo {
+        let (uses, several) = uses_of(alloc, table, line)?;
+        let info = LineInfo {
             is_bare: is_bare(line),
             is_coded: has_code(line),
             is_steady: is_steady(line),
             defines,
             uses,
-        })
+        };
+        Ok(Numbered { info, several })
     }
 
     /// Those of some lines, whose names get their numbers.
@@ -151,22 +187,23 @@ impl LineInfo {
         alloc: Global,
         table: &mut Table,
         lines: &[BoxedLine],
-    ) -> Result<Vec<LineInfo>, AllocError>
+    ) -> Result<Vec<Numbered>, AllocError>
         ensures symbols { table.new.symbols ≡ table.old.symbols }
         ensures are { IfOk result (λ infos. AreInfosOf table.new.keys infos.items
             (readings_in lines.now)) }
     {
         let mut infos = Vec::with_capacity(alloc, lines.len())?;
         for line in lines {
-            let info = LineInfo::of(alloc, table, line.line())?;
-            infos.push(info)?;
+            let made = LineInfo::of(alloc, table, line.line())?;
+            infos.push(made)?;
         }
         Ok(infos)
     }
 
     /// The size of a line of which the first pass asks nothing else but its name.
     pub(crate) fn bare_size(self) -> Option<usize>
-        ensures { (keys : List Name) (line : Reading) → IsInfo keys self line
+        ensures { (keys : List Name) (several : List NameId) (line : Reading)
+            → IsInfo keys self several line
             → IfSome result (λ size. IsBare line (name_defined line) size) }
     {
         if !self.is_bare {
@@ -177,8 +214,8 @@ impl LineInfo {
 
     /// The size of a line of which the first pass asks nothing else.
     pub(crate) fn unnamed_size(self) -> Option<usize>
-        ensures { (keys : List Name) (line : Reading) → IsInfo keys self line
-            → IfSome result (λ size. IsBare line None size) }
+        ensures { (keys : List Name) (several : List NameId) (line : Reading)
+            → IsInfo keys self several line → IfSome result (λ size. IsBare line None size) }
     {
         match self.defines {
             Some(_) => None,

@@ -17,7 +17,7 @@ ghost use Rattle.chip_lang.specs.declared.limits.TheConstants.{MEMORY_BYTES};
 use crate::block::{Block, all_hold, move_blocks};
 use crate::limits::MOST_LINES;
 use crate::placement::{Placement, is_passed};
-use crate::table::{NameId, Scope, Symbol, Table, Time};
+use crate::table::{NameId, Scope, Symbol, Table};
 use chip_lang::limits::MEMORY_BYTES;
 use chip_lang::{Body, Fault, Line, eval};
 use std::alloc::{AllocError, Global};
@@ -148,7 +148,7 @@ impl Pass {
     /// The value of the expression of an EQU, ORG or DS line, under the names so far. It may be
     /// known.
     #[tactic(auto, unfolding(crate::specs::Layout::value_at))]
-    fn value_at(&self, known: Option<i32>, body: &Body) -> Result<i32, Fault>
+    fn value_at(&self, known: Option<i32>, body: &Body, numbers: &[NameId]) -> Result<i32, Fault>
         requires { IfSome known (λ value. value_at self.now.names.symbols (seen_body body.now) ≡ Ok value) }
         ensures { result ≡ value_at self.now.names.symbols (seen_body body.now) }
     {
@@ -156,19 +156,10 @@ impl Pass {
             return Ok(value);
         }
         match body {
-            Body::Equ(expr) | Body::Org(expr) | Body::Ds(expr) => eval(expr, &self.scope()),
+            Body::Equ(expr) | Body::Org(expr) | Body::Ds(expr) => {
+                eval(expr, &Scope::new(&self.names, numbers))
+            }
             _ => Ok(0),
-        }
-    }
-
-    /// The names so far.
-    fn scope(&self) -> Scope<'_>
-        ensures time { result.time ≡ Time.Now }
-        ensures table { result.table.now ≡ self.now.names }
-    {
-        Scope {
-            table: &self.names,
-            time: Time::Now,
         }
     }
 
@@ -318,6 +309,7 @@ impl Pass {
         known: Option<i32>,
         line: &Line,
         defines: Option<NameId>,
+        numbers: &[NameId],
     ) -> Placement
         requires number { number ≤ MOST_LINES + 1 }
         requires known { IsKnownUnder self.now.names.symbols known (seen_line line.now) }
@@ -340,7 +332,7 @@ impl Pass {
         let empty = Body::Empty;
         let body = body_or(line, &empty);
         let live = self.is_live(body);
-        let read = self.value_at(known, body);
+        let read = self.value_at(known, body, numbers);
         let value = or_zero(read);
         let fault = self.fault_of(live, line, defines, read);
         let size = self.size_of(is_passed(live, fault), body, value);
@@ -355,7 +347,8 @@ impl Pass {
         }
     }
 
-    /// Goes on by one line, and says what holds of it. The value of its expression may be known.
+    /// Goes on by one line, and says what holds of it. The value of its expression may be known; it is
+    /// found fastest where the numbers are those of the names that the line uses.
     #[inline(never)]
     pub(crate) fn step(
         &mut self,
@@ -363,6 +356,7 @@ impl Pass {
         known: Option<i32>,
         line: &Line,
         defines: Option<NameId>,
+        numbers: &[NameId],
     ) -> Result<Placement, AllocError>
         requires number { number ≤ MOST_LINES + 1 }
         requires known { IsKnownUnder self.old.names.symbols known (seen_line line.now) }
@@ -379,7 +373,7 @@ impl Pass {
     {
         let empty = Body::Empty;
         let body = body_or(line, &empty);
-        let placement = self.place(number, known, line, defines);
+        let placement = self.place(number, known, line, defines, numbers);
         let accepted = placement.is_accepted();
         let opened = Block {
             number,

@@ -18,10 +18,9 @@ use crate::codes::{Codes, bytes_of, count_faults, fault_in, write_line};
 use crate::edit::{Edit, kept_after, place_before, stretch_from};
 use crate::kept_line::BoxedLine;
 use crate::layout::Layout;
-use crate::line_info::Uses;
 use crate::placement::Placement;
 use crate::relayout::keeps_values;
-use crate::table::{Scope, Table, Time};
+use crate::table::{Scope, Table};
 use chip_lang::laws::same_code;
 use chip_lang::limits::IMAGE_START;
 use chip_lang::short_bytes::ShortBytes;
@@ -53,7 +52,7 @@ pub(crate) fn code_of(
     names: &Table,
     kept: &BoxedLine,
 ) -> Result<Coded, AllocError>
-    requires { IsInfo names.now.keys kept.now.info (reading_in kept.now) }
+    requires { IsInfo names.now.keys kept.now.info kept.now.several (reading_in kept.now) }
     ensures code { IfOk result (λ code. code
         ≡ coded (own_bytes (body_of (reading_in kept.now)) (values_of names.now.symbols))) }
     ensures encoded { meter.new.encoded
@@ -65,13 +64,7 @@ pub(crate) fn code_of(
     if !kept.info().is_coded {
         return Ok(Coded::Bytes(ShortBytes::empty(alloc)));
     }
-    if let Uses::One(id) = kept.info().uses {
-        return encode(alloc, meter, kept.line(), &names.only(id));
-    }
-    let scope = Scope {
-        table: names,
-        time: Time::Now,
-    };
+    let scope = Scope::new(names, kept.numbers());
     encode(alloc, meter, kept.line(), &scope)
 }
 
@@ -80,7 +73,8 @@ impl<'a> Recoding<'a> {
     #[inline(always)]
     fn keeps_values(&self, kept: &BoxedLine) -> bool
         requires recoding { IsRecoding self.now }
-        requires info { IsInfo self.now.names.now.keys kept.now.info (reading_in kept.now) }
+        requires info { IsInfo self.now.names.now.keys kept.now.info kept.now.several
+            (reading_in kept.now) }
         ensures { result ≡ agree_on (values_of self.now.names.now.before)
             (values_of self.now.names.now.symbols) (reading_in kept.now) }
     {

@@ -19,8 +19,7 @@ use crate::layout::{Layout, mark_unclosed};
 use crate::line_info::Uses;
 use crate::pass::Pass;
 use crate::placement::Placement;
-use crate::table::{Scope, Table, Time};
-use chip_lang::agree_on;
+use crate::table::Table;
 use chip_lang::laws::{kept_value, same_code};
 use std::alloc::{AllocError, Global};
 use std::mem;
@@ -60,7 +59,7 @@ pub(crate) fn steady_lines(lines: &[BoxedLine], known: usize, place: usize) -> u
 /// Whether the names of a line have the values, or none, that they had before the edit.
 #[inline(always)]
 pub(crate) fn keeps_values(names: &Table, kept: &BoxedLine) -> bool
-    requires { IsInfo names.now.keys kept.now.info (reading_in kept.now) }
+    requires { IsInfo names.now.keys kept.now.info kept.now.several (reading_in kept.now) }
     ensures { result
         ≡ agree_on (values_of names.now.before) (values_of names.now.symbols)
         (reading_in kept.now) }
@@ -68,17 +67,7 @@ pub(crate) fn keeps_values(names: &Table, kept: &BoxedLine) -> bool
     match kept.info().uses {
         Uses::Nothing => true,
         Uses::One(id) => names.keeps_value(id),
-        Uses::Several => {
-            let before = Scope {
-                table: names,
-                time: Time::Past,
-            };
-            let now = Scope {
-                table: names,
-                time: Time::Now,
-            };
-            agree_on(kept.line(), &before, &now)
-        }
+        Uses::Several => names.keep_values(kept.numbers()),
     }
 }
 
@@ -129,7 +118,7 @@ impl<'a> Relayout<'a> {
         let info = kept.info();
         let Some(size) = info.bare_size() else {
             let known = self.known_value(&pass.names, place);
-            let placement = pass.step(place + 1, known, kept.line(), info.defines)?;
+            let placement = pass.step(place + 1, known, kept.line(), info.defines, kept.numbers())?;
             return Ok(placement);
         };
         match info.defines {

@@ -1,16 +1,18 @@
 //! The symbols of a source.
-ghost use Rattle.std.specs.Prelude.{◌≡◌, ◌++◌, [], ◌∷◌, ◌<◌, ℕ, List, true, OnOk, OnErr, IfOk, None, Some, Option, is_some, length, map};
+ghost use Rattle.std.specs.Prelude.{◌≡◌, ◌++◌, [], ◌∷◌, ◌<◌, ℕ, All, List, true, OnOk, OnErr, IfOk, IfSome, None, Some, Option, is_some, length, map};
+ghost use Rattle.std.specs.List.{list_all};
 ghost use Rattle.std.specs.Str.{bytes_eq};
 ghost use Rattle.chip_lang.specs.Line.{upper};
 ghost use Rattle.chip_lang.specs.Uses.{has_same_value};
 ghost use Rattle.chip_asm.specs.Names.{Name, lookup_name, values_of};
-ghost use Rattle.chip_asm.specs.inner.Tables.{AreOver, AreUpTo, Extends, IsNumber, KeepsBefore, key_at, only_symbol, symbols_at, value_among};
+ghost use Rattle.chip_asm.specs.inner.Tables.{AreOver, AreUpTo, Extends, IsNumber, KeepsBefore, key_at, names_at};
 
 use crate::name_hasher::NameHasher;
 use chip_lang::short_bytes::upper;
 use chip_lang::{Bytes, Names};
 use indexmap::IndexSet;
 use std::alloc::{AllocError, Global};
+use std::cell::Cell;
 use std::marker::Model;
 use std::mem;
 
@@ -69,13 +71,6 @@ impl Definitions {
         let _ = self.values.extend_from_slice(&other.values);
         Ok(())
     }
-}
-
-/// When a name is looked for: now, or before the edit.
-#[derive(Clone, Copy)]
-pub(crate) enum Time {
-    Now,
-    Past,
 }
 
 /// The table of symbols. Names are in upper case. Each has a number as soon as a line uses or
@@ -231,17 +226,17 @@ impl Table {
         true
     }
 
-    /// The name of a number, with its value.
-    pub(crate) fn only(&self, id: NameId) -> NamedValue<'_>
-        requires { id.number < length self.now.keys }
-        ensures name { result.name.now ≡ key_at self.now.keys id.number }
-        ensures value { result.value
-            ≡ value_among self.now.symbols (key_at self.now.keys id.number) }
+    /// Whether the names of these numbers have the values, or none, that they had before the edit.
+    pub(crate) fn keep_values(&self, numbers: &[NameId]) -> bool
+        requires { All (λ id. id.number < length self.now.keys) numbers.now }
+        ensures { result
+            ≡ list_all (has_same_value (values_of self.now.before) (values_of self.now.symbols))
+            (names_at self.now.keys numbers.now) }
     {
-        NamedValue {
-            name: self.name(id),
-            value: self.current.values[id.number as usize],
-        }
+        let Some((id, numbers)) = numbers.split_first() else {
+            return true;
+        };
+        self.keeps_value(*id) && self.keep_values(numbers)
     }
 
     /// The value and the line of a name in either case.
@@ -330,37 +325,54 @@ fn is_spelled(text: &[u8], name: &[u8]) -> bool
     upper(*byte) == *letter && is_spelled(text, name)
 }
 
-/// A name alone, with its value, if it has one.
-#[derive(Clone, Copy)]
-pub(crate) struct NamedValue<'a> {
-    pub(crate) name: &'a [u8],
-    pub(crate) value: Option<i32>,
+/// A table, which is asked for the names of a line, mostly one after another.
+#[derive(Drop)]
+pub(crate) struct Scope<'a> {
+    table: &'a Table,
+    /// The numbers of the line's names.
+    numbers: &'a [NameId],
+    /// The place of the number whose name is asked for next, as it seems.
+    next: Cell<usize>,
 }
 
-impl<'a> Names for NamedValue<'a> {
-    ghost symbols = { λ s. values_of (only_symbol s.name.now s.value) };
+impl<'a> Scope<'a> {
+    /// A table, and the numbers of the names of which it is going to be asked.
+    pub(crate) fn new(table: &'a Table, numbers: &'a [NameId]) -> Self
+        ensures { result.table.now ≡ table.now }
+    {
+        Scope {
+            table,
+            numbers,
+            next: Cell::new(0),
+        }
+    }
 
-    fn value(&self, name: &[u8]) -> Option<i32> {
-        if name == self.name { self.value } else { None }
+    /// The number of a name, where it is the one that is asked for next.
+    #[inline(always)]
+    fn expected(&self, name: &[u8]) -> Option<NameId>
+        ensures { IfSome result (λ id. IsNumber self.now.table.now.keys id name.now) }
+    {
+        let table = self.table;
+        let place = self.next.get();
+        let id = self.numbers.get(place)?;
+        let key = table.keys.get_index(id.number as usize)?;
+        if name != key.as_slice() {
+            return None;
+        }
+        self.next.set(place + 1);
+        Some(*id)
     }
 }
 
-/// A table at a time.
-#[derive(Clone, Copy)]
-pub(crate) struct Scope<'a> {
-    pub(crate) table: &'a Table,
-    pub(crate) time: Time,
-}
-
 impl<'a> Names for Scope<'a> {
-    ghost symbols = { λ s. values_of (symbols_at s.time s.table.now) };
+    ghost symbols = { λ s. values_of s.table.now.symbols };
 
     fn value(&self, name: &[u8]) -> Option<i32> {
         let table = self.table;
-        let index = table.keys.get_index_of(name)?;
-        match self.time {
-            Time::Now => table.current.values[index],
-            Time::Past => table.past.values[index],
+        if let Some(id) = self.expected(name) {
+            return table.current.values[id.number as usize];
         }
+        let index = table.keys.get_index_of(name)?;
+        table.current.values[index]
     }
 }

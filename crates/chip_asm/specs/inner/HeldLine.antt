@@ -1,6 +1,6 @@
 -- What is kept of a line, from how it is held: a line that is blank or only a comment has no box
 -- (own).
-use Rattle.std.specs.Prelude.{◌≡◌, ◌+◌, ◌≤◌, List, ℤ, IfSome, None, Ok, Option, length}
+use Rattle.std.specs.Prelude.{◌≡◌, ◌+◌, ◌≤◌, List, [], ℤ, IfSome, None, Ok, Option, length}
 use Rattle.chip_lang.specs.Line.{Reading}
 use Rattle.chip_lang.specs.SeenLine.{seen_line}
 use Rattle.chip_asm.specs.declared.table.Symbol.{Symbol}
@@ -27,6 +27,7 @@ kept_held (Nothing source start count) info =
       line = source.value.nothing;
       constant = None;
       info = info;
+      several = [];
     }
 kept_held (Boxed read) info =
     record {
@@ -34,6 +35,7 @@ kept_held (Boxed read) info =
       line = read.value.line;
       constant = read.value.constant;
       info = info;
+      several = read.value.several.items;
     }
 
 abbrev pub IsLineHeld : HeldLine → Type 0

@@ -1,18 +1,19 @@
 -- What is kept of a line beside its reading, so that steps over all lines needn't look into most of
 -- them (own).
-use Rattle.std.specs.Prelude.{◌≡◌, ℕ, length, slice_get, ◌≤◌, Bool, false, not, ◌&&◌, List, [], ◌∷◌, All, Option, Some, None}
+use Rattle.std.specs.Prelude.{◌≡◌, ℕ, length, slice_get, Bool, false, not, ◌&&◌, List, [], ◌∷◌, All, Option, Some, None}
 use Rattle.chip_lang.specs.Line.{Body, Reading, bad, read}
 use Rattle.chip_lang.specs.Uses.{names_used, name_defined}
 use Rattle.chip_asm.specs.Names.{Name}
 use Rattle.chip_asm.specs.inner.KeptLine.{KeptLine}
 use Rattle.chip_asm.specs.declared.line_info.LineInfo.{LineInfo}
+use Rattle.chip_asm.specs.declared.line_info.Numbered.{Numbered}
 use Rattle.chip_asm.specs.declared.line_info.Uses.{Uses}
 use Rattle.chip_asm.specs.declared.line_info.Uses.TheVariants.{Nothing, One, Several}
 use Rattle.chip_asm.specs.declared.table.NameId.{NameId}
 use Rattle.chip_asm.specs.inner.Bare.{is_bare}
 use Rattle.chip_asm.specs.inner.Recode.{has_code}
 use Rattle.chip_asm.specs.inner.Records.{reading_in}
-use Rattle.chip_asm.specs.inner.Tables.{IsNumber}
+use Rattle.chip_asm.specs.inner.Tables.{AreNumbers, IsNumber}
 use Rattle.chip_asm.specs.Layout.{body_of, is_if_body, is_end_body, is_align_body}
 
 -- it is an instruction or has no statement
@@ -30,27 +31,31 @@ IsNumberOf keys None name = name ≡ None
 IsNumberOf keys (Some id) None = ⊥
 IsNumberOf keys (Some id) (Some name) = IsNumber keys id name
 
--- what is known of the names that a line uses
-abbrev pub AreUses : List Name → Uses → List Name → Type 0
-AreUses keys Nothing names = names ≡ []
-AreUses keys (One id) [] = ⊥
-AreUses keys (One id) (name ∷ names) = IsNumber keys id name × (names ≡ [])
-AreUses keys Several names = 0 ≤ 0
+-- the numbers of the names that a line uses, where those of several are kept apart
+abbrev pub numbers_used : Uses → (several : List NameId) → List NameId
+numbers_used Nothing several = []
+numbers_used (One id) several = id ∷ []
+numbers_used Several several = several
+
+abbrev pub numbers_in : KeptLine → List NameId
+numbers_in kept = numbers_used kept.info.uses kept.several
 
 -- what is kept beside a line is right of it
-pub record IsInfo (keys : List Name) (info : LineInfo) (line : Reading) : Type 0 where
+pub record IsInfo (keys : List Name) (info : LineInfo) (several : List NameId)
+    (line : Reading) : Type 0 where
   pub bare : info.is_bare ≡ is_bare_line line
   pub coded : info.is_coded ≡ has_code (body_of line)
   pub steady : info.is_steady ≡ is_steady (body_of line)
   pub defines : IsNumberOf keys info.defines (name_defined line)
-  pub uses : AreUses keys info.uses (names_used line)
+  pub uses : AreNumbers keys (numbers_used info.uses several) (names_used line)
 
 -- each of these is kept beside the line at its place
-abbrev pub AreInfosOf : List Name → List LineInfo → List Reading → Type 0
+abbrev pub AreInfosOf : List Name → List Numbered → List Reading → Type 0
 AreInfosOf keys infos lines =
-    (length infos ≡ length lines) × ((place : ℕ) (info : LineInfo) (line : Reading)
-    → slice_get infos place ≡ Some info → slice_get lines place ≡ Some line → IsInfo keys info line)
+    (length infos ≡ length lines) × ((place : ℕ) (made : Numbered) (line : Reading)
+    → slice_get infos place ≡ Some made → slice_get lines place ≡ Some line
+    → IsInfo keys made.info made.several.items line)
 
 -- what is kept beside each line
 abbrev pub AreInfos : List Name → List KeptLine → Type 0
-AreInfos keys lines = All (λ kept. IsInfo keys kept.info (reading_in kept)) lines
+AreInfos keys lines = All (λ kept. IsInfo keys kept.info kept.several (reading_in kept)) lines

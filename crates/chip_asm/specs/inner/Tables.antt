@@ -1,13 +1,11 @@
 -- What contracts see of the table of symbols: the names that lines use or define, each under a
 -- number that stays, and the symbols, as they are and as they were before the edit (own).
-use Rattle.std.specs.Prelude.{◌≡◌, ℕ, ◌<◌, ◌≤◌, ℤ, List, [], ◌∷◌, All, length, map, Option, None, Some, option_map, slice_index_or, take}
+use Rattle.std.specs.Prelude.{◌≡◌, ℕ, ◌<◌, ◌≤◌, ℤ, List, [], All, length, map, Option, None, option_map, slice_index_or, take}
 use Rattle.chip_asm.specs.Names.{Name, lookup_name}
 use Rattle.chip_asm.specs.declared.table.Symbol.{Symbol}
 use Rattle.chip_asm.specs.declared.table.NameId.{NameId}
 use Rattle.chip_asm.specs.declared.table.Entry.{Entry}
 use Rattle.chip_asm.specs.declared.table.Definitions.{Definitions}
-use Rattle.chip_asm.specs.declared.table.Time.{Time}
-use Rattle.chip_asm.specs.declared.table.Time.TheVariants.{Now, Past}
 
 pub record Tables : Type 0 where
   pub keys : List Name
@@ -18,10 +16,19 @@ pub record Tables : Type 0 where
 abbrev pub key_at : List Name → ℕ → Name
 key_at keys number = slice_index_or keys number []
 
+-- the names of some numbers
+abbrev pub names_at : List Name → List NameId → List Name
+names_at keys numbers = map (λ id. key_at keys id.number) numbers
+
 -- the number stands for the name
 pub record IsNumber (keys : List Name) (id : NameId) (name : Name) : Type 0 where
   pub within : id.number < length keys
   pub named : key_at keys id.number ≡ name
+
+-- the numbers stand for the names, in this order
+pub record AreNumbers (keys : List Name) (numbers : List NameId) (names : List Name) : Type 0 where
+  pub within : All (λ id. id.number < length keys) numbers
+  pub named : names_at keys numbers ≡ names
 
 -- names are added after the others
 pub record Extends (old new : List Name) : Type 0 where
@@ -35,11 +42,6 @@ symbols_in keys entries = map (λ e. (key_at keys e.id.number, e.symbol)) entrie
 -- the value of a name among symbols
 abbrev pub value_among : List (Name × Symbol) → Name → Option ℤ
 value_among symbols name = option_map (λ s. s.value) (lookup_name symbols name)
-
--- a name alone, if it has a value
-abbrev pub only_symbol : Name → Option ℤ → List (Name × Symbol)
-only_symbol name None = []
-only_symbol name (Some value) = (name, record { value = value; line = 0 }) ∷ []
 
 -- no name has two numbers
 pub record AreApart (keys : List Name) : Type 0 where
@@ -69,8 +71,3 @@ AreUpTo number symbols = All (λ e. e.1.line ≤ number) symbols
 -- all of them stand in lines past it
 abbrev pub AreOver : ℕ → List (Name × Symbol) → Type 0
 AreOver number symbols = All (λ e. number < e.1.line) symbols
-
--- the symbols at a time
-abbrev pub symbols_at : Time → Tables → List (Name × Symbol)
-symbols_at Now tables = tables.symbols
-symbols_at Past tables = tables.before

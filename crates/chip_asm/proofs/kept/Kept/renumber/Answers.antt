@@ -10,4 +10,4 @@ returns-in-Ok-clause-kept c =
     kept-renumbered c.args.self.now _ c.set_infos.new.lines c.requires
     (with_items_is c.args.self.now.lines c.set_infos.new.lines (omega (arith, c.set_infos.auto.lines, ap length same, c.args.self.now.lines.ok.0)))
     (c.set_infos.ensures.texts ∙ ap texts_in same) (c.set_infos.ensures.readings ∙ ap readings_in same) (omega (arith, c.set_infos.auto.lines, ap length same))
-    (c.set_infos.ensures.infos c.in-Ok.names.keys (rw (same, c.deref.ensures.value) c.in-Ok.ensures.infos)) c.in-Ok.ensures.symbols refl refl refl
+    (c.set_infos.ensures.infos c.in-Ok.names.keys (rw (same, c.deref_mut-in-Ok.ensures.value) c.in-Ok.ensures.infos)) c.in-Ok.ensures.symbols refl refl refl

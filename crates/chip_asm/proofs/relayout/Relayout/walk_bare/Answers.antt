@@ -29,8 +29,8 @@ loop-before-preserved c =
     let line : Reading = reading_in held in
     let at : slice_get all next ≡ Some line = line-at (lines_after e.lines.now e.edit.now) next held there in
     let infos : AreInfos keys (lines_after e.lines.now e.edit.now) = rw kept.keys c.requires.relayout.infos in
-    let info : IsInfo keys c.info-info.result line = rw c.info-info.ensures (info-at keys (lines_after e.lines.now e.edit.now) next held line infos there at) in
-    let bare : IsBare line None c.in-Some.size = c.in-Some.ensures keys line info in
+    let info : IsInfo keys c.info-info.result held.several line = rw c.info-info.ensures (info-at keys (lines_after e.lines.now e.edit.now) next held line infos there at) in
+    let bare : IsBare line None c.in-Some.size = c.in-Some.ensures keys held.several line info in
     let number : next + 1 ≡ length done + 1 = ap (λ k. k + 1) counted_up in
     let more = take-next all next line inside at in (
       omega arith,

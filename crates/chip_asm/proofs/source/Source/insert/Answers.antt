@@ -8,6 +8,10 @@ use Rattle.chip_asm.proofs.EditTexts.{count-texts, has-room, texts-insert}
 use Rattle.chip_asm.proofs.KeptSteps.{kept-same}
 use Rattle.chip_asm.proofs.source.Source.insert.Goals as goal
 
+pub invariant_of-self : goal.invariant_of-self
+invariant_of-self c =
+    kept-same c.self.inside.kept (record c.self.inside.kept { names = c.read_kept.new.table }) c.self.invariant refl refl refl refl refl c.read_kept.ensures.keys c.read_kept.ensures.symbols
+
 pub edit-requires : goal.edit-requires
 edit-requires c =
     let within : c.args.number - 1 ≤ vec_len c.self.inside.kept.lines = search rules in
