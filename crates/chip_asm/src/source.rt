@@ -1,5 +1,5 @@
 //! A source that is edited, with its layout, codes and image kept.
-ghost use Rattle.std.specs.Prelude.{◌≡◌, ◌+◌, ◌-◌, ◌<◌, ◌≤◌, ◌⊎◌, ℕ, List, OnOk, OnErr, IfOk, IfErr, IsSome, IfSome, [], length, insert, remove, slice_set, vec_len, Option, Some, None, map};
+ghost use Rattle.std.specs.Prelude.{◌≡◌, ◌+◌, ◌-◌, ◌<◌, ◌≤◌, ◌⊎◌, ℕ, List, OnOk, OnErr, IfOk, IfErr, IsSome, IfSome, [], length, insert, remove, slice_set, vec_len, Option, Some, None, map, option_map, slice_get};
 ghost use Rattle.std.specs.Option.{option_copied};
 ghost use Rattle.chip_lang.specs.Line.{upper};
 ghost use Rattle.chip_lang.specs.Meter.{one_more};
@@ -152,6 +152,22 @@ impl Source {
         ensures { IfOk result (λ symbols. symbols.items ≡ symbols_of self.now.lines) }
     {
         self.kept.names.symbols(alloc)
+    }
+
+    /// How many names the source gives.
+    pub fn symbol_count(&self) -> usize
+        ensures { result ≡ length (symbols_of self.now.lines) }
+    {
+        self.kept.names.symbol_count()
+    }
+
+    /// The name at a place, from 0 on, of those that the source gives, in line order, with its value
+    /// and the number of its line. None past the last.
+    pub fn symbol_at(&self, place: usize) -> Option<(&[u8], Symbol)>
+        ensures { option_map (λ found. (found.0.now, found.1)) result
+            ≡ slice_get (symbols_of self.now.lines) place }
+    {
+        self.kept.names.symbol_at(place)
     }
 
     /// All faults, in line order, each with the number of its line. Err where memory ran out.

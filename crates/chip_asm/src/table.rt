@@ -1,5 +1,5 @@
 //! The symbols of a source.
-ghost use Rattle.std.specs.Prelude.{◌≡◌, ◌++◌, [], ◌∷◌, ◌<◌, ℕ, All, List, true, OnOk, OnErr, IfOk, IfSome, None, Some, Option, is_some, length, map};
+ghost use Rattle.std.specs.Prelude.{◌≡◌, ◌++◌, [], ◌∷◌, ◌<◌, ℕ, All, List, true, OnOk, OnErr, IfOk, IfSome, None, Some, Option, is_some, length, map, option_map, slice_get};
 ghost use Rattle.std.specs.List.{list_all};
 ghost use Rattle.std.specs.Str.{bytes_eq};
 ghost use Rattle.chip_lang.specs.Line.{upper};
@@ -272,6 +272,22 @@ impl Table {
             symbols.push((name, entry.symbol))?;
         }
         Ok(symbols)
+    }
+
+    /// How many names have a symbol.
+    pub(crate) fn symbol_count(&self) -> usize
+        ensures { result ≡ length self.now.symbols }
+    {
+        self.current.entries.len()
+    }
+
+    /// The name at a place in line order, with its value and line.
+    pub(crate) fn symbol_at(&self, place: usize) -> Option<(&[u8], Symbol)>
+        ensures { option_map (λ found. (found.0.now, found.1)) result
+            ≡ slice_get self.now.symbols place }
+    {
+        let entry = self.current.entries.get(place)?;
+        Some((self.name(entry.id), entry.symbol))
     }
 
     /// How its names are hashed.

@@ -1,0 +1,8 @@
+use Rattle.std.proofs.Common.{◌∙◌, ap, slice_get}
+use Rattle.chip_asm.proofs.Views.{symbols-view}
+use Rattle.chip_asm.proofs.source.Source.symbol_at.Goals as goal
+
+pub returns : goal.returns
+returns c =
+    c.symbol_at.ensures
+    ∙ ap (λ names. slice_get names c.args.place) (c.self.invariant.symbols ∙ symbols-view c.self.inside.kept.lines.items c.args.self.now.lines c.self.invariant.are_read (ap (λ t. t.lines) c.self.view_is))
