@@ -54,6 +54,11 @@ impl Forgotten {
         }
     }
 
+    /// The screen alone.
+    pub fn screen() -> Forgotten {
+        Forgotten { parts: SCREEN }
+    }
+
     /// Whether it is none of them.
     pub fn is_nothing(self) -> bool
         ensures { IsTrue result → self ≡ 0 }
