@@ -7,7 +7,8 @@ use Rattle.std.proofs.Math.Seq.{get_or-append_seam}
 use Rattle.std.proofs.Common.{◌==◌}
 use Rattle.std.proofs.lemmas.Nat.Bits.{bit_at_above}
 use Rattle.chip_machine.specs.Choices.{IsChoice}
-use Rattle.chip_machine.specs.Relevant.{relevant}
+use Rattle.chip_machine.specs.Forgotten.{IsUnread, IsForgottenAfter}
+use Rattle.chip_machine.specs.Relevant.{Alike}
 use Rattle.chip_machine.specs.State.{State}
 use Rattle.chip_machine.specs.Step.{is_down, step_of}
 use Rattle.chip_explore.specs.declared.kept.Base.{Base}
@@ -16,7 +17,7 @@ use Rattle.chip_explore.specs.declared.members.Members.{Members}
 use Rattle.chip_explore.specs.declared.setting.Setting.{Setting}
 use Rattle.chip_explore.specs.Executed.{is_among, is_at_one}
 use Rattle.chip_explore.specs.inner.Kept.{state_at}
-use Rattle.chip_explore.specs.inner.Cover.{phase, tick_at, View, Grows, IsFine, Moves, Joins, SafeFor, Safe, IsTaken, Extends, GoesOn, HasChoices, Holds, IsAt, Goes, view_of}
+use Rattle.chip_explore.specs.inner.Cover.{phase, tick_at, View, Grows, IsFine, Moves, AreWithin, forgotten_at, Joins, SafeFor, Safe, IsTaken, Extends, GoesTo, GoesOn, HasChoices, Holds, IsAt, Goes, Leads, view_of}
 
 -- what is fine stays so where more addresses are noted
 or_more : (stopped early late : Bool) → (early ≡ true → late ≡ true) → (stopped || early) ≡ true → (stopped || late) ≡ true
@@ -36,8 +37,16 @@ module _ (p : Setting) (early late : List Bool) (more : Grows early late) (s : S
   still_moves moves = record { fine = still_fine moves.fine; same = moves.same; drawn = moves.drawn }
 
 module _ (p : Setting) (v w : View) (more : Extends p v w) where
-  still_joins : (s : State) (t : ℕ) → Joins p v s t → Joins p w s t
-  still_joins s t j =
+  pub still_within : (m place : ℕ) → place < length v.steps → AreWithin m (forgotten_at v place) → AreWithin m (forgotten_at w place)
+  still_within m place kept within = subst (λ (f : ℕ). AreWithin m f) (sym (more.forgotten place kept)) within
+
+  pub still_alike : (s : State) (place : ℕ) → place < length v.steps → Alike (forgotten_at v place) (v.member place) s → Alike (forgotten_at w place) (w.member place) s
+  still_alike s place kept alike =
+      subst (λ (f : ℕ). Alike f (w.member place) s) (sym (more.forgotten place kept))
+      (subst (λ (a : State). Alike (forgotten_at v place) a s) (sym (more.member place kept)) alike)
+
+  still_joins : (m : ℕ) (s : State) (t : ℕ) → Joins p v m s t → Joins p w m s t
+  still_joins m s t j =
       let kept = j.kept in
       let count = more.count in
       let early = j.early in
@@ -47,27 +56,32 @@ module _ (p : Setting) (v w : View) (more : Extends p v w) where
         kept = omega arith;
         early = omega arith;
         phased = more.phased j.place j.kept ∙ j.phased;
-        alike = ap relevant (more.member j.place j.kept) ∙ j.alike;
+        within = still_within m j.place j.kept j.within;
+        alike = still_alike s j.place j.kept j.alike;
       }
 
-  still_safe_for : (moves : ℕ) (s : State) (t : ℕ) → SafeFor p v moves s t → SafeFor p w moves s t
-  still_safe_for zero s t safe =
+  still_safe_for : (moves m : ℕ) (s : State) (t : ℕ) → SafeFor p v moves m s t → SafeFor p w moves m s t
+  still_safe_for zero m s t safe =
       let lower = more.limit in
       ⊎_elim
       (λ (past : v.limit ≤ t). inl (omega arith))
-      (λ (kept : IsFine p v.executed s × ((is_some s.core.stopped ≡ true) ⊎ Joins p v s t)).
-      inr (still_fine p v.executed w.executed more.executed s kept.0, ⊎_elim (λ (halted : is_some s.core.stopped ≡ true). inl halted) (λ (joins : Joins p v s t). inr (still_joins s t joins)) kept.1))
+      (λ (kept : IsFine p v.executed s × ((is_some s.core.stopped ≡ true) ⊎ Joins p v m s t)).
+      inr (still_fine p v.executed w.executed more.executed s kept.0, ⊎_elim (λ (halted : is_some s.core.stopped ≡ true). inl halted) (λ (joins : Joins p v m s t). inr (still_joins m s t joins)) kept.1))
       safe
-  still_safe_for (suc k) s t safe = (still_moves p v.executed w.executed more.executed s safe.0, still_safe_for k (step_of s 0 (tick_at p t)) (t + 1) safe.1)
+  still_safe_for (suc k) m s t safe =
+      (still_moves p v.executed w.executed more.executed s safe.0, safe.1, (safe.2.0, safe.2.1, still_safe_for k safe.2.0 (step_of s 0 (tick_at p t)) (t + 1) safe.2.2))
 
-  pub still_safe : (s : State) (t : ℕ) → Safe p v s t → Safe p w s t
-  still_safe s t safe = record { moves = safe.moves; path = still_safe_for safe.moves s t safe.path }
+  pub still_safe : (m : ℕ) (s : State) (t : ℕ) → Safe p v m s t → Safe p w m s t
+  still_safe m s t safe = record { moves = safe.moves; path = still_safe_for safe.moves m s t safe.path }
 
-pub one_move : (p : Setting) (v : View) (s : State) (t : ℕ) → Moves p v.executed s → Safe p v (step_of s 0 (tick_at p t)) (t + 1) → Safe p v s t
-one_move p v s t move safe = record { moves = suc safe.moves; path = (move, safe.path) }
+  pub still_goes : (m : ℕ) (s next : State) (t : ℕ) → GoesTo p v m s next t → GoesTo p w m s next t
+  still_goes m s next t goes = record { after = goes.after; is_after = goes.is_after; safe = still_safe goes.after next (t + 1) goes.safe }
+
+pub one_move : (p : Setting) (v : View) (m : ℕ) (s : State) (t : ℕ) → Moves p v.executed s → IsUnread m s → GoesTo p v m s (step_of s 0 (tick_at p t)) t → Safe p v m s t
+one_move p v m s t move unread goes = record { moves = suc goes.safe.moves; path = (move, unread, (goes.after, goes.is_after, goes.safe.path)) }
 
 pub extends_same : (p : Setting) (v : View) → Extends p v v
-extends_same p v = record { limit = omega arith; count = omega arith; member = λ j l. refl; early = λ j l. omega arith; phased = λ j l. refl; executed = λ pc h. h }
+extends_same p v = record { limit = omega arith; count = omega arith; member = λ j l. refl; forgotten = λ j l. refl; early = λ j l. omega arith; phased = λ j l. refl; executed = λ pc h. h }
 
 pub extends_more : (p : Setting) (u v w : View) → Extends p u v → Extends p v w → Extends p u w
 extends_more p u v w a b =
@@ -79,6 +93,7 @@ extends_more p u v w a b =
       limit = omega arith;
       count = omega arith;
       member = λ j l. b.member j (omega arith) ∙ a.member j l;
+      forgotten = λ j l. b.forgotten j (omega arith) ∙ a.forgotten j l;
       early = λ j l. let one = a.early j l in let two = b.early j (omega arith) in omega arith;
       phased = λ j l. b.phased j (omega arith) ∙ a.phased j l;
       executed = λ pc h. b.executed pc (a.executed pc h);
@@ -88,12 +103,15 @@ extends_more p u v w a b =
 pub still_taken : (p : Setting) (v w : View) → Extends p v w → (j : ℕ) → j < length v.steps → slice_index w.steps j ≡ slice_index v.steps j → IsTaken p v j → IsTaken p w j
 still_taken p v w more j kept same taken =
     let member = more.member j kept in
+    let forgotten = more.forgotten j kept in
     record {
       drawn = subst (λ (s : State). s.core.draws < 2 ^ 64 - 1) (sym member) taken.drawn;
+      unread = subst (λ (m : ℕ). IsUnread m (w.member j)) (sym forgotten) (subst (λ (s : State). IsUnread (forgotten_at v j) s) (sym member) taken.unread);
       goes_on = λ keys within.
-          subst (λ (s : State). Safe p w (step_of s keys (tick_at p (slice_index w.steps j))) (slice_index w.steps j + 1)) (sym member)
-          (subst (λ (t : ℕ). Safe p w (step_of (v.member j) keys (tick_at p t)) (t + 1)) (sym same)
-          (still_safe p v w more _ _ (taken.goes_on keys within)));
+          subst (λ (m : ℕ). GoesTo p w m (w.member j) (step_of (w.member j) keys (tick_at p (slice_index w.steps j))) (slice_index w.steps j)) (sym forgotten)
+          (subst (λ (s : State). GoesTo p w (forgotten_at v j) s (step_of s keys (tick_at p (slice_index w.steps j))) (slice_index w.steps j)) (sym member)
+          (subst (λ (t : ℕ). GoesTo p w (forgotten_at v j) (v.member j) (step_of (v.member j) keys (tick_at p t)) t) (sym same)
+          (still_goes p v w more _ _ _ _ (taken.goes_on keys within))));
     }
 
 -- flags and steps by their places
@@ -154,15 +172,16 @@ set_phased p steps place step j kept phased =
 -- a call keeps what holds, where each place that is closed after it was so before with the same
 -- step, or is taken
 pub goes : (p : Setting) (m n : Members) → Holds p m → n.start ≡ m.start → Extends p (view_of m) (view_of n)
-    → length n.states.items ≡ length n.steps.items → length n.closed.items ≡ length n.steps.items
+    → length n.states.items ≡ length n.steps.items → length n.forgotten.items ≡ length n.steps.items → length n.closed.items ≡ length n.steps.items
     → ((j : ℕ) → get_or n.closed.items j false ≡ true → IsTaken p (view_of n) j ⊎ ((get_or m.closed.items j false ≡ true) × (slice_index n.steps.items j ≡ slice_index m.steps.items j)))
     → Goes p m n
-goes p m n holds start more states closed same =
+goes p m n holds start more states forgotten closed same =
     record {
       start = start;
       extends = more;
       holds = record {
         states = states;
+        forgotten = forgotten;
         closed = closed;
         taken = λ j h.
             ⊎_elim (λ (taken : IsTaken p (view_of n) j). taken)
@@ -179,8 +198,8 @@ goes_same p m holds = record { start = refl; extends = extends_same p (view_of m
 
 -- the same states with the same steps, and no fewer addresses
 pub goes_alike : (p : Setting) (m n : Members) → Holds p m → n.start ≡ m.start → n.base ≡ m.base → n.limit ≡ m.limit → Grows m.executed n.executed
-    → n.states.items ≡ m.states.items → n.steps.items ≡ m.steps.items → n.closed.items ≡ m.closed.items → Goes p m n
-goes_alike p m n holds start base limit grows states steps closed =
+    → n.states.items ≡ m.states.items → n.forgotten.items ≡ m.forgotten.items → n.steps.items ≡ m.steps.items → n.closed.items ≡ m.closed.items → Goes p m n
+goes_alike p m n holds start base limit grows states forgotten steps closed =
     let same : (j : ℕ) → slice_index n.steps.items j ≡ slice_index m.steps.items j = λ j. ap (λ (xs : List ℕ). slice_index xs j) steps in
     let count = ap (λ (xs : List ℕ). length xs) steps in
     goes p m n holds start
@@ -188,33 +207,36 @@ goes_alike p m n holds start base limit grows states steps closed =
       limit = omega arith;
       count = omega arith;
       member = λ j l. ap (λ (b : Base). state_at b n.states.items j) base ∙ ap (λ (xs : List Kept). state_at m.base xs j) states;
+      forgotten = λ j l. ap (λ (xs : List ℕ). slice_index xs j) forgotten;
       early = λ j l. let is = same j in omega arith;
       phased = λ j l. ap (phase p) (same j);
       executed = grows;
     })
     (ap (λ (xs : List Kept). length xs) states ∙ holds.states ∙ sym count)
+    (ap (λ (xs : List ℕ). length xs) forgotten ∙ holds.forgotten ∙ sym count)
     (ap (λ (xs : List Bool). length xs) closed ∙ holds.closed ∙ sym count)
     (λ j h. inr (ap (λ (xs : List Bool). get_or xs j false) (sym closed) ∙ h, same j))
 
 pub goes_noted : (p : Setting) (m : Members) → Holds p m → (executed : List Bool) → Grows m.executed executed → Goes p m (record m { executed = executed })
-goes_noted p m holds executed grows = goes_alike p m (record m { executed = executed }) holds refl refl refl grows refl refl refl
+goes_noted p m holds executed grows = goes_alike p m (record m { executed = executed }) holds refl refl refl grows refl refl refl refl
 
 -- a fine state that a kept one is like
-pub safe_joined : (p : Setting) (m n : Members) → Goes p m n → (s : State) (t : ℕ) → IsFine p m.executed s → Joins p (view_of n) s t → Safe p (view_of n) s t
-safe_joined p m n more s t fine joins =
+pub safe_joined : (p : Setting) (m n : Members) → Goes p m n → (f : ℕ) (s : State) (t : ℕ) → IsFine p m.executed s → Joins p (view_of n) f s t → Safe p (view_of n) f s t
+safe_joined p m n more f s t fine joins =
     record { moves = 0; path = inr (still_fine p m.executed n.executed more.extends.executed s fine, inr joins) }
 
-pub safe_lowered : (p : Setting) (m n : Members) → Goes p m n → (place : ℕ) (s : State) (t : ℕ) → IsFine p m.executed s → IsAt p m place s t → slice_index n.steps.items place ≡ t → Safe p (view_of n) s t
-safe_lowered p m n more place s t fine at lowered =
+pub safe_lowered : (p : Setting) (m n : Members) → Goes p m n → (place f : ℕ) (s : State) (t : ℕ) → IsFine p m.executed s → IsAt p m place f s t → slice_index n.steps.items place ≡ t → Safe p (view_of n) f s t
+safe_lowered p m n more place f s t fine at lowered =
     let kept = at.kept in
     let count = more.extends.count in
-    safe_joined p m n more s t fine
+    safe_joined p m n more f s t fine
     (record {
       place = place;
       kept = omega arith;
       early = omega arith;
       phased = ap (phase p) lowered;
-      alike = ap relevant (more.extends.member place kept) ∙ at.alike;
+      within = still_within p (view_of m) (view_of n) more.extends f place kept at.within;
+      alike = still_alike p (view_of m) (view_of n) more.extends s place kept at.alike;
     })
 
 pub goes_more : (p : Setting) (l m n : Members) → Goes p l m → Goes p m n → Goes p l n
@@ -224,42 +246,54 @@ goes_more p l m n one two = record { start = two.start ∙ one.start; extends = 
 pub same_member : (p : Setting) (m n : Members) → Goes p m n → (place : ℕ) → place < length m.steps.items → (view_of n).member place ≡ (view_of m).member place
 same_member p m n more place kept = more.extends.member place kept
 
-pub safe_after : (p : Setting) (m n : Members) → Goes p m n → (s : State) (t : ℕ) → Safe p (view_of m) s t → Safe p (view_of n) s t
-safe_after p m n more s t safe = still_safe p (view_of m) (view_of n) more.extends s t safe
+pub same_forgotten : (p : Setting) (m n : Members) → Goes p m n → (place : ℕ) → place < length m.steps.items → forgotten_at (view_of n) place ≡ forgotten_at (view_of m) place
+same_forgotten p m n more place kept = more.extends.forgotten place kept
+
+pub safe_after : (p : Setting) (m n : Members) → Goes p m n → (f : ℕ) (s : State) (t : ℕ) → Safe p (view_of m) f s t → Safe p (view_of n) f s t
+safe_after p m n more f s t safe = still_safe p (view_of m) (view_of n) more.extends f s t safe
+
+pub leads_before : (p : Setting) (l m n : Members) → Goes p l m → (place step keys : ℕ) → place < length l.steps.items → Leads p m n place step keys → Leads p l n place step keys
+leads_before p l m n one place step keys kept leads =
+    subst (λ (f : ℕ). GoesTo p (view_of n) f ((view_of l).member place) (step_of ((view_of l).member place) keys (tick_at p step)) step) (same_forgotten p l m one place kept)
+    (subst (λ (s : State). GoesTo p (view_of n) (forgotten_at (view_of m) place) s (step_of s keys (tick_at p step)) step) (same_member p l m one place kept) leads)
+
+pub leads_after : (p : Setting) (l m n : Members) → Goes p m n → (place step keys : ℕ) → Leads p l m place step keys → Leads p l n place step keys
+leads_after p l m n two place step keys leads = still_goes p (view_of m) (view_of n) two.extends _ _ _ step leads
 
 -- a state is taken once each choice was followed
 module _ (p : Setting) (l m n : Members) (one : Goes p l m) (two : Goes p m n) (place step choices : ℕ) (kept : place < length l.steps.items)
-    (has : HasChoices p ((view_of l).member place) choices)
-    (none : Safe p (view_of m) (step_of ((view_of l).member place) 0 (tick_at p step)) (step + 1))
-    (each : (key : ℕ) → key < 16 → is_down choices key ≡ true → Safe p (view_of n) (step_of ((view_of m).member place) (2 ^ key) (tick_at p step)) (step + 1)) where
-  abbrev after : ℕ → State
-  after keys = step_of ((view_of l).member place) keys (tick_at p step)
-
-  by_choice : (keys : ℕ) → IsChoice choices keys → Safe p (view_of n) (after keys) (step + 1)
+    (has : HasChoices p (forgotten_at (view_of l) place) ((view_of l).member place) choices)
+    (none : Leads p l m place step 0)
+    (each : (key : ℕ) → key < 16 → is_down choices key ≡ true → Leads p m n place step (2 ^ key)) where
+  by_choice : (keys : ℕ) → IsChoice choices keys → Leads p l n place step keys
   by_choice keys choice =
       ⊎_elim
-      (λ (up : keys ≡ 0). subst (λ (k : ℕ). Safe p (view_of n) (after k) (step + 1)) (sym up) (safe_after p m n two _ _ none))
+      (λ (up : keys ≡ 0). subst (λ (k : ℕ). Leads p l n place step k) (sym up) (leads_after p l m n two place step 0 none))
       (λ (down : (k : ℕ) × (is_down choices k ≡ true) × (keys ≡ 2 ^ k)).
       let there : is_down choices down.0 ≡ true = down.1 in
       let below : down.0 < 16 =
       ⊎_elim (λ (inside : down.0 < 16). inside)
       (λ (past : 16 ≤ down.0). let dark : is_down choices down.0 ≡ false = ap (λ b. b == 1) (bit_at_above choices 16 down.0 has.few past) in absurd (cc))
       (cases_lt down.0 16) in
-      subst (λ (k : ℕ). Safe p (view_of n) (after k) (step + 1)) (sym down.2)
-      (subst (λ (s : State). Safe p (view_of n) (step_of s (2 ^ down.0) (tick_at p step)) (step + 1)) (same_member p l m one place kept) (each down.0 below there)))
+      subst (λ (k : ℕ). Leads p l n place step k) (sym down.2)
+      (leads_before p l m n one place step (2 ^ down.0) kept (each down.0 below there)))
       choice
 
-  on_and_on : GoesOn p (view_of n) ((view_of l).member place) step
+  on_and_on : GoesOn p (view_of n) (forgotten_at (view_of l) place) ((view_of l).member place) step
   on_and_on keys within =
       let r = has.all keys within in
-      subst (λ (s : State). Safe p (view_of n) s (step + 1)) (sym (r.2 (tick_at p step))) (by_choice r.0 r.1)
+      subst (λ (next : State). GoesTo p (view_of n) (forgotten_at (view_of l) place) ((view_of l).member place) next step) (sym (r.2 (tick_at p step))) (by_choice r.0 r.1)
 
   pub all_taken : slice_index n.steps.items place ≡ step → IsTaken p (view_of n) place
   all_taken same =
-      let member : (view_of n).member place ≡ (view_of l).member place = same_member p l n (goes_more p l m n one two) place kept in
+      let both = goes_more p l m n one two in
+      let member : (view_of n).member place ≡ (view_of l).member place = same_member p l n both place kept in
+      let forgotten : forgotten_at (view_of n) place ≡ forgotten_at (view_of l) place = same_forgotten p l n both place kept in
       record {
         drawn = subst (λ (s : State). s.core.draws < 2 ^ 64 - 1) (sym member) has.drawn;
+        unread = subst (λ (f : ℕ). IsUnread f ((view_of n).member place)) (sym forgotten) (subst (λ (s : State). IsUnread (forgotten_at (view_of l) place) s) (sym member) has.unread);
         goes_on =
-            subst (λ (s : State). GoesOn p (view_of n) s (slice_index n.steps.items place)) (sym member)
-            (subst (λ (t : ℕ). GoesOn p (view_of n) ((view_of l).member place) t) (sym same) on_and_on);
+            subst (λ (f : ℕ). GoesOn p (view_of n) f ((view_of n).member place) (slice_index n.steps.items place)) (sym forgotten)
+            (subst (λ (s : State). GoesOn p (view_of n) (forgotten_at (view_of l) place) s (slice_index n.steps.items place)) (sym member)
+            (subst (λ (t : ℕ). GoesOn p (view_of n) (forgotten_at (view_of l) place) ((view_of l).member place) t) (sym same) on_and_on));
       }

@@ -1,3 +1,4 @@
+pub mod Alike
 pub mod Covered
 pub mod Deep
 pub mod Growth

@@ -1,8 +1,11 @@
 //! In which order states are taken up, where one may be found, and how each was reached. Nothing is
 //! claimed of it: what it answers is checked.
 
+use crate::guesses::Guesses;
+use crate::leg::Runner;
 use crate::limits::{END, MOST_PRESSES};
 use crate::seen::Seen;
+use chip_machine::Forgotten;
 use chip_replay::LAST_STEP;
 use std::alloc::{AllocError, Global};
 use std::collections::{BTreeSet, HashMap};
@@ -68,11 +71,13 @@ pub(crate) struct Finder {
     /// For which other causes the machine stopped.
     pub(crate) seen: Seen,
     pub(crate) is_timer_set: bool,
+    /// What is forgotten of the states.
+    pub(crate) guesses: Guesses,
 }
 
 impl Finder {
     /// No state is known, and these causes were met.
-    pub(crate) fn new(alloc: Global, order: Order, seen: Seen) -> Finder {
+    pub(crate) fn new(alloc: Global, order: Order, seen: Seen, guesses: Guesses) -> Finder {
         Finder {
             order,
             places: HashMap::new(alloc),
@@ -81,6 +86,22 @@ impl Finder {
             hit: None,
             seen,
             is_timer_set: false,
+            guesses,
+        }
+    }
+
+    /// Whether a step refuted what the search takes for granted.
+    pub(crate) fn is_refuted(&self) -> bool {
+        self.is_timer_set || self.guesses.is_refuted
+    }
+
+    /// The parts that are to be forgotten of the state that a runner has: where its next step doesn't
+    /// tell keys apart, those that are.
+    pub(crate) fn parts_to_forget(&mut self, runner: &Runner) -> Forgotten {
+        if runner.is_quiet {
+            runner.forgotten
+        } else {
+            self.guesses.at(runner.machine.pc())
         }
     }
 

@@ -1,12 +1,12 @@
 //! A state as what it has beside a base.
 
 ghost use Rattle.std.specs.Prelude.{◌≡◌, ◌+◌, ◌*◌, ◌^◌, fold, IfOk, IsTrue, OnOk};
-ghost use Rattle.chip_machine.specs.Relevant.{relevant};
+ghost use Rattle.chip_machine.specs.Relevant.{Alike};
 ghost use Rattle.chip_explore.specs.inner.Kept.{parts_of, state_of, with_byte, with_row};
 
 use crate::backdrop::{Backdrop, Backdrops};
 use chip_machine::limits::FRAMES;
-use chip_machine::{Machine, Parts};
+use chip_machine::{Forgotten, Machine, Parts};
 use std::alloc::{AllocError, Global};
 use std::rc::Rc;
 
@@ -118,11 +118,11 @@ impl Kept {
         probe: &mut Base,
     ) -> Result<bool, AllocError>
         ensures { IfOk result (λ answer. IsTrue answer
-            → relevant (state_of base.now self.now) ≡ relevant machine.now) }
+            → Alike 0 (state_of base.now self.now) machine.now) }
     {
         if !self.load(base, &mut probe.machine, &mut probe.rows)? {
             return Ok(false);
         }
-        Ok(probe.machine.is_alike(machine))
+        Ok(probe.machine.is_alike(machine, Forgotten::nothing()))
     }
 }

@@ -1,4 +1,4 @@
-//! Some steps in a row that don't tell keys apart.
+//! Some steps in a row that don't tell keys apart, and read nothing that is forgotten.
 
 ghost use Rattle.std.specs.Prelude.{◌≡◌, ◌<◌, ◌≤◌, ◌-◌, ◌^◌, IfOk, IfSome, IsNone};
 ghost use Rattle.chip_explore.specs.inner.Cover.{Grows, IsEnd, Moves, Safe, View};
@@ -6,7 +6,7 @@ ghost use Rattle.chip_explore.specs.inner.Cover.{Grows, IsEnd, Moves, Safe, View
 use crate::executed::Executed;
 use crate::limits::MOST_QUIET_STEPS;
 use crate::setting::Setting;
-use chip_machine::{Machine, Touch};
+use chip_machine::{Forgotten, Machine, Touch};
 use std::alloc::{AllocError, Global};
 
 /// Why some steps in a row ended.
@@ -22,6 +22,8 @@ pub(crate) enum End {
     Halted,
     /// The next step can tell keys apart, or the steps are many.
     Joined,
+    /// The next step reads something that is forgotten.
+    Read,
 }
 
 /// Where some steps in a row ended, and why.
@@ -35,26 +37,37 @@ pub(crate) struct Leg {
 #[derive(Drop)]
 pub(crate) struct Runner {
     pub(crate) machine: Machine,
+    /// The parts of its state that are forgotten.
+    pub(crate) forgotten: Forgotten,
+    /// Those that the step read at which it ended last.
+    pub(crate) read: Forgotten,
+    /// Whether its next step doesn't tell keys apart.
+    pub(crate) is_quiet: bool,
     pub(crate) touch: Touch,
     /// Room for the rows of a screen.
     pub(crate) rows: Vec<u128>,
 }
 
 impl Runner {
-    /// A machine in the state of another.
+    /// A machine in the state of another, of which nothing is forgotten.
     pub(crate) fn new(alloc: Global, machine: &Machine) -> Result<Runner, AllocError>
-        ensures { IfOk result (λ runner. runner.machine ≡ machine.now) }
+        ensures machine { IfOk result (λ runner. runner.machine ≡ machine.now) }
+        ensures nothing { IfOk result (λ runner. runner.forgotten ≡ 0) }
     {
         let machine = machine.copy_of()?;
         Ok(Runner {
             machine,
+            forgotten: Forgotten::nothing(),
+            read: Forgotten::nothing(),
+            is_quiet: true,
             touch: Touch::new(),
             rows: Vec::new(alloc),
         })
     }
 
     /// Makes steps from a step on up to the limit, to a stop, or to a state whose next step can
-    /// tell keys apart, and notes the addresses of these steps and of that next one.
+    /// tell keys apart or reads something that is forgotten, and notes the addresses of these steps
+    /// and of that next one.
     pub(crate) fn run(
         &mut self,
         setting: &Setting,
@@ -65,19 +78,27 @@ impl Runner {
         requires rate { 0 < setting.now.rate }
         ensures grows { Grows executed.old executed.new }
         ensures path { (v : View) → Grows executed.new v.executed
-            → Safe setting.now v self.new.machine result.step
-            → Safe setting.now v self.old.machine from }
+            → Safe setting.now v self.new.forgotten self.new.machine result.step
+            → Safe setting.now v self.old.forgotten self.old.machine from }
         ensures end { IsEnd setting.now executed.new limit self.new.machine result.step result.end }
     {
         let mut step = from;
         let mut left = MOST_QUIET_STEPS;
         loop {
-            match self.end(setting, limit, step, left, executed) {
-                Some(end) => return Leg { step, end },
-                None => {
+            if let Some(end) = self.end(setting, limit, step, left, executed) {
+                return Leg { step, end };
+            }
+            match self.machine.forgotten_after(self.forgotten, 0) {
+                Ok(after) => {
                     self.machine.step(0, setting.tick_at(step), &mut self.touch);
+                    self.forgotten = after;
                     step += 1;
                     left -= 1;
+                }
+                Err(read) => {
+                    self.read = read;
+                    let end = End::Read;
+                    return Leg { step, end };
                 }
             }
         }
@@ -94,6 +115,7 @@ impl Runner {
         executed: &mut Executed,
     ) -> Option<End>
         ensures same { self.new.machine ≡ self.old.machine }
+        ensures forgotten { self.new.forgotten ≡ self.old.forgotten }
         ensures grows { Grows executed.old executed.new }
         ensures some { IfSome result (λ end. IsEnd setting.now executed.new limit
             self.old.machine step end) }
@@ -117,7 +139,8 @@ impl Runner {
         if left == 0 || self.machine.draws() == u64::MAX {
             return Some(End::Joined);
         }
-        if self.machine.key_choices(setting.allowed) == 0 {
+        self.is_quiet = self.machine.key_choices(setting.allowed) == 0;
+        if self.is_quiet {
             None
         } else {
             Some(End::Joined)

@@ -7,6 +7,7 @@ mod causes;
 mod confirm;
 mod executed;
 mod finder;
+mod guesses;
 mod kept;
 mod keys;
 mod leg;

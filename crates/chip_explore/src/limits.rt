@@ -8,6 +8,9 @@ pub const END: u64 = u64::MAX;
 /// How many steps that don't tell keys apart are made in a row before their state is kept.
 pub(crate) const MOST_QUIET_STEPS: u32 = 1_000;
 
+/// How often a search begins anew at most, since a step refuted what it took for granted.
+pub(crate) const MOST_ATTEMPTS: u32 = 10_000;
+
 /// How often keys go down in a script at most: each time gives two events.
 pub(crate) const MOST_PRESSES: u16 = (MOST_EVENTS / 2) as u16;
 

@@ -1,24 +1,26 @@
 //! The states that a search keeps.
 
 ghost use Rattle.std.specs.Prelude.{◌≡◌, ◌<◌, ◌≤◌, ◌+◌, ◌-◌, ◌^◌, [], ℕ, length, slice_index, slice_index_or, IfOk, IsTrue, true, false, is_some};
+ghost use Rattle.chip_machine.specs.State.{IsProper};
 ghost use Rattle.chip_explore.specs.Executed.{is_at_one};
 ghost use Rattle.chip_explore.specs.inner.Kept.{state_at};
-ghost use Rattle.chip_explore.specs.inner.Cover.{phase, view_of, Holds, Goes, IsAt, IsTaken, Joins};
+ghost use Rattle.chip_explore.specs.inner.Cover.{phase, view_of, AreWithin, Holds, Goes, IsAt, IsTaken, Joins};
 
 use crate::executed::Executed;
 use crate::kept::{Base, Kept};
 use crate::setting::Setting;
-use chip_machine::Machine;
+use chip_machine::{Forgotten, Machine};
 use std::alloc::{AllocError, Global};
 
-/// The states that are kept, each with the least step at which it was reached, and which of them
-/// were taken up.
+/// The states that are kept, each with the parts that are forgotten of it and the least step at
+/// which it was reached, and which of them were taken up.
 #[derive(Drop)]
 pub(crate) struct Members {
     pub(crate) start: Machine,
     /// What the states are kept against.
     pub(crate) base: Base,
     pub(crate) states: Vec<Kept>,
+    pub(crate) forgotten: Vec<Forgotten>,
     pub(crate) steps: Vec<u64>,
     pub(crate) closed: Vec<bool>,
     /// The step below which the search speaks of.
@@ -40,6 +42,8 @@ impl Members {
         ensures empty { IfOk result (λ members. members.steps.items ≡ []) }
         ensures none_closed { IfOk result (λ members. members.closed.items ≡ []) }
         ensures no_states { IfOk result (λ members. members.states.items ≡ []) }
+        ensures no_parts { IfOk result (λ members. members.forgotten.items ≡ []) }
+        ensures proper { IfOk result (λ members. IsProper members.start) }
         ensures noted { IfOk result (λ members. is_at_one members.executed start.now ≡ true) }
     {
         let executed = Executed::at(start);
@@ -48,6 +52,7 @@ impl Members {
             start,
             base,
             states: Vec::new(alloc),
+            forgotten: Vec::new(alloc),
             steps: Vec::new(alloc),
             closed: Vec::new(alloc),
             limit,
@@ -88,12 +93,14 @@ impl Members {
             && !self.closed[place]
     }
 
-    /// Whether a place holds a state like this one, with the ticks as at a step: true only where it
-    /// does. The probe is room for the state.
+    /// Whether a place holds a state like this one in all but what is forgotten of that, with the
+    /// ticks as at a step: true only where it does. What is forgotten of this one is among that. The
+    /// probe is room for the state.
     pub(crate) fn is_at(
         &self,
         setting: &Setting,
         place: usize,
+        forgotten: Forgotten,
         machine: &Machine,
         step: u64,
         probe: &mut Base,
@@ -101,40 +108,50 @@ impl Members {
         requires rate { 0 < setting.now.rate }
         requires holds { Holds setting.now self.now }
         ensures { IfOk result (λ answer. IsTrue answer
-            → IsAt setting.now self.now place machine.now step) }
+            → IsAt setting.now self.now place forgotten machine.now step) }
     {
-        if place >= self.steps.len() || setting.phase(self.steps[place]) != setting.phase(step) {
+        if place >= self.steps.len() || !forgotten.is_within(self.forgotten[place]) {
+            return Ok(false);
+        }
+        if setting.phase(self.steps[place]) != setting.phase(step) {
             return Ok(false);
         }
         if !self.load(place, &mut probe.machine, &mut probe.rows)? {
             return Ok(false);
         }
-        Ok(probe.machine.is_alike(machine))
+        Ok(probe.machine.is_alike(machine, self.forgotten[place]))
     }
 
-    /// Keeps the state of a machine, which was reached at a step: the answer is whether what is to
-    /// be kept is that state. The probe is room for it. All room is taken before the first change.
+    /// Keeps the state of a machine, which was reached at a step, without the parts that are to be
+    /// forgotten of it: the answer is whether what is to be kept is that state. What was forgotten of
+    /// it before is among these parts. The probe is room for it. All room is taken before the first
+    /// change.
     pub(crate) fn add(
         &mut self,
         setting: &Setting,
         kept: Kept,
+        parts: Forgotten,
+        forgotten: Forgotten,
         machine: &Machine,
         step: u64,
         probe: &mut Base,
     ) -> Result<bool, AllocError>
-        requires { Holds setting.now self.old }
+        requires holds { Holds setting.now self.old }
+        requires within { AreWithin forgotten parts }
         ensures goes { Goes setting.now self.old self.new }
         ensures joins { IfOk result (λ answer. IsTrue answer
-            → Joins setting.now (view_of self.new) machine.now step) }
+            → Joins setting.now (view_of self.new) forgotten machine.now step) }
     {
         let is_same = kept.is_of(&self.base, machine, probe)?;
         if !is_same {
             return Ok(false);
         }
         self.states.reserve(1)?;
+        self.forgotten.reserve(1)?;
         self.closed.reserve(1)?;
         self.steps.reserve(1)?;
         let _ = self.states.push(kept);
+        let _ = self.forgotten.push(parts);
         let _ = self.closed.push(false);
         let _ = self.steps.push(step);
         Ok(true)

@@ -1,6 +1,7 @@
 //! A question about all key scripts, and its answer.
 
 ghost use Rattle.std.specs.Prelude.{◌≡◌, ◌<◌, None, IfOk, IfSome, IsSome, true, false};
+ghost use Rattle.chip_machine.specs.State.{IsProper};
 ghost use Rattle.chip_explore.specs.Answers.{Answers, AreExecuted, IsFirst};
 ghost use Rattle.chip_explore.specs.Executed.{StaysAmong, is_at_one};
 ghost use Rattle.chip_explore.specs.inner.Deep.{later_of};
@@ -14,9 +15,10 @@ use crate::backdrop::Backdrops;
 use crate::confirm::{keys_of, met_under};
 use crate::executed::Executed;
 use crate::finder::{Finder, Order, Origin};
+use crate::guesses::Guesses;
 use crate::kept::Base;
 use crate::leg::Runner;
-use crate::limits::END;
+use crate::limits::{END, MOST_ATTEMPTS};
 use crate::members::Members;
 use crate::script::{KeyEvent, script_to};
 use crate::search::Search;
@@ -25,7 +27,7 @@ use crate::setting::Setting;
 use crate::target::{Met, Target};
 use crate::watcher::Watcher;
 use chip_machine::Machine;
-use chip_machine::laws::relevant_steps;
+use chip_machine::laws::alike_steps;
 use chip_replay::{KeyFault, LAST_STEP};
 use std::alloc::{AllocError, Global};
 
@@ -211,34 +213,25 @@ pub fn explore<W: Watcher>(
         free: true,
     };
     let order = Order::LeastStep;
-    let Ok(first) = search_timed(alloc, start, &setting, bounds, watcher, order, Seen::none())
-    else {
+    let Ok(first) = search(alloc, start, &setting, bounds, watcher, order, Seen::none()) else {
         return Explored::at_once(Outcome::Within(0), Executed::at(start), true);
     };
-    let Some(covered) = first.explored.covered_where_full(bounds) else {
-        return first.explored;
-    };
-    let setting = Setting {
-        free: !first.is_timer_set,
-        ..setting
-    };
-    deepened(
-        alloc,
-        start,
-        &setting,
-        bounds,
-        watcher,
-        first.explored,
-        covered,
-    )
+    match first.covered_where_full(bounds) {
+        Some(covered) => deepened(alloc, start, &setting, bounds, watcher, first, covered),
+        None => first,
+    }
 }
 
-/// What one search found.
+/// What one search found, and what it took for granted.
 #[derive(Drop)]
 struct Attempt {
     explored: Explored,
-    /// A step set the delay timer where the timers were free, so another may find more.
-    is_timer_set: bool,
+    /// The delay timer stays at 0.
+    free: bool,
+    /// What is forgotten of the states.
+    guesses: Guesses,
+    /// A step refuted it, so another search may find more.
+    is_refuted: bool,
 }
 
 /// What a search said that covered the steps up to one, after a search of the deepest states first,
@@ -266,8 +259,8 @@ fn deepened<W: Watcher>(
 {
     let order = Order::GreatestStep;
     let seen = first.seen;
-    match search_timed(alloc, start, setting, bounds, watcher, order, seen) {
-        Ok(deep) => first.deepened_by(deep.explored, covered),
+    match search(alloc, start, setting, bounds, watcher, order, seen) {
+        Ok(deep) => first.deepened_by(deep, covered),
         Err(_) => Explored {
             outcome: Outcome::Within(covered),
             is_short: true,
@@ -276,9 +269,9 @@ fn deepened<W: Watcher>(
     }
 }
 
-/// A search in an order, with the causes that were met before it. A step that sets the delay timer
-/// makes it begin anew where the timers were free.
-fn search_timed<W: Watcher>(
+/// A search in an order, with the causes that were met before it. A step that refutes what it took for
+/// granted makes it begin anew.
+fn search<W: Watcher>(
     alloc: Global,
     start: &Machine,
     setting: &Setting,
@@ -286,36 +279,40 @@ fn search_timed<W: Watcher>(
     watcher: &mut W,
     order: Order,
     seen: Seen,
-) -> Result<Attempt, AllocError>
+) -> Result<Explored, AllocError>
     requires rate { 0 < setting.now.rate }
     requires fresh { start.now.core.draws ≡ 0 }
     requires going { met_in setting.now.target start.now ≡ None }
-    ensures answers { IfOk result (λ attempt. Answers setting.now.rate setting.now.allowed
-        setting.now.target start.now attempt.explored.outcome) }
-    ensures executed { IfOk result (λ attempt. AreExecuted setting.now.rate setting.now.allowed
-        attempt.explored.executed start.now attempt.explored.outcome) }
-    ensures first { IfOk result (λ attempt. bounds.now.is_deep ≡ false
-        → IsFirst attempt.explored.outcome) }
+    ensures answers { IfOk result (λ explored. Answers setting.now.rate setting.now.allowed
+        setting.now.target start.now explored.outcome) }
+    ensures executed { IfOk result (λ explored. AreExecuted setting.now.rate setting.now.allowed
+        explored.executed start.now explored.outcome) }
+    ensures first { IfOk result (λ explored. bounds.now.is_deep ≡ false
+        → IsFirst explored.outcome) }
 {
-    let first = search_once(alloc, start, setting, bounds, watcher, order, seen)?;
-    if !first.is_timer_set {
-        return Ok(first);
+    let guesses = Guesses::new(alloc)?;
+    let mut last = search_once(alloc, start, setting, bounds, watcher, order, seen, guesses)?;
+    for _attempt in 0..MOST_ATTEMPTS {
+        if !last.is_refuted {
+            break;
+        }
+        let known = Setting {
+            free: last.free,
+            ..*setting
+        };
+        let explored = last.explored;
+        let guesses = last.guesses;
+        last = match search_once(alloc, start, &known, bounds, watcher, order, seen, guesses) {
+            Ok(next) => next,
+            Err(_) => {
+                return Ok(Explored {
+                    is_short: true,
+                    ..explored
+                });
+            }
+        };
     }
-    let timed = Setting {
-        free: false,
-        ..*setting
-    };
-    let explored = match search_once(alloc, start, &timed, bounds, watcher, order, seen) {
-        Ok(second) => second.explored,
-        Err(_) => Explored {
-            is_short: true,
-            ..first.explored
-        },
-    };
-    Ok(Attempt {
-        explored,
-        is_timer_set: true,
-    })
+    Ok(last.explored)
 }
 
 /// The first state whose next step can tell keys apart, from which others differ in little.
@@ -336,6 +333,7 @@ fn search_once<W: Watcher>(
     watcher: &mut W,
     order: Order,
     seen: Seen,
+    guesses: Guesses,
 ) -> Result<Attempt, AllocError>
     requires rate { 0 < setting.now.rate }
     requires fresh { start.now.core.draws ≡ 0 }
@@ -347,7 +345,7 @@ fn search_once<W: Watcher>(
     ensures first { IfOk result (λ attempt. bounds.now.is_deep ≡ false
         → IsFirst attempt.explored.outcome) }
 {
-    let finder = Finder::new(alloc, order, seen);
+    let finder = Finder::new(alloc, order, seen, guesses);
     let limit = finder.limit(bounds.steps);
     let mut search = Search {
         members: Members::new(alloc, start, base_for(alloc, start, setting)?, limit)?,
@@ -357,9 +355,13 @@ fn search_once<W: Watcher>(
         probe: Base::of(alloc, start)?,
     };
     let is_short = search_all(&mut search, setting, bounds, watcher).is_err();
+    let explored = explored_by(alloc, setting, &search, bounds.is_deep, is_short);
+    let finder = search.finder;
     Ok(Attempt {
-        explored: explored_by(alloc, setting, &search, bounds.is_deep, is_short),
-        is_timer_set: search.finder.is_timer_set,
+        explored,
+        free: setting.free && !finder.is_timer_set,
+        is_refuted: finder.is_refuted(),
+        guesses: finder.guesses.again(),
     })
 }
 
@@ -373,7 +375,8 @@ fn search_all<W: Watcher>(
     requires rate { 0 < setting.now.rate }
     requires holds { Holds setting.now search.old.members }
     ensures goes { Goes setting.now search.old.members search.new.members }
-    ensures begun { Safe setting.now (view_of search.new.members) search.old.runner.machine 0 }
+    ensures begun { Safe setting.now (view_of search.new.members) search.old.runner.forgotten
+        search.old.runner.machine 0 }
 {
     search.run_on(setting, 0, Origin::START)?;
     search.run(setting, bounds.steps, bounds.states, watcher)
@@ -384,14 +387,15 @@ fn covered_by(setting: &Setting, members: &Members) -> u64
     requires positive { 0 < members.now.limit }
     requires fresh { members.now.start.core.draws ≡ 0 }
     requires holds { Holds setting.now members.now }
-    requires begun { Safe setting.now (view_of members.now) members.now.start 0 }
+    requires begun { Safe setting.now (view_of members.now) 0 members.now.start 0 }
+    requires proper { IsProper members.now.start }
     ensures below { result < members.now.limit }
     ensures avoids { Avoids setting.now.rate setting.now.allowed setting.now.target
         members.now.start result }
     ensures stays { StaysAmong setting.now.rate setting.now.allowed members.now.executed
         members.now.start result }
 {
-    relevant_steps();
+    alike_steps();
     members.covered()
 }
 
@@ -408,7 +412,8 @@ fn explored_by(
     requires going { met_in setting.now.target search.now.members.start ≡ None }
     requires noted { is_at_one search.now.members.executed search.now.members.start ≡ true }
     requires holds { Holds setting.now search.now.members }
-    requires begun { Safe setting.now (view_of search.now.members) search.now.members.start 0 }
+    requires begun { Safe setting.now (view_of search.now.members) 0 search.now.members.start 0 }
+    requires proper { IsProper search.now.members.start }
     ensures answers { Answers setting.now.rate setting.now.allowed setting.now.target
         search.now.members.start result.outcome }
     ensures executed { AreExecuted setting.now.rate setting.now.allowed result.executed

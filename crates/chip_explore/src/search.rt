@@ -1,9 +1,9 @@
 //! The search.
 
-ghost use Rattle.std.specs.Prelude.{◌≡◌, ◌<◌, ◌≤◌, ◌+◌, ◌-◌, ◌^◌, ℕ, length, IfOk, IfSome, OnOk, true};
+ghost use Rattle.std.specs.Prelude.{◌≡◌, ◌<◌, ◌≤◌, ◌+◌, ◌-◌, ◌^◌, ℕ, length, IfOk, IfSome, OnOk, IsTrue, true};
 ghost use Rattle.chip_machine.specs.Step.{step_of};
 ghost use Rattle.chip_machine.specs.Step as spec;
-ghost use Rattle.chip_explore.specs.inner.Cover.{tick_at, view_of, Holds, HasChoices, Goes, IsFine, Safe};
+ghost use Rattle.chip_explore.specs.inner.Cover.{forgotten_at, view_of, Holds, HasChoices, Goes, IsFine, Leads, Safe};
 
 use crate::backdrop::Backdrops;
 use crate::finder::{Finder, Origin, Turn};
@@ -13,8 +13,9 @@ use crate::leg::{End, Runner};
 use crate::limits::TURNS_TOLD;
 use crate::members::Members;
 use crate::setting::Setting;
-use crate::sum::{backdrop_sum, sum_of};
+use crate::sum::Sums;
 use crate::watcher::Watcher;
+use chip_machine::Forgotten;
 use std::alloc::AllocError;
 
 /// A search under way.
@@ -29,6 +30,31 @@ pub(crate) struct Search {
 }
 
 impl Search {
+    /// Notes that a step read some parts that are forgotten, after a state that was reached so: less
+    /// is forgotten of the last state on the way of which they were.
+    fn refute(&mut self, origin: Origin, read: Forgotten)
+        ensures { self.new.members ≡ self.old.members }
+    {
+        self.finder.guesses.is_refuted = true;
+        let mut way = origin;
+        for _state in 0..=self.finder.origins.len() {
+            let Some(place) = way.parent() else {
+                return;
+            };
+            if place >= self.members.states.len() || place >= self.finder.origins.len() {
+                return;
+            }
+            if self
+                .finder
+                .guesses
+                .lower(self.members.states[place].pc, read)
+            {
+                return;
+            }
+            way = self.finder.origins[place];
+        }
+    }
+
     /// Keeps the state that the runner has at a step, unless one like it is kept.
     fn join(&mut self, setting: &Setting, step: u64, origin: Origin) -> Result<(), AllocError>
         requires rate { 0 < setting.now.rate }
@@ -36,15 +62,21 @@ impl Search {
         requires fine { IsFine setting.now self.old.members.executed self.old.runner.machine }
         ensures goes { Goes setting.now self.old.members self.new.members }
         ensures safe { OnOk result (Safe setting.now (view_of self.new.members)
-            self.old.runner.machine step) }
+            self.old.runner.forgotten self.old.runner.machine step) }
     {
+        let forgotten = self.runner.forgotten;
+        let parts = self.finder.parts_to_forget(&self.runner);
+        if !forgotten.is_within(parts) {
+            self.members.lower_limit(setting, step);
+            self.refute(origin, forgotten.without(parts));
+            return Ok(());
+        }
         let machine = &self.runner.machine;
-        let backdrop = backdrop_sum(machine);
-        let sum = sum_of(backdrop, machine, setting.phase(step));
-        if let Some(place) = self.finder.place(sum)
+        let sums = Sums::of(machine, parts, setting.phase(step));
+        if let Some(place) = self.finder.place(sums.state)
             && self
                 .members
-                .is_at(setting, place, machine, step, &mut self.probe)?
+                .is_at(setting, place, forgotten, machine, step, &mut self.probe)?
         {
             let before = self.members.step(place);
             if step < before {
@@ -56,15 +88,25 @@ impl Search {
             return Ok(());
         }
         let place = self.members.steps.len();
-        let kept = Kept::of(&self.members.base, machine, &mut self.backdrops, backdrop)?;
-        if !self
-            .members
-            .add(setting, kept, machine, step, &mut self.probe)?
-        {
+        let kept = Kept::of(
+            &self.members.base,
+            machine,
+            &mut self.backdrops,
+            sums.backdrop,
+        )?;
+        if !self.members.add(
+            setting,
+            kept,
+            parts,
+            forgotten,
+            machine,
+            step,
+            &mut self.probe,
+        )? {
             self.members.lower_limit(setting, step);
             return Ok(());
         }
-        self.finder.note(sum, Turn { step, place }, origin)
+        self.finder.note(sums.state, Turn { step, place }, origin)
     }
 
     /// Lets the runner make steps from a step on, and keeps the state in which they end. Where there
@@ -78,7 +120,8 @@ impl Search {
         requires rate { 0 < setting.now.rate }
         requires holds { Holds setting.now self.old.members }
         ensures goes { Goes setting.now self.old.members self.new.members }
-        ensures safe { Safe setting.now (view_of self.new.members) self.old.runner.machine from }
+        ensures safe { Safe setting.now (view_of self.new.members) self.old.runner.forgotten
+            self.old.runner.machine from }
     {
         let members = &mut self.members;
         let leg = self
@@ -106,77 +149,98 @@ impl Search {
                 }
                 return joined;
             }
+            End::Read => {
+                self.members.lower_limit(setting, leg.step);
+                self.refute(origin, self.runner.read);
+            }
         }
         Ok(())
     }
 
-    /// Makes the step of a state with these keys down, and goes on from there.
+    /// Makes the step of a state with these keys down, and goes on from there: the answer is whether
+    /// that was possible. The search speaks of the steps below that one alone where it was not.
     fn follow(
         &mut self,
         setting: &Setting,
         place: usize,
         step: u64,
         keys: u16,
-    ) -> Result<(), AllocError>
+    ) -> Result<bool, AllocError>
         requires rate { 0 < setting.now.rate }
         requires holds { Holds setting.now self.old.members }
         requires kept { place < length self.old.members.steps.items }
         requires in_range { step < 2 ^ 64 - 1 }
         ensures goes { Goes setting.now self.old.members self.new.members }
-        ensures safe { OnOk result (Safe setting.now (view_of self.new.members)
-            (step_of ((view_of self.old.members).member place) keys (tick_at setting.now step))
-            (step + 1)) }
+        ensures leads { IfOk result (λ answer. IsTrue answer
+            → Leads setting.now self.old.members self.new.members place step keys) }
     {
         let runner = &mut self.runner;
+        let origin = self.finder.origin(place, step, keys);
         if !self
             .members
             .load(place, &mut runner.machine, &mut runner.rows)?
         {
             self.members.lower_limit(setting, step);
-            return Ok(());
+            return Ok(false);
+        }
+        match runner
+            .machine
+            .forgotten_after(self.members.forgotten[place], keys)
+        {
+            Ok(after) => runner.forgotten = after,
+            Err(read) => {
+                self.members.lower_limit(setting, step);
+                self.refute(origin, read);
+                return Ok(false);
+            }
         }
         runner
             .machine
             .step(keys, setting.tick_at(step), &mut runner.touch);
-        let origin = self.finder.origin(place, step, keys);
-        self.run_on(setting, step + 1, origin)
+        self.run_on(setting, step + 1, origin)?;
+        Ok(true)
     }
 
-    /// Makes the step of a state with each of these keys down alone, and goes on from there.
+    /// Makes the step of a state with each of these keys down alone, and goes on from there: the
+    /// answer is whether that was possible.
     fn follow_each(
         &mut self,
         setting: &Setting,
         place: usize,
         step: u64,
         choices: u16,
-    ) -> Result<(), AllocError>
+    ) -> Result<bool, AllocError>
         requires rate { 0 < setting.now.rate }
         requires holds { Holds setting.now self.old.members }
         requires kept { place < length self.old.members.steps.items }
         requires in_range { step < 2 ^ 64 - 1 }
         ensures goes { Goes setting.now self.old.members self.new.members }
-        ensures safe { OnOk result ((key : ℕ) → key < 16 → spec.is_down choices key ≡ true
-            → Safe setting.now (view_of self.new.members)
-            (step_of ((view_of self.old.members).member place) (2 ^ key)
-            (tick_at setting.now step)) (step + 1)) }
+        ensures leads { IfOk result (λ answer. IsTrue answer
+            → (key : ℕ) → key < 16 → spec.is_down choices key ≡ true
+            → Leads setting.now self.old.members self.new.members place step (2 ^ key)) }
     {
         for key in 0..16u32 {
-            if is_down(choices, key) {
-                self.follow(setting, place, step, alone(key))?;
+            if is_down(choices, key) && !self.follow(setting, place, step, alone(key))? {
+                return Ok(false);
             }
         }
-        Ok(())
+        Ok(true)
     }
 
-    /// Which keys the next step of a state can tell apart, unless it is not loaded, or has drawn as
-    /// many random bytes as are counted.
-    fn choices(&mut self, setting: &Setting, place: usize) -> Result<Option<u16>, AllocError>
+    /// Which keys the next step of a state can tell apart, unless it is not loaded, has drawn as many
+    /// random bytes as are counted, or its next step reads something that is forgotten.
+    fn choices(
+        &mut self,
+        setting: &Setting,
+        place: usize,
+        step: u64,
+    ) -> Result<Option<u16>, AllocError>
         requires holds { Holds setting.now self.old.members }
         requires kept { place < length self.old.members.steps.items }
         ensures same { self.new.members ≡ self.old.members }
         ensures choices { IfOk result (λ answer. IfSome answer
-            (λ choices. HasChoices setting.now ((view_of self.old.members).member place)
-            choices)) }
+            (λ choices. HasChoices setting.now (forgotten_at (view_of self.old.members) place)
+            ((view_of self.old.members).member place) choices)) }
     {
         let runner = &mut self.runner;
         if !self
@@ -186,7 +250,17 @@ impl Search {
         {
             return Ok(None);
         }
-        Ok(Some(runner.machine.key_choices(setting.allowed)))
+        match runner
+            .machine
+            .forgotten_after(self.members.forgotten[place], 0)
+        {
+            Ok(_) => Ok(Some(runner.machine.key_choices(setting.allowed))),
+            Err(read) => {
+                let origin = self.finder.origin(place, step, 0);
+                self.refute(origin, read);
+                Ok(None)
+            }
+        }
     }
 
     /// Makes the next step of a state with each choice of keys, unless the limit is met.
@@ -200,12 +274,16 @@ impl Search {
         if step >= self.members.limit {
             return Ok(());
         }
-        let Some(choices) = self.choices(setting, place)? else {
+        let Some(choices) = self.choices(setting, place, step)? else {
             self.members.lower_limit(setting, step);
             return Ok(());
         };
-        self.follow(setting, place, step, 0)?;
-        self.follow_each(setting, place, step, choices)?;
+        if !self.follow(setting, place, step, 0)? {
+            return Ok(());
+        }
+        if !self.follow_each(setting, place, step, choices)? {
+            return Ok(());
+        }
         if self.members.step(place) == step {
             self.members.close(setting, place);
         }
@@ -229,7 +307,7 @@ impl Search {
                 return Ok(());
             };
             let place = turn.place;
-            if self.finder.is_timer_set || self.members.states.len() > most_states {
+            if self.finder.is_refuted() || self.members.states.len() > most_states {
                 return Ok(());
             }
             if turn.step >= self.members.limit || turn.step >= most_steps {

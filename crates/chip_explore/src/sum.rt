@@ -3,8 +3,8 @@
 ghost use Rattle.std.specs.Prelude.{◌≡◌, ◌+◌, ◌≤◌, length};
 
 use crate::kept::ROWS;
-use chip_machine::Machine;
 use chip_machine::limits::MEMORY_BYTES;
+use chip_machine::{Forgotten, Machine};
 
 /// A quarter of the memory's bytes.
 const QUARTER: usize = MEMORY_BYTES / 4;
@@ -57,29 +57,61 @@ fn memory_sum(memory: &[u8]) -> u64
     add(add(add(first, second), third), fourth)
 }
 
-/// The sum of what changes seldom: the memory, the screen, the frames and the flag registers.
-pub(crate) fn backdrop_sum(machine: &Machine) -> u64 {
-    let mut left = memory_sum(machine.memory());
-    let mut right = u64::from(machine.high());
+/// The sum of the rows of a screen.
+fn screen_sum(machine: &Machine) -> u64 {
+    let mut left = 3;
+    let mut right = 4;
     for row in 0..ROWS {
         let points = machine.row(row);
         left = add(left, (points >> 64) as u64);
         right = add(right, (points % (1 << 64)) as u64);
     }
-    let mut sum = add_bytes(add(left, right), machine.flags());
+    add(left, right)
+}
+
+/// The sum of what else changes seldom: the memory, the frames and the flag registers.
+fn stored_sum(machine: &Machine) -> u64 {
+    let mut sum = add(memory_sum(machine.memory()), u64::from(machine.high()));
+    sum = add_bytes(sum, machine.flags());
     for frame in machine.frames() {
         sum = add(sum, u64::from(*frame));
     }
     sum
 }
 
-/// The sum of all that later steps depend on, by that of the backdrop, with the part of the step's
-/// number on which the ticks depend.
-pub(crate) fn sum_of(backdrop: u64, machine: &Machine, phase: u64) -> u64 {
-    let mut sum = add(backdrop, phase);
-    sum = add(sum, u64::from(machine.pc()));
-    sum = add(sum, u64::from(machine.index()));
-    sum = add(sum, u64::from(machine.delay()));
-    sum = add(sum, machine.tape_place() as u64);
-    add_bytes(sum, machine.registers())
+/// The sums of a state.
+#[derive(Clone, Copy)]
+pub(crate) struct Sums {
+    /// That of the memory, the screen, the frames and the flag registers.
+    pub(crate) backdrop: u64,
+    /// That of all that later steps depend on, but for some parts that are forgotten, with the part
+    /// of the step's number on which the ticks depend.
+    pub(crate) state: u64,
+}
+
+impl Sums {
+    /// Those of a machine of which some parts are forgotten.
+    pub(crate) fn of(machine: &Machine, forgotten: Forgotten, phase: u64) -> Sums {
+        let stored = stored_sum(machine);
+        let screen = screen_sum(machine);
+        let mut state = add(stored, phase);
+        if !forgotten.has_screen() {
+            state = add(state, screen);
+        }
+        if !forgotten.has_index() {
+            state = add(state, u64::from(machine.index()));
+        }
+        state = add(state, u64::from(machine.pc()));
+        state = add(state, u64::from(machine.delay()));
+        state = add(state, machine.tape_place() as u64);
+        for (register, value) in machine.registers().iter().enumerate() {
+            if !forgotten.has_register(register as u8) {
+                state = add(state, u64::from(*value));
+            }
+        }
+        Sums {
+            backdrop: add(stored, screen),
+            state,
+        }
+    }
 }

@@ -3,15 +3,17 @@
 --     phase           the part of a step's number on which the ticks depend
 --     tick_at         whether the timers tick in a step of the search: where the timers are free,
 --                     as the delay timer stays at 0, they never do
---     View            the states that are kept, each with the least step at which it was reached,
---                     the step below which the search speaks of, and the addresses at which it saw
---                     steps made
+--     View            the states that are kept, each with the parts that are forgotten of it and
+--                     the least step at which it was reached, the step below which the search speaks
+--                     of, and the addresses at which it saw steps made
 --     Grows           addresses stay noted
 --     IsFine          a state that doesn't meet the target, and has stopped or is at an address that
 --                     is noted
---     Safe            from a state at a step on, steps that don't tell keys apart lead to the
---                     limit, to a stop, or to a state that is kept, past no state that meets the
---                     target, and at no address that isn't noted
+--     AreWithin       some parts are all among others
+--     Safe            from a state at a step on, of which some parts are forgotten, steps that don't
+--                     tell keys apart and read nothing that is forgotten lead to the limit, to a
+--                     stop, or to a state that is kept, past no state that meets the target, and at
+--                     no address that isn't noted
 --     IsTaken         so does each step from a state that is kept
 --     Extends         a view knows more than another
 --     Holds           all is safe from each state that is closed on
@@ -19,7 +21,8 @@
 use Rattle.std.specs.Prelude.{◌≡◌, ℕ, zero, suc, ◌+◌, ◌-◌, ◌%◌, ◌^◌, ◌<◌, ◌≤◌, ◌⊎◌, Bool, true, false, Some, None, List, length, is_some, slice_index, slice_index_or, if◌then◌else◌}
 use Rattle.chip_machine.specs.Block.{ticks}
 use Rattle.chip_machine.specs.Choices.{IsWithin, Represents}
-use Rattle.chip_machine.specs.Relevant.{relevant}
+use Rattle.chip_machine.specs.Forgotten.{has_part, IsUnread, IsForgottenAfter}
+use Rattle.chip_machine.specs.Relevant.{Alike}
 use Rattle.chip_machine.specs.State.{State}
 use Rattle.chip_machine.specs.Step.{step_of}
 use Rattle.chip_replay.specs.Keys.{Events, held}
@@ -27,7 +30,7 @@ use Rattle.chip_replay.specs.Run.{run}
 use Rattle.chip_explore.specs.Executed.{is_among, is_at_one}
 use Rattle.chip_explore.specs.Target.{met_in}
 use Rattle.chip_explore.specs.declared.leg.End.{End}
-use Rattle.chip_explore.specs.declared.leg.End.TheVariants.{Past, Wanted, TimerSet, Halted, Joined}
+use Rattle.chip_explore.specs.declared.leg.End.TheVariants.{Past, Wanted, TimerSet, Halted, Joined, Read}
 use Rattle.chip_explore.specs.inner.Kept.{state_at}
 use Rattle.chip_explore.specs.declared.members.Members.{Members}
 use Rattle.chip_explore.specs.declared.setting.Setting.{Setting}
@@ -41,6 +44,7 @@ tick_at p t = if p.free then false else ticks p.rate t
 
 pub record View : Type 0 where
   pub member : ℕ → State
+  pub forgotten : List ℕ
   pub steps : List ℕ
   pub limit : ℕ
   pub executed : List Bool
@@ -59,37 +63,58 @@ pub record Moves (p : Setting) (executed : List Bool) (s : State) : Type 0 where
   pub same : Represents p.allowed 0 s
   pub drawn : s.core.draws < 2 ^ 64 - 1
 
-pub record Joins (p : Setting) (v : View) (s : State) (t : ℕ) : Type 0 where
+abbrev pub AreWithin : (parts others : ℕ) → Type 0
+AreWithin parts others =
+    (part : ℕ) → has_part parts part ≡ true → has_part others part ≡ true
+
+abbrev pub forgotten_at : View → ℕ → ℕ
+forgotten_at v place = slice_index v.forgotten place
+
+pub record Joins (p : Setting) (v : View) (forgotten : ℕ) (s : State) (t : ℕ) : Type 0 where
   pub place : ℕ
   pub kept : place < length v.steps
   pub early : slice_index v.steps place ≤ t
   pub phased : phase p (slice_index v.steps place) ≡ phase p t
-  pub alike : relevant (v.member place) ≡ relevant s
+  pub within : AreWithin forgotten (forgotten_at v place)
+  pub alike : Alike (forgotten_at v place) (v.member place) s
 
-abbrev pub Ends : Setting → View → State → ℕ → Type 0
-Ends p v s t = (v.limit ≤ t) ⊎ (IsFine p v.executed s × ((is_some s.core.stopped ≡ true) ⊎ Joins p v s t))
+abbrev pub Ends : Setting → View → (forgotten : ℕ) → State → ℕ → Type 0
+Ends p v forgotten s t =
+    (v.limit ≤ t)
+    ⊎ (IsFine p v.executed s × ((is_some s.core.stopped ≡ true) ⊎ Joins p v forgotten s t))
 
-abbrev pub SafeFor : Setting → View → ℕ → State → ℕ → Type 0
-SafeFor p v zero s t = Ends p v s t
-SafeFor p v (suc k) s t = Moves p v.executed s × SafeFor p v k (step_of s 0 (tick_at p t)) (t + 1)
+abbrev pub SafeFor : Setting → View → ℕ → (forgotten : ℕ) → State → ℕ → Type 0
+SafeFor p v zero forgotten s t = Ends p v forgotten s t
+SafeFor p v (suc k) forgotten s t =
+    Moves p v.executed s × IsUnread forgotten s
+    × ((after : ℕ) × IsForgottenAfter forgotten s (step_of s 0 (tick_at p t)).core.pc after
+    × SafeFor p v k after (step_of s 0 (tick_at p t)) (t + 1))
 
-pub record Safe (p : Setting) (v : View) (s : State) (t : ℕ) : Type 0 where
+pub record Safe (p : Setting) (v : View) (forgotten : ℕ) (s : State) (t : ℕ) : Type 0 where
   pub moves : ℕ
-  pub path : SafeFor p v moves s t
+  pub path : SafeFor p v moves forgotten s t
+
+-- from a state to which a step of another leads, with what is forgotten after that step
+pub record GoesTo (p : Setting) (v : View) (forgotten : ℕ) (s : State) (next : State) (t : ℕ) : Type 0 where
+  pub after : ℕ
+  pub is_after : IsForgottenAfter forgotten s next.core.pc after
+  pub safe : Safe p v after next (t + 1)
 
 -- likewise the next step with each allowed key script
-abbrev pub GoesOn : Setting → View → State → ℕ → Type 0
-GoesOn p v s t =
-    (keys : ℕ) → IsWithin p.allowed keys → Safe p v (step_of s keys (tick_at p t)) (t + 1)
+abbrev pub GoesOn : Setting → View → (forgotten : ℕ) → State → ℕ → Type 0
+GoesOn p v forgotten s t =
+    (keys : ℕ) → IsWithin p.allowed keys → GoesTo p v forgotten s (step_of s keys (tick_at p t)) t
 
 pub record IsTaken (p : Setting) (v : View) (place : ℕ) : Type 0 where
   pub drawn : (v.member place).core.draws < 2 ^ 64 - 1
-  pub goes_on : GoesOn p v (v.member place) (slice_index v.steps place)
+  pub unread : IsUnread (forgotten_at v place) (v.member place)
+  pub goes_on : GoesOn p v (forgotten_at v place) (v.member place) (slice_index v.steps place)
 
 pub record Extends (p : Setting) (v w : View) : Type 0 where
   pub limit : w.limit ≤ v.limit
   pub count : length v.steps ≤ length w.steps
   pub member : (j : ℕ) → j < length v.steps → w.member j ≡ v.member j
+  pub forgotten : (j : ℕ) → j < length v.steps → forgotten_at w j ≡ forgotten_at v j
   pub early : (j : ℕ) → j < length v.steps → slice_index w.steps j ≤ slice_index v.steps j
   pub phased : (j : ℕ) → j < length v.steps
       → phase p (slice_index w.steps j) ≡ phase p (slice_index v.steps j)
@@ -100,6 +125,7 @@ abbrev pub view_of : Members → View
 view_of m =
     record {
       member = state_at m.base m.states.items;
+      forgotten = m.forgotten.items;
       steps = m.steps.items;
       limit = m.limit;
       executed = m.executed;
@@ -107,6 +133,7 @@ view_of m =
 
 pub record Holds (p : Setting) (m : Members) : Type 0 where
   pub states : length m.states.items ≡ length m.steps.items
+  pub forgotten : length m.forgotten.items ≡ length m.steps.items
   pub closed : length m.closed.items ≡ length m.steps.items
   pub taken : (j : ℕ) → slice_index_or m.closed.items j false ≡ true → IsTaken p (view_of m) j
 
@@ -116,17 +143,26 @@ pub record Goes (p : Setting) (m n : Members) : Type 0 where
   pub start : n.start ≡ m.start
   pub extends : Extends p (view_of m) (view_of n)
 
--- with each of the allowed keys down the next step of a state acts as with one of some choices
-pub record HasChoices (p : Setting) (s : State) (choices : ℕ) : Type 0 where
+-- with each of the allowed keys down the next step of a state acts as with one of some choices, and
+-- reads nothing that is forgotten
+pub record HasChoices (p : Setting) (forgotten : ℕ) (s : State) (choices : ℕ) : Type 0 where
   pub drawn : s.core.draws < 2 ^ 64 - 1
   pub few : choices < 2 ^ 16
   pub all : Represents p.allowed choices s
+  pub unread : IsUnread forgotten s
 
 -- the place holds a state like this one, with the ticks as at this step
-pub record IsAt (p : Setting) (m : Members) (place : ℕ) (s : State) (t : ℕ) : Type 0 where
+pub record IsAt (p : Setting) (m : Members) (place forgotten : ℕ) (s : State) (t : ℕ) : Type 0 where
   pub kept : place < length m.steps.items
   pub phased : phase p (slice_index m.steps.items place) ≡ phase p t
-  pub alike : relevant ((view_of m).member place) ≡ relevant s
+  pub within : AreWithin forgotten (forgotten_at (view_of m) place)
+  pub alike : Alike (forgotten_at (view_of m) place) ((view_of m).member place) s
+
+-- where a step of a state that is kept leads with some keys down, in a later view
+abbrev pub Leads : Setting → (m n : Members) → (place step keys : ℕ) → Type 0
+Leads p m n place step keys =
+    GoesTo p (view_of n) (forgotten_at (view_of m) place) ((view_of m).member place)
+    (step_of ((view_of m).member place) keys (tick_at p step)) step
 
 -- why some steps in a row ended at a state
 abbrev pub IsEnd : Setting → List Bool → ℕ → State → ℕ → End → Type 0
@@ -135,6 +171,7 @@ IsEnd p executed limit s t Wanted = Unit {0}
 IsEnd p executed limit s t TimerSet = Unit {0}
 IsEnd p executed limit s t Halted = IsFine p executed s × (is_some s.core.stopped ≡ true)
 IsEnd p executed limit s t Joined = IsFine p executed s
+IsEnd p executed limit s t Read = Unit {0}
 
 -- what a run under some events shows
 pub record Confirms (p : Setting) (start : State) (keys : Events) (step : ℕ) (met : Met) : Type 0 where

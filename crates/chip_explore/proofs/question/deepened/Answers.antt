@@ -9,10 +9,10 @@ returns-in-Ok-clause-answers g c =
     let p = c.args.setting.now in
     let s = c.args.start.now in
     subst (λ (outcome : Outcome). Answers p.rate p.allowed p.target s outcome) (sym c.deepened_by.ensures.outcome)
-    (later_answers p.rate p.allowed p.target s c.args.covered c.in-Ok.deep.explored.outcome c.in-Ok.ensures.answers c.requires.avoids)
+    (later_answers p.rate p.allowed p.target s c.args.covered c.in-Ok.deep.outcome c.in-Ok.ensures.answers c.requires.avoids)
 
 pub returns-in-Ok-clause-executed : goal.returns-in-Ok-clause-executed
 returns-in-Ok-clause-executed g c =
     let p = c.args.setting.now in
     rw (c.deepened_by.ensures.outcome, c.deepened_by.ensures.executed)
-    (later_executed p.rate p.allowed c.args.first.executed c.args.start.now c.args.covered c.in-Ok.deep.explored.outcome c.requires.stays)
+    (later_executed p.rate p.allowed c.args.first.executed c.args.start.now c.args.covered c.in-Ok.deep.outcome c.requires.stays)

@@ -1,7 +1,8 @@
-use Rattle.std.proofs.Common.{◌+◌, refl, ap, subst, ◌∙◌, Bool}
+use Rattle.std.proofs.Common.{◌≡◌, ◌+◌, ℕ, Bool, refl, ap, subst, sym, ◌∙◌}
+use Rattle.chip_machine.specs.Forgotten.{IsForgottenAfter, IsUnread}
 use Rattle.chip_machine.specs.State.{State}
 use Rattle.chip_machine.specs.Step.{step_of}
-use Rattle.chip_explore.specs.inner.Cover.{Safe}
+use Rattle.chip_explore.specs.inner.Cover.{GoesTo, Safe, tick_at}
 use Rattle.chip_explore.proofs.Growth.{one_move, still_moves}
 use Rattle.chip_explore.proofs.leg.Runner.run.Goals as goal
 
@@ -10,14 +11,24 @@ loop-end-preserved c =
     let p = c.args.setting.now in
     let noted = c.end.new.executed in
     let s = c.loop-end.self.machine in
-    let made =
+    let f = c.loop-end.self.forgotten in
+    let t = c.loop-end.step in
+    let after = c.in-Ok.after in
+    let there = c.end.ensures.same in
+    let parts = c.end.ensures.forgotten in
+    let made : c.step.new.self ≡ step_of s 0 (tick_at p t) =
     c.step.ensures.state
-    ∙ ap (λ (s : State). step_of s 0 c.tick_at.result) c.end.ensures.same
+    ∙ ap (λ (s : State). step_of s 0 c.tick_at.result) (c.in-Ok.ensures.same ∙ there)
     ∙ ap (λ (tick : Bool). step_of s 0 tick) c.tick_at.ensures in
+    let unread : IsUnread f s =
+    subst (λ (f : ℕ). IsUnread f s) parts (subst (λ (s : State). IsUnread c.end.new.self.forgotten s) there c.in-Ok.ensures.unread) in
+    let is_after : IsForgottenAfter f s (step_of s 0 (tick_at p t)).core.pc after =
+    subst (λ (f : ℕ). IsForgottenAfter f s (step_of s 0 (tick_at p t)).core.pc after) parts
+    (subst (λ (s : State). IsForgottenAfter c.end.new.self.forgotten s (step_of s 0 (tick_at p t)).core.pc after) there (c.in-Ok.ensures.after (tick_at p t))) in
     record {
       grows = λ pc h. c.end.ensures.grows pc (c.loop-end.invariant.grows pc h);
       path = λ v more safe.
           c.loop-end.invariant.path v (λ pc h. more pc (c.end.ensures.grows pc h))
-          (one_move p v s c.loop-end.step (still_moves p noted v.executed more s (c.in-None.ensures.moves refl))
-          (subst (λ (s : State). Safe p v s (c.loop-end.step + 1)) made safe));
+          (one_move p v f s t (still_moves p noted v.executed more s (c.in_default.ensures.moves refl)) unread
+          (record { after = after; is_after = is_after; safe = subst (λ (s : State). Safe p v after s (t + 1)) made safe }));
     }

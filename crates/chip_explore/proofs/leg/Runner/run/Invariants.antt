@@ -5,7 +5,7 @@ abbrev pub invariant-loop-end : goal.invariant-loop-end
 invariant-loop-end l =
     record {
       grows : Grows l.fn.executed l.executed;
-      path : (v : View) → Grows l.executed v.executed → Safe l.setting v l.self.machine l.step → Safe l.setting v l.fn.self.machine l.from;
+      path : (v : View) → Grows l.executed v.executed → Safe l.setting v l.self.forgotten l.self.machine l.step → Safe l.setting v l.fn.self.forgotten l.fn.self.machine l.from;
     }
 
 abbrev pub decreases-loop-end : goal.decreases-loop-end

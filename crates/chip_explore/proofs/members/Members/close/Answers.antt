@@ -14,6 +14,7 @@ returns c =
     let inside : place < length m.closed.items = omega arith in
     goes p m _ c.requires.holds refl (extends_same p (view_of m))
     c.requires.holds.states
+    c.requires.holds.forgotten
     (length-set m.closed.items place true ∙ count)
     (λ j h.
     ⊎_elim

@@ -17,11 +17,13 @@ returns-clause-goes c =
       limit = omega arith;
       count = omega (arith, length-set m.steps.items place step);
       member = λ j l. refl;
+      forgotten = λ j l. refl;
       early = λ j l. set_early m.steps.items place step j kept c.requires.early;
       phased = λ j l. set_phased p m.steps.items place step j kept c.requires.phased;
       executed = λ pc h. h;
     })
     (c.requires.holds.states ∙ omega (arith, length-set m.steps.items place step))
+    (c.requires.holds.forgotten ∙ omega (arith, length-set m.steps.items place step))
     (length-set m.closed.items place false ∙ count ∙ omega (arith, length-set m.steps.items place step))
     (λ j h.
     inr (⊎_elim

@@ -6,5 +6,5 @@ pub returns-clause-goes : goal.returns-clause-goes
 returns-clause-goes c =
     let least = c.min-least.ensures in
     goes c.args.setting.now c.args.self.now _ c.requires.holds refl
-    (record { limit = omega arith; count = omega arith; member = λ j l. refl; early = λ j l. omega arith; phased = λ j l. refl; executed = λ pc h. h })
-    c.requires.holds.states c.requires.holds.closed (λ j h. inr (h, refl))
+    (record { limit = omega arith; count = omega arith; member = λ j l. refl; forgotten = λ j l. refl; early = λ j l. omega arith; phased = λ j l. refl; executed = λ pc h. h })
+    c.requires.holds.states c.requires.holds.forgotten c.requires.holds.closed (λ j h. inr (h, refl))

@@ -33,3 +33,8 @@ returns-then-is_err-clause-safe c =
     c.run-leg.ensures.path (view_of c.lower_limit-then-is_err.new.self)
     (λ pc h. lowered.extends.executed pc (joined.extends.executed pc h))
     (record { moves = 0; path = inl c.lower_limit-then-is_err.ensures.limit })
+
+pub lower_limit-requires-in-Read : goal.lower_limit-requires-in-Read
+lower_limit-requires-in-Read c =
+    let noted = goes_noted c.args.setting.now c.args.self.now.members c.requires.holds c.run-leg.new.executed c.run-leg.ensures.grows in
+    record { holds = noted.holds }

@@ -1,0 +1,73 @@
+-- States that are alike in all but what is forgotten.
+use Rattle.std.proofs.Common.{◌≡◌, ◌==◌, ℕ, Bool, true, false, is_some, List, length, ap, subst, sym, ◌∙◌, refl}
+use Rattle.std.proofs.lemmas.Nat.Bits.{bit_at-zero}
+use Rattle.chip_machine.specs.Forgotten.{has_part, register_part, index_part, screen_part}
+use Rattle.chip_machine.specs.Relevant.{Alike}
+use Rattle.chip_machine.specs.State.{Core, State, IsProper}
+use Rattle.chip_machine.specs.Step.{reg}
+use Rattle.chip_explore.specs.inner.Cover.{AreWithin}
+
+unless : (b c : Bool) → (b ≡ true → c ≡ true) → c ≡ false → b ≡ false
+unless true c h none = let up : c ≡ true = h refl in absurd (cc)
+unless false c h none = refl
+
+pub all_within : (f : ℕ) → AreWithin 0 f
+all_within f part up =
+    let down : has_part 0 part ≡ false = ap (λ b. b == 1) (bit_at-zero part) in
+    absurd (cc)
+
+pub alike_same : (s : State) → IsProper s → Alike 0 s s
+alike_same s proper =
+    record {
+      proper = proper;
+      others = refl;
+      memory = refl;
+      draws = refl;
+      count = refl;
+      registers = λ going x known. refl;
+      index = λ going known. refl;
+      screen = λ going known. refl;
+    }
+
+module _ (f : ℕ) (a b : State) (h : Alike f a b) where
+  pub same_stop : is_some a.core.stopped ≡ is_some b.core.stopped
+  same_stop = ap (λ (c : Core). is_some c.stopped) h.others
+
+  pub alike_turned : Alike f b a
+  alike_turned =
+      record {
+        proper = record { memory_size = ap (λ (xs : List ℕ). length xs) (sym h.memory) ∙ h.proper.memory_size };
+        others = sym h.others;
+        memory = sym h.memory;
+        draws = sym h.draws;
+        count = sym h.count;
+        registers = λ going x known. sym (h.registers (same_stop ∙ going) x known);
+        index = λ going known. sym (h.index (same_stop ∙ going) known);
+        screen = λ going known. sym (h.screen (same_stop ∙ going) known);
+      }
+
+  pub alike_within : (g : ℕ) → AreWithin f g → Alike g a b
+  alike_within g within =
+      record {
+        proper = h.proper;
+        others = h.others;
+        memory = h.memory;
+        draws = h.draws;
+        count = h.count;
+        registers = λ going x known. h.registers going x (unless (has_part f (register_part x)) (has_part g (register_part x)) (within (register_part x)) known);
+        index = λ going known. h.index going (unless (has_part f index_part) (has_part g index_part) (within index_part) known);
+        screen = λ going known. h.screen going (unless (has_part f screen_part) (has_part g screen_part) (within screen_part) known);
+      }
+
+  pub alike_through : (c : State) → Alike f b c → Alike f a c
+  alike_through c k =
+      record {
+        proper = h.proper;
+        others = h.others ∙ k.others;
+        memory = h.memory ∙ k.memory;
+        draws = h.draws ∙ k.draws;
+        count = h.count ∙ k.count;
+        registers = λ going x known. h.registers going x known ∙ k.registers (sym same_stop ∙ going) x known;
+        index = λ going known. h.index going known ∙ k.index (sym same_stop ∙ going) known;
+        screen = λ going known. h.screen going known ∙ k.screen (sym same_stop ∙ going) known;
+      }
