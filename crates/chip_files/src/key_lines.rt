@@ -4,6 +4,7 @@ ghost use Rattle.std.specs.List.{list_all, position_or_len};
 ghost use Rattle.std.specs.Str.Lines.{lines, strip_carriage_return};
 ghost use Rattle.chip_files.specs.KeyLines.{is_space, key_command, said};
 
+use memchr::memchr;
 use std::alloc::{AllocError, Global};
 
 /// The first line of some bytes, and what follows it.
@@ -68,10 +69,8 @@ fn place_of(wanted: u8, text: &[u8]) -> usize
     ensures value { result ≡ position_or_len (λ byte. byte == wanted) text.now }
     ensures within { result ≤ length text.now }
 {
-    for (place, byte) in text.iter().enumerate() {
-        if *byte == wanted {
-            return place;
-        }
+    match memchr(wanted, text) {
+        Some(place) => place,
+        None => text.len(),
     }
-    text.len()
 }
