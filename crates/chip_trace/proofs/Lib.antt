@@ -1,6 +1,7 @@
 mod DigitLemmas
 mod Joined
 mod RowBytes
+mod Usual
 mod TraceLemmas
 mod Comparing
 mod LinesLemmas

@@ -1,8 +1,10 @@
 //! The columns of a trace.
 
-ghost use Rattle.std.specs.Prelude.{◌≡◌};
+ghost use Rattle.std.specs.Prelude.{◌≡◌, IsTrue, Some};
+ghost use Rattle.std.specs.List.{slice_get};
 ghost use Rattle.chip_trace.specs.Columns.{column_name};
 ghost use Rattle.chip_trace.specs.Header.{is_named};
+ghost use Rattle.chip_trace.specs.inner.Usual.{first_columns};
 
 use chip_lang::Reg;
 
@@ -67,5 +69,24 @@ impl Column {
         ensures { result ≡ is_named name.now self }
     {
         name.eq_ignore_ascii_case(self.name())
+    }
+
+    /// Whether the column stands at this place of those with which a usual trace begins.
+    #[tactic(auto, using(crate::proofs::Usual::usual_register), unfolding(crate::specs::inner::Usual::first_columns))]
+    pub(crate) fn is_usual_at(self, place: usize) -> bool
+        ensures { IsTrue result → slice_get first_columns place ≡ Some self }
+    {
+        match self {
+            Column::Step => place == 0,
+            Column::Pc => place == 1,
+            Column::Word => place == 2,
+            Column::Register(register) => place == 3 + usize::from(register.number()),
+            Column::Index => place == 19,
+            Column::Delay => place == 20,
+            Column::Sound => place == 21,
+            Column::Depth => place == 22,
+            Column::Draws => place == 23,
+            Column::Screen | Column::Memory | Column::Text => false,
+        }
     }
 }

@@ -1,15 +1,17 @@
 //! The columns that a trace has.
 
-ghost use Rattle.std.specs.Prelude.{◌≡◌, ◌++◌, ◌⊎◌, Some, None, IfOk, IfErr, OnOk};
+ghost use Rattle.std.specs.Prelude.{◌≡◌, ◌++◌, ◌⊎◌, Some, None, IfOk, IfErr, IfSome, IsTrue, OnOk};
 ghost use Rattle.std.specs.Str.{str_to_ascii_lowercase};
 ghost use Rattle.chip_trace.specs.Columns.{usual_columns, register_columns, header_line};
 ghost use Rattle.chip_trace.specs.Form.{header_lines};
 ghost use Rattle.chip_trace.specs.Header.{header_fault};
 ghost use Rattle.chip_trace.specs.Lines.{newline_ended};
+ghost use Rattle.chip_trace.specs.inner.Usual.{first_columns, BeginsAsUsual};
 
 use crate::column::Column;
 use crate::form::Form;
 use crate::header::{HeaderError, read_header};
+use crate::limits::FIRST_COLUMNS;
 use chip_lang::Reg;
 use std::alloc::{AllocError, Global};
 use std::marker::Model;
@@ -18,18 +20,22 @@ use std::marker::Model;
 #[derive(Drop)]
 pub struct Columns {
     columns: Vec<Column>,
+    begins_as_usual: bool,
 }
 
 impl Model for Columns {
-    ghost use Rattle.std.specs.Prelude.{List};
+    ghost use Rattle.std.specs.Prelude.{List, IsTrue};
     ghost use Rattle.chip_trace.specs.declared.column.Column.{Column};
     ghost use Rattle.chip_trace.specs.inner.Codes.{columns_code};
+    ghost use Rattle.chip_trace.specs.inner.Usual.{BeginsAsUsual};
 
     ghost Value = { List Column };
 
     ghost coded = { columns_code };
 
     ghost view = { λ c. c.columns.items };
+
+    ghost invariant = { λ c. IsTrue c.begins_as_usual → BeginsAsUsual c.columns.items };
 }
 
 impl Columns {
@@ -55,7 +61,7 @@ impl Columns {
             columns.extend_from_slice(&[Column::Screen, Column::Memory])?;
         }
         columns.push(Column::Text)?;
-        Ok(Columns { columns })
+        Ok(Columns::of(columns))
     }
 
     /// The columns that a line names: a `#`, and the names with a space before each, where letters'
@@ -73,9 +79,30 @@ impl Columns {
             (why ≡ HeaderError.OutOfMemory) ⊎ (header_fault line.now ≡ Some why)) }
     {
         match read_header(alloc, line) {
-            Ok(columns) => Ok(Columns { columns }),
+            Ok(columns) => Ok(Columns::of(columns)),
             Err(why) => Err(why),
         }
+    }
+
+    /// These columns, in their order.
+    fn of(columns: Vec<Column>) -> Columns
+        ensures { result ≡ columns.items }
+    {
+        let begins_as_usual = begins_as_usual(&columns);
+        Columns {
+            columns,
+            begins_as_usual,
+        }
+    }
+
+    /// The columns after those with which a usual trace begins, if it begins with them.
+    pub(crate) fn after_usual(&self) -> Option<&[Column]>
+        ensures { IfSome result (λ others. self.now ≡ first_columns ++ others.now) }
+    {
+        if !self.begins_as_usual {
+            return None;
+        }
+        self.columns.get(FIRST_COLUMNS..)
     }
 
     /// The columns, in their order.
@@ -123,6 +150,21 @@ impl Columns {
         }
         Ok(())
     }
+}
+
+/// Whether columns begin with those with which a usual trace begins.
+fn begins_as_usual(columns: &[Column]) -> bool
+    ensures { IsTrue result → BeginsAsUsual columns.now }
+{
+    if columns.len() < FIRST_COLUMNS {
+        return false;
+    }
+    for place in 0..FIRST_COLUMNS {
+        if !columns[place].is_usual_at(place) {
+            return false;
+        }
+    }
+    true
 }
 
 /// Adds V0 to VF.

@@ -28,7 +28,7 @@ pub(crate) fn byte_digits(byte: u8) -> [u8; 2]
 
 /// A number of 16 bits in four hexadecimal digits.
 #[inline(always)]
-fn word_digits(word: u16) -> [u8; 4]
+pub(crate) fn word_digits(word: u16) -> [u8; 4]
     ensures { result ≡ hex_word word }
 {
     let high = (word / 256) as u8;

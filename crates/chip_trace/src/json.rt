@@ -1,10 +1,12 @@
 //! The line of a step as a JSON object.
 
-ghost use Rattle.std.specs.Prelude.{◌≡◌, ◌++◌, ◌∷◌, [], OnOk};
-ghost use Rattle.chip_trace.specs.Columns.{column_name};
-ghost use Rattle.chip_trace.specs.Json.{json_line_of, json_member, json_value, quoted};
+ghost use Rattle.std.specs.Prelude.{◌≡◌, ◌++◌, ◌∷◌, [], Bool, OnOk, map, slice_index};
+ghost use Rattle.std.specs.List.{flat_map, join_with_byte, range_with_len};
+ghost use Rattle.chip_trace.specs.Json.{json_line_of, json_member, json_value};
+ghost use Rattle.chip_trace.specs.inner.Usual.{first_columns, register_member};
 
 use crate::column::Column;
+use crate::columns::Columns;
 use crate::digits::{hex_digit, push_decimal, push_small};
 use crate::line::{Workspace, push_field, word_of};
 use chip_machine::Machine;
@@ -22,7 +24,7 @@ const OBJECT_ROOM: usize = 400;
 pub(crate) fn push_object(
     text: &mut Vec<u8>,
     workspace: &mut Workspace,
-    columns: &[Column],
+    columns: &Columns,
     machine: &Machine,
     step: u32,
     is_last: bool,
@@ -30,13 +32,33 @@ pub(crate) fn push_object(
     ensures { OnOk result (text.new.items
         ≡ text.old.items ++ json_line_of columns.now step machine.now is_last) }
 {
-    let Some((first, others)) = columns.split_first() else {
+    text.reserve(OBJECT_ROOM)?;
+    if let Some(others) = columns.after_usual() {
+        push_first_members(text, machine, step)?;
+        return push_others(text, workspace, others, machine, step, is_last);
+    }
+    let Some((first, others)) = columns.as_slice().split_first() else {
         return text.extend_from_slice(b"{}");
     };
-    text.reserve(OBJECT_ROOM)?;
-    push_member(text, b'{', workspace, *first, machine, step, is_last)?;
-    for column in others {
-        push_member(text, b',', workspace, *column, machine, step, is_last)?;
+    push_member(text, b'{', workspace, first, machine, step, is_last)?;
+    push_others(text, workspace, others, machine, step, is_last)
+}
+
+/// Adds, for each of some columns, a comma and its member, and then the end of the object.
+fn push_others(
+    text: &mut Vec<u8>,
+    workspace: &mut Workspace,
+    columns: &[Column],
+    machine: &Machine,
+    step: u32,
+    is_last: bool,
+) -> Result<(), AllocError>
+    ensures { OnOk result (text.new.items ≡ text.old.items
+        ++ flat_map (λ column. 44 ∷ json_member column step machine.now is_last) columns.now
+        ++ 125 ∷ []) }
+{
+    for column in columns {
+        push_member(text, b',', workspace, column, machine, step, is_last)?;
     }
     text.push(b'}')?;
     Ok(())
@@ -47,42 +69,59 @@ fn push_member(
     text: &mut Vec<u8>,
     before: u8,
     workspace: &mut Workspace,
-    column: Column,
+    column: &Column,
     machine: &Machine,
     step: u32,
     is_last: bool,
 ) -> Result<(), AllocError>
     ensures { OnOk result (text.new.items
-        ≡ text.old.items ++ before ∷ json_member column step machine.now is_last) }
+        ≡ text.old.items ++ before ∷ json_member column.now step machine.now is_last) }
 {
-    push_name(text, before, &column)?;
-    push_value(text, workspace, column, machine, step, is_last)
+    text.extend_from_slice(&[before, b'"'])?;
+    text.extend_from_slice(column.name())?;
+    text.extend_from_slice(b"\":")?;
+    push_value(text, workspace, *column, machine, step, is_last)
 }
 
-/// Adds a byte, the name of a column in quotes, and a colon.
-#[inline(always)]
-fn push_name(text: &mut Vec<u8>, before: u8, column: &Column) -> Result<(), AllocError>
-    ensures { OnOk result (text.new.items
-        ≡ text.old.items ++ before ∷ quoted (column_name column.now) ++ 58 ∷ []) }
+/// Adds the beginning of an object, with the members with which a usual one begins.
+fn push_first_members(text: &mut Vec<u8>, machine: &Machine, step: u32) -> Result<(), AllocError>
+    ensures { (is_last : Bool) → OnOk result (text.new.items ≡ text.old.items ++ 123 ∷
+        join_with_byte 44
+        (map (λ column. json_member column step machine.now is_last) first_columns)) }
 {
-    text.push(before)?;
-    match column {
-        Column::Step => text.extend_from_slice(b"\"step\":"),
-        Column::Pc => text.extend_from_slice(b"\"pc\":"),
-        Column::Word => text.extend_from_slice(b"\"word\":"),
-        Column::Register(register) => {
-            let digit = hex_digit(register.number());
-            text.extend_from_slice(&[b'"', b'v', digit, b'"', b':'])
-        }
-        Column::Index => text.extend_from_slice(b"\"i\":"),
-        Column::Delay => text.extend_from_slice(b"\"dt\":"),
-        Column::Sound => text.extend_from_slice(b"\"st\":"),
-        Column::Depth => text.extend_from_slice(b"\"depth\":"),
-        Column::Draws => text.extend_from_slice(b"\"draws\":"),
-        Column::Screen => text.extend_from_slice(b"\"screen\":"),
-        Column::Memory => text.extend_from_slice(b"\"memory\":"),
-        Column::Text => text.extend_from_slice(b"\"text\":"),
+    text.extend_from_slice(b"{\"step\":")?;
+    push_decimal(text, u64::from(step))?;
+    text.extend_from_slice(b",\"pc\":")?;
+    push_decimal(text, u64::from(machine.pc()))?;
+    text.extend_from_slice(b",\"word\":")?;
+    push_decimal(text, u64::from(word_of(machine)))?;
+    push_register_members(text, machine)?;
+    text.extend_from_slice(b",\"i\":")?;
+    push_decimal(text, u64::from(machine.index()))?;
+    text.extend_from_slice(b",\"dt\":")?;
+    push_small(text, machine.delay())?;
+    text.extend_from_slice(b",\"st\":")?;
+    push_small(text, machine.sound())?;
+    text.extend_from_slice(b",\"depth\":")?;
+    push_decimal(text, machine.depth() as u64)?;
+    text.extend_from_slice(b",\"draws\":")?;
+    push_decimal(text, machine.draws())?;
+    Ok(())
+}
+
+/// Adds the members of V0 to VF, each after a comma.
+fn push_register_members(text: &mut Vec<u8>, machine: &Machine) -> Result<(), AllocError>
+    ensures { OnOk result (text.new.items ≡ text.old.items
+        ++ flat_map (λ x. register_member x (slice_index machine.now.core.registers x))
+        (range_with_len 0 16)) }
+{
+    let registers = machine.registers();
+    for place in 0..16 {
+        let digit = hex_digit(place as u8);
+        text.extend_from_slice(&[b',', b'"', b'v', digit, b'"', b':'])?;
+        push_small(text, registers[place])?;
     }
+    Ok(())
 }
 
 /// Adds what a column shows.

@@ -5,7 +5,6 @@ ghost use Rattle.chip_machine.specs.State.{State};
 ghost use Rattle.chip_trace.specs.Form.{row_of};
 ghost use Rattle.chip_trace.specs.Lines.{states_of, remaining, trace_lines, SameRun, TakesLine, TakesLines, IsLineAt};
 
-use crate::column::Column;
 use crate::columns::Columns;
 use crate::form::Form;
 use crate::json::push_object;
@@ -92,7 +91,7 @@ impl<'a> Trace<'a> {
             replay,
             &mut self.workspace,
             self.form,
-            self.columns.as_slice(),
+            self.columns,
             self.next,
             self.to,
             text,
@@ -137,7 +136,7 @@ fn push_line_at(
     replay: &mut Replay<Machine>,
     workspace: &mut Workspace,
     form: Form,
-    columns: &[Column],
+    columns: &Columns,
     step: u32,
     to: u32,
     text: &mut Vec<u8>,
@@ -165,7 +164,7 @@ fn push_row(
     text: &mut Vec<u8>,
     workspace: &mut Workspace,
     form: Form,
-    columns: &[Column],
+    columns: &Columns,
     machine: &Machine,
     step: u32,
     is_last: bool,

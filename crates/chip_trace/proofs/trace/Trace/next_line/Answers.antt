@@ -9,10 +9,10 @@ returns-then-self-clause-line c =
 
 pub returns-then-not-is_last-clause-line : goal.returns-then-not-is_last-clause-line
 returns-then-not-is_last-clause-line c =
-    let line = rw (c.as_slice.ensures, c.if-not-is_last.true) at c.in_ok-is_last.ensures.line in
+    let line = rw c.if-not-is_last.true at c.in_ok-is_last.ensures.line in
     rw (← c.self.view_is) (takes_more (states_of c.args.replay.now) _ _ _ _ c.if-self.false line refl refl refl refl c.if-not-is_last.true)
 
 pub returns-else-not-is_last-clause-line : goal.returns-else-not-is_last-clause-line
 returns-else-not-is_last-clause-line c =
-    let line = rw (c.as_slice.ensures, c.if-not-is_last.false) at c.in_ok-is_last.ensures.line in
+    let line = rw c.if-not-is_last.false at c.in_ok-is_last.ensures.line in
     rw (← c.self.view_is) (takes_last (states_of c.args.replay.now) _ _ _ _ c.if-self.false line c.if-not-is_last.false)
