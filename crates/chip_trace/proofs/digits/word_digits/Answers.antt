@@ -4,4 +4,4 @@ use Rattle.chip_trace.proofs.digits.word_digits.Goals as goal
 
 pub returns : goal.returns
 unfolding encode_with
-returns c = rw (c.hex_digit.ensures, c.hex_digit-2.ensures, c.hex_digit-3.ensures, c.hex_digit-4.ensures) refl
+returns c = rw (c.byte_digits.ensures, c.byte_digits-2.ensures) refl
