@@ -135,11 +135,19 @@ fn push_data_word(text: &mut Vec<u8>, word: u16) -> Result<(), AllocError>
     ensures { OnOk result (text.new.items ≡ text.old.items ++ codes "DW #" ++ hex_word word) }
 {
     text.extend_from_slice(b"DW #")?;
-    text.push(hex_digit(word / 4096 % 16))?;
-    text.push(hex_digit(word / 256 % 16))?;
-    text.push(hex_digit(word / 16 % 16))?;
-    text.push(hex_digit(word % 16))?;
-    Ok(())
+    push_word(text, word)
+}
+
+/// Adds four digits to the base 16.
+pub(crate) fn push_word(text: &mut Vec<u8>, word: u16) -> Result<(), AllocError>
+    ensures { OnOk result (text.new.items ≡ text.old.items ++ hex_word word) }
+{
+    text.extend_from_slice(&[
+        hex_digit(word / 4096 % 16),
+        hex_digit(word / 256 % 16),
+        hex_digit(word / 16 % 16),
+        hex_digit(word % 16),
+    ])
 }
 
 // Adds the lines of an odd last byte.
