@@ -1,6 +1,6 @@
 -- The faults of a source as compilers print them: place, sentence, line and marks, and below them
 -- lines of help, of which only the beginnings are told (own).
-use Rattle.std.specs.Prelude.{◌≡◌, ℕ, ◌+◌, ◌-◌, ◌==◌, Bool, true, false, List, [], ◌∷◌, ◌++◌, take, replicate, if◌then◌else◌, Option, Some, None, codes}
+use Rattle.std.specs.Prelude.{◌≡◌, ℕ, ◌+◌, ◌-◌, ◌==◌, Bool, true, false, List, [], ◌∷◌, ◌++◌, drop, take, if◌then◌else◌, Option, Some, None, codes}
 use Rattle.std.specs.Fmt.{decimal}
 use Rattle.std.specs.List.{flat_map, position_or_len}
 use Rattle.chip_lang.specs.declared.fault.Fault.{Fault}
@@ -14,7 +14,10 @@ use Rattle.chip_asm.specs.Lines.{is_newline}
 use Rattle.chip_check.specs.declared.hint.Hint.{Hint}
 use Rattle.chip_check.specs.declared.hint.HintKind.{HintKind}
 use Rattle.chip_check.specs.declared.hint.HintKind.TheVariants.{Help, Note}
+use Rattle.chip_check.specs.declared.quoted.ShownByte.{ShownByte}
+use Rattle.chip_check.specs.declared.quoted.ShownByte.TheVariants.{Plain, Escaped}
 use Rattle.chip_check.specs.Place.{place_in}
+use Rattle.chip_check.specs.Quoted.{quoted_line, shown_bytes}
 
 unfoldable pub sentence_of : Fault → List ℕ
 sentence_of BadCharacter = codes "bad character"
@@ -73,16 +76,27 @@ head is_painted name number span code sentence =
     name ++ codes ":" ++ decimal number ++ codes ":" ++ decimal (span.start + 1) ++ codes ": "
     ++ painted is_painted (code_style code) code ++ codes ": " ++ sentence ++ codes "\n"
 
--- what stands below a byte of the line: a tab stays, and the further bytes of a character in UTF-8
--- take no place
-abbrev pub blank_of : ℕ → List ℕ
-blank_of b = if b == 9 then 9 ∷ [] else (if is_between 128 191 b then [] else 32 ∷ [])
+-- what stands below a byte before the place: a tab stays, the further bytes of a character in UTF-8
+-- take no place, and an escape takes four
+abbrev pub blank_of : ShownByte → List ℕ
+blank_of (Plain b) = if b == 9 then 9 ∷ [] else (if is_between 128 191 b then [] else 32 ∷ [])
+blank_of (Escaped b) = codes "    "
 
--- a caret below the first byte of the place, and a tilde below each further one
-unfoldable pub marks : (is_painted : Bool) (line : List ℕ) → Span → List ℕ
-marks is_painted line span =
-    flat_map blank_of (take span.start line)
-    ++ painted is_painted mark_style (codes "^" ++ replicate (span.end - span.start - 1) 126)
+-- what stands below a byte of the place, as wide as an escape where it is one
+abbrev pub tildes_of : ShownByte → List ℕ
+tildes_of (Plain b) = codes "~"
+tildes_of (Escaped b) = codes "~~~~"
+
+-- the mark below the bytes of a place: a caret in the place of the first tilde
+abbrev pub mark_text : List ShownByte → List ℕ
+mark_text [] = codes "^"
+mark_text (first ∷ others) = codes "^" ++ drop 1 (tildes_of first) ++ flat_map tildes_of others
+
+-- the mark stands below the place of the line
+unfoldable pub marks : (is_painted : Bool) (shown : List ShownByte) → Span → List ℕ
+marks is_painted shown span =
+    flat_map blank_of (take span.start shown)
+    ++ painted is_painted mark_style (mark_text (take (span.end - span.start) (drop span.start shown)))
     ++ codes "\n"
 
 -- how a line of help begins
@@ -106,12 +120,12 @@ hint_line is_painted hint =
 abbrev pub Print : Type 0
 Print = (number : ℕ) (line : List ℕ) → Span → (code sentence : List ℕ) → List Hint → List ℕ
 
--- as text: the head, the line, the marks below the place, and the lines of help; the line itself is
--- never painted
+-- as text: the head, the line with its escapes, the marks below the place, and the lines of help; the
+-- line itself is never painted
 unfoldable pub report : (is_painted : Bool) (name : List ℕ) → Print
 report is_painted name number line span code sentence hints =
-    head is_painted name number span code sentence ++ line ++ codes "\n"
-    ++ marks is_painted line span ++ flat_map (hint_line is_painted) hints
+    head is_painted name number span code sentence ++ quoted_line line ++ codes "\n"
+    ++ marks is_painted (shown_bytes line) span ++ flat_map (hint_line is_painted) hints
 
 -- what is printed of a line: its fault, with some lines of help; nothing where it has no fault
 abbrev pub report_of : Print → (all : List (List ℕ)) (number : ℕ) (line : List ℕ)

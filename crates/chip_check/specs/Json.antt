@@ -50,17 +50,17 @@ object name number span code sentence hints =
     ++ codes "\",\"message\":" ++ quoted sentence ++ codes ",\"help\":[" ++ hint_strings hints
     ++ codes "],\"file\":" ++ quoted name ++ codes "}\n"
 
--- the code of why a source doesn't open, and a sentence
+-- the code of why a source doesn't open, and a sentence; none where memory ran out
 abbrev pub unopened_code : OpenError → List ℕ
 unopened_code (unopened.LineTooLong number) = codes "O1"
 unopened_code unopened.TooManyLines = codes "O2"
-unopened_code unopened.OutOfMemory = codes "O3"
+unopened_code unopened.OutOfMemory = []
 
 abbrev pub unopened_sentence : OpenError → List ℕ
 unopened_sentence (unopened.LineTooLong number) =
     codes "line " ++ decimal number ++ codes " is too long"
 unopened_sentence unopened.TooManyLines = codes "too many lines"
-unopened_sentence unopened.OutOfMemory = codes "out of memory"
+unopened_sentence unopened.OutOfMemory = []
 
 -- The object of a source that doesn't open. What is said is said of the whole source, so the place is
 -- its beginning.

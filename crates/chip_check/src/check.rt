@@ -20,7 +20,8 @@ use std::alloc::{AllocError, Global};
 /// What `check` prints of a source that was opened from these bytes, read from a file of this name:
 /// of each fault, in the order of the lines, the file, the line and the column, the fault's code
 /// and sentence, the line, a caret below the first byte of the fault's place and a tilde below each
-/// further one, and lines of help, which begin with `help: ` or `note: `. Then the same of each
+/// further one, and lines of help, which begin with `help: ` or `note: `. In the line a control byte
+/// but the tab, and a byte that is not part of UTF-8, is `\xNN`. Then the same of each
 /// warning, in the given order; one that doesn't lie in the source is left out. Nothing where there
 /// is neither. Where it is painted, the code, the marks and the beginnings of the lines of help have
 /// colours, as a terminal takes them.
@@ -77,7 +78,7 @@ pub fn check_json(
 ///
 /// # Errors
 ///
-/// Out of memory.
+/// Out of memory, also where the source didn't open for that.
 pub fn unopened_json(alloc: Global, name: &[u8], error: OpenError) -> Result<Vec<u8>, AllocError>
     ensures { IfOk result (λ text. text.items ≡ unopened_object name.now error) }
 {

@@ -62,7 +62,7 @@ impl Finding {
         })
     }
 
-    /// Why a source doesn't open, at its beginning.
+    /// Why a source doesn't open, at its beginning. Out of memory where it didn't for that.
     pub(crate) fn of_unopened(alloc: Global, error: OpenError) -> Result<Finding, AllocError>
         ensures span { IfOk result (λ finding. (finding.span.start ≡ 0) × (finding.span.end ≡ 0)) }
         ensures code { IfOk result (λ finding. finding.code.items ≡ unopened_code error) }
@@ -70,15 +70,12 @@ impl Finding {
             finding.sentence.items ≡ unopened_sentence error) }
         ensures hints { IfOk result (λ finding. finding.hints.items ≡ []) }
     {
-        let code = match error {
-            OpenError::LineTooLong(_) => b"O1",
-            OpenError::TooManyLines => b"O2",
-            OpenError::OutOfMemory => b"O3",
-        };
-        let sentence = match error {
-            OpenError::LineTooLong(number) => format!(in alloc; "line {number} is too long")?,
-            OpenError::TooManyLines => String::from_str(alloc, "too many lines")?,
-            OpenError::OutOfMemory => String::from_str(alloc, "out of memory")?,
+        let (code, sentence) = match error {
+            OpenError::LineTooLong(number) => {
+                (b"O1", format!(in alloc; "line {number} is too long")?)
+            }
+            OpenError::TooManyLines => (b"O2", String::from_str(alloc, "too many lines")?),
+            OpenError::OutOfMemory => return Err(AllocError),
         };
         Ok(Finding {
             span: Span { start: 0, end: 0 },

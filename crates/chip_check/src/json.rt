@@ -110,7 +110,7 @@ fn push_escaped_byte(text: &mut Vec<u8>, byte: u8) -> Result<(), AllocError>
 }
 
 /// A digit below 16, in lower case.
-fn hex_digit(digit: u8) -> u8
+pub(crate) fn hex_digit(digit: u8) -> u8
     requires { digit ≤ 15 }
     ensures { result ≡ hex_digit digit }
 {

@@ -14,6 +14,7 @@ mod operand_advice;
 mod other_assemblers;
 mod place;
 mod printing;
+mod quoted;
 mod report;
 mod words;
 

@@ -1,14 +1,16 @@
 //! A finding as compilers print it: place, sentence, line and marks, and lines of help, in colours or
 //! without.
 
-ghost use Rattle.std.specs.Prelude.{◌≡◌, ◌≤◌, ◌+◌, ◌-◌, ◌++◌, List, OnOk, length, take, replicate};
+ghost use Rattle.std.specs.Prelude.{◌≡◌, ◌≤◌, ◌+◌, ◌-◌, ◌++◌, List, OnOk, drop, length, take};
 ghost use Rattle.std.specs.Fmt.{decimal};
 ghost use Rattle.std.specs.List.{flat_map, position_or_len};
 ghost use Rattle.chip_asm.specs.Lines.{is_newline};
-ghost use Rattle.chip_check.specs.Check.{head, blank_of, marks, beginning, hint_line, report, painted, opening, closing, code_style, mark_style, hint_style};
+ghost use Rattle.chip_check.specs.Check.{head, blank_of, tildes_of, marks, mark_text, beginning, hint_line, report, painted, opening, closing, code_style, mark_style, hint_style};
+ghost use Rattle.chip_check.specs.Quoted.{shown_bytes};
 
 use crate::finding::Finding;
 use crate::hint::{Hint, HintKind};
+use crate::quoted::{ShownByte, push_shown, shown_bytes};
 use chip_lang::Span;
 use memchr::memchr;
 use std::alloc::{AllocError, Global};
@@ -33,10 +35,11 @@ pub(crate) fn push_report(
         ++ report is_painted name.now number line.now finding.now.span finding.now.code.items
         finding.now.sentence.items finding.now.hints.items) }
 {
+    let shown = shown_bytes(alloc, line)?;
     push_head(alloc, text, is_painted, name, number, finding)?;
-    text.extend_from_slice(line)?;
+    push_shown(text, &shown)?;
     text.extend_from_slice(b"\n")?;
-    push_marks(text, is_painted, line, finding.span)?;
+    push_marks(text, is_painted, &shown, finding.span)?;
     push_hints(text, is_painted, &finding.hints)
 }
 
@@ -71,53 +74,66 @@ fn push_head(
 fn push_marks(
     text: &mut Vec<u8>,
     is_painted: bool,
-    line: &[u8],
+    shown: &[ShownByte],
     span: Span,
 ) -> Result<(), AllocError>
     requires rises { span.start ≤ span.end }
-    requires inside { span.end ≤ length line.now }
-    ensures { OnOk result (text.new.items ≡ text.old.items
-        ++ marks is_painted line.now span) }
+    requires inside { span.end ≤ length shown.now }
+    ensures { OnOk result (text.new.items ≡ text.old.items ++ marks is_painted shown.now span) }
 {
-    push_blanks(text, &line[..span.start])?;
+    push_blanks(text, &shown[..span.start])?;
     push_opening(text, is_painted, MARK_STYLE)?;
-    text.extend_from_slice(b"^")?;
-    push_tildes(text, (span.end - span.start).saturating_sub(1))?;
+    push_mark(text, &shown[span.start..span.end])?;
     push_closing(text, is_painted)?;
     text.extend_from_slice(b"\n")?;
     Ok(())
 }
 
 /// Adds what stands below some bytes.
-fn push_blanks(text: &mut Vec<u8>, bytes: &[u8]) -> Result<(), AllocError>
-    ensures { OnOk result (text.new.items ≡ text.old.items ++ flat_map blank_of bytes.now) }
+fn push_blanks(text: &mut Vec<u8>, shown: &[ShownByte]) -> Result<(), AllocError>
+    ensures { OnOk result (text.new.items ≡ text.old.items ++ flat_map blank_of shown.now) }
 {
-    for byte in bytes {
+    for byte in shown {
         text.extend_from_slice(blank_of(*byte))?;
     }
     Ok(())
 }
 
-/// What stands below a byte of a line.
-fn blank_of(byte: u8) -> &'static [u8]
-    ensures { result.now ≡ blank_of byte }
+/// What stands below a byte before the place.
+fn blank_of(shown: ShownByte) -> &'static [u8]
+    ensures { result.now ≡ blank_of shown }
 {
-    if byte == b'\t' {
-        b"\t"
-    } else if 128 <= byte && byte <= 191 {
-        b""
-    } else {
-        b" "
+    match shown {
+        ShownByte::Plain(b'\t') => b"\t",
+        ShownByte::Plain(128..=191) => b"",
+        ShownByte::Plain(_) => b" ",
+        ShownByte::Escaped(_) => b"    ",
     }
 }
 
-fn push_tildes(text: &mut Vec<u8>, count: usize) -> Result<(), AllocError>
-    ensures { OnOk result (text.new.items ≡ text.old.items ++ replicate count 126) }
+/// Adds the mark below the bytes of a place.
+fn push_mark(text: &mut Vec<u8>, shown: &[ShownByte]) -> Result<(), AllocError>
+    ensures { OnOk result (text.new.items ≡ text.old.items ++ mark_text shown.now) }
 {
-    for _index in 0..count {
-        text.push(b'~')?;
+    text.extend_from_slice(b"^")?;
+    let Some((first, others)) = shown.split_first() else {
+        return Ok(());
+    };
+    text.extend_from_slice(&tildes_of(*first)[1..])?;
+    for byte in others {
+        text.extend_from_slice(tildes_of(*byte))?;
     }
     Ok(())
+}
+
+/// What stands below a byte of the place.
+fn tildes_of(shown: ShownByte) -> &'static [u8]
+    ensures { result.now ≡ tildes_of shown }
+{
+    match shown {
+        ShownByte::Plain(_) => b"~",
+        ShownByte::Escaped(_) => b"~~~~",
+    }
 }
 
 /// Adds lines of help.

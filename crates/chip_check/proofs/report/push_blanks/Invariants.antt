@@ -4,4 +4,4 @@ use Rattle.chip_check.specs.Check.{blank_of}
 use Rattle.chip_check.proofs.report.push_blanks.Given as goal
 
 abbrev pub invariant-loop-byte : goal.invariant-loop-byte
-invariant-loop-byte l = l.text.items ≡ l.initial.text.items ++ flat_map blank_of (take l.byte-index l.bytes)
+invariant-loop-byte l = l.text.items ≡ l.initial.text.items ++ flat_map blank_of (take l.byte-index l.shown)
