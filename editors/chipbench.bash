@@ -2,7 +2,7 @@
 _chipbench() {
     local word=${COMP_WORDS[COMP_CWORD]} before=${COMP_WORDS[COMP_CWORD-1]} options=
     if [ "$COMP_CWORD" -eq 1 ]; then
-        COMPREPLY=($(compgen -W "debug asm list dis run trace picture check test explore explain help --help --version" -- "$word"))
+        COMPREPLY=($(compgen -W "debug asm list syms dis run trace picture check test explore explain help --help --version" -- "$word"))
         return
     fi
     case $before in
@@ -14,7 +14,8 @@ _chipbench() {
     case ${COMP_WORDS[1]} in
         debug) options="--rate --tape --seed --profile --every --image --help" ;;
         asm) options=" --help" ;;
-        list) options=" --help" ;;
+        list) options="--hex --help" ;;
+        syms) options="--hex --help" ;;
         dis) options=" --help" ;;
         run) options="--steps --rate --tape --seed --profile --keys --image --help" ;;
         trace) options="--steps --rate --tape --seed --profile --keys --image --from --hash --json --against --help" ;;

@@ -38,7 +38,8 @@ def wrong_answer(program, command, is_faulty):
     with tempfile.TemporaryDirectory() as folder:
         pathlib.Path(folder, "source").write_text("".join(line + "\n" for line in source))
         ran = program.run(["debug", "source"], f"{command}\n".encode(), folder)
-        printed = program.run(["list", "source"], b"", folder) if command == "list" else ran
+        is_printed = command == "list" or command == "syms" and not is_faulty
+        printed = program.run([command, "source"], b"", folder) if is_printed else ran
     for found in (ran, printed):
         lines = found.stdout.decode().splitlines()
         if lines != expected:

@@ -9,6 +9,7 @@ INPUT = b"LD V1, 7\nimage\n" * 400
 COMMANDS = {
     "asm": ["asm", "a.asm", "image"],
     "list": ["list", "a.asm"],
+    "syms": ["syms", "a.asm"],
     "check": ["check", "a.asm"],
     "run": ["run", "a.asm", "--steps", "3"],
     "picture": ["picture", "a.asm", "--steps", "3", "--keys", "keys"],

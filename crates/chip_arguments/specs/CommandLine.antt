@@ -75,8 +75,15 @@ debug = with_rule (with_rule (with_settings (with_rule (new_app (codes "debug"))
 unfoldable pub asm : App
 asm = with_rule (with_rule (new_app (codes "asm")) needed_source) output
 
+-- values in hexadecimal
+unfoldable pub hex : Rule
+hex = record (new_rule (codes "hex")) { long = Some (codes "hex"); action = Some SetTrue }
+
 unfoldable pub list : App
-list = with_rule (new_app (codes "list")) needed_source
+list = with_rule (with_rule (new_app (codes "list")) needed_source) hex
+
+unfoldable pub syms : App
+syms = with_rule (with_rule (new_app (codes "syms")) needed_source) hex
 
 -- a JSON object a line
 unfoldable pub json : Rule
@@ -243,5 +250,5 @@ with_commands app (command ∷ commands) = with_commands (with_subcommand app co
 unfoldable pub chipbench : App
 chipbench =
     with_commands (without_name (with_version (new_app (codes "chipbench"))))
-    (debug ∷ asm ∷ list ∷ dis ∷ run ∷ trace ∷ picture ∷ check ∷ test ∷ explore
+    (debug ∷ asm ∷ list ∷ syms ∷ dis ∷ run ∷ trace ∷ picture ∷ check ∷ test ∷ explore
     ∷ explain ∷ [])

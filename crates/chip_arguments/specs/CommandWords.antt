@@ -203,8 +203,12 @@ abbrev pub Asks : List ℕ → List Row → CommandLine → Type 0
 Asks name rows (line.Asm source image) =
     (name ≡ codes "asm") × (source.now ≡ needed (codes "source") rows)
     × (image.now ≡ needed (codes "output") rows)
-Asks name rows (line.List source) =
+Asks name rows (line.List source is_hex) =
     (name ≡ codes "list") × (source.now ≡ needed (codes "source") rows)
+    × AsksFlag (one_of (codes "hex") rows) is_hex
+Asks name rows (line.Syms source is_hex) =
+    (name ≡ codes "syms") × (source.now ≡ needed (codes "source") rows)
+    × AsksFlag (one_of (codes "hex") rows) is_hex
 Asks name rows (line.Check words) = (name ≡ codes "check") × AsksCheck rows words
 Asks name rows (line.Dis image) = (name ≡ codes "dis") × (image.now ≡ needed (codes "image") rows)
 Asks name rows (line.Run words) = (name ≡ codes "run") × AsksRun rows words

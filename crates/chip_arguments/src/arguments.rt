@@ -59,6 +59,7 @@ pub(crate) enum Argument {
     Reach,
     Cover,
     Progress,
+    Hex,
 }
 
 impl Argument {
@@ -103,6 +104,7 @@ impl Argument {
             Argument::Reach => reach_argument(alloc),
             Argument::Cover => cover_argument(alloc),
             Argument::Progress => progress_argument(alloc),
+            Argument::Hex => hex_argument(alloc),
         }
     }
 }
@@ -519,6 +521,18 @@ fn progress_argument<'a>(alloc: Global) -> Arg<'a>
         alloc,
         "progress",
         "Says on standard error how far the search is",
+    )
+}
+
+#[tactic(auto, unfolding(crate::specs::CommandLine::hex))]
+fn hex_argument<'a>(alloc: Global) -> Arg<'a>
+    ensures rule { rule_of result ≡ line.hex }
+    ensures local { result.global ≡ false }
+{
+    flag(
+        alloc,
+        "hex",
+        "Prints the values of names in hexadecimal, as a source writes them",
     )
 }
 

@@ -56,6 +56,14 @@ pub enum CommandLine<'a> {
     /// To print the listing of a source.
     List {
         source: &'a str,
+        /// Whether values are hexadecimal.
+        is_hex: bool,
+    },
+    /// To print the names of a source with their values and lines.
+    Syms {
+        source: &'a str,
+        /// Whether values are hexadecimal.
+        is_hex: bool,
     },
     /// To print the faults of sources with their places.
     Check(CheckWords<'a>),
@@ -253,6 +261,11 @@ fn command_asked<'a>(
         },
         "list" => CommandLine::List {
             source: required_text(found, "source"),
+            is_hex: found.get_flag("hex"),
+        },
+        "syms" => CommandLine::Syms {
+            source: required_text(found, "source"),
+            is_hex: found.get_flag("hex"),
         },
         "check" => CommandLine::Check(check_words(alloc, found, profile)?),
         "dis" => CommandLine::Dis {

@@ -83,7 +83,7 @@ pub(crate) struct CommandRow {
 }
 
 // The commands, in the order of the help.
-const COMMANDS: [CommandRow; 11] = [
+const COMMANDS: [CommandRow; 12] = [
     CommandRow {
         name: "debug",
         about: "Answers the edits and questions on standard input, one a line",
@@ -108,7 +108,13 @@ const COMMANDS: [CommandRow; 11] = [
         name: "list",
         about: "Prints the listing of a source",
         notes: "Example: chipbench list game.asm",
-        arguments: &[Argument::NeededSource],
+        arguments: &[Argument::NeededSource, Argument::Hex],
+    },
+    CommandRow {
+        name: "syms",
+        about: "Prints the names of a source, each with its value and its line",
+        notes: "Example: chipbench syms game.asm --hex",
+        arguments: &[Argument::NeededSource, Argument::Hex],
     },
     CommandRow {
         name: "dis",

@@ -4,7 +4,7 @@
 mod arguments;
 mod command_line;
 mod commands;
-pub mod limits;
+mod limits;
 
 pub use command_line::{
     CheckWords, ColorChoice, CommandLine, ExploreWords, PictureWords, RunWords, SettingWords,

@@ -6,10 +6,10 @@ use Rattle.std.specs.declared.io.Error.{Error as IoError}
 use Rattle.chip_asm.specs.Lines.{lines_of, open_fault}
 use Rattle.chip_lang.specs.declared.limits.TheConstants.{IMAGE_BYTES}
 use Rattle.chip_views.specs.Dis.{source_of_image}
-use Rattle.chip_bench.specs.Doing.{AsSource, Assembles, AssemblesBy, Debugs, Declined, Disassembles, DisassemblesBytes, Does, Explains, FromGiven, FromKeys, FromSource, GivesSource, IfSettled, IsFileWritten, IsImageRefused, IsShort, IsSourceUnread, IsUnsettled, Lists, Outcome, Pictures, PicturesBy, PrintsPage, PrintsPicture, Runs, Traces, TracesBy, WithAsked, image_in}
+use Rattle.chip_bench.specs.Doing.{AsSource, Assembles, AssemblesBy, Debugs, Declined, Disassembles, DisassemblesBytes, Does, Explains, FromGiven, FromKeys, FromSource, GivesSource, IfSettled, IsFileWritten, IsImageRefused, IsShort, IsSourceUnread, IsUnsettled, Outcome, Pictures, PicturesBy, PrintsPage, PrintsPicture, Runs, Tells, Traces, TracesBy, WithAsked, image_in}
 use Rattle.chip_bench.specs.inner.Reads.{IsAsked, IsGiven, IsImageHindered, IsImageOrFaults, IsKeysUnread, IsNotGiven, IsNotTaken, IsTaken, IsUnasked}
 use Rattle.chip_pages.specs.Pages.{IsExplained}
-use Rattle.chip_bench.specs.Printing.{Prints, PrintsUnder, printed_listing, printed_picture, printed, printed_of, printed_run}
+use Rattle.chip_bench.specs.Printing.{Printed, Prints, PrintsUnder, printed_picture, printed, printed_of, printed_run}
 use Rattle.chip_arguments.specs.declared.command_line.PictureWords.{PictureWords}
 use Rattle.chip_session.specs.declared.question.PictureForm.{PictureForm}
 use Rattle.chip_bench.specs.Running.{AnswersScript, IsUnread}
@@ -277,11 +277,11 @@ three_parts t₀ t₁ t₂ t₃ a b c d e₀ e₁ e₂ e e₃ =
 
 module _ {R W : Type 0} (remaining : R → Option (List ℕ)) (contents : W → Option (List ℕ)) (in_old in_new : Tally R) (output : Tally W) where
   -- the source can't be read
-  pub lists_not : (source : Bor (List ℕ)) (ended : Outcome) (why : Failure) → ended ≡ Err why → IsSourceUnread in_old in_new source why →
-      Lists remaining contents in_old in_new output output source ended
-  lists_not source ended why e w =
+  pub tells_not : (printed_by : List (List ℕ) → Printed) (source : Bor (List ℕ)) (ended : Outcome) (why : Failure) → ended ≡ Err why →
+      IsSourceUnread in_old in_new source why → Tells remaining contents in_old in_new output output printed_by source ended
+  tells_not printed_by source ended why e w =
       source_unread remaining in_old in_new (output ≡ output) refl source
-      (λ bytes. Prints contents output output (printed_of (open_fault bytes) (printed_listing (lines_of bytes)))) ended why e w
+      (λ bytes. Prints contents output output (printed_of (open_fault bytes) (printed_by (lines_of bytes)))) ended why e w
 
   pub disassembles_not : (image : Bor (List ℕ)) (ended : Outcome) (why : Failure) → ended ≡ Err why → IsSourceUnread in_old in_new image why →
       Disassembles remaining contents in_old in_new output output image ended
@@ -309,11 +309,12 @@ module _ {R W : Type 0} (remaining : R → Option (List ℕ)) (contents : W → 
       (λ settings keys source. PrintsUnder contents output output settings source keys (λ session. printed_run session words.steps)) ended refl why e is
 
 module _ {R W : Type 0} (remaining : R → Option (List ℕ)) (contents : W → Option (List ℕ)) (in_old in_new : Tally R) (old new : Tally W) where
-  pub lists : (source : Bor (List ℕ)) (bytes text : List ℕ) (ended : Outcome) → text ≡ bytes → GivesSource remaining in_old in_new source.now bytes →
-      Prints contents old new (printed_of (open_fault text) (printed_listing (lines_of text))) ended →
-      Lists remaining contents in_old in_new old new source ended
-  lists source bytes text ended same gives did =
-      inl (bytes, gives, subst (λ (t : List ℕ). Prints contents old new (printed_of (open_fault t) (printed_listing (lines_of t))) ended) same did)
+  pub tells : (printed_by : List (List ℕ) → Printed) (source : Bor (List ℕ)) (bytes text : List ℕ) (ended : Outcome) → text ≡ bytes →
+      GivesSource remaining in_old in_new source.now bytes →
+      Prints contents old new (printed_of (open_fault text) (printed_by (lines_of text))) ended →
+      Tells remaining contents in_old in_new old new printed_by source ended
+  tells printed_by source bytes text ended same gives did =
+      inl (bytes, gives, subst (λ (t : List ℕ). Prints contents old new (printed_of (open_fault t) (printed_by (lines_of t))) ended) same did)
 
   pub disassembles : (image : Bor (List ℕ)) (bytes text : List ℕ) (ended : Outcome) → text ≡ bytes → length bytes ≤ IMAGE_BYTES →
       GivesSource remaining in_old in_new image.now bytes → Prints contents old new (printed (source_of_image text) Done) ended →

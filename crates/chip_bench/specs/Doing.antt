@@ -8,7 +8,7 @@
 --     worse, with_ending              how a list of sources ends
 --     paints                         whether what `check` prints has colours
 --     ChecksOne, ChecksEach          what `check` did with a source, and with each of some
---     Debugs, Assembles, Lists, Checks, Disassembles, Runs, Traces, Pictures, Explores, Explains
+--     Debugs, Assembles, Tells, Checks, Disassembles, Runs, Traces, Pictures, Explores, Explains
 --                                    what each command did
 --     Does                           the same, by what was asked
 --     Performs, ShowsHelp, ShowsVersion   the same, for the words of the command line
@@ -41,7 +41,7 @@ use Rattle.chip_bench.specs.Tracing.{IsCompared, header_of, lines_after, printed
 use Rattle.chip_bench.specs.declared.tracing.Shown.{Shown}
 use Rattle.chip_pages.specs.Pages.{IsContents, IsExplained}
 use Rattle.chip_arguments.specs.Version.{version_text}
-use Rattle.chip_bench.specs.Printing.{IsPrintedCheckOf, Printed, PrintsSuch, PrintsSuchUnder, PrintsUnder, Prints, RefusesKeys, StreamsUnder, fault_under, printed_faults, printed_listing, printed_picture, printed, printed_of, printed_run}
+use Rattle.chip_bench.specs.Printing.{IsPrintedCheckOf, Printed, PrintsSuch, PrintsSuchUnder, PrintsUnder, Prints, RefusesKeys, StreamsUnder, fault_under, printed_faults, printed_listing, printed_picture, printed, printed_of, printed_run, printed_symbols}
 use Rattle.chip_bench.specs.Running.{AnswersIfAsked, AnswersScript, IsUnread, source_bytes_read, status_of}
 use Rattle.chip_bench.specs.SettingWords.{settings_asked}
 use Rattle.chip_session.specs.Settings.{SessionSettings}
@@ -434,12 +434,12 @@ module _ {R W : Type 0} (remaining : R → Option (List ℕ)) (contents : W → 
       FromSource remaining in_old in_new (out_new ≡ out_old) source
       (λ bytes. AssemblesBy contents out_old out_new (image_in bytes) bytes name) ended
 
-  -- `list`
-  abbrev pub Lists : Bor (List ℕ) → Outcome → Type 0
-  Lists source ended =
+  -- `list` and `syms`: what is printed of the lines of the source
+  abbrev pub Tells : (printed_by : List (List ℕ) → Printed) → Bor (List ℕ) → Outcome → Type 0
+  Tells printed_by source ended =
       FromSource remaining in_old in_new (out_new ≡ out_old) source (λ bytes.
       Prints contents out_old out_new
-      (printed_of (open_fault bytes) (printed_listing (lines_of bytes)))) ended
+      (printed_of (open_fault bytes) (printed_by (lines_of bytes)))) ended
 
   -- `check`: no contract speaks of the warnings, but of which ones the argument names
   abbrev pub Checks : (takes_color : Bool) → CheckWords → Outcome → Type 0
@@ -486,7 +486,8 @@ module _ {R W : Type 0} (remaining : R → Option (List ℕ)) (contents : W → 
   abbrev pub Does : (takes_color : Bool) → CommandLine → Outcome → Type 0
   Does takes_color (line.Debug source is_image words) ended = Debugs source is_image words ended
   Does takes_color (line.Asm source image) ended = Assembles source image ended
-  Does takes_color (line.List source) ended = Lists source ended
+  Does takes_color (line.List source is_hex) ended = Tells (printed_listing is_hex) source ended
+  Does takes_color (line.Syms source is_hex) ended = Tells (printed_symbols is_hex) source ended
   Does takes_color (line.Check words) ended = Checks takes_color words ended
   Does takes_color (line.Dis image) ended = Disassembles image ended
   Does takes_color (line.Run words) ended = Runs words ended
@@ -494,7 +495,8 @@ module _ {R W : Type 0} (remaining : R → Option (List ℕ)) (contents : W → 
   Does takes_color (line.Picture words) ended = Pictures words ended
   Does takes_color (line.Test words) ended = Tests words ended × (in_new ≡ in_old)
   Does takes_color (line.Explore words) ended = Explores words ended
-  Does takes_color (line.Explain code) ended = Explains contents out_old out_new code ended × (in_new ≡ in_old)
+  Does takes_color (line.Explain code) ended =
+      Explains contents out_old out_new code ended × (in_new ≡ in_old)
 
   -- what it did for words without a fault: what they ask for, unless there was no memory to read
   -- them

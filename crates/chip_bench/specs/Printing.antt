@@ -2,13 +2,14 @@
 use Rattle.std.specs.Prelude.{◌≡◌, ◌⊎◌, ℕ, Bool, true, false, List, [], ◌++◌, codes, Option, Some, None, Result, Ok, Err}
 use Rattle.std.specs.Io.KnownBytes.{Appends}
 use Rattle.chip_asm.specs.Lines.{open_fault}
-use Rattle.chip_asm.specs.Program.{image_of, faults_of}
+use Rattle.chip_asm.specs.Program.{image_of, faults_of, symbols_of}
 use Rattle.chip_asm.specs.Listing.{listing_of}
 use Rattle.chip_asm.specs.declared.refusal.OpenError.{OpenError}
 use Rattle.chip_asm.specs.declared.refusal.OpenError.TheVariants as unopened
+use Rattle.chip_asm.specs.declared.table.Symbol.{Symbol}
 use Rattle.chip_check.specs.Check.{IsChecked}
 use Rattle.chip_check.specs.Json.{IsCheckJson, unopened_object}
-use Rattle.chip_session.specs.Answers.{answer_to, faults_text, listing_text}
+use Rattle.chip_session.specs.Answers.{answer_to, faults_text, listing_text, symbols_text}
 use Rattle.std.specs.Borrow.{Bor}
 use Rattle.chip_session.specs.KeyFile.{key_fault, session_under}
 use Rattle.chip_session.specs.Refusals.{refusal_code}
@@ -16,8 +17,10 @@ use Rattle.chip_session.specs.Serving.{BeginsWith}
 use Rattle.chip_session.specs.Session.{Session, session_of}
 use Rattle.chip_session.specs.Settings.{SessionSettings}
 use Rattle.chip_session.specs.Tally.{Tally}
+use Rattle.chip_session.specs.Text.{full_stop}
 use Rattle.chip_session.specs.Transcript.{refused}
 use Rattle.chip_session.specs.Writing.{Breaks, Writes}
+use Rattle.chip_views.specs.Hexadecimal.{hex_listing, hex_symbols}
 use Rattle.chip_bench.specs.declared.ending.Ending.{Ending}
 use Rattle.chip_bench.specs.declared.ending.Ending.TheVariants.{Done, Faulty}
 use Rattle.chip_bench.specs.declared.ending.Failure.{Failure}
@@ -61,9 +64,30 @@ abbrev pub ending_with : Option (List ℕ) → Ending
 ending_with (Some image) = Done
 ending_with None = Faulty
 
+-- the answer of `list`, with values in decimal or in hexadecimal
+abbrev pub listing_shown : (is_hex : Bool) → List (List ℕ) → List ℕ
+listing_shown false lines = listing_text (listing_of lines)
+listing_shown true lines = listing_text (hex_listing (symbols_of lines) (listing_of lines))
+
 -- `list`
-abbrev pub printed_listing : List (List ℕ) → Printed
-printed_listing lines = printed (listing_text (listing_of lines)) (ending_with (image_of lines))
+abbrev pub printed_listing : (is_hex : Bool) → List (List ℕ) → Printed
+printed_listing is_hex lines = printed (listing_shown is_hex lines) (ending_with (image_of lines))
+
+-- the answer of `syms`, likewise
+abbrev pub symbols_shown : (is_hex : Bool) → List (List ℕ × Symbol) → List ℕ
+symbols_shown false symbols = symbols_text symbols
+symbols_shown true symbols = hex_symbols symbols ++ full_stop
+
+-- what is printed of a source with an image, or else its faults
+abbrev pub unless_faulty : Option (List ℕ) → (sound faults : Printed) → Printed
+unless_faulty (Some image) sound faults = sound
+unless_faulty None sound faults = faults
+
+-- `syms`
+abbrev pub printed_symbols : (is_hex : Bool) → List (List ℕ) → Printed
+printed_symbols is_hex lines =
+    unless_faulty (image_of lines) (printed (symbols_shown is_hex (symbols_of lines)) Done)
+    (printed_faults lines)
 
 -- what `check` prints: text, in colours or without, or JSON objects
 abbrev pub IsCheckText : (is_json is_painted : Bool) → (name : List ℕ) (lines : List (List ℕ))

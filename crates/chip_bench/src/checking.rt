@@ -2,10 +2,10 @@
 ghost use Rattle.std.specs.Prelude.{◌≡◌, Err, IfOk};
 ghost use Rattle.chip_asm.specs.Lines.{lines_of};
 ghost use Rattle.chip_bench.specs.Doing.{Checks, ChecksEach, ChecksOne, paints, worse};
-ghost use Rattle.chip_bench.specs.Printing.{IsCheckText, IsPrintedCheck, Prints, PrintsSuch, printed, unopened_check, unopened_text};
+ghost use Rattle.chip_bench.specs.Printing.{IsCheckText, IsPrintedCheck, Prints, PrintsSuch, printed, unopened_check};
 
 use crate::ending::{Ending, Failure};
-use crate::output::print;
+use crate::output::{print, unopened_text};
 use crate::reading::read_source;
 use crate::sets::warnings_of;
 use chip_arguments::{CheckWords, ColorChoice};
@@ -193,15 +193,5 @@ impl Checker {
         }
         text.extend_from_slice(unopened_text(error))?;
         Ok(text)
-    }
-}
-
-fn unopened_text(error: OpenError) -> &'static [u8]
-    ensures { result.now ≡ unopened_text error }
-{
-    match error {
-        OpenError::LineTooLong(_) => b"no O1\n",
-        OpenError::TooManyLines => b"no O2\n",
-        OpenError::OutOfMemory => b"",
     }
 }

@@ -3,11 +3,11 @@ ghost use Rattle.std.specs.Prelude.{◌≡◌, [], ◌∷◌, ◌⊎◌, map};
 ghost use Rattle.std.specs.Str.Lines.{lines};
 ghost use Rattle.clap.specs.Words.{kind_of};
 ghost use Rattle.chip_arguments.specs.Version.{version_text};
-ghost use Rattle.chip_bench.specs.Printing.{Prints, printed};
+ghost use Rattle.chip_bench.specs.Printing.{Prints, printed, printed_listing, printed_symbols};
 ghost use Rattle.chip_session.specs.Settings.{default_settings};
 ghost use Rattle.chip_bench.specs.Running.{AnswersScript, RunsSession, status_of, failure_status, AreFaulty, IsWithoutWords};
 ghost use Rattle.chip_bench.specs.inner.Reads.{IsUsage};
-ghost use Rattle.chip_bench.specs.Doing.{Assembles, Debugs, Disassembles, Does, Ends, IsFileWritten, Lists, Performs, PrintsText, Runs, ShowsHelp, ShowsVersion, Traces, TracesAlone, TracesBeside, form_of};
+ghost use Rattle.chip_bench.specs.Doing.{Assembles, Debugs, Disassembles, Does, Ends, IsFileWritten, Performs, PrintsText, Runs, ShowsHelp, ShowsVersion, Tells, Traces, TracesAlone, TracesBeside, form_of};
 ghost use Rattle.chip_arguments.specs.CommandWords.{word_faults};
 ghost use Rattle.std.specs.Io.KnownBytes.{Keeps};
 ghost use Rattle.std.specs.IoError.{error_kind};
@@ -17,8 +17,8 @@ use crate::ending::{Ending, Failure};
 use crate::exploring::explore;
 use crate::limits::TRACE_FILE_BYTES;
 use crate::output::{
-    answer_script, explain, image_or_faults, list_source, print, print_source, print_version,
-    run_source,
+    answer_script, explain, image_or_faults, list_source, print, print_source, print_symbols,
+    print_version, run_source,
 };
 use crate::picturing::picture;
 use crate::reading::{
@@ -178,7 +178,12 @@ fn perform<'a, F: Files, I: Read, O: Write, E: Write>(
             debug(alloc, files, seed, given, &settings, input, output, errors)
         }
         CommandLine::Asm { source, image } => asm(alloc, files, source, image, input, output),
-        CommandLine::List { source } => list(alloc, files, source, input, output),
+        CommandLine::List { source, is_hex } => {
+            list(alloc, files, source, is_hex, input, output)
+        }
+        CommandLine::Syms { source, is_hex } => {
+            syms(alloc, files, source, is_hex, input, output)
+        }
         CommandLine::Check(words) => {
             check(alloc, files, host.takes_color, &words, input, output)
         }
@@ -267,14 +272,30 @@ fn list<'a, F: Files, I: Read, O: Write>(
     alloc: Global,
     files: &F,
     source: &'a str,
+    is_hex: bool,
     input: &mut Counted<I>,
     output: &mut Counted<O>,
 ) -> Result<Ending, Failure<'a>>
-    ensures { Lists I.remaining O.contents input.old input.new output.old output.new
-        source.entry result }
+    ensures { Tells I.remaining O.contents input.old input.new output.old output.new
+        (printed_listing is_hex) source.entry result }
 {
     let bytes = read_source(alloc, files, source, input)?;
-    list_source(alloc, bytes, output)
+    list_source(alloc, bytes, is_hex, output)
+}
+
+fn syms<'a, F: Files, I: Read, O: Write>(
+    alloc: Global,
+    files: &F,
+    source: &'a str,
+    is_hex: bool,
+    input: &mut Counted<I>,
+    output: &mut Counted<O>,
+) -> Result<Ending, Failure<'a>>
+    ensures { Tells I.remaining O.contents input.old input.new output.old output.new
+        (printed_symbols is_hex) source.entry result }
+{
+    let bytes = read_source(alloc, files, source, input)?;
+    print_symbols(alloc, &bytes, is_hex, output)
 }
 
 // Writes a file whole, or leaves what was there. A file of the names that are taken stays.

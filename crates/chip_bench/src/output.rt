@@ -1,10 +1,10 @@
 //! What each command reads and prints, from the bytes of a source.
 ghost use Rattle.std.specs.Prelude.{◌≡◌, ◌≤◌, Ok, Err, Some, None, length, IfOk, MatchResult, option_map};
 ghost use Rattle.chip_asm.specs.Lines.{lines_of, open_fault};
-ghost use Rattle.chip_asm.specs.Program.{image_of};
+ghost use Rattle.chip_asm.specs.Program.{image_of, symbols_of};
 ghost use Rattle.chip_views.specs.Dis.{source_of_image};
 ghost use Rattle.chip_session.specs.Transcript.{refused};
-ghost use Rattle.chip_bench.specs.Printing.{Prints, Refuses, printed, printed_of, printed_faults, printed_listing, printed_run, printed_picture, unanswered, keys_failure, PrintsUnder, PrintsUnless};
+ghost use Rattle.chip_bench.specs.Printing.{Prints, Refuses, printed, printed_of, printed_faults, printed_listing, printed_run, printed_picture, printed_symbols, listing_shown, symbols_shown, unanswered, unopened_text, keys_failure, PrintsUnder, PrintsUnless};
 ghost use Rattle.chip_session.specs.KeyFile.{key_fault, session_under};
 ghost use Rattle.chip_bench.specs.Running.{AnswersScript};
 ghost use Rattle.chip_bench.specs.Doing.{Explains};
@@ -12,7 +12,7 @@ ghost use Rattle.chip_bench.specs.inner.Reads.{IsImageHindered, IsImageOrFaults}
 ghost use Rattle.chip_arguments.specs.Version.{version_text};
 
 use crate::ending::{Code, Ending, Failure};
-use chip_arguments::VERSION;
+use chip_arguments::{SettingWords, VERSION};
 use chip_asm::{OpenError, Source};
 use chip_machine::limits::IMAGE_BYTES;
 use chip_pages::{contents, page_text};
@@ -20,8 +20,8 @@ use chip_session::{
     Bench, Counted, KeyFileError, PictureForm, Question, Refusal, ServeError, Settings,
     faults_answer, insert_keys, listing_answer, refuse, serve, write_all,
 };
-use chip_views::source_of_image;
-use std::alloc::Global;
+use chip_views::{hex_listing, hex_symbols, source_of_image};
+use std::alloc::{AllocError, Global};
 use std::io::{Read, Write};
 use std::mem;
 
@@ -83,19 +83,75 @@ pub(crate) fn image_or_faults<'a, O: Write>(
 pub(crate) fn list_source<'a, O: Write>(
     alloc: Global,
     source: Vec<u8>,
+    is_hex: bool,
     output: &mut Counted<O>,
 ) -> Result<Ending, Failure<'a>>
     ensures { Prints O.contents output.old output.new
-        (printed_of (open_fault source.items) (printed_listing (lines_of source.items))) result }
+        (printed_of (open_fault source.items) (printed_listing is_hex (lines_of source.items)))
+        result }
 {
     match Source::open_bytes(alloc, source) {
         Ok(opened) => {
-            let ending = print_listing(alloc, &opened, output)?;
+            let ending = print_listing(alloc, &opened, is_hex, output)?;
             // The program ends here, and its memory goes back at once.
             mem::forget(opened);
             Ok(ending)
         }
         Err(error) => refuse_source(error, output),
+    }
+}
+
+/// `syms`: the names of a source, or its faults.
+pub(crate) fn print_symbols<'a, O: Write>(
+    alloc: Global,
+    source: &[u8],
+    is_hex: bool,
+    output: &mut Counted<O>,
+) -> Result<Ending, Failure<'a>>
+    ensures { Prints O.contents output.old output.new
+        (printed_of (open_fault source.now) (printed_symbols is_hex (lines_of source.now)))
+        result }
+{
+    // No step is made. The settings are in their ranges, so nothing but memory can lack.
+    let Ok(settings) = Settings::new(alloc, SettingWords::DEFAULT.rate, &[0]) else {
+        return Err(Failure::OutOfMemory);
+    };
+    match Bench::open(alloc, source, settings) {
+        Ok(mut bench) => print_table(alloc, &mut bench, is_hex, output),
+        Err(error) => refuse_source(error, output),
+    }
+}
+
+fn print_table<'a, O: Write>(
+    alloc: Global,
+    bench: &mut Bench,
+    is_hex: bool,
+    output: &mut Counted<O>,
+) -> Result<Ending, Failure<'a>>
+    ensures { Prints O.contents output.old output.new
+        (printed_symbols is_hex bench.old.session.lines) result }
+{
+    let Some(_) = bench.source().image() else {
+        return print_faults(alloc, bench.source(), output);
+    };
+    let table = symbols_shown(alloc, bench, is_hex)?;
+    print(&table, Ending::Done, output)
+}
+
+// The answer of `syms`, with values in decimal or in hexadecimal.
+fn symbols_shown(alloc: Global, bench: &mut Bench, is_hex: bool) -> Result<Vec<u8>, AllocError>
+    ensures { IfOk result (λ table.
+        table.items ≡ symbols_shown is_hex (symbols_of bench.old.session.lines)) }
+{
+    if is_hex {
+        let mut table = hex_symbols(alloc, bench.source())?;
+        table.extend_from_slice(b".\n")?;
+        return Ok(table);
+    }
+    let mut table = Vec::new(alloc);
+    match bench.ask(alloc, &Question::Symbols, &mut table) {
+        Ok(()) => Ok(table),
+        Err(_) => Err(AllocError),
     }
 }
 
@@ -308,15 +364,29 @@ fn print_code<'a, O: Write>(
 fn print_listing<'a, O: Write>(
     alloc: Global,
     source: &Source,
+    is_hex: bool,
     output: &mut Counted<O>,
 ) -> Result<Ending, Failure<'a>>
-    ensures { Prints O.contents output.old output.new (printed_listing source.now.lines) result }
+    ensures { Prints O.contents output.old output.new (printed_listing is_hex source.now.lines)
+        result }
 {
-    let listing = listing_answer(alloc, source)?;
+    let listing = listing_shown(alloc, source, is_hex)?;
     match source.image() {
         Some(_) => print(&listing, Ending::Done, output),
         None => print(&listing, Ending::Faulty, output),
     }
+}
+
+// The answer of `list`, with values in decimal or in hexadecimal.
+fn listing_shown(alloc: Global, source: &Source, is_hex: bool) -> Result<Vec<u8>, AllocError>
+    ensures { IfOk result (λ listing. listing.items ≡ listing_shown is_hex source.now.lines) }
+{
+    if !is_hex {
+        return listing_answer(alloc, source);
+    }
+    let mut listing = hex_listing(alloc, source)?;
+    listing.extend_from_slice(b".\n")?;
+    Ok(listing)
 }
 
 pub(crate) fn print_faults<'a, O: Write>(
@@ -338,9 +408,19 @@ pub(crate) fn refuse_source<'a, O: Write>(
     ensures { Refuses O.contents output.old output.new error result }
 {
     match error {
-        OpenError::LineTooLong(_) => print(b"no O1\n", Ending::Faulty, output),
-        OpenError::TooManyLines => print(b"no O2\n", Ending::Faulty, output),
         OpenError::OutOfMemory => Err(Failure::OutOfMemory),
+        _ => print(unopened_text(error), Ending::Faulty, output),
+    }
+}
+
+/// Why a source doesn't open, as the program prints it; nothing where memory ran out.
+pub(crate) fn unopened_text(error: OpenError) -> &'static [u8]
+    ensures { result.now ≡ unopened_text error }
+{
+    match error {
+        OpenError::LineTooLong(_) => b"no O1\n",
+        OpenError::TooManyLines => b"no O2\n",
+        OpenError::OutOfMemory => b"",
     }
 }
 

@@ -11,8 +11,9 @@ use Rattle.clap.specs.declared.builder.command.Command.TheViews.{out-Command as 
 -- the names of the program's commands
 abbrev pub command_names : List (List ℕ)
 command_names =
-    codes "debug" ∷ codes "asm" ∷ codes "list" ∷ codes "dis" ∷ codes "run" ∷ codes "trace"
-    ∷ codes "picture" ∷ codes "check" ∷ codes "test" ∷ codes "explore" ∷ codes "explain" ∷ []
+    codes "debug" ∷ codes "asm" ∷ codes "list" ∷ codes "syms" ∷ codes "dis" ∷ codes "run"
+    ∷ codes "trace" ∷ codes "picture" ∷ codes "check" ∷ codes "test" ∷ codes "explore"
+    ∷ codes "explain" ∷ []
 
 -- a name is one of these
 abbrev pub IsOneOf : List ℕ → List (List ℕ) → Type 0
@@ -61,6 +62,7 @@ rule_by argument.Allow = line.allow
 rule_by argument.Reach = line.reach
 rule_by argument.Cover = line.cover
 rule_by argument.Progress = line.progress
+rule_by argument.Hex = line.hex
 
 -- these arguments, in order
 abbrev pub with_arguments : App → List Argument → App

@@ -3,7 +3,7 @@ use Rattle.clap.specs.Words.{found_of}
 use Rattle.chip_arguments.proofs.NameLemmas.{debug_is_left}
 use Rattle.chip_arguments.proofs.WordLemmas.{first_is, flag_is}
 use Rattle.chip_arguments.proofs.command_line.command_asked.Goals as goal
-use Rattle.chip_arguments.proofs.command_line.command_asked.Goals.{in-asm, in-list, in-check+in_ok-check_words-in-check, in-dis, in-run, in-trace, in-picture, in-test+in_ok-test_words-in-test, in-explore, in-explain, in_default}
+use Rattle.chip_arguments.proofs.command_line.command_asked.Goals.{in-asm, in-list, in-syms, in-check+in_ok-check_words-in-check, in-dis, in-run, in-trace, in-picture, in-test+in_ok-test_words-in-test, in-explore, in-explain, in_default}
 
 pub returns-clause-asked : goal.returns-clause-asked
 returns-clause-asked c =
@@ -14,7 +14,12 @@ returns-clause-asked c =
           rw w.result-is (named, w.required_text.ensures, w.required_text-in-asm.ensures)
       | in-list w ↦
           let named : c.args.name.now ≡ codes "list" = search rules in
-          rw w.result-is (named, w.required_text-in-list.ensures)
+          let hex = flag_is (found_of c.args.found.now) (codes "hex") w.get_flag.result w.get_flag.ensures.value w.get_flag.ensures.other w.get_flag.ensures.none in
+          rw w.result-is (named, w.required_text-in-list.ensures, hex)
+      | in-syms w ↦
+          let named : c.args.name.now ≡ codes "syms" = search rules in
+          let hex = flag_is (found_of c.args.found.now) (codes "hex") w.get_flag-in-syms.result w.get_flag-in-syms.ensures.value w.get_flag-in-syms.ensures.other w.get_flag-in-syms.ensures.none in
+          rw w.result-is (named, w.required_text-in-syms.ensures, hex)
       | in-check+in_ok-check_words-in-check w ↦
           let named : c.args.name.now ≡ codes "check" = search rules in
           rw w.result-is (named, w.in_ok-check_words-in-check.ensures profile)
@@ -43,6 +48,7 @@ returns-clause-asked c =
       | in_default w ↦
           let not_asm : c.args.name.now ≢ codes "asm" = search rules in
           let not_list : c.args.name.now ≢ codes "list" = search rules in
+          let not_syms : c.args.name.now ≢ codes "syms" = search rules in
           let not_check : c.args.name.now ≢ codes "check" = search rules in
           let not_dis : c.args.name.now ≢ codes "dis" = search rules in
           let not_run : c.args.name.now ≢ codes "run" = search rules in
@@ -51,8 +57,8 @@ returns-clause-asked c =
           let not_test : c.args.name.now ≢ codes "test" = search rules in
           let not_explore : c.args.name.now ≢ codes "explore" = search rules in
           let not_explain : c.args.name.now ≢ codes "explain" = search rules in
-          let debug = debug_is_left c.args.name.now c.requires not_asm not_list not_dis not_run not_trace not_picture not_check not_test not_explore not_explain in
+          let debug = debug_is_left c.args.name.now c.requires not_asm not_list not_syms not_dis not_run not_trace not_picture not_check not_test not_explore not_explain in
           let source = first_is (found_of c.args.found.now) (codes "source") _ w.get_str-in_default.ensures in
-          let image = flag_is (found_of c.args.found.now) (codes "image") w.get_flag.result w.get_flag.ensures.value w.get_flag.ensures.other w.get_flag.ensures.none in
+          let image = flag_is (found_of c.args.found.now) (codes "image") w.get_flag-in_default.result w.get_flag-in_default.ensures.value w.get_flag-in_default.ensures.other w.get_flag-in_default.ensures.none in
           rw w.result-is (debug, source, image, w.setting_words.ensures profile)
     ]

@@ -17,6 +17,11 @@ returns-in-List g c =
     does_it g.I.Read.remaining g.O.Write.contents c.args.input.now c.list.new.input c.args.output.now c.list.new.output c.args.host.takes_color c.args.line _ c.list.result
     c.in-List.is c.list.ensures
 
+pub returns-in-Syms : goal.returns-in-Syms
+returns-in-Syms g c =
+    does_it g.I.Read.remaining g.O.Write.contents c.args.input.now c.syms.new.input c.args.output.now c.syms.new.output c.args.host.takes_color c.args.line _ c.syms.result
+    c.in-Syms.is c.syms.ensures
+
 pub returns-in-Check : goal.returns-in-Check
 returns-in-Check g c =
     does_it g.I.Read.remaining g.O.Write.contents c.args.input.now c.check.new.input c.args.output.now c.check.new.output c.args.host.takes_color c.args.line _ c.check.result
