@@ -2,7 +2,7 @@
 --     hex_value     a value, as a source writes it
 --     hex_symbols   a line for each name
 --     hex_listing   the listing
-use Rattle.std.specs.Prelude.{ℕ, ◌/◌, ◌%◌, ◌==◌, ℤ, unsigned_abs, nat_lt, List, [], ◌∷◌, ◌++◌, codes, drop, take, find, slice_index_or, Option, Some, None, option_map, if◌then◌else◌}
+use Rattle.std.specs.Prelude.{ℕ, ◌/◌, ◌%◌, ◌==◌, ℤ, unsigned_abs, nat_lt, List, [], ◌++◌, codes, drop, take, find, slice_index_or, Option, Some, None, option_map, if◌then◌else◌}
 use Rattle.std.specs.Fmt.{decimal}
 use Rattle.std.specs.Int.{is_negative}
 use Rattle.std.specs.List.{enumerate_from, flat_map}
