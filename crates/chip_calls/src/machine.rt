@@ -7,6 +7,9 @@
 //!   `step-tick`: one step with no key down, after which `touches` and `touch-count` ask for the
 //!   addresses that it touched. `steps FROM COUNT KEYS`: so many steps at once, of which the first
 //!   has the number FROM and each tenth ticks; `first-touch ADDRESS` asks which touched it first.
+//! - `forgotten PARTS [KEYS]`: what is forgotten after the next step with these keys down, where
+//!   these parts are before it: `i`, `screen`, a register's digit or `all`. Where that step reads
+//!   some of them, `reads` with these.
 //! - `poke ADDRESS BYTE`, `exchange ADDRESS OLD NEW`: other bytes in the memory.
 //! - `keep`: keeps a copy. `swap`: goes on with the kept machine, and keeps this one. `take`: takes
 //!   the state of the kept one. `same-memory`: whether both have the same memory.
@@ -15,8 +18,9 @@
 use crate::output::{Refused, Reply};
 use crate::state;
 use crate::text::{bytes_of_hex, hex_number, number, split_word};
+use chip_lang::number::Reg;
 use chip_machine::limits::MEMORY_BYTES;
-use chip_machine::{Machine, Profile, SameKeys, Touch};
+use chip_machine::{Forgotten, Machine, Profile, SameKeys, Touch};
 use std::alloc::{AllocError, Global};
 use std::mem;
 
@@ -83,6 +87,7 @@ impl Machines {
             "step" => machine.step(0, false, &mut self.touch),
             "step-tick" => machine.step(0, true, &mut self.touch),
             "steps" => make_steps(&mut **machine, &mut self.first_touch, rest)?,
+            "forgotten" => push_forgotten(out, &mut **machine, rest)?,
             "poke" => poke(&mut **machine, rest)?,
             "exchange" => exchange(alloc, &mut **machine, rest)?,
             _ => return state::answer(out, &**machine, word, rest),
@@ -212,5 +217,66 @@ fn push_first_touch(out: &mut Reply, first_touch: &[u32], address: u16) {
     match first_touch.get(usize::from(address)) {
         Some(step) if *step != u32::MAX => out.show(step),
         _ => out.text("none"),
+    }
+}
+
+/// Which parts some words with commas between them name.
+fn parts_of(words: &str) -> Result<Forgotten, Refused> {
+    let mut parts = Forgotten::nothing();
+    for word in words.split(',') {
+        let part = match word {
+            "all" => Forgotten::all(),
+            "i" => Forgotten::index(),
+            "screen" => Forgotten::screen(),
+            _ => match Reg::new(hex_number(word)? as u8) {
+                Some(x) => Forgotten::register(x),
+                None => return Err(Refused::BadCommand),
+            },
+        };
+        parts = parts.with(part);
+    }
+    Ok(parts)
+}
+
+/// What is forgotten after the next step, or what that step reads.
+fn push_forgotten(out: &mut Reply, machine: &mut Machine, rest: &str) -> Result<(), Refused> {
+    let (words, keys) = split_word(rest);
+    let keys = if keys.is_empty() {
+        0
+    } else {
+        hex_number(keys)?
+    };
+    match machine.forgotten_after(parts_of(words)?, keys) {
+        Ok(after) => push_parts(out, after),
+        Err(read) => {
+            out.text("reads ");
+            push_parts(out, read);
+        }
+    }
+    Ok(())
+}
+
+/// The names of some parts.
+fn push_parts(out: &mut Reply, parts: Forgotten) {
+    if parts == Forgotten::nothing() {
+        out.text("nothing");
+        return;
+    }
+    let mut blank = "";
+    for number in 0..16u8 {
+        if parts.has_register(number) {
+            out.text(blank);
+            out.hex_digit(number);
+            blank = " ";
+        }
+    }
+    if parts.has_index() {
+        out.text(blank);
+        out.text("i");
+        blank = " ";
+    }
+    if parts.has_screen() {
+        out.text(blank);
+        out.text("screen");
     }
 }

@@ -71,6 +71,12 @@ impl Reply {
         self.is_whole &= added.is_ok();
     }
 
+    /// Adds a digit in hexadecimal.
+    pub(crate) fn hex_digit(&mut self, digit: u8) {
+        let added = write!(self.text, "{digit:x}");
+        self.is_whole &= added.is_ok();
+    }
+
     /// Adds bytes in hexadecimal.
     pub(crate) fn bytes(&mut self, bytes: &[u8]) {
         for byte in bytes {

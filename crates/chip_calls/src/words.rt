@@ -68,7 +68,10 @@ fn shown(alloc: Global, word: u16) -> Result<String, AllocError> {
 fn push_texts(alloc: Global, out: &mut Reply, word: u16) -> Result<(), AllocError> {
     out.text(shown(alloc, word)?.as_str());
     out.text("\n");
-    push_shown(&mut out.text, word)
+    let mut bytes = Vec::new(alloc);
+    push_shown(&mut bytes, word)?;
+    out.characters(&bytes);
+    Ok(())
 }
 
 fn show_all(alloc: Global, out: &mut Reply) -> Result<(), AllocError> {

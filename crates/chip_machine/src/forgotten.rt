@@ -54,16 +54,19 @@ impl Forgotten {
         }
     }
 
+    /// I alone.
+    pub fn index() -> Forgotten {
+        Forgotten { parts: INDEX }
+    }
+
     /// The screen alone.
     pub fn screen() -> Forgotten {
         Forgotten { parts: SCREEN }
     }
 
-    /// Whether it is none of them.
-    pub fn is_nothing(self) -> bool
-        ensures { IsTrue result → self ≡ 0 }
-    {
-        self.parts == 0
+    /// A register alone.
+    pub fn register(x: Reg) -> Forgotten {
+        Forgotten { parts: register(x) }
     }
 
     /// Whether each of these is one of others: true only where it is.

@@ -37,7 +37,7 @@ pub(crate) fn push_state(
         }
         StateQuestion::Screen => push_screen(answer, machine),
         StateQuestion::Disassembly { at, count } => {
-            push_disassembly(alloc, answer, machine, at as u16, count as u16)
+            push_disassembly(answer, machine, at as u16, count as u16)
         }
         StateQuestion::Picture { form } => {
             *answer = picture(alloc, machine, form)?;
@@ -171,7 +171,6 @@ pub(crate) fn push_memory(
 /// Adds so many words from an address: for each its address, the word, and its source text.
 #[tactic(auto, unfolding(crate::specs::MachineAnswers::disassembly_of))]
 pub(crate) fn push_disassembly(
-    alloc: Global,
     answer: &mut Vec<u8>,
     machine: &Machine,
     at: u16,
@@ -181,32 +180,23 @@ pub(crate) fn push_disassembly(
     ensures { OnOk result (answer.new.items
         ≡ answer.old.items ++ disassembly_of machine.now at count) }
 {
-    let mut text = String::new(alloc);
     for place in 0..count {
-        push_word_line(answer, &mut text, machine, at + 2 * place)?;
+        push_word_line(answer, machine, at + 2 * place)?;
     }
     answer.extend_from_slice(b".\n")
 }
 
-/// Adds a line for the word at an address. `text` has the room for its source text; what it holds
-/// means nothing.
-fn push_word_line(
-    answer: &mut Vec<u8>,
-    text: &mut String,
-    machine: &Machine,
-    at: u16,
-) -> Result<(), AllocError>
+/// Adds a line for the word at an address.
+fn push_word_line(answer: &mut Vec<u8>, machine: &Machine, at: u16) -> Result<(), AllocError>
     requires { at ≤ LAST_WORD }
     ensures { OnOk result (answer.new.items ≡ answer.old.items ++ word_line machine.now at) }
 {
     let word = word_at(machine, at);
-    text.clear();
-    push_shown(text, word)?;
     push_hex_word(answer, at)?;
     answer.push(b' ')?;
     push_hex_word(answer, word)?;
     answer.push(b' ')?;
-    answer.extend_from_slice(text.as_bytes())?;
+    push_shown(answer, word)?;
     answer.push(b'\n')?;
     Ok(())
 }
