@@ -7,7 +7,7 @@ ghost use Rattle.chip_session.specs.Answers.{symbol_line, symbols_text, fault_li
 
 use crate::text::{push_decimal, push_hex, push_signed};
 use chip_asm::{Source, Symbol};
-use chip_lang::{Bytes, Fault};
+use chip_lang::Fault;
 use std::alloc::{AllocError, Global};
 
 /// Adds a line of bytes in lower case hexadecimal.
@@ -23,25 +23,21 @@ pub(crate) fn push_hex_line(text: &mut Vec<u8>, bytes: &[u8]) -> Result<(), Allo
 pub(crate) fn symbols_answer(alloc: Global, source: &Source) -> Result<Vec<u8>, AllocError>
     ensures { IfOk result (λ text. text.items ≡ symbols_text (symbols_of source.now.lines)) }
 {
-    let symbols = source.symbols(alloc)?;
-    symbols_text(alloc, &symbols)
-}
-
-fn symbols_text(alloc: Global, symbols: &[(Bytes, Symbol)]) -> Result<Vec<u8>, AllocError>
-    ensures { IfOk result (λ text. text.items ≡ symbols_text symbols.now) }
-{
     let mut text = Vec::new(alloc);
-    for (name, symbol) in symbols {
+    for place in 0..source.symbol_count() {
+        let Some((name, symbol)) = source.symbol_at(place) else {
+            unreachable!()
+        };
         push_symbol(&mut text, name, symbol)?;
     }
     text.extend_from_slice(b".\n")?;
     Ok(text)
 }
 
-fn push_symbol(text: &mut Vec<u8>, name: &Bytes, symbol: &Symbol) -> Result<(), AllocError>
-    ensures { OnOk result (text.new.items ≡ text.old.items ++ symbol_line (name.now, symbol.now)) }
+fn push_symbol(text: &mut Vec<u8>, name: &[u8], symbol: Symbol) -> Result<(), AllocError>
+    ensures { OnOk result (text.new.items ≡ text.old.items ++ symbol_line (name.now, symbol)) }
 {
-    text.extend_from_slice(name.get())?;
+    text.extend_from_slice(name)?;
     text.push(b' ')?;
     push_signed(text, symbol.value)?;
     text.push(b' ')?;
