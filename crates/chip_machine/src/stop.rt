@@ -12,13 +12,13 @@ pub enum Stop {
     NoInstruction,
     /// S3: no word stands at pc, which is above `LAST_WORD`.
     PcOutOfRange,
-    /// S4: a call with `FRAMES` frames.
+    /// S4: a call with `FRAMES` return addresses on the call stack.
     FramesFull,
-    /// S5: a return with no frame.
+    /// S5: a return with an empty call stack.
     NoFrame,
-    /// S6: an access past the end of the memory.
+    /// S6: an instruction would access a byte past the end of the memory.
     AddressOutOfRange,
-    /// S7: a flag register above 7.
+    /// S7: a flag register above 7 was named.
     NoFlag,
 }
 
