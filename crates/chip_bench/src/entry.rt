@@ -46,6 +46,8 @@ pub struct Host {
     pub name_seed: u64,
     /// Whether the output takes colours, as a terminal does.
     pub takes_color: bool,
+    /// Whether somebody reads what is said on standard error while it is said, as at a terminal.
+    pub has_reader: bool,
 }
 
 /// The program, with the words after its name. The answer is its status: 0 where it did what it was
@@ -192,7 +194,9 @@ fn perform<'a, F: Files, I: Read, O: Write, E: Write>(
         CommandLine::Trace(words) => trace(alloc, files, &words, input, output, errors),
         CommandLine::Picture(words) => picture(alloc, files, &words, input, output, errors),
         CommandLine::Test(words) => test_files(alloc, files, &words, output),
-        CommandLine::Explore(words) => explore(alloc, files, &words, input, output, errors),
+        CommandLine::Explore(words) => {
+            explore(alloc, files, host.has_reader, &words, input, output, errors)
+        }
         CommandLine::Explain { code } => explain(alloc, code, output),
     }
 }

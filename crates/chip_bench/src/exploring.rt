@@ -29,6 +29,7 @@ use std::rt::Files;
 pub(crate) fn explore<'a, F: Files, I: Read, O: Write, E: Write>(
     alloc: Global,
     files: &F,
+    has_reader: bool,
     words: &ExploreWords<'a>,
     input: &mut Counted<I>,
     output: &mut Counted<O>,
@@ -40,10 +41,23 @@ pub(crate) fn explore<'a, F: Files, I: Read, O: Write, E: Write>(
     let settings = settings_of(alloc, &words.settings)?;
     let sets = sets_of(words)?;
     let source = read_given(alloc, files, words.source, words.is_image, input, errors)?;
-    search_source(alloc, files, words, source, &settings, sets, output, errors)
+    let mut progress = Progress {
+        errors,
+        is_shown: has_reader || words.is_progress_shown,
+    };
+    search_source(
+        alloc,
+        files,
+        words,
+        source,
+        &settings,
+        sets,
+        output,
+        &mut progress,
+    )
 }
 
-fn search_source<'a, F: Files, O: Write, E: Write>(
+fn search_source<'a, F: Files, O: Write, W: Watcher>(
     alloc: Global,
     files: &F,
     words: &ExploreWords<'a>,
@@ -51,7 +65,7 @@ fn search_source<'a, F: Files, O: Write, E: Write>(
     settings: &Settings,
     sets: Sets,
     output: &mut Counted<O>,
-    errors: &mut E,
+    watcher: &mut W,
 ) -> Result<Ending, Failure<'a>>
     ensures { Searches O.contents output.old output.new words.entry.now settings.now sets.causes
         sets.keys (image_in source.items) source.items result }
@@ -77,7 +91,7 @@ fn search_source<'a, F: Files, O: Write, E: Write>(
         target,
     };
     search(
-        alloc, files, words, &opened, &start, &question, output, errors,
+        alloc, files, words, &opened, &start, &question, output, watcher,
     )
 }
 
@@ -114,7 +128,7 @@ fn in_memory(number: i64) -> Option<u16>
     }
 }
 
-fn search<'a, F: Files, O: Write, E: Write>(
+fn search<'a, F: Files, O: Write, W: Watcher>(
     alloc: Global,
     files: &F,
     words: &ExploreWords<'a>,
@@ -122,7 +136,7 @@ fn search<'a, F: Files, O: Write, E: Write>(
     start: &Machine,
     question: &Question,
     output: &mut Counted<O>,
-    errors: &mut E,
+    watcher: &mut W,
 ) -> Result<Ending, Failure<'a>>
     requires rate { 0 < question.now.rate }
     requires fresh { start.now.core.draws ≡ 0 }
@@ -137,11 +151,7 @@ fn search<'a, F: Files, O: Write, E: Write>(
         states: words.states as usize,
         is_deep: words.is_deep,
     };
-    let mut progress = Progress {
-        errors,
-        is_shown: words.is_progress_shown,
-    };
-    let explored = chip_explore::explore(alloc, start, question, &bounds, &mut progress);
+    let explored = chip_explore::explore(alloc, start, question, &bounds, watcher);
     let text = search_text(alloc, words.is_covering, source, &explored)?;
     write_script(alloc, files, words, &explored.outcome)?;
     print(&text, search_ending(&explored), output)
@@ -186,9 +196,13 @@ struct Progress<'e, E> {
 }
 
 impl<'e, E: Write> Watcher for Progress<'e, E> {
-    fn note(&mut self, step: u64, states: usize) {
+    fn note(&mut self, step: u64, states: usize, bytes: u64) {
         if self.is_shown {
-            let _ = writeln!(self.errors, "chipbench: step {step}, {states} states");
+            let megabytes = bytes / 1_000_000;
+            let _ = writeln!(
+                self.errors,
+                "chipbench: step {step}, {states} states, about {megabytes} MB"
+            );
         }
     }
 }

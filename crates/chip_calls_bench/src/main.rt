@@ -139,6 +139,7 @@ fn run(rt: &HostRuntime, words: &str, script: &[u8], plan: &Plan) -> Result<Stri
         Host {
             name_seed: 0,
             takes_color: false,
+            has_reader: false,
         },
         &list,
         &mut input,

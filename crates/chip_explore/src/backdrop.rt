@@ -10,6 +10,9 @@ use std::alloc::{AllocError, Global};
 use std::collections::HashMap;
 use std::rc::Rc;
 
+/// About how many bytes a backdrop takes without what its memory and its screen have beside a base.
+const BACKDROP_BYTES: u64 = 160;
+
 /// A byte of the memory that is not as in the base.
 #[derive(Clone, Copy)]
 pub(crate) struct BytePatch {
@@ -42,6 +45,8 @@ pub(crate) struct Backdrop {
 pub(crate) struct Backdrops {
     alloc: Global,
     by_sum: HashMap<u64, Rc<Backdrop>>,
+    /// About how many bytes they take.
+    pub(crate) room: u64,
 }
 
 impl RowPatch {
@@ -105,6 +110,13 @@ impl Backdrop {
         })
     }
 
+    /// About how many bytes it takes.
+    fn room(&self) -> u64 {
+        let bytes = (self.bytes.len() as u64).saturating_mul(4);
+        let rows = (self.rows.len() as u64).saturating_mul(24);
+        bytes.saturating_add(rows).saturating_add(BACKDROP_BYTES)
+    }
+
     /// Puts the bytes in the memory of a machine.
     pub(crate) fn put_bytes(&self, machine: &mut Machine)
         ensures { machine.new ≡ fold with_byte machine.old self.now.bytes.items }
@@ -139,6 +151,7 @@ impl Backdrops {
         Backdrops {
             alloc,
             by_sum: HashMap::new(alloc),
+            room: 0,
         }
     }
 
@@ -153,6 +166,7 @@ impl Backdrops {
             return backdrop.clone();
         }
         let backdrop = Rc::new(self.alloc, Backdrop::of(self.alloc, base, machine)?)?;
+        self.room = self.room.saturating_add(backdrop.room());
         self.by_sum.insert(sum, backdrop.clone()?)?;
         Ok(backdrop)
     }

@@ -14,5 +14,8 @@ pub(crate) const MOST_ATTEMPTS: u32 = 10_000;
 /// How often keys go down in a script at most: each time gives two events.
 pub(crate) const MOST_PRESSES: u16 = (MOST_EVENTS / 2) as u16;
 
+/// About how many bytes a state takes, without its backdrop, with what the finder knows of it.
+pub(crate) const STATE_BYTES: u64 = 80;
+
 /// A watcher is told of each turn whose number is a multiple of it.
 pub(crate) const TURNS_TOLD: u64 = 250_000;

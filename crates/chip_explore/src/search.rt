@@ -10,7 +10,7 @@ use crate::finder::{Finder, Origin, Turn};
 use crate::kept::{Base, Kept};
 use crate::keys::{alone, is_down};
 use crate::leg::{End, Runner};
-use crate::limits::TURNS_TOLD;
+use crate::limits::{STATE_BYTES, TURNS_TOLD};
 use crate::members::Members;
 use crate::setting::Setting;
 use crate::sum::Sums;
@@ -290,6 +290,13 @@ impl Search {
         Ok(())
     }
 
+    /// About how many bytes the states take.
+    fn room(&self) -> u64 {
+        (self.members.states.len() as u64)
+            .saturating_mul(STATE_BYTES)
+            .saturating_add(self.backdrops.room)
+    }
+
     /// Takes up states until none is left, or the limits are met.
     pub(crate) fn run<W: Watcher>(
         &mut self,
@@ -314,7 +321,7 @@ impl Search {
                 return Ok(());
             }
             if turns % TURNS_TOLD == 0 {
-                watcher.note(turn.step, self.members.states.len());
+                watcher.note(turn.step, self.members.states.len(), self.room());
             }
             if self.members.is_open(place, turn.step) {
                 self.take_up(setting, place)?;

@@ -20,6 +20,7 @@ fn main(rt: HostRuntime) -> ExitCode {
     let host = Host {
         name_seed: name_seed(&rt),
         takes_color: rt.stdout().is_terminal() && wants_color(&rt),
+        has_reader: rt.stderr().is_terminal(),
     };
     let status = program(
         alloc,
