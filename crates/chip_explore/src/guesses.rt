@@ -12,6 +12,8 @@ pub(crate) struct Guesses {
     parts: Vec<Option<Forgotten>>,
     /// Whether a step refuted one of them.
     pub(crate) is_refuted: bool,
+    /// Whether nothing is forgotten of any state.
+    gives_up: bool,
 }
 
 impl Guesses {
@@ -22,6 +24,7 @@ impl Guesses {
         Ok(Guesses {
             parts,
             is_refuted: false,
+            gives_up: false,
         })
     }
 
@@ -35,10 +38,18 @@ impl Guesses {
 
     /// The parts that are forgotten of a state whose next step is at an address.
     pub(crate) fn at(&mut self, address: u16) -> Forgotten {
+        if self.gives_up {
+            return Forgotten::nothing();
+        }
         match self.parts.get_mut(address as usize) {
             Some(parts) => *parts.get_or_insert(Forgotten::all()),
             None => Forgotten::nothing(),
         }
+    }
+
+    /// Forgets nothing of any state, so that no step refutes that.
+    pub(crate) fn give_up(&mut self) {
+        self.gives_up = true;
     }
 
     /// Forgets less of the states at an address, of which some parts may be read: the answer is

@@ -31,7 +31,8 @@ pub(crate) struct Search {
 
 impl Search {
     /// Notes that a step read some parts that are forgotten, after a state that was reached so: less
-    /// is forgotten of the last state on the way of which they were.
+    /// is forgotten of the last state on the way of which they were, or nothing of any where there is
+    /// no such state.
     fn refute(&mut self, origin: Origin, read: Forgotten)
         ensures { self.new.members ≡ self.old.members }
     {
@@ -39,10 +40,10 @@ impl Search {
         let mut way = origin;
         for _state in 0..=self.finder.origins.len() {
             let Some(place) = way.parent() else {
-                return;
+                break;
             };
             if place >= self.members.states.len() || place >= self.finder.origins.len() {
-                return;
+                break;
             }
             if self
                 .finder
@@ -53,6 +54,7 @@ impl Search {
             }
             way = self.finder.origins[place];
         }
+        self.finder.guesses.give_up();
     }
 
     /// Keeps the state that the runner has at a step, unless one like it is kept.
