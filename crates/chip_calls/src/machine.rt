@@ -228,14 +228,23 @@ fn parts_of(words: &str) -> Result<Forgotten, Refused> {
             "all" => Forgotten::all(),
             "i" => Forgotten::index(),
             "screen" => Forgotten::screen(),
-            _ => match Reg::new(hex_number(word)? as u8) {
-                Some(x) => Forgotten::register(x),
-                None => return Err(Refused::BadCommand),
-            },
+            _ => Forgotten::register(register_of(word)?),
         };
         parts = parts.with(part);
     }
     Ok(parts)
+}
+
+/// The register of a digit.
+fn register_of(word: &str) -> Result<Reg, Refused> {
+    let number = hex_number(word)?;
+    if number > 15 {
+        return Err(Refused::BadCommand);
+    }
+    match Reg::new(number as u8) {
+        Some(register) => Ok(register),
+        None => Err(Refused::BadCommand),
+    }
 }
 
 /// What is forgotten after the next step, or what that step reads.
