@@ -32,10 +32,11 @@ pub(crate) struct Search {
 impl Search {
     /// Notes that a step read some parts that are forgotten, after a state that was reached so: less
     /// is forgotten of the last state on the way of which they were, or nothing of any where there is
-    /// no such state.
+    /// no such state. After the first such step of a search others may have led to less already.
     fn refute(&mut self, origin: Origin, read: Forgotten)
         ensures { self.new.members ≡ self.old.members }
     {
+        let is_first = !self.finder.guesses.is_refuted;
         self.finder.guesses.is_refuted = true;
         let mut way = origin;
         for _state in 0..=self.finder.origins.len() {
@@ -45,11 +46,11 @@ impl Search {
             if place >= self.members.states.len() || place >= self.finder.origins.len() {
                 break;
             }
-            if self
+            let is_less = self
                 .finder
                 .guesses
-                .lower(self.members.states[place].pc, read)
-            {
+                .lower(self.members.states[place].pc, read);
+            if is_less || !is_first {
                 return;
             }
             way = self.finder.origins[place];
