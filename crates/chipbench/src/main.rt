@@ -20,7 +20,8 @@ fn main(rt: HostRuntime) -> ExitCode {
     let host = Host {
         name_seed: name_seed(&rt),
         takes_color: rt.stdout().is_terminal() && wants_color(&rt),
-        has_reader: rt.stderr().is_terminal(),
+        // Each search that begins anew tells of its first turn, which is too much for who didn't ask.
+        has_reader: false,
     };
     let status = program(
         alloc,
