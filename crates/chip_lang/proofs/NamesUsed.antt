@@ -1,5 +1,5 @@
 -- The names of expressions and of their items.
-use Rattle.std.proofs.Common.{◌≡◌, ℕ, zero, suc, ◌+◌, ◌<◌, None, List, [], ◌∷◌, ◌++◌, drop, length, refl, sym, ap, ◌∙◌, arith, append_assoc, append-nil}
+use Rattle.std.proofs.Common.{◌≡◌, ℕ, zero, suc, List, [], ◌∷◌, ◌++◌, drop, refl, sym, ap, ◌∙◌, append_assoc, append-nil}
 use Rattle.std.specs.List.{slice_get, fold, flat_map}
 use Rattle.std.proofs.lemmas.List.Concat.{flat_map-cons}
 use Rattle.chip_lang.specs.declared.postfix.Item.{Item}
@@ -48,11 +48,5 @@ slice_get-drop [] zero = refl
 slice_get-drop [] (suc k) = refl
 slice_get-drop (x ∷ xs) zero = refl
 slice_get-drop (x ∷ xs) (suc k) = slice_get-drop xs k
-
-pub slice_get-after_end : {A : Type 0} (xs : List A) (k n : ℕ) → k < n → slice_get xs k ≡ None → slice_get xs n ≡ None
-slice_get-after_end [] k n l h = refl
-slice_get-after_end (x ∷ xs) zero n l h = cc
-slice_get-after_end (x ∷ xs) (suc k) zero l h = absurd (omega arith)
-slice_get-after_end (x ∷ xs) (suc k) (suc n) l h = slice_get-after_end xs k n (omega arith) h
 
 pub ruleset names_left = (flat_map-cons, slice_get-drop)

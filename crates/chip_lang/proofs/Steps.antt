@@ -8,8 +8,10 @@ use Rattle.chip_lang.specs.declared.expr.Prefix.{Prefix}
 use Rattle.chip_lang.specs.Tree.{Tree, name, unary, binary}
 use Rattle.chip_lang.specs.Grammar.{operator_of, level_of}
 use Rattle.chip_lang.specs.Reserved.{is_reserved}
-use Rattle.std.proofs.Common.{take, drop, option_map}
-use Rattle.chip_lang.specs.inner.Atom.{atom_of}
+use Rattle.std.proofs.Common.{take, drop, Result, Ok, Err}
+use Rattle.std.specs.Borrow.{Bor}
+use Rattle.std.specs.Result.{IfOk}
+use Rattle.chip_lang.specs.inner.Seen.{seen}
 use Rattle.chip_lang.proofs.Scan.{to_end}
 use Rattle.chip_lang.specs.computed.Parse.{Parsed, level_or_8, front_level, if_level, front_prefix, front_operator, after, below, on_found, closed, prefixed, with_right, parse, further}
 
@@ -37,26 +39,6 @@ prefixed_step (suc n) ts y q front found = found n (omega arith) ∙ ap (λ o. p
 
 same_level : (a b : ℕ) → (a == b) ≡ true → a ≡ b
 same_level a b h = grind (arith, nat_tests)
-
--- one token
-pub atom_step : (n : ℕ) (t : Lexeme) (ts : List Lexeme) → 0 < n → (t ≡ Sign 40 → ⊥) →
-    option_map (λ e. (e, ts)) (atom_of t) ≡ parse n 0 (t ∷ ts)
-atom_step zero t ts q other = absurd (omega arith)
-atom_step (suc n) (Word w) ts q other = by (is_reserved w)
-  where
-    by : (b : Bool) → option_map (λ e. (e, ts)) (if b then None else Some (name w)) ≡ (if b then None else Some (name w, ts))
-    by true = refl
-    by false = refl
-atom_step (suc n) (Number z) ts q other = refl
-atom_step (suc n) (Text []) ts q other = refl
-atom_step (suc n) (Text (b ∷ [])) ts q other = refl
-atom_step (suc n) (Text (b ∷ c ∷ bs)) ts q other = refl
-atom_step (suc n) (Sign c) ts q other = by (c == 40) refl
-  where
-    by : (b : Bool) → (c == 40) ≡ b → None ≡ (if c == 40 then on_found (parse n 7 ts) closed else None)
-    by true e = absurd (other (ap Sign (same_level c 40 e)))
-    by false e = rw e refl
-atom_step (suc n) (Bad f) ts q other = refl
 
 -- parentheses
 pub parentheses_step : (n c : ℕ) (ts : List Lexeme) (p : Parsed) → c ≡ 40 → 9 * suc (length ts) < n →
@@ -152,10 +134,11 @@ sunk (suc d) k level ts is low none n b =
 
 -- ---- the same, of what a function answers
 
-pub atom_at : (n : ℕ) (t : Lexeme) (ts rest : List Lexeme) (found : Option Tree) → ts ≡ t ∷ rest → (t ≡ Sign 40 → ⊥) → 9 * length ts < n →
-    found ≡ atom_of t → option_map (λ e. (e, rest)) found ≡ parse n 0 ts
-atom_at n t ts rest found is other b h =
-    ap (option_map (λ e. (e, rest))) h ∙ atom_step n t rest (omega arith) other ∙ ap (parse n 0) (sym is)
+pub plain_ok : {E : Type 0} (e : Tree) (r : Result (Option (Bor (List Lexeme))) E) (ts : List Lexeme) → None ≡ front_prefix ts →
+    IfOk r (λ found. (n : ℕ) → 9 * length ts < n → seen e found ≡ parse n 0 ts) →
+    IfOk r (λ found. (n : ℕ) → 9 * length ts + 1 < n → seen e found ≡ parse n 1 ts)
+plain_ok e (Err x) ts front found = tt
+plain_ok e (Ok y) ts front found = λ n b. prefixed_step n ts (seen e y) b front found
 
 pub parentheses_at : (n c : ℕ) (ts rest : List Lexeme) (p : Parsed) → ts ≡ Sign c ∷ rest → c ≡ 40 → 9 * length ts < n →
     ((m : ℕ) → 9 * length rest + 7 < m → p ≡ parse m 7 rest) → on_found p closed ≡ parse n 0 ts
@@ -207,21 +190,6 @@ leads_nowhere level k first left sign ts rest next leads is high same l front fo
 pub leads_end : (level : ℕ) (first left : Tree) (ts rest : List Lexeme) → Leads level first ts left rest → None ≡ front_operator rest level →
     (n : ℕ) → 9 * length ts + 8 < n → Some (left, rest) ≡ further n level first ts
 leads_end level first left ts rest leads front = leads (Some (left, rest)) (λ m b. further_end m level left rest (omega arith) front)
-
--- ---- signs before an operand
-
-sign_step : (n : ℕ) (sign : Prefix) (ts : List Lexeme) (y : Parsed) → 0 < length ts → 9 * length ts + 1 < n → Some sign ≡ front_prefix ts →
-    ((m : ℕ) → 9 * length (after ts) + 1 < m → y ≡ parse m 1 (after ts)) → on_found y (λ e rest. Some (unary sign e, rest)) ≡ parse n 1 ts
-sign_step zero sign ts y l b front found = absurd (omega arith)
-sign_step (suc n) sign [] y l b front found = absurd (omega arith)
-sign_step (suc n) sign (t ∷ ts) y l b front found =
-    ap (λ p. on_found p (λ e rest. Some (unary sign e, rest))) (found n (omega arith))
-    ∙ ap (λ o. prefixed (parse n 1) (parse n 0) o (t ∷ ts)) front
-
-pub sign_at : (sign : Prefix) (ts next : List Lexeme) (y : Parsed) → next ≡ after ts → 0 < length ts → Some sign ≡ front_prefix ts →
-    ((m : ℕ) → 9 * length next + 1 < m → y ≡ parse m 1 next) → (n : ℕ) → 9 * length ts + 1 < n → on_found y (λ e rest. Some (unary sign e, rest)) ≡ parse n 1 ts
-sign_at sign ts next y is l front found n b =
-    sign_step n sign ts y l b front (λ m q. found m (rw is q) ∙ ap (parse m 1) is)
 
 pub after_shorter : (ts : List Lexeme) → length (after ts) ≤ length ts
 after_shorter [] = omega arith
