@@ -17,7 +17,7 @@ use Rattle.chip_lang.specs.Table.{Row}
 use Rattle.chip_lang.specs.Form.{form_of}
 use Rattle.chip_lang.specs.Statement.{DecodesTo}
 use Rattle.chip_lang.specs.Keyword.{directive_of, special_of, register_of}
-use Rattle.chip_lang.specs.Line.{lexemes_of, Shape, definition, statement, shape_of, names_of, Body, org, ds, db, dw, da, equ, code, align, ifdef, ifund, define, else_line, endif, end_line, pieces, all_some, named, is_at_index, part_of_machine, or_expression, operand_of_tokens, operands_of, values_of, one_text, one_name, one_switch, nothing, directive_body, takes_label, word_body, statement_body, Reading, bad, read, reading_of, body_of_shape, fault_or_body, first_fault, faults_in_order, first_name}
+use Rattle.chip_lang.specs.Line.{lexemes_of, Shape, definition, statement, shape_of, names_of, Body, org, ds, db, dw, da, equ, code, align, ifdef, ifund, define, else_line, endif, end_line, pieces, all_some, named, is_at_index, part_of_machine, or_expression, operand_of_tokens, operands_of, listed_values, one_text, one_name, one_switch, nothing, directive_body, takes_label, word_body, statement_body, Reading, bad, read, reading_of, body_of_shape, fault_or_body, first_that_holds, faults_in_order, first_name}
 use Rattle.chip_lang.specs.Operand.{Operand, special, is_of_machine}
 use Rattle.chip_lang.specs.computed.Parse.{expression_of}
 use Rattle.chip_lang.specs.Tree.{Tree}
@@ -124,8 +124,8 @@ directive_formed : (d : Directive) (ts : List Lexeme) → FormedIfSome (directiv
 directive_formed Equ ts = tt
 directive_formed Org ts = mapped_formed (expression_of ts) org (λ e. tt)
 directive_formed Ds ts = mapped_formed (expression_of ts) ds (λ e. tt)
-directive_formed Db ts = mapped_formed (values_of ts) db (λ es. tt)
-directive_formed Dw ts = mapped_formed (values_of ts) dw (λ es. tt)
+directive_formed Db ts = mapped_formed (listed_values ts) db (λ es. tt)
+directive_formed Dw ts = mapped_formed (listed_values ts) dw (λ es. tt)
 directive_formed Da ts = mapped_formed (one_text ts) da (λ b. tt)
 directive_formed Align ts = mapped_formed (one_switch ts) align (λ b. tt)
 directive_formed Ifdef ts = mapped_formed (one_name ts) ifdef (λ n. tt)
@@ -183,7 +183,7 @@ unfolding reading_of
 formed_line line =
     let ts = lexemes_of line in
     let shape = shape_of ts in
-    read_formed (first_fault (faults_in_order ts shape)) (first_name (names_of shape)) (body_of_shape shape) (shape_formed shape)
+    read_formed (first_that_holds (faults_in_order ts shape)) (first_name (names_of shape)) (body_of_shape shape) (shape_formed shape)
 
 pub said_line : (line : List ℕ) (label : Option (List ℕ)) (form : Row) (operands : List Operand) (symbols : Symbols) (w : ℕ) → reading_of line ≡ read label (code form operands) →
     word_of_form form operands symbols ≡ Ok w → form.name ≢ codes "SYS" → DecodesTo form w

@@ -20,7 +20,7 @@ use Rattle.chip_lang.specs.Table.{Row}
 use Rattle.chip_lang.specs.Form.{form_of}
 use Rattle.chip_lang.specs.Grammar.{Parses, a_number, a_name, a_text, in_parentheses, with_prefix, with_operator, stronger}
 use Rattle.chip_lang.specs.computed.Parse.{expression_of}
-use Rattle.chip_lang.specs.Line.{lexeme_of, lexemes_of, is_sign_of, is_equ, Shape, definition, statement, after_label, after_word, shape_of, names_of, Body, org, ds, db, dw, da, equ, align, ifdef, ifund, define, else_line, endif, end_line, pieces, all_some, named, is_at_index, part_of_machine, or_expression, operand_of_tokens, operands_of, values_of, one_text, one_name, one_switch, nothing, directive_body, takes_label, word_body, statement_body, Reading, reading_of_tokens, reading_of, body_of_shape, fault_or_body, first_fault, faults_in_order, first_name, code}
+use Rattle.chip_lang.specs.Line.{lexeme_of, lexemes_of, is_sign_of, is_equ, Shape, definition, statement, after_label, after_word, shape_of, names_of, Body, org, ds, db, dw, da, equ, align, ifdef, ifund, define, else_line, endif, end_line, pieces, all_some, named, is_at_index, part_of_machine, or_expression, operand_of_tokens, operands_of, listed_values, one_text, one_name, one_switch, nothing, directive_body, takes_label, word_body, statement_body, Reading, reading_of_tokens, reading_of, body_of_shape, fault_or_body, first_that_holds, faults_in_order, first_name, code}
 use Rattle.chip_lang.specs.Uses.{names_in, names_in_operand, names_in_body, names_used}
 use Rattle.chip_lang.proofs.Sound.{only_expressions}
 
@@ -133,7 +133,7 @@ operands_few : (ts : List Lexeme) → FewIn (flat_map names_in_operand) (suc (le
 operands_few [] = omega arith
 operands_few (t ∷ ts) = pieces_few names_in_operand operand_of_tokens operand_few (t ∷ ts)
 
-values_few : (ts : List Lexeme) → FewIn (flat_map names_in) (suc (length ts)) (values_of ts)
+values_few : (ts : List Lexeme) → FewIn (flat_map names_in) (suc (length ts)) (listed_values ts)
 values_few ts = pieces_few names_in expression_of expression_few ts
 
 -- ---- statements
@@ -159,8 +159,8 @@ directive_few : (d : Directive) (ts : List Lexeme) → Few (suc (length ts)) (di
 directive_few Equ ts = tt
 directive_few Org ts = mapped_few names_in (suc (length ts)) (expression_of ts) org (λ e. refl) (expression_few ts)
 directive_few Ds ts = mapped_few names_in (suc (length ts)) (expression_of ts) ds (λ e. refl) (expression_few ts)
-directive_few Db ts = mapped_few (flat_map names_in) (suc (length ts)) (values_of ts) db (λ es. refl) (values_few ts)
-directive_few Dw ts = mapped_few (flat_map names_in) (suc (length ts)) (values_of ts) dw (λ es. refl) (values_few ts)
+directive_few Db ts = mapped_few (flat_map names_in) (suc (length ts)) (listed_values ts) db (λ es. refl) (values_few ts)
+directive_few Dw ts = mapped_few (flat_map names_in) (suc (length ts)) (listed_values ts) dw (λ es. refl) (values_few ts)
 directive_few Da ts = mapped_none (suc (length ts)) (one_text ts) da (λ b. refl)
 directive_few Align ts = mapped_none (suc (length ts)) (one_switch ts) align (λ b. refl)
 directive_few Ifdef ts = mapped_none (suc (length ts)) (one_name ts) ifdef (λ n. refl)
@@ -241,7 +241,7 @@ read_few room None name (Some body) h = h
 tokens_used_few : (ts : List Lexeme) → 2 * length (names_used (reading_of_tokens ts)) ≤ length ts
 tokens_used_few ts =
     let shape = shape_of ts in
-    read_few (length ts) (first_fault (faults_in_order ts shape)) (first_name (names_of shape)) (body_of_shape shape) (shape_few ts)
+    read_few (length ts) (first_that_holds (faults_in_order ts shape)) (first_name (names_of shape)) (body_of_shape shape) (shape_few ts)
 
 pub names_bound : (line : List ℕ) → 2 * length (names_used (reading_of line)) ≤ length line
 unfolding reading_of

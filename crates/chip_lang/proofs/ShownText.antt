@@ -10,7 +10,7 @@ use Rattle.chip_lang.specs.declared.form.Pattern.{Pattern}
 use Rattle.chip_lang.specs.declared.form.Pattern.TheVariants.{Vx, Vy, Nibble, Byte, Address}
 use Rattle.chip_lang.specs.Table.{Entry, table}
 use Rattle.chip_lang.specs.Decoding.{field_in, gives, entry_of}
-use Rattle.chip_lang.specs.Show.{hex_digit, hex_byte, hex_address, hex_word, small_decimal, register_text, operand_text, operands_text, form_text, show_of}
+use Rattle.chip_lang.specs.Show.{hex_digit, two_hex_digits, three_hex_digits, four_hex_digits, small_decimal, register_text, operand_text, operands_text, form_text, show_of}
 use Rattle.chip_lang.proofs.OwnDigits.{found_same}
 
 abbrev is_plain : List ℕ → Bool
@@ -36,14 +36,14 @@ plain_if false xs ys p q = q
 with_digit : (d : ℕ) (bs : List ℕ) → d < 16 → IsAscii bs → IsAscii (hex_digit d ∷ bs)
 with_digit d bs h rest = IsAscii-cons (hex_digit d) bs (small_if (ltb d 10) (48 + d) (87 + d) (omega arith) (omega arith)) rest
 
-byte_is : (n : ℕ) → IsAscii (hex_byte n)
+byte_is : (n : ℕ) → IsAscii (two_hex_digits n)
 byte_is n = with_digit (n / 16 % 16) (hex_digit (n % 16) ∷ []) (omega arith) (with_digit (n % 16) [] (omega arith) IsAscii-nil)
 
-address_is : (n : ℕ) → IsAscii (hex_address n)
-address_is n = with_digit (n / 256 % 16) (hex_byte n) (omega arith) (byte_is n)
+address_is : (n : ℕ) → IsAscii (three_hex_digits n)
+address_is n = with_digit (n / 256 % 16) (two_hex_digits n) (omega arith) (byte_is n)
 
-data_is : (n : ℕ) → IsAscii (codes "DW #" ++ hex_word n)
-data_is n = IsAscii-append (codes "DW #") (hex_word n) (plain (codes "DW #") refl) (with_digit (n / 4096 % 16) (hex_address n) (omega arith) (address_is n))
+data_is : (n : ℕ) → IsAscii (codes "DW #" ++ four_hex_digits n)
+data_is n = IsAscii-append (codes "DW #") (four_hex_digits n) (plain (codes "DW #") refl) (with_digit (n / 4096 % 16) (three_hex_digits n) (omega arith) (address_is n))
 
 register_is : (x : ℕ) → x < 16 → IsAscii (register_text x)
 register_is x h =
@@ -59,8 +59,8 @@ operand_is : (p : Pattern) (w : ℕ) → IsAscii (operand_text p w)
 operand_is Vx w = register_is (field_in Vx w) (omega arith)
 operand_is Vy w = register_is (field_in Vy w) (omega arith)
 operand_is Nibble w = decimal_is (field_in Nibble w) (omega arith)
-operand_is Byte w = IsAscii-cons 35 (hex_byte (field_in Byte w)) (omega arith) (byte_is (field_in Byte w))
-operand_is Address w = IsAscii-cons 35 (hex_address (field_in Address w)) (omega arith) (address_is (field_in Address w))
+operand_is Byte w = IsAscii-cons 35 (two_hex_digits (field_in Byte w)) (omega arith) (byte_is (field_in Byte w))
+operand_is Address w = IsAscii-cons 35 (three_hex_digits (field_in Address w)) (omega arith) (address_is (field_in Address w))
 operand_is p w = plain (operand_text p w) refl
 
 operands_are : (before : List ℕ) (ps : List Pattern) (w : ℕ) → is_plain before ≡ true → IsAscii (operands_text before ps w)

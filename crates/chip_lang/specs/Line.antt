@@ -199,8 +199,8 @@ abbrev pub operands_of : List Lexeme → Option (List Operand)
 operands_of [] = Some []
 operands_of (t ∷ ts) = all_some (map operand_of_tokens (pieces (t ∷ ts)))
 
-abbrev pub values_of : List Lexeme → Option (List Tree)
-values_of ts = all_some (map expression_of (pieces ts))
+abbrev pub listed_values : List Lexeme → Option (List Tree)
+listed_values ts = all_some (map expression_of (pieces ts))
 
 abbrev pub one_text : List Lexeme → Option (List ℕ)
 one_text (Text bytes ∷ []) = Some bytes
@@ -232,8 +232,8 @@ abbrev pub directive_body : Directive → List Lexeme → Option Body
 directive_body Equ ts = None
 directive_body Org ts = option_map org (expression_of ts)
 directive_body Ds ts = option_map ds (expression_of ts)
-directive_body Db ts = option_map db (values_of ts)
-directive_body Dw ts = option_map dw (values_of ts)
+directive_body Db ts = option_map db (listed_values ts)
+directive_body Dw ts = option_map dw (listed_values ts)
 directive_body Da ts = option_map da (one_text ts)
 directive_body Align ts = option_map align (one_switch ts)
 directive_body Ifdef ts = option_map ifdef (one_name ts)
@@ -340,10 +340,10 @@ faults_in_order ts shape =
     ∷ []
 
 -- the first of these that holds
-abbrev pub first_fault : List (Option Fault) → Option Fault
-first_fault [] = None
-first_fault (None ∷ faults) = first_fault faults
-first_fault (Some fault ∷ faults) = Some fault
+abbrev pub first_that_holds : List (Option Fault) → Option Fault
+first_that_holds [] = None
+first_that_holds (None ∷ faults) = first_that_holds faults
+first_that_holds (Some fault ∷ faults) = Some fault
 
 -- what a line says: the name that it gives a value, and its statement; or its first fault
 pub data Reading : Type 0 where
@@ -362,7 +362,7 @@ fault_or_body None name None = bad WrongOperands
 
 abbrev pub reading_of_shape : List Lexeme → Shape → Reading
 reading_of_shape ts shape =
-    fault_or_body (first_fault (faults_in_order ts shape)) (first_name (names_of shape))
+    fault_or_body (first_that_holds (faults_in_order ts shape)) (first_name (names_of shape))
     (body_of_shape shape)
 
 abbrev pub reading_of_tokens : List Lexeme → Reading

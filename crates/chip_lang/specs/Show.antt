@@ -16,14 +16,14 @@ abbrev pub hex_digit : ℕ → ℕ
 hex_digit d = if nat_lt d 10 then 48 + d else 87 + d
 
 -- the last two, three and four digits to the base 16
-abbrev pub hex_byte : ℕ → List ℕ
-hex_byte n = hex_digit (n / 16 % 16) ∷ hex_digit (n % 16) ∷ []
+abbrev pub two_hex_digits : ℕ → List ℕ
+two_hex_digits n = hex_digit (n / 16 % 16) ∷ hex_digit (n % 16) ∷ []
 
-abbrev pub hex_address : ℕ → List ℕ
-hex_address n = hex_digit (n / 256 % 16) ∷ hex_byte n
+abbrev pub three_hex_digits : ℕ → List ℕ
+three_hex_digits n = hex_digit (n / 256 % 16) ∷ two_hex_digits n
 
-abbrev pub hex_word : ℕ → List ℕ
-hex_word n = hex_digit (n / 4096 % 16) ∷ hex_address n
+abbrev pub four_hex_digits : ℕ → List ℕ
+four_hex_digits n = hex_digit (n / 4096 % 16) ∷ three_hex_digits n
 
 -- a number below 16, in decimal
 abbrev pub small_decimal : ℕ → List ℕ
@@ -73,8 +73,8 @@ operand_text Decimal w = codes "B"
 operand_text Flags w = codes "R"
 operand_text AtIndex w = codes "[I]"
 operand_text Nibble w = small_decimal (field_in Nibble w)
-operand_text Byte w = codes "#" ++ hex_byte (field_in Byte w)
-operand_text Address w = codes "#" ++ hex_address (field_in Address w)
+operand_text Byte w = codes "#" ++ two_hex_digits (field_in Byte w)
+operand_text Address w = codes "#" ++ three_hex_digits (field_in Address w)
 
 -- operands, a comma and a space before each, but what is given before the first
 abbrev pub operands_text : List ℕ → List Pattern → ℕ → List ℕ
@@ -82,7 +82,7 @@ operands_text before [] w = []
 operands_text before (p ∷ ps) w = before ++ operand_text p w ++ operands_text (codes ", ") ps w
 
 abbrev pub form_text : Option Row → ℕ → List ℕ
-form_text None w = codes "DW #" ++ hex_word w
+form_text None w = codes "DW #" ++ four_hex_digits w
 form_text (Some r) w = r.name ++ operands_text (codes " ") r.patterns w
 
 -- the source text of a word

@@ -2,7 +2,7 @@
 
 ghost use Rattle.std.specs.Prelude.{◌≡◌, ◌≤◌, ◌*◌, IfOk, length, map, [], None, true, false};
 ghost use Rattle.std.specs.Option.{option_copied};
-ghost use Rattle.chip_lang.specs.Line.{bad_token, too_deep, front_directive, statement_of, begins_with_no_word, begins_with_unknown_word, faults_in_order, first_fault, lexemes_of, reading_of_tokens, reading_of, empty, read, shows_nothing};
+ghost use Rattle.chip_lang.specs.Line.{bad_token, too_deep, front_directive, statement_of, begins_with_no_word, begins_with_unknown_word, faults_in_order, first_that_holds, lexemes_of, reading_of_tokens, reading_of, empty, read, shows_nothing};
 ghost use Rattle.chip_lang.specs.Form.{row_of_form};
 ghost use Rattle.chip_lang.specs.SeenLine.{seen_line};
 ghost use Rattle.chip_lang.specs.inner.NamedForms.{front_forms};
@@ -179,7 +179,7 @@ fn first_fault(
     requires front { front ≡ front_directive (statement_of (seen_shape shape.now)) }
     requires forms { map row_of_form forms.now
         ≡ front_forms front (statement_of (seen_shape shape.now)) }
-    ensures { result ≡ first_fault (faults_in_order tokens.now (seen_shape shape.now)) }
+    ensures { result ≡ first_that_holds (faults_in_order tokens.now (seen_shape shape.now)) }
 {
     if let Some(fault) = bad_token(tokens) {
         return Some(fault);

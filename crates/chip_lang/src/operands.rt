@@ -3,7 +3,7 @@
 ghost use Rattle.std.specs.Prelude.{◌≡◌, ◌<◌, ◌≤◌, ◌∷◌, ◌&&◌, IfOk, length, map, not, option_map};
 ghost use Rattle.std.specs.List.{prefix_len};
 ghost use Rattle.std.specs.Option.{option_copied};
-ghost use Rattle.chip_lang.specs.Line.{is_sign_of, is_at_index, pieces, pieces_in, named, part_of_machine, operand_of_tokens, operands_of, values_of};
+ghost use Rattle.chip_lang.specs.Line.{is_sign_of, is_at_index, pieces, pieces_in, named, part_of_machine, operand_of_tokens, operands_of, listed_values};
 ghost use Rattle.chip_lang.specs.Keyword.{register_of, special_of};
 ghost use Rattle.chip_lang.specs.Operand.{operand_of};
 ghost use Rattle.chip_lang.specs.Tree.{tree_of};
@@ -53,7 +53,7 @@ pub(crate) fn first_piece(tokens: &[Lexeme]) -> (&[Lexeme], Option<&[Lexeme]>)
 #[tactic(auto, using(crate::proofs::Pieces::value_steps))]
 pub(crate) fn values_of(alloc: Global, tokens: &[Lexeme]) -> Result<Option<Vec<Expr>>, AllocError>
     ensures { IfOk result (λ found. option_map (λ values. map tree_of values.items) found
-        ≡ values_of tokens.now) }
+        ≡ listed_values tokens.now) }
 {
     let mut values = Vec::new(alloc);
     let mut rest = Some(tokens);

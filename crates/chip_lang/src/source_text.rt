@@ -4,7 +4,7 @@ ghost use Rattle.std.specs.Prelude.{◌≡◌, ◌∷◌, ◌++◌, ◌/◌, ◌
 ghost use Rattle.std.specs.List.{filter, find};
 ghost use Rattle.chip_lang.specs.Decoding.{field_in, part_in, parts_in, gives};
 ghost use Rattle.chip_lang.specs.Form.{row_of_form, option_row};
-ghost use Rattle.chip_lang.specs.Show.{hex_digit, hex_byte, hex_address, hex_word, small_decimal, register_text, form_shown, operand_text, operands_text, show_of};
+ghost use Rattle.chip_lang.specs.Show.{hex_digit, two_hex_digits, three_hex_digits, four_hex_digits, small_decimal, register_text, form_shown, operand_text, operands_text, show_of};
 ghost use Rattle.chip_lang.specs.Table.{table};
 
 use crate::form::{FORMS, Form, Pattern};
@@ -207,14 +207,14 @@ fn hex_digit(digit: u16) -> u8
 
 /// `#kk`.
 fn byte_text(byte: u16) -> [u8; 3]
-    ensures { result ≡ codes "#" ++ hex_byte byte }
+    ensures { result ≡ codes "#" ++ two_hex_digits byte }
 {
     [b'#', hex_digit(byte / 16 % 16), hex_digit(byte % 16)]
 }
 
 /// `#nnn`.
 fn address_text(address: u16) -> [u8; 4]
-    ensures { result ≡ codes "#" ++ hex_address address }
+    ensures { result ≡ codes "#" ++ three_hex_digits address }
 {
     let [_, y, n] = byte_text(address);
     [b'#', hex_digit(address / 256 % 16), y, n]
@@ -222,7 +222,7 @@ fn address_text(address: u16) -> [u8; 4]
 
 /// `DW #wwww`.
 fn data_text(word: u16) -> [u8; 8]
-    ensures { result ≡ codes "DW #" ++ hex_word word }
+    ensures { result ≡ codes "DW #" ++ four_hex_digits word }
 {
     let [_, x, y, n] = address_text(word);
     [b'D', b'W', b' ', b'#', hex_digit(word / 4096 % 16), x, y, n]

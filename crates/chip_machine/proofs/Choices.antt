@@ -11,36 +11,36 @@ use Rattle.chip_machine.specs.declared.stop.Stop.{Stop}
 use Rattle.chip_machine.specs.declared.stop.Stop.TheVariants as cause
 use Rattle.chip_machine.specs.Profile.{quirks}
 use Rattle.chip_machine.specs.State.{Core, State}
-use Rattle.chip_machine.specs.Step.{Effect, Stops, Changes, Keyed, Loads, Stores, effect, effect_at, effect_of_word, is_down, perform, reg, settle, skip_if, step_of, super_only, take_key}
+use Rattle.chip_machine.specs.Step.{Effect, Stops, Changes, Keyed, Loads, Stores, effect, effect_at, effect_of_word, is_key_down, perform, reg, settle, skip_if, step_of, super_only, take_key}
 use Rattle.chip_machine.specs.Choices.{IsWithin, IsChoice, Represents}
 use Rattle.chip_machine.specs.inner.KeyRows.{choices_of}
 
 -- bits
-down_alone : (k : ℕ) → is_down (2 ^ k) k ≡ true
+down_alone : (k : ℕ) → is_key_down (2 ^ k) k ≡ true
 down_alone k = eq-eqb _ _ (bit_at-pow_same k)
 
-up_alone : (k i : ℕ) → i ≢ k → is_down (2 ^ k) i ≡ false
+up_alone : (k i : ℕ) → i ≢ k → is_key_down (2 ^ k) i ≡ false
 up_alone k i ne = ap (λ b. b == 1) (bit_at-pow_other k i ne)
 
-up_none : (i : ℕ) → is_down 0 i ≡ false
+up_none : (i : ℕ) → is_key_down 0 i ≡ false
 up_none i = ap (λ b. b == 1) (bit_at-zero i)
 
-both_down : (a b i : ℕ) → is_down (bit_and a b) i ≡ true → (is_down a i ≡ true) × (is_down b i ≡ true)
+both_down : (a b i : ℕ) → is_key_down (bit_and a b) i ≡ true → (is_key_down a i ≡ true) × (is_key_down b i ≡ true)
 both_down a b i h =
     let set : min (bit_at a i) (bit_at b i) ≡ 1 = sym (bit_at_and a b i) ∙ eqb-true _ _ h in
     let one : bit_at a i ≡ 1 = omega (arith, bit_at-lt a i, bit_at-lt b i) in
     let other : bit_at b i ≡ 1 = omega (arith, bit_at-lt a i, bit_at-lt b i) in
     (eq-eqb _ _ one, eq-eqb _ _ other)
 
-and_down : (a b i : ℕ) → is_down a i ≡ true → is_down b i ≡ true → is_down (bit_and a b) i ≡ true
+and_down : (a b i : ℕ) → is_key_down a i ≡ true → is_key_down b i ≡ true → is_key_down (bit_and a b) i ≡ true
 and_down a b i h k =
     let one : bit_at a i ≡ 1 = eqb-true _ _ h in
     let other : bit_at b i ≡ 1 = eqb-true _ _ k in
     let set : min (bit_at a i) (bit_at b i) ≡ 1 = omega arith in
     eq-eqb _ _ (bit_at_and a b i ∙ set)
 
-allowed_down : (allowed keys i : ℕ) → IsWithin allowed keys → is_down keys i ≡ true → is_down allowed i ≡ true
-allowed_down allowed keys i within h = (both_down keys allowed i (ap (λ m. is_down m i) within ∙ h)).1
+allowed_down : (allowed keys i : ℕ) → IsWithin allowed keys → is_key_down keys i ≡ true → is_key_down allowed i ≡ true
+allowed_down allowed keys i within h = (both_down keys allowed i (ap (λ m. is_key_down m i) within ∙ h)).1
 
 -- the first key of a list that is down
 found_true : (b : Bool) (p : ℕ → Bool) (x : ℕ) (l : List ℕ) (k : ℕ) → ((h : find p l ≡ Some k) → p k ≡ true) → p x ≡ b → (if b then Some x else find p l) ≡ Some k → p k ≡ true
@@ -75,8 +75,8 @@ abbrev IsOneOf : ℕ → ℕ → (ℕ → Core) → Type 0
 IsOneOf allowed some core_by =
     (keys : ℕ) → IsWithin allowed keys → (one : ℕ) × IsChoice some one × (core_by keys ≡ core_by one)
 
-skip_by : (allowed k : ℕ) (f : Bool → Core) (keys : ℕ) → IsWithin allowed keys → (b : Bool) → is_down keys k ≡ b
-    → (one : ℕ) × IsChoice (bit_and allowed (2 ^ k)) one × (f (is_down keys k) ≡ f (is_down one k))
+skip_by : (allowed k : ℕ) (f : Bool → Core) (keys : ℕ) → IsWithin allowed keys → (b : Bool) → is_key_down keys k ≡ b
+    → (one : ℕ) × IsChoice (bit_and allowed (2 ^ k)) one × (f (is_key_down keys k) ≡ f (is_key_down one k))
 skip_by allowed k f keys within true e = (
   2 ^ k,
   inr (k, and_down allowed (2 ^ k) k (allowed_down allowed keys k within e) (down_alone k), refl),
@@ -84,20 +84,20 @@ skip_by allowed k f keys within true e = (
 )
 skip_by allowed k f keys within false e = (0, inl refl, ap f (e ∙ sym (up_none k)))
 
-skip_represents : (allowed k : ℕ) (f : Bool → Core) → IsOneOf allowed (bit_and allowed (2 ^ k)) (λ keys. f (is_down keys k))
-skip_represents allowed k f keys within = skip_by allowed k f keys within (is_down keys k) refl
+skip_represents : (allowed k : ℕ) (f : Bool → Core) → IsOneOf allowed (bit_and allowed (2 ^ k)) (λ keys. f (is_key_down keys k))
+skip_represents allowed k f keys within = skip_by allowed k f keys within (is_key_down keys k) refl
 
-wait_by : (allowed : ℕ) (l : List ℕ) (f : Option ℕ → Core) (keys : ℕ) → IsWithin allowed keys → (key : Option ℕ) → find (is_down keys) l ≡ key
-    → (one : ℕ) × IsChoice allowed one × (f (find (is_down keys) l) ≡ f (find (is_down one) l))
-wait_by allowed l f keys within None e = (0, inl refl, ap f (e ∙ sym (find_none (is_down 0) l up_none)))
+wait_by : (allowed : ℕ) (l : List ℕ) (f : Option ℕ → Core) (keys : ℕ) → IsWithin allowed keys → (key : Option ℕ) → find (is_key_down keys) l ≡ key
+    → (one : ℕ) × IsChoice allowed one × (f (find (is_key_down keys) l) ≡ f (find (is_key_down one) l))
+wait_by allowed l f keys within None e = (0, inl refl, ap f (e ∙ sym (find_none (is_key_down 0) l up_none)))
 wait_by allowed l f keys within (Some k) e = (
   2 ^ k,
-  inr (k, allowed_down allowed keys k within (find_true (is_down keys) l k e), refl),
-  ap f (e ∙ sym (find_alone (is_down keys) (is_down (2 ^ k)) l k (down_alone k) (up_alone k) e)),
+  inr (k, allowed_down allowed keys k within (find_true (is_key_down keys) l k e), refl),
+  ap f (e ∙ sym (find_alone (is_key_down keys) (is_key_down (2 ^ k)) l k (down_alone k) (up_alone k) e)),
 )
 
-wait_represents : (allowed : ℕ) (l : List ℕ) (f : Option ℕ → Core) → IsOneOf allowed allowed (λ keys. f (find (is_down keys) l))
-wait_represents allowed l f keys within = wait_by allowed l f keys within (find (is_down keys) l) refl
+wait_represents : (allowed : ℕ) (l : List ℕ) (f : Option ℕ → Core) → IsOneOf allowed allowed (λ keys. f (find (is_key_down keys) l))
+wait_represents allowed l f keys within = wait_by allowed l f keys within (find (is_key_down keys) l) refl
 
 -- likewise an effect
 abbrev Acts : ℕ → ℕ → Effect → Type 0

@@ -22,7 +22,7 @@ use Rattle.chip_machine.specs.Relevant.{Alike, AlikeSteps, DrawsGrow, QuietTick,
 use Rattle.chip_machine.specs.Scroll.{scrolled_down, scrolled_right, scrolled_left}
 use Rattle.chip_machine.specs.Sprite.{covered, sprite_bytes}
 use Rattle.chip_machine.specs.State.{Core, State, IsProper, overwrite}
-use Rattle.chip_machine.specs.Step.{Effect, Stops, Changes, Keyed, Loads, Stores, bit_of, call, decimal_digits, effect, effect_at, effect_of_word, go_to, is_down, is_past, load_flags, next, perform, reg, return, settle, skip_if, step_of, store_flags, super_only, take_key, ticked, with_flag, with_index, with_lit, with_reg, with_size, with_sprite, word_at}
+use Rattle.chip_machine.specs.Step.{Effect, Stops, Changes, Keyed, Loads, Stores, bit_of, call, decimal_digits, effect, effect_at, effect_of_word, go_to, is_key_down, is_past, load_flags, next, perform, reg, return, settle, skip_if, step_of, store_flags, super_only, take_key, ticked, with_flag, with_index, with_lit, with_reg, with_size, with_sprite, word_at}
 use Rattle.chip_machine.specs.inner.FrameTheorem.{step_keeps_proper}
 use Rattle.chip_machine.proofs.Agree.{Agree, both, first_known, first_off, in_row, known_at, less, load, none_known, off_by, put, reindex, relight, unset}
 
@@ -229,10 +229,10 @@ module _ (before : ℕ) (after : ℕ → Bool) (keys to : ℕ) (c : Core) (r : L
   row_like (row.JumpOffset address) u h g = (ap (λ (n : ℕ). others (go_to (address + n) c)) (value _ u), keep h, steady)
   row_like (row.Random x byte) u h g = (refl, set_one x _ _ (ap (λ (place : ℕ). bit_and (slice_index c.tape place) byte) same) h, (more, omega arith))
   row_like (row.Draw x y n) u h g = draw_like _ x y n u h
-  row_like (row.SkipIfKey x) u h g = (ap (λ (n : ℕ). others (skip_if (is_down keys (n % 16)) c)) (value x u), keep h, steady)
-  row_like (row.SkipUnlessKey x) u h g = (ap (λ (n : ℕ). others (skip_if (not (is_down keys (n % 16))) c)) (value x u), keep h, steady)
+  row_like (row.SkipIfKey x) u h g = (ap (λ (n : ℕ). others (skip_if (is_key_down keys (n % 16)) c)) (value x u), keep h, steady)
+  row_like (row.SkipUnlessKey x) u h g = (ap (λ (n : ℕ). others (skip_if (not (is_key_down keys (n % 16))) c)) (value x u), keep h, steady)
   row_like (row.ReadDelay x) u h g = (refl, set_one x c.delay c.delay refl h, steady)
-  row_like (row.WaitKey x) u h g = waits (find (is_down keys) (range_with_len 0 16)) x g h
+  row_like (row.WaitKey x) u h g = waits (find (is_key_down keys) (range_with_len 0 16)) x g h
   row_like (row.SetDelay x) u h g = (ap (λ (n : ℕ). others (next (record c { delay = n }))) (value x u), keep h, steady)
   row_like (row.SetSound x) u h g = (refl, keep h, steady)
   row_like (row.AddIndex x) u h g = (refl, reindex _ _ (λ off. both (λ m n. (m + n) % 65536) ((keep h).index off) (value x u)) (λ part off. inr off) (keep h), steady)

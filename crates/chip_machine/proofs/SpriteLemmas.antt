@@ -5,7 +5,7 @@ use Rattle.std.proofs.lemmas.Bool.{cond-true, cond-false, cases_eq, eq-eqb, ne_e
 use Rattle.std.proofs.lemmas.Nat.Bits.{bit_at-zero}
 use Rattle.std.proofs.lemmas.List.{get_or_past}
 use Rattle.std.proofs.Math.Nat.{mul-le-mul_right, mul_comm}
-use Rattle.chip_machine.specs.Sprite.{covers, is_set, row_bytes, scale, sprite_bytes}
+use Rattle.chip_machine.specs.Sprite.{draws_over, is_set, row_bytes, scale, sprite_bytes}
 use Rattle.chip_machine.specs.inner.SpriteBytes.{covers_by_length, row_bytes_by_length}
 
 pub is_set-inside : (w : ℕ) (sprite : List ℕ) (i j : ℕ) → i < 8 * w → is_set w sprite i j ≡ (bit_at (get_or sprite (w * j + i / 8) 0) (7 - i % 8) == 1)
@@ -37,26 +37,26 @@ three_tests a b c p q = λ i. p i && q i && c
 module _ (high : Bool) (x y : ℕ) (sprite : List ℕ) (column row : ℕ) where
   pub covers-inside : (s : ℕ) → s ≡ scale high → x % (128 / s) ≤ column / s → y % (64 / s) ≤ row / s
       → is_set (row_bytes_by_length high sprite) sprite (column / s - x % (128 / s)) (row / s - y % (64 / s)) ≡ covers_by_length high x y sprite column row
-  unfolding covers
+  unfolding draws_over
   covers-inside s e left top =
       sym (three_tests _ _ (is_set (row_bytes_by_length high sprite) sprite (column / s - x % (128 / s)) (row / s - y % (64 / s))) (le-leb (x % (128 / s)) (column / s) left) (le-leb (y % (64 / s)) (row / s) top))
       ∙ ap (λ s. nat_le (x % (128 / s)) (column / s) && nat_le (y % (64 / s)) (row / s) && is_set (row_bytes_by_length high sprite) sprite (column / s - x % (128 / s)) (row / s - y % (64 / s))) e
 
   pub covers_left : (s : ℕ) → s ≡ scale high → column / s < x % (128 / s) → covers_by_length high x y sprite column row ≡ false
-  unfolding covers
+  unfolding draws_over
   covers_left s e out =
       ap (λ s. nat_le (x % (128 / s)) (column / s) && nat_le (y % (64 / s)) (row / s) && is_set (row_bytes_by_length high sprite) sprite (column / s - x % (128 / s)) (row / s - y % (64 / s))) (sym e)
       ∙ and_left _ _ (and_left _ _ (lt-leb (x % (128 / s)) (column / s) out))
 
   -- below the last row of the sprite
   pub covers_below : (s n : ℕ) → s ≡ scale high → length sprite ≤ row_bytes_by_length high sprite * n → n ≤ row / s - y % (64 / s) → covers_by_length high x y sprite column row ≡ false
-  unfolding covers
+  unfolding draws_over
   covers_below s n e few past =
       ap (λ s. nat_le (x % (128 / s)) (column / s) && nat_le (y % (64 / s)) (row / s) && is_set (row_bytes_by_length high sprite) sprite (column / s - x % (128 / s)) (row / s - y % (64 / s))) (sym e)
       ∙ and_right (nat_le (x % (128 / s)) (column / s) && nat_le (y % (64 / s)) (row / s)) _ (is_set_below (row_bytes_by_length high sprite) n sprite (column / s - x % (128 / s)) (row / s - y % (64 / s)) few past)
 
   pub covers_above : (s : ℕ) → s ≡ scale high → row / s < y % (64 / s) → covers_by_length high x y sprite column row ≡ false
-  unfolding covers
+  unfolding draws_over
   covers_above s e out =
       ap (λ s. nat_le (x % (128 / s)) (column / s) && nat_le (y % (64 / s)) (row / s) && is_set (row_bytes_by_length high sprite) sprite (column / s - x % (128 / s)) (row / s - y % (64 / s))) (sym e)
       ∙ and_left _ _ (and_right (nat_le (x % (128 / s)) (column / s)) _ (lt-leb (y % (64 / s)) (row / s) out))

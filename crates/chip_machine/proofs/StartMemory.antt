@@ -4,7 +4,7 @@ use Rattle.std.proofs.lemmas.List.{length-take-le, drop-replicate, take_at, drop
 use Rattle.chip_lang.specs.declared.limits.TheConstants.{IMAGE_BYTES, IMAGE_START, MEMORY_BYTES}
 use Rattle.chip_machine.specs.State.{overwrite}
 use Rattle.chip_machine.specs.Digits.{small_shapes, big_shapes, bytes_of}
-use Rattle.chip_machine.specs.Start.{with_image, zeros}
+use Rattle.chip_machine.specs.Start.{with_digits_and_image, zeros}
 use Rattle.chip_machine.specs.ImageLaw.{ImageAndZeros, SameBelowTheImage}
 use Rattle.chip_machine.specs.inner.Overwritten.{length-overwrite}
 
@@ -54,13 +54,13 @@ zeros_past n =
     ∙ drop-replicate (180 + n) MEMORY_BYTES 0
 
 pub same_below_the_image : SameBelowTheImage
-unfolding with_image
+unfolding with_digits_and_image
 same_below_the_image old new =
     let room : IMAGE_START ≤ length digits_memory = omega (arith, length-digits) in
     take-overwrite digits_memory IMAGE_START old room ∙ sym (take-overwrite digits_memory IMAGE_START new room)
 
 pub image_and_zeros : ImageAndZeros
-unfolding with_image
+unfolding with_digits_and_image
 image_and_zeros image small =
     let room : IMAGE_START ≤ length digits_memory = omega (arith, length-digits) in
     let past : IMAGE_START + length image ≡ 180 + (IMAGE_START - 180 + length image) = omega arith in

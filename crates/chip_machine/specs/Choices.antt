@@ -6,13 +6,13 @@
 --                      keys does
 use Rattle.std.specs.Prelude.{◌≡◌, ℕ, ◌^◌, ◌⊎◌, Bool, true, bit_and}
 use Rattle.chip_machine.specs.State.{State}
-use Rattle.chip_machine.specs.Step.{is_down, step_of}
+use Rattle.chip_machine.specs.Step.{is_key_down, step_of}
 
 abbrev pub IsWithin : ℕ → ℕ → Type 0
 IsWithin allowed keys = bit_and keys allowed ≡ keys
 
 abbrev pub IsChoice : ℕ → ℕ → Type 0
-IsChoice some keys = (keys ≡ 0) ⊎ ((k : ℕ) × (is_down some k ≡ true) × (keys ≡ 2 ^ k))
+IsChoice some keys = (keys ≡ 0) ⊎ ((k : ℕ) × (is_key_down some k ≡ true) × (keys ≡ 2 ^ k))
 
 abbrev pub Represents : ℕ → ℕ → State → Type 0
 Represents allowed some s =

@@ -13,7 +13,7 @@ abbrev pub SameOn : (ℕ → Bool) → List ℕ → List ℕ → Type 0
 SameOn set m n = (at : ℕ) → IsTrue (set at) → slice_index m at ≡ slice_index n at
 
 -- two states are the same but for the bytes at a set of addresses
-pub record AgreeOff (set : ℕ → Bool) (a b : State) : Type 0 where
+pub record DifferOnlyAt (set : ℕ → Bool) (a b : State) : Type 0 where
   pub core : a.core ≡ b.core
   pub memory : SameOff set a.memory b.memory
 
@@ -24,7 +24,7 @@ Misses set addresses = All (λ at. IsFalse (set at)) addresses
 -- what the same step of two states makes of them, where it touches nothing of the set
 pub record IsFramed (set : ℕ → Bool) (keys : ℕ) (tick : Bool) (a b : State) : Type 0 where
   pub same_touches : touches b ≡ touches a
-  pub still_agree : AgreeOff set (step_of a keys tick) (step_of b keys tick)
+  pub still_agree : DifferOnlyAt set (step_of a keys tick) (step_of b keys tick)
   pub first_keeps : SameOn set (step_of a keys tick).memory a.memory
   pub second_keeps : SameOn set (step_of b keys tick).memory b.memory
 
@@ -32,7 +32,7 @@ pub record IsFramed (set : ℕ → Bool) (keys : ℕ) (tick : Bool) (a b : State
 abbrev pub FrameLaw : Type 0
 FrameLaw =
     (set : ℕ → Bool) (keys : ℕ) (tick : Bool) (a b : State) →
-    IsProper a → IsProper b → AgreeOff set a b → Misses set (touches a) → IsFramed set keys tick a b
+    IsProper a → IsProper b → DifferOnlyAt set a b → Misses set (touches a) → IsFramed set keys tick a b
 
 -- a step keeps a state proper
 abbrev pub StepKeepsProper : Type 0

@@ -30,8 +30,8 @@ is_set w sprite i j =
 
 -- whether a sprite with w bytes a row, drawn at x and y, each modulo the size, has a set point over
 -- this stored point
-unfoldable pub covers : Bool → ℕ → ℕ → ℕ → List ℕ → ℕ → ℕ → Bool
-covers high x y w sprite column row =
+unfoldable pub draws_over : Bool → ℕ → ℕ → ℕ → List ℕ → ℕ → ℕ → Bool
+draws_over high x y w sprite column row =
     let left = x % (128 / scale high) in
     let top = y % (64 / scale high) in
     let across = column / scale high in
@@ -40,4 +40,4 @@ covers high x y w sprite column row =
 
 -- the stored points under the set points of a sprite of n rows, as far as they are on the screen
 abbrev pub covered : Bool → ℕ → ℕ → ℕ → List ℕ → Points
-covered high x y n sprite = points_where (covers high x y (row_bytes high n) sprite)
+covered high x y n sprite = points_where (draws_over high x y (row_bytes high n) sprite)

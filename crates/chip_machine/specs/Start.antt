@@ -9,8 +9,8 @@ use Rattle.chip_machine.specs.Digits.{small_shapes, big_shapes, bytes_of}
 use Rattle.chip_machine.specs.State.{Core, State, overwrite}
 
 -- memory with the small digits written at 0, the big digits at 80 and the image where it stands
-unfoldable pub with_image : List ℕ → List ℕ → List ℕ
-with_image image memory =
+unfoldable pub with_digits_and_image : List ℕ → List ℕ → List ℕ
+with_digits_and_image image memory =
     overwrite (overwrite (overwrite memory 0 (bytes_of small_shapes)) 80 (bytes_of big_shapes))
     IMAGE_START image
 
@@ -20,7 +20,7 @@ zeros = replicate MEMORY_BYTES 0
 
 -- the memory before the first step, which is 0 elsewhere
 abbrev pub start_memory : List ℕ → List ℕ
-start_memory image = with_image image zeros
+start_memory image = with_digits_and_image image zeros
 
 -- all but the memory before the first step: the screen is dark and has its low size
 abbrev pub start_core : List ℕ → Profile → Core

@@ -4,7 +4,7 @@ ghost use Rattle.std.specs.Prelude.{◌≡◌, ℕ, ◌+◌, ◌-◌, ◌*◌, �
 ghost use Rattle.std.specs.FinSet as set;
 ghost use Rattle.chip_machine.specs.Points.{Points, points_code, is_lit, IsOnScreen, symmetric_difference, meets, lights};
 ghost use Rattle.chip_machine.specs.inner.Stored.{in_rows, differ, any_below};
-ghost use Rattle.chip_machine.specs.Sprite.{covers, scale};
+ghost use Rattle.chip_machine.specs.Sprite.{draws_over, scale};
 ghost use Rattle.chip_machine.specs.inner.SpriteBytes.{LiesIn, first_column, covers_by_length, covered_by_length};
 ghost use Rattle.chip_machine.specs.Scroll.{scrolled_down, scrolled_right, scrolled_left};
 

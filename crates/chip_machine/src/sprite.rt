@@ -3,7 +3,7 @@
 ghost use Rattle.std.specs.Prelude.{◌≡◌, ℕ, ◌+◌, ◌-◌, ◌*◌, ◌/◌, ◌%◌, ◌<◌, ◌≤◌, false, ◌==◌, slice_index, ◌^◌, length};
 ghost use Rattle.std.specs.Int.{bit_at};
 ghost use Rattle.chip_machine.specs.Points.{lights};
-ghost use Rattle.chip_machine.specs.Sprite.{covers, is_set, scale, sprite_bytes};
+ghost use Rattle.chip_machine.specs.Sprite.{draws_over, is_set, scale, sprite_bytes};
 ghost use Rattle.chip_machine.specs.inner.SpriteBytes.{LiesIn, first_column, covers_by_length, row_bytes_by_length};
 
 use crate::doubled::DOUBLED;

@@ -14,7 +14,8 @@ use Rattle.chip_replay.proofs.TracedLaws.{IsTraced}
 use Rattle.chip_replay.proofs.Spaced.{multiple_within, div_mono}
 use Rattle.chip_machine.specs.Block.{ticks}
 use Rattle.chip_replay.specs.Run.{run, first_below, IsStill}
-use Rattle.chip_replay.specs.Image.{differs, affected, touches_change, patched}
+use Rattle.chip_replay.specs.Image.{affected, touches_change, patched}
+use Rattle.chip_machine.specs.State.{differs}
 use Rattle.chip_replay.specs.inner.Kept.{IsFirst, AreFirst, IsSound, IsLent, IsCutBack}
 use Rattle.chip_replay.proofs.Patched.{AllUntouched, run-patched, run-proper, patched-proper, after-patched, same_touches}
 use Rattle.chip_replay.specs.Limits.{image_room, image_start, memory_size, never}

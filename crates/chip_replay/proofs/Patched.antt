@@ -12,7 +12,8 @@ use Rattle.chip_replay.proofs.TracedLaws.{IsTraced}
 use Rattle.chip_replay.specs.Frame.{AgreeOff, IsFramed}
 use Rattle.chip_machine.specs.Block.{ticks}
 use Rattle.chip_replay.specs.Run.{run}
-use Rattle.chip_replay.specs.Image.{differs, patched}
+use Rattle.chip_replay.specs.Image.{patched}
+use Rattle.chip_machine.specs.State.{differs}
 use Rattle.chip_replay.specs.Limits.{image_room, image_start, memory_size}
 
 both : (a b : Bool) → (a && b) ≡ true → (a ≡ true) × (b ≡ true)

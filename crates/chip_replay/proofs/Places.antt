@@ -4,7 +4,7 @@ use Rattle.std.specs.Prelude.{◌==◌, not}
 use Rattle.std.proofs.lemmas.List.{get_or_past}
 use Rattle.std.proofs.lemmas.Bool.{cases_lt, false≢true}
 use Rattle.std.proofs.lemmas.Bool.Decides.{nat_tests}
-use Rattle.chip_replay.specs.Image.{differs}
+use Rattle.chip_machine.specs.State.{differs}
 
 pub different : (old new : List ℕ) (i : ℕ) → slice_index old i ≢ slice_index new i → differs old new i ≡ true
 different old new i apart = grind (arith, nat_tests)

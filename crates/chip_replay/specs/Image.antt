@@ -3,14 +3,13 @@
 --     padded         an image, and zeros up to the end of the memory
 --     with_image     a state with the image, and zeros after it, in its memory
 --     patched        a state with the bytes of one image in the place of those of another
---     differs        whether two images, zeros after each, differ at a place
 --     AgreeOutside   two images, zeros after each, agree outside some places
 --     affected       the first step below f that touches a byte at which two images differ, or f
-use Rattle.std.specs.Prelude.{◌≡◌, ℕ, ◌<◌, ◌≤◌, ◌+◌, ◌-◌, Bool, not, ◌&&◌, ◌==◌, List, ◌++◌, length, take, replicate, slice_index}
+use Rattle.std.specs.Prelude.{◌≡◌, ℕ, ◌<◌, ◌≤◌, ◌+◌, ◌-◌, Bool, ◌&&◌, List, ◌++◌, length, take, replicate, slice_index}
 use Rattle.std.specs.List.{list_any, range_with_len}
 use Rattle.chip_replay.specs.Limits.{image_start, image_room}
 use Rattle.chip_replay.specs.Run.{run, first_below}
-use Rattle.chip_machine.specs.State.{exchanged}
+use Rattle.chip_machine.specs.State.{differs, exchanged}
 use Rattle.chip_machine.specs.Touched.{touched}
 
 -- an image, and zeros up to the end of the memory
@@ -25,10 +24,6 @@ with_image memory with_memory image s = with_memory s (take image_start (memory 
 -- all other bytes are as they were
 unfoldable pub patched : {S : Type 0} → (S → List ℕ) → (S → List ℕ → S) → List ℕ → List ℕ → S → S
 patched memory with_memory old new s = with_memory s (exchanged (memory s) image_start old new)
-
--- whether two images, zeros after each, differ at a place
-abbrev pub differs : List ℕ → List ℕ → ℕ → Bool
-differs old new i = not (slice_index old i == slice_index new i)
 
 -- two images, zeros after each, agree outside the places from first up to end
 pub record AgreeOutside (first end : ℕ) (old new : List ℕ) : Type 0 where

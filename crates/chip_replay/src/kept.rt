@@ -6,7 +6,8 @@ ghost use Rattle.chip_machine.specs.Touched.{touched};
 ghost use Rattle.chip_replay.specs.Run.{run, IsStill};
 ghost use Rattle.chip_replay.specs.Keys.{Events, held};
 ghost use Rattle.chip_replay.specs.inner.Changes.{KnowsKeys};
-ghost use Rattle.chip_replay.specs.Image.{differs, AgreeOutside, patched};
+ghost use Rattle.chip_replay.specs.Image.{AgreeOutside, patched};
+ghost use Rattle.chip_machine.specs.State.{differs};
 ghost use Rattle.chip_replay.specs.inner.Kept.{AreFirst, IsTouched, IsSound, IsLent, EndsStill, IsAt, IsCutBack, IsRight, is_due};
 
 use crate::keys::{Cursor, Holding, Keys};

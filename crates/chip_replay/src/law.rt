@@ -4,7 +4,8 @@ ghost use Rattle.std.specs.Prelude.{◌≡◌, ℕ, ◌<◌, ◌≤◌, ◌+◌,
 ghost use Rattle.chip_replay.specs.Limits.{image_start, image_room};
 ghost use Rattle.chip_replay.specs.Run.{run};
 ghost use Rattle.chip_machine.specs.Touched.{touched};
-ghost use Rattle.chip_replay.specs.Image.{differs, padded, with_image, patched};
+ghost use Rattle.chip_replay.specs.Image.{padded, with_image, patched};
+ghost use Rattle.chip_machine.specs.State.{differs};
 
 use crate::traced::Traced;
 

@@ -15,7 +15,7 @@ use Rattle.chip_machine.specs.declared.stop.Stop.{Stop}
 use Rattle.chip_machine.specs.declared.stop.Stop.TheVariants as cause
 use Rattle.chip_machine.specs.State.{Core, State, overwrite}
 use Rattle.chip_machine.specs.Step.{Effect, Stops, Changes, Keyed, Loads, Stores, perform, accessed, is_past, settle, step_of, touches, effect_at, effect_of_word, word_at, ticked}
-use Rattle.chip_machine.specs.Frame.{FrameLaw, StepKeepsProper, SameOff, SameOn, Misses, AgreeOff, IsFramed}
+use Rattle.chip_machine.specs.Frame.{FrameLaw, StepKeepsProper, SameOff, SameOn, Misses, DifferOnlyAt, IsFramed}
 use Rattle.chip_machine.specs.inner.Overwritten.{get_or-overwrite_within, get_or-overwrite_before, get_or-overwrite_past, length-overwrite}
 
 -- two outcomes are alike, and each kept its bytes in the set
@@ -124,7 +124,7 @@ perform_alike set keys c m n (Stores bytes core) lm ln same misses =
 -- the end of two steps
 settle_alike : (set : ℕ → Bool) (tick : Bool) (c : Core) (m n : List ℕ) (r s : Result State Stop)
     → SameOff set m n → AreAlike set m n r s
-    → (AgreeOff set (settle tick (record { core = c; memory = m }) r)
+    → (DifferOnlyAt set (settle tick (record { core = c; memory = m }) r)
     (settle tick (record { core = c; memory = n }) s))
     × SameOn set (settle tick (record { core = c; memory = m }) r).memory m
     × SameOn set (settle tick (record { core = c; memory = n }) s).memory n
@@ -178,7 +178,7 @@ step_alike : (set : ℕ → Bool) (keys : ℕ) (tick : Bool) (c : Core) (m n : L
     → length m ≡ MEMORY_BYTES → length n ≡ MEMORY_BYTES → SameOff set m n → (stopped past : Bool)
     → nat_lt LAST_WORD c.pc ≡ past → Misses set (touched_by stopped past c m)
     → (touched_by stopped past c n ≡ touched_by stopped past c m)
-    × (AgreeOff set (stepped_by stopped keys tick c m) (stepped_by stopped keys tick c n))
+    × (DifferOnlyAt set (stepped_by stopped keys tick c m) (stepped_by stopped keys tick c n))
     × SameOn set (stepped_by stopped keys tick c m).memory m
     × SameOn set (stepped_by stopped keys tick c n).memory n
 step_alike set keys tick c m n lm ln same true past e misses =

@@ -3,7 +3,7 @@
 use Rattle.std.specs.Prelude.{ℕ, ◌+◌, ◌*◌, ◌/◌, ◌%◌, ◌<◌, ◌≤◌, Bool, ◌&&◌, ◌==◌, List, length, if◌then◌else◌}
 use Rattle.chip_machine.specs.declared.limits.TheConstants.{SPRITE_BYTES}
 use Rattle.chip_machine.specs.Points.{Points, points_where}
-use Rattle.chip_machine.specs.Sprite.{covers, scale}
+use Rattle.chip_machine.specs.Sprite.{draws_over, scale}
 use Rattle.chip_machine.specs.declared.sprite.Half.{Half}
 use Rattle.chip_machine.specs.declared.sprite.Half.TheVariants.{Left, Middle, Right}
 
@@ -12,7 +12,7 @@ unfoldable pub row_bytes_by_length : Bool → List ℕ → ℕ
 row_bytes_by_length high sprite = if high && (length sprite == SPRITE_BYTES) then 2 else 1
 
 abbrev pub covers_by_length : Bool → ℕ → ℕ → List ℕ → ℕ → ℕ → Bool
-covers_by_length high x y sprite = covers high x y (row_bytes_by_length high sprite) sprite
+covers_by_length high x y sprite = draws_over high x y (row_bytes_by_length high sprite) sprite
 
 abbrev pub covered_by_length : Bool → ℕ → ℕ → List ℕ → Points
 covered_by_length high x y sprite = points_where (covers_by_length high x y sprite)

@@ -1,5 +1,5 @@
 use Rattle.std.proofs.Common.{◌≡◌, ℕ, ◌<◌, ◌≤◌, true, length, slice_index, ◌⊎◌}
-use Rattle.chip_replay.specs.Image.{differs}
+use Rattle.chip_machine.specs.State.{differs}
 use Rattle.chip_replay.proofs.kept.least_at_changes.Given as goal
 
 abbrev pub invariant-loop-i : goal.invariant-loop-i

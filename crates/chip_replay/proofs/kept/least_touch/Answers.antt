@@ -1,7 +1,8 @@
 use Rattle.std.proofs.Common.{◌≡◌, ℕ, ◌+◌, ◌-◌, ◌<◌, ◌≤◌, true, List, length, take, drop, min, max, slice_index, inl, inr, arith, refl, sym, ◌∙◌, below_more}
 use Rattle.std.proofs.lemmas.Bool.{cases_lt}
 use Rattle.std.proofs.lemmas.List.{places}
-use Rattle.chip_replay.specs.Image.{differs, AgreeOutside}
+use Rattle.chip_replay.specs.Image.{AgreeOutside}
+use Rattle.chip_machine.specs.State.{differs}
 use Rattle.chip_replay.specs.Limits.{image_room, image_start}
 use Rattle.chip_replay.proofs.Places.{different, not_alike, get_or-part, differs-part, IsAttained, attained_more}
 use Rattle.chip_replay.proofs.kept.least_touch.Goals as goal

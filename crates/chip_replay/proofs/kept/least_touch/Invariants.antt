@@ -1,5 +1,5 @@
 use Rattle.std.proofs.Common.{◌≡◌, ℕ, ◌+◌, ◌<◌, ◌≤◌, true, slice_index, ◌⊎◌}
-use Rattle.chip_replay.specs.Image.{differs}
+use Rattle.chip_machine.specs.State.{differs}
 use Rattle.chip_replay.specs.Limits.{image_room, image_start}
 use Rattle.chip_replay.proofs.kept.least_touch.Given as goal
 

@@ -1,6 +1,7 @@
 use Rattle.std.proofs.Common.{◌≡◌, ℕ, ◌+◌, ◌<◌, ◌≤◌, min, true, ap, ◌∙◌, subst, refl, slice_index, drop, ◌⊎◌, arith}
 use Rattle.chip_replay.specs.Keys.{held}
-use Rattle.chip_replay.specs.Image.{differs, with_image, affected}
+use Rattle.chip_replay.specs.Image.{with_image, affected}
+use Rattle.chip_machine.specs.State.{differs}
 use Rattle.chip_replay.specs.History.{History}
 use Rattle.chip_replay.specs.inner.Kept.{IsSound, EndsStill, IsCutBack}
 use Rattle.chip_machine.specs.Touched.{touched}
