@@ -1,9 +1,13 @@
 //! `check --cover`: which addresses of a source's image key scripts execute.
+ghost use Rattle.std.specs.Prelude.{◌≡◌, ◌∷◌, [], IfOk};
+ghost use Rattle.chip_arguments.specs.SettingWords.{default_words};
+ghost use Rattle.chip_machine.specs.Start.{start_of};
+ghost use Rattle.chip_bench.specs.Exploring.{usual_keys};
+ghost use Rattle.chip_bench.specs.inner.Covering.{IsCoverage, covered_step};
 
 use crate::exploring::machine_of;
 use crate::sets::ALL_KEYS;
-use chip_arguments::SettingWords;
-use chip_arguments::limits::USUAL_STATES;
+use chip_arguments::{SettingWords, USUAL_STATES};
 use chip_explore::{Bounds, Causes, END, Executed, Outcome, Question, Target, Watcher, explore};
 use chip_machine::Profile;
 use chip_warnings::Coverage;
@@ -28,7 +32,10 @@ impl Covered {
         image: &[u8],
         profile: Profile,
         watcher: &mut W,
-    ) -> Result<Covered, AllocError> {
+    ) -> Result<Covered, AllocError>
+        ensures { IfOk result (λ covered. IsCoverage default_words.rate usual_keys covered.executed
+            (start_of image.now (0 ∷ []) profile) covered.within) }
+    {
         let start = machine_of(alloc, image, USUAL_TAPE, profile)?;
         let question = Question {
             rate: SettingWords::DEFAULT.rate,
@@ -51,7 +58,10 @@ impl Covered {
     }
 
     /// The same as the warnings take it.
-    pub(crate) fn coverage(&self) -> Coverage<'_> {
+    pub(crate) fn coverage(&self) -> Coverage<'_>
+        ensures executed { result.executed.now ≡ self.now.executed }
+        ensures within { result.within ≡ self.now.within }
+    {
         Coverage {
             executed: self.executed.addresses(),
             within: self.within,
@@ -60,7 +70,9 @@ impl Covered {
 }
 
 // The step up to which a search says what is executed, or none where it says so of all steps.
-fn covered_by(outcome: &Outcome) -> Option<u64> {
+fn covered_by(outcome: &Outcome) -> Option<u64>
+    ensures { result ≡ covered_step outcome.now }
+{
     match outcome {
         Outcome::Never => None,
         Outcome::Within(step) | Outcome::Later { covered: step, .. } => Some(*step),
