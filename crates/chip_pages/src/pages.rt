@@ -229,7 +229,7 @@ static LINE_PAGES: [Page; 25] = [
         title: "instruction that no key script executes",
         meaning: "With `check --cover` alone: whatever keys are down at each step, no step is made at the address of this instruction; where a step is named, none up to that one. The tape is 00, so that RND gives 0, and 10 steps lie between two ticks. An instruction that has W3 has no W8.",
         example: Example::Source("LD V0, 1\nLOOP: SE V0, 0\nJP LOOP\nCLS"),
-        fix: "Mend what was to lead there, or delete the instruction. `explore --cover` tries another tape or rate.",
+        fix: "Correct what was to lead there, or delete the instruction. `explore --cover` tries another tape or rate.",
     },
 ];
 
