@@ -6,4 +6,3 @@ pub mod CheckLemmas
 pub mod DoingLemmas
 pub mod SetLemmas
 pub mod ExploringLemmas
-pub mod CoveringLemmas
