@@ -20,7 +20,7 @@ _chipbench() {
         run) options="--steps --rate --tape --seed --profile --keys --image --help" ;;
         trace) options="--steps --rate --tape --seed --profile --keys --image --from --hash --json --against --help" ;;
         picture) options="--steps --rate --tape --seed --profile --keys --image --ascii --pbm --png --help" ;;
-        check) options="--json --allow --color --profile --help" ;;
+        check) options="--json --allow --cover --color --profile --help" ;;
         test) options="--update --tap --help" ;;
         explore) options="--steps --states --deep --want --reach --keys-allowed --keys-to --cover --progress --rate --tape --seed --profile --image --help" ;;
         explain) options=" --help" ;;

@@ -28,6 +28,7 @@ complete -c chipbench -n '__fish_seen_subcommand_from picture' -l ascii -d 'Prin
 complete -c chipbench -n '__fish_seen_subcommand_from picture' -l pbm -r -d 'Writes a portable bitmap to a file'
 complete -c chipbench -n '__fish_seen_subcommand_from picture' -l png -r -d 'Writes a PNG picture to a file'
 complete -c chipbench -n '__fish_seen_subcommand_from check' -l allow -x -d 'The warnings that are not printed'
+complete -c chipbench -n '__fish_seen_subcommand_from check' -l cover -d 'Also searches all key scripts'
 complete -c chipbench -n '__fish_seen_subcommand_from check' -l color -x -a 'auto always never' -d 'When the text has colours'
 complete -c chipbench -n '__fish_seen_subcommand_from test' -l update -d 'Also writes the answers that are given into the files'
 complete -c chipbench -n '__fish_seen_subcommand_from test' -l tap -d 'Prints the outcome of each case in the form of the Test Anything Protocol'

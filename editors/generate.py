@@ -201,10 +201,15 @@ def manual(words):
         lines += [".TP", f".B {command.name}", roff(command.about) + "."]
         lines += [".br", "Example: " + roff(command.example)] if command.example else []
     lines += [".SH OPTIONS"]
-    seen = {o.long: o for command in words.commands for o in command.options}
-    for option in seen.values():
-        value = f" {option.value}" if option.value else ""
-        lines += [".TP", f".B {roff('--' + option.long + value)}", roff(option.help) + "."]
+    # by its name and its value, what each option does, with the commands in which it does so
+    helps = {}
+    for command in words.commands:
+        for option in command.options:
+            shown = f"--{option.long} {option.value or ''}".strip()
+            helps.setdefault(shown, {}).setdefault(option.help, []).append(command.name)
+    for shown, meanings in helps.items():
+        texts = [text if len(meanings) == 1 else f"{text} ({', '.join(names)})" for text, names in meanings.items()]
+        lines += [".TP", f".B {roff(shown)}", "\n.br\n".join(roff(text) + "." for text in texts)]
     lines += [
         ".SH EXIT STATUS", ".TP", "0", "Done.", ".TP", "1", "The source has faults, or doesn't open; traces differ; a case fails; `explore` found a script.",
         ".TP", "2", "The arguments, a tape or a file of key events are faulty.", ".TP", "3",

@@ -5,7 +5,7 @@ import tempfile
 
 CODES = [
     f"{letter}{number}"
-    for letter, last in (("F", 17), ("W", 7), ("N", 10), ("Q", 4), ("C", 2), ("E", 4), ("O", 3), ("S", 7))
+    for letter, last in (("F", 17), ("W", 8), ("N", 10), ("Q", 4), ("C", 2), ("E", 4), ("O", 3), ("S", 7))
     for number in range(1, last + 1)
 ]
 # The codes whose example is too large to write out, or depends on the system.
@@ -30,10 +30,10 @@ def answers(program, source, script):
 
 
 def warnings(program, source):
-    """What `check` prints of a source for the profile vip."""
+    """What `check` prints of a source for the profile vip, with what is executed."""
     with tempfile.TemporaryDirectory() as folder:
         pathlib.Path(folder, "source").write_text(source)
-        return program.run(["check", "source", "--profile", "vip"], b"", folder).stdout.decode()
+        return program.run(["check", "source", "--cover", "--profile", "vip"], b"", folder).stdout.decode()
 
 
 def wrong_page(program, code):

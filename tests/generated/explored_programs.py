@@ -4,12 +4,17 @@ The programs store into their own code, call, skip and stop. The answers are com
 tests/trace/emulator.py: a state for each way that the keys can go, and equal states at the same step taken as one. Each
 script that is found is replayed by it. What `--cover` marks is compared with the addresses at which those states make steps.
 
+In the first 150 the lines to which `check --cover` gives W8 are the instructions that `explore --cover` doesn't mark where it looks
+for nothing that is met, but for those that have W3.
+
 The first 500 are searched once more with `--deep` and room for few states: what it says is covered is covered, and each script
 that it finds leads where it says.
 """
 import importlib.util
+import json
 import pathlib
 import random
+import re
 import tempfile
 
 EMULATOR = pathlib.Path(__file__).resolve().parent.parent / "trace" / "emulator.py"
@@ -22,6 +27,9 @@ TAPE = "3b5a91c7042fe866"
 # how many programs are searched with --deep, and with room for how many states
 DEEP_PROGRAMS = 500
 FEW_STATES = 10
+# how many programs are checked for warnings, and an address at which none makes a step
+WARNED_PROGRAMS = 150
+NOWHERE = "#FFF"
 # a program with more states at one step is left out
 MOST_STATES = 300
 # how far steps that read no keys are followed after the last one
@@ -255,7 +263,53 @@ def wrong_deep_group(program, numbers):
     return "" if deep >= 10 else f"only {deep} programs have a script past what is covered"
 
 
+def warned(program, folder, *options):
+    """The codes and the sentences of the warnings of the source in a folder, by their lines."""
+    found = {}
+    for line in program.run(["check", "source", "--json", *options], b"", folder).stdout.decode().splitlines():
+        told = json.loads(line)
+        found.setdefault(told["line"], []).append((told["code"], told["message"]))
+    return found
+
+
+def wrong_warnings(program, number, folder):
+    """What is wrong with the warnings of a program; None where it comes to NOWHERE."""
+    pathlib.Path(folder, "image").write_bytes(image(number))
+    pathlib.Path(folder, "source").write_bytes(program.run(["dis", "image"], b"", folder).stdout)
+    answer = program.run(["explore", "source", "--reach", NOWHERE, "--cover"], b"", folder).stdout.decode().splitlines()
+    if answer[0] != "never" and not answer[0].startswith("within "):
+        return None
+    end = "" if answer[0] == "never" else f" up to step {answer[0].split()[1]}"
+    rows = [line for line in answer if re.fullmatch(r"[+ ] +[0-9]+ [0-9a-f]{4} [0-9a-f]{4} .*", line)]
+    # an instruction has a mnemonic in the place of DW
+    unmarked = {int(row.split()[0]) for row in rows if row[0] == " " and row.split()[3] != "DW"}
+    plain = warned(program, folder)
+    unreachable = {line for line, told in plain.items() if "W3" in dict(told)}
+    expected = {line: [("W8", f"no key script executes this{end}")] for line in unmarked - unreachable}
+    for line, told in plain.items():
+        expected.setdefault(line, []).extend(told)
+    found = warned(program, folder, "--cover")
+    if {line: sorted(told) for line, told in found.items()} == {line: sorted(told) for line, told in expected.items()}:
+        return ""
+    return f"{found} and not {expected}"
+
+
+def wrong_warned_group(program, numbers):
+    """What is wrong with the warnings of some programs. Most have such a warning."""
+    left_out = 0
+    with tempfile.TemporaryDirectory() as folder:
+        for number in numbers:
+            wrong = wrong_warnings(program, number, folder)
+            left_out += wrong is None
+            if wrong:
+                return f"program {number} ({image(number).hex()}): {wrong}"
+    return f"{left_out} programs are left out" if left_out > len(numbers) // 10 else ""
+
+
 def checks(program):
+    for start in range(0, WARNED_PROGRAMS, GROUP // 2):
+        numbers = range(start, start + GROUP // 2)
+        yield f"warnings of programs {numbers[0]} to {numbers[-1]}", lambda numbers=numbers: wrong_warned_group(program, numbers)
     yield f"programs 0 to {DEEP_PROGRAMS - 1} with --deep", lambda: wrong_deep_group(program, range(DEEP_PROGRAMS))
     for start in range(0, PROGRAMS, GROUP):
         numbers = range(start, min(start + GROUP, PROGRAMS))

@@ -105,10 +105,14 @@ sources = record (new_rule (codes "sources")) {
 unfoldable pub color : Rule
 color = record (new_rule (codes "color")) { long = Some (codes "color"); value_names = 1 }
 
+-- what key scripts execute
+unfoldable pub cover : Rule
+cover = record (new_rule (codes "cover")) { long = Some (codes "cover"); action = Some SetTrue }
+
 unfoldable pub check : App
 check =
-    with_rule (with_rule (with_rule (with_rule (with_rule (new_app (codes "check")) sources) json)
-    allow) color) profile
+    with_rule (with_rule (with_rule (with_rule (with_rule (with_rule (new_app (codes "check")) sources)
+    json) allow) cover) color) profile
 
 unfoldable pub dis : App
 dis = with_rule (new_app (codes "dis")) image
@@ -211,10 +215,6 @@ reach = record (new_rule (codes "reach")) { long = Some (codes "reach"); value_n
 -- a second search, of the deepest states first
 unfoldable pub deep : Rule
 deep = record (new_rule (codes "deep")) { long = Some (codes "deep"); action = Some SetTrue }
-
--- the listing with marks
-unfoldable pub cover : Rule
-cover = record (new_rule (codes "cover")) { long = Some (codes "cover"); action = Some SetTrue }
 
 unfoldable pub progress : Rule
 progress = record (new_rule (codes "progress")) {

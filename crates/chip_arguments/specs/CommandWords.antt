@@ -161,6 +161,7 @@ pub record AsksCheck (rows : List Row) (words : CheckWords) : Type 0 where
   pub allowed : option_copied words.allowed ≡ first_of (codes "allow") rows
   pub color : words.color ≡ color_asked (first_of (codes "color") rows)
   pub profile : IsProfile (first_of (codes "profile") rows) words.profile
+  pub is_covering : AsksFlag (one_of (codes "cover") rows) words.is_covering
 
 -- the trace that they ask for
 pub record AsksTrace (rows : List Row) (words : TraceWords) : Type 0 where

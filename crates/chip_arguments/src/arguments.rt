@@ -58,6 +58,7 @@ pub(crate) enum Argument {
     Allow,
     Reach,
     Cover,
+    CheckCover,
     Progress,
     Hex,
 }
@@ -103,6 +104,7 @@ impl Argument {
             Argument::Allow => allow_argument(alloc),
             Argument::Reach => reach_argument(alloc),
             Argument::Cover => cover_argument(alloc),
+            Argument::CheckCover => check_cover_argument(alloc),
             Argument::Progress => progress_argument(alloc),
             Argument::Hex => hex_argument(alloc),
         }
@@ -253,7 +255,7 @@ fn code_argument<'a>(alloc: Global) -> Arg<'a>
         alloc,
         "code",
         "CODE",
-        "F1 to F17, W1 to W7, N1 to N10, Q1 to Q4, C1, C2, E1 to E4, O1 to O3 or S1 to S7 [default: all, a line each]",
+        "F1 to F17, W1 to W8, N1 to N10, Q1 to Q4, C1, C2, E1 to E4, O1 to O3 or S1 to S7 [default: all, a line each]",
     )
 }
 
@@ -483,7 +485,7 @@ fn allow_argument<'a>(alloc: Global) -> Arg<'a>
         alloc,
         "allow",
         "CODES",
-        "The warnings that are not printed, W1 to W7 with commas between them [default: none]",
+        "The warnings that are not printed, W1 to W8 with commas between them [default: none]",
     )
 }
 
@@ -512,6 +514,18 @@ fn cover_argument<'a>(alloc: Global) -> Arg<'a>
     )
 }
 
+#[tactic(auto, unfolding(crate::specs::CommandLine::cover))]
+fn check_cover_argument<'a>(alloc: Global) -> Arg<'a>
+    ensures rule { rule_of result ≡ line.cover }
+    ensures local { result.global ≡ false }
+{
+    flag(
+        alloc,
+        "cover",
+        "Also searches all key scripts, and warns of each instruction that none executes",
+    )
+}
+
 #[tactic(auto, unfolding(crate::specs::CommandLine::progress))]
 fn progress_argument<'a>(alloc: Global) -> Arg<'a>
     ensures rule { rule_of result ≡ line.progress }
@@ -520,7 +534,7 @@ fn progress_argument<'a>(alloc: Global) -> Arg<'a>
     flag(
         alloc,
         "progress",
-        "Says on standard error how far the search is",
+        "Says on standard error how far the search is, also where that is no terminal",
     )
 }
 

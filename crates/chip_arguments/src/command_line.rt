@@ -100,6 +100,8 @@ pub struct CheckWords<'a> {
     pub color: ColorChoice,
     /// For which machine the sources are written.
     pub profile: Profile,
+    /// Whether each source is searched for instructions that no key script executes.
+    pub is_covering: bool,
 }
 
 /// When a text has colours.
@@ -518,6 +520,7 @@ fn check_words<'a>(
         allowed: found.get_str("allow"),
         color: color_asked(found.get_str("color")),
         profile,
+        is_covering: found.get_flag("cover"),
     })
 }
 

@@ -38,6 +38,12 @@ the language of sources: docs/LANGUAGE.md; the machine: docs/MACHINE.md; a guide
 
 Example: chipbench debug game.asm --rate 15 --seed 7";
 
+const CHECK_NOTES: &str = "\
+With --cover each instruction that no key script executes has W8, with the tape 00 and the rate 10. The search for
+them may take some seconds, and keeps up to 1000000 states: where it ends there, W8 names the step up to which.
+
+Example: chipbench check game.asm --allow W2";
+
 const TEST_NOTES: &str = "\
 A file of cases, line by line:
   case NAME            begins a case; a file without it is one case
@@ -177,11 +183,12 @@ const COMMANDS: [CommandRow; 12] = [
     CommandRow {
         name: "check",
         about: "Prints each fault of a source with its place and a sentence, and warnings",
-        notes: "Example: chipbench check game.asm --allow W2",
+        notes: CHECK_NOTES,
         arguments: &[
             Argument::Sources,
             Argument::Json,
             Argument::Allow,
+            Argument::CheckCover,
             Argument::Color,
             Argument::Profile,
         ],

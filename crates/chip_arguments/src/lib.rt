@@ -11,3 +11,4 @@ pub use command_line::{
     TestWords, TraceWords, not_text, number, parse_words, seed,
 };
 pub use commands::VERSION;
+pub use limits::USUAL_STATES;

@@ -1,3 +1,5 @@
--- What private contracts say: what was read for a command, and what `explore` tells.
+-- What private contracts say: what was read for a command, what `explore` tells, and what
+-- `check --cover` takes as executed.
 pub mod Reads
 pub mod Sets
+pub mod Covering

@@ -4,13 +4,17 @@ ghost use Rattle.chip_asm.specs.Lines.{lines_of};
 ghost use Rattle.chip_bench.specs.Doing.{Checks, ChecksEach, ChecksOne, paints, worse};
 ghost use Rattle.chip_bench.specs.Printing.{IsCheckText, IsPrintedCheck, Prints, PrintsSuch, printed, unopened_check};
 
+use crate::covering::Covered;
 use crate::ending::{Ending, Failure};
+use crate::entry::Host;
 use crate::output::{print, unopened_text};
+use crate::progress::Progress;
 use crate::reading::read_source;
 use crate::sets::warnings_of;
 use chip_arguments::{CheckWords, ColorChoice};
 use chip_asm::{OpenError, Source};
 use chip_check::{check_json, check_text, unopened_json};
+use chip_explore::Watcher;
 use chip_machine::Profile;
 use chip_session::Counted;
 use chip_warnings::{Warning, warnings};
@@ -30,20 +34,23 @@ pub(crate) struct Checker {
     is_painted: bool,
     /// Whether there is no other source.
     is_alone: bool,
+    /// Whether each source is searched for instructions that no key script executes.
+    is_covering: bool,
 }
 
 /// `check`: what is found in each of the sources, one after another. The warnings that are allowed
 /// are judged before the first is read, and a source that can't be read ends the check.
-pub(crate) fn check<'a, F: Files, I: Read, O: Write>(
+pub(crate) fn check<'a, F: Files, I: Read, O: Write, E: Write>(
     alloc: Global,
     files: &F,
-    takes_color: bool,
+    host: Host,
     words: &CheckWords<'a>,
     input: &mut Counted<I>,
     output: &mut Counted<O>,
+    errors: &mut E,
 ) -> Result<Ending, Failure<'a>>
-    ensures { Checks I.remaining O.contents input.old input.new output.old output.new takes_color
-        words.now result }
+    ensures { Checks I.remaining O.contents input.old input.new output.old output.new
+        host.takes_color words.now result }
 {
     let allowed = warnings_of(words.allowed)?;
     let names: &[&'a str] = &words.sources;
@@ -51,10 +58,15 @@ pub(crate) fn check<'a, F: Files, I: Read, O: Write>(
         allowed,
         profile: words.profile,
         is_json: words.is_json,
-        is_painted: paints(words.color, takes_color),
+        is_painted: paints(words.color, host.takes_color),
         is_alone: names.len() == 1,
+        is_covering: words.is_covering,
     };
-    checker.check_each(alloc, files, names, input, output)
+    let mut progress = Progress {
+        errors,
+        is_shown: host.has_reader,
+    };
+    checker.check_each(alloc, files, names, input, output, &mut progress)
 }
 
 // Whether what is printed has colours.
@@ -79,61 +91,84 @@ fn worse(ending: Ending, later: Ending) -> Ending
 }
 
 impl Checker {
-    fn check_each<'a, F: Files, I: Read, O: Write>(
+    fn check_each<'a, F: Files, I: Read, O: Write, W: Watcher>(
         self,
         alloc: Global,
         files: &F,
         names: &[&'a str],
         input: &mut Counted<I>,
         output: &mut Counted<O>,
+        watcher: &mut W,
     ) -> Result<Ending, Failure<'a>>
         ensures { ChecksEach I.remaining O.contents self.is_json self.is_painted self.is_alone
             names.now input.old input.new output.old output.new result }
     {
         let mut ending = Ending::Done;
         for name in names {
-            let one = self.check_one(alloc, files, name, input, output)?;
+            let one = self.check_one(alloc, files, name, input, output, watcher)?;
             ending = worse(ending, one);
         }
         Ok(ending)
     }
 
-    fn check_one<'a, F: Files, I: Read, O: Write>(
+    fn check_one<'a, F: Files, I: Read, O: Write, W: Watcher>(
         self,
         alloc: Global,
         files: &F,
         name: &'a str,
         input: &mut Counted<I>,
         output: &mut Counted<O>,
+        watcher: &mut W,
     ) -> Result<Ending, Failure<'a>>
         ensures { ChecksOne I.remaining O.contents self.is_json self.is_painted self.is_alone
             name.entry input.old input.new output.old output.new result }
     {
         let bytes = read_source(alloc, files, name, input)?;
         match Source::open(alloc, &bytes) {
-            Ok(source) => self.print_found(alloc, name.as_bytes(), &bytes, &source, output),
+            Ok(source) => {
+                self.print_found(alloc, name.as_bytes(), &bytes, &source, output, watcher)
+            }
             Err(error) => self.refuse(alloc, name.as_bytes(), error, output),
         }
     }
 
     // Prints what is found in a source that was opened from these bytes.
-    fn print_found<'a, O: Write>(
+    fn print_found<'a, O: Write, W: Watcher>(
         self,
         alloc: Global,
         name: &[u8],
         bytes: &[u8],
         source: &Source,
         output: &mut Counted<O>,
+        watcher: &mut W,
     ) -> Result<Ending, Failure<'a>>
         requires { source.now.lines ≡ lines_of bytes.now }
         ensures { PrintsSuch O.contents output.old output.new
             (IsPrintedCheck self.is_json self.is_painted name.now source.now.lines) result }
     {
-        let warnings = warnings(alloc, bytes, source, self.profile, self.allowed)?;
+        let warnings = self.warnings(alloc, bytes, source, watcher)?;
         let text = self.text_of(alloc, name, bytes, source, &warnings)?;
         match source.image() {
             Some(_) => print(&text, Ending::Done, output),
             None => print(&text, Ending::Faulty, output),
+        }
+    }
+
+    // The warnings of a source that was opened from these bytes.
+    fn warnings<W: Watcher>(
+        self,
+        alloc: Global,
+        bytes: &[u8],
+        source: &Source,
+        watcher: &mut W,
+    ) -> Result<Vec<Warning>, AllocError> {
+        match source.image() {
+            Some(image) if self.is_covering => {
+                let covered = Covered::of(alloc, image, self.profile, watcher)?;
+                let coverage = Some(covered.coverage());
+                warnings(alloc, bytes, source, self.profile, self.allowed, coverage)
+            }
+            _ => warnings(alloc, bytes, source, self.profile, self.allowed, None),
         }
     }
 

@@ -186,9 +186,7 @@ fn perform<'a, F: Files, I: Read, O: Write, E: Write>(
         CommandLine::Syms { source, is_hex } => {
             syms(alloc, files, source, is_hex, input, output)
         }
-        CommandLine::Check(words) => {
-            check(alloc, files, host.takes_color, &words, input, output)
-        }
+        CommandLine::Check(words) => { check(alloc, files, host, &words, input, output, errors) }
         CommandLine::Dis { image } => dis(alloc, files, image, input, output),
         CommandLine::Run(words) => run(alloc, files, &words, input, output, errors),
         CommandLine::Trace(words) => trace(alloc, files, &words, input, output, errors),

@@ -2,12 +2,14 @@
 ghost use Rattle.std.specs.Prelude.{◌≡◌, ◌<◌, ◌++◌, ℕ, List, IfOk, IfErr, OnOk, option_copied};
 ghost use Rattle.std.specs.Fmt.{decimal};
 ghost use Rattle.chip_asm.specs.Program.{symbols_of};
+ghost use Rattle.chip_machine.specs.Start.{start_of};
 ghost use Rattle.chip_bench.specs.Doing.{Explores, IsScriptUnwritten, Searches, SearchesFrom, image_in};
 ghost use Rattle.chip_bench.specs.Exploring.{address_of, cause_word, covering_text, first_lines, in_memory, met_word, number_line, search_ending, target_asked};
 
 use crate::ending::{Ending, Failure};
 use crate::entry::write_image;
 use crate::output::{print, print_faults, refuse_source};
+use crate::progress::Progress;
 use crate::reading::{file_name, read_given, settings_of};
 use crate::sets::{Sets, sets_of};
 use chip_arguments::ExploreWords;
@@ -17,7 +19,7 @@ use chip_explore::{
     Bounds, Causes, END, Explored, KeyEvent, Met, Outcome, Question, STOPS, Target, Watcher,
 };
 use chip_machine::limits::MEMORY_BYTES;
-use chip_machine::{Machine, Stop};
+use chip_machine::{Machine, Profile, Stop};
 use chip_session::{Counted, Settings, number_of};
 use itoa::Buffer;
 use std::alloc::{AllocError, Global};
@@ -80,11 +82,7 @@ fn search_source<'a, F: Files, O: Write, W: Watcher>(
     let Some(target) = target_of(words, sets.causes, &opened) else {
         return Err(Failure::BadPlace(words.place.unwrap_or("")));
     };
-    // The image and the tape are within their bounds, so memory alone can be missing.
-    let start = match Machine::start(alloc, image, settings.tape(), settings.profile()) {
-        Ok(start) => start,
-        Err(_) => return Err(Failure::OutOfMemory),
-    };
+    let start = machine_of(alloc, image, settings.tape(), settings.profile())?;
     let question = Question {
         rate: settings.rate(),
         allowed: sets.keys,
@@ -93,6 +91,22 @@ fn search_source<'a, F: Files, O: Write, W: Watcher>(
     search(
         alloc, files, words, &opened, &start, &question, output, watcher,
     )
+}
+
+// The machine of a source's image before its first step. The image is within its bounds, and the tape
+// is to be, so memory alone can be missing.
+pub(crate) fn machine_of(
+    alloc: Global,
+    image: &[u8],
+    tape: &[u8],
+    profile: Profile,
+) -> Result<Machine, AllocError>
+    ensures { IfOk result (λ start. start ≡ start_of image.now tape.now profile) }
+{
+    match Machine::start(alloc, image, tape, profile) {
+        Ok(start) => Ok(start),
+        Err(_) => Err(AllocError),
+    }
 }
 
 // What a search looks for, if the source has the place.
@@ -186,25 +200,6 @@ fn script_text(alloc: Global, events: &[KeyEvent]) -> Result<Vec<u8>, AllocError
         text.extend_from_slice(if event.down { b" down\n" } else { b" up\n" })?;
     }
     Ok(text)
-}
-
-// How far a search is, said on standard error. Where that fails there is nobody to tell.
-#[derive(Drop)]
-struct Progress<'e, E> {
-    errors: &'e mut E,
-    is_shown: bool,
-}
-
-impl<'e, E: Write> Watcher for Progress<'e, E> {
-    fn note(&mut self, step: u64, states: usize, bytes: u64) {
-        if self.is_shown {
-            let megabytes = bytes / 1_000_000;
-            let _ = writeln!(
-                self.errors,
-                "chipbench: step {step}, {states} states, about {megabytes} MB"
-            );
-        }
-    }
 }
 
 // What is printed of what a search found.

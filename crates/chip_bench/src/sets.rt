@@ -9,7 +9,8 @@ use chip_arguments::ExploreWords;
 use chip_explore::Causes;
 use memchr::memchr;
 
-const ALL_KEYS: u16 = 0xffff;
+/// All sixteen keys.
+pub(crate) const ALL_KEYS: u16 = 0xffff;
 
 // What the parts of a list stand for.
 #[derive(Clone, Copy)]
@@ -26,7 +27,7 @@ impl Item {
     {
         match (self, part) {
             (Item::Cause, [b'S', digit @ b'1'..=b'7']) => Some(u32::from(*digit - b'0')),
-            (Item::Warning, [b'W', digit @ b'1'..=b'7']) => Some(u32::from(*digit - b'0')),
+            (Item::Warning, [b'W', digit @ b'1'..=b'8']) => Some(u32::from(*digit - b'0')),
             (Item::Key, [digit @ b'0'..=b'9']) => Some(u32::from(*digit - b'0')),
             (Item::Key, [b'1', digit @ b'0'..=b'5']) => Some(10 + u32::from(*digit - b'0')),
             _ => None,

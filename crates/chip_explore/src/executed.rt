@@ -54,6 +54,13 @@ impl Executed {
         }
     }
 
+    /// Whether a step was made at an address, by the address.
+    pub fn addresses(&self) -> &[bool]
+        ensures { result.now ≡ self.now }
+    {
+        &self.addresses
+    }
+
     /// Whether a step was made at an address. One past the memory, where each step stops the
     /// machine, counts as such.
     pub fn contains(&self, address: u16) -> bool

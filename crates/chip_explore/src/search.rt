@@ -323,7 +323,7 @@ impl Search {
             if turn.step >= self.members.limit || turn.step >= most_steps {
                 return Ok(());
             }
-            if turns % TURNS_TOLD == 0 {
+            if turns != 0 && turns % TURNS_TOLD == 0 {
                 watcher.note(turn.step, self.members.states.len(), self.room());
             }
             if self.members.is_open(place, turn.step) {

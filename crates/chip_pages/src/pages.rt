@@ -53,7 +53,7 @@ pub(crate) fn end_pages() -> &'static [Page]
 }
 
 // The faults and the warnings of a source's lines.
-static LINE_PAGES: [Page; 24] = [
+static LINE_PAGES: [Page; 25] = [
     Page {
         code: "F1",
         title: "bad character",
@@ -223,6 +223,13 @@ static LINE_PAGES: [Page; 24] = [
         meaning: "The profile is vip, and the instruction is one of SUPER-CHIP alone: SCD, SCR, SCL, EXIT, LOW, HIGH, LD HF, Vx, LD R, Vx or LD Vx, R. The machine stops there with S2.",
         example: Example::Source("HIGH"),
         fix: "Do without the instruction, or take the profile schip.",
+    },
+    Page {
+        code: "W8",
+        title: "instruction that no key script executes",
+        meaning: "With `check --cover` alone: whatever keys are down at each step, no step is made at the address of this instruction; where a step is named, none up to that one. The tape is 00, so that RND gives 0, and 10 steps lie between two ticks. An instruction that has W3 has no W8.",
+        example: Example::Source("LD V0, 1\nLOOP: SE V0, 0\nJP LOOP\nCLS"),
+        fix: "Correct what was to lead there, or delete the instruction. `explore --cover` tries another tape or rate.",
     },
 ];
 

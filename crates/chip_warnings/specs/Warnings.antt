@@ -2,9 +2,9 @@
 use Rattle.std.specs.Prelude.{ℕ, ◌≡◌, ◌≤◌, ◌-◌, ◌++◌, List, [], All, length, slice_index_or}
 use Rattle.chip_warnings.specs.declared.warning.Warning.{Warning}
 use Rattle.chip_warnings.specs.declared.warning.WarningCode.{WarningCode}
-use Rattle.chip_warnings.specs.declared.warning.WarningCode.TheVariants.{SplitRows, UnusedName, Unreachable, FallsIntoData, JumpsToData, OddAddress, NotInProfile}
+use Rattle.chip_warnings.specs.declared.warning.WarningCode.TheVariants.{SplitRows, UnusedName, Unreachable, FallsIntoData, JumpsToData, OddAddress, NotInProfile, NeverExecuted}
 
--- the number of a warning, W1 to W7
+-- the number of a warning, W1 to W8
 abbrev pub number_of_warning : WarningCode → ℕ
 number_of_warning SplitRows = 1
 number_of_warning UnusedName = 2
@@ -13,6 +13,7 @@ number_of_warning FallsIntoData = 4
 number_of_warning JumpsToData = 5
 number_of_warning OddAddress = 6
 number_of_warning NotInProfile = 7
+number_of_warning NeverExecuted = 8
 
 -- a warning stands on one of these lines, at bytes that lie in it
 pub record StandsIn (lines : List (List ℕ)) (w : Warning) : Type 0 where

@@ -1,5 +1,6 @@
 //! Where execution comes, line after line.
 
+use crate::coverage::Coverage;
 use crate::marks::Marks;
 use crate::seen::{Says, Seen};
 use crate::survey::Survey;
@@ -98,14 +99,12 @@ impl Flow {
         survey: &Survey,
         seen: &Seen,
         profile: Profile,
+        coverage: Option<Coverage<'_>>,
     ) -> bool {
         match code {
             WarningCode::SplitRows => self.splits_rows(seen),
             WarningCode::UnusedName => seen.unused,
-            WarningCode::Unreachable => {
-                matches!((seen.says, self.reach), (Says::Code { .. }, Reach::Never))
-                    && !survey.marks.writes_code
-            }
+            WarningCode::Unreachable => self.is_unreachable(&survey.marks, seen),
             WarningCode::FallsIntoData => self.falls_into(seen) && !survey.marks.writes_code,
             WarningCode::JumpsToData => data_line(&survey.marks, seen).is_some(),
             WarningCode::OddAddress => {
@@ -114,7 +113,18 @@ impl Flow {
                     && !self.last.is_code_before(seen.address)
             }
             WarningCode::NotInProfile => is_missing(profile, seen),
+            WarningCode::NeverExecuted => match coverage {
+                Some(coverage) => {
+                    coverage.leaves_out(seen) && !self.is_unreachable(&survey.marks, seen)
+                }
+                None => false,
+            },
         }
+    }
+
+    /// Whether nothing reaches an instruction.
+    fn is_unreachable(&self, marks: &Marks, seen: &Seen) -> bool {
+        matches!((seen.says, self.reach), (Says::Code { .. }, Reach::Never)) && !marks.writes_code
     }
 
     /// Whether ALIGN puts a zero byte between the rows above and those of a line.

@@ -1,6 +1,7 @@
 //! Warnings: what a source says that it may not mean.
 #![tactic(auto)]
 
+mod coverage;
 mod flow;
 mod marks;
 mod report;
@@ -9,5 +10,6 @@ mod survey;
 mod text;
 mod warning;
 
+pub use coverage::Coverage;
 pub use report::warnings;
 pub use warning::{Warning, WarningCode};

@@ -5,6 +5,7 @@ ghost use Rattle.chip_asm.specs.Lines.{lines_of};
 ghost use Rattle.chip_asm.specs.Program.{image_of};
 ghost use Rattle.chip_warnings.specs.Warnings.{StandsAt, StandsIn, Adds};
 
+use crate::coverage::Coverage;
 use crate::flow::Flow;
 use crate::seen::Seen;
 use crate::survey::Survey;
@@ -17,7 +18,8 @@ use chip_machine::Profile;
 use std::alloc::{AllocError, Global};
 
 /// The warnings of a source that was opened from these bytes, in the order of the lines; none where
-/// a line has a fault. `allowed` has bit k set where Wk is switched off.
+/// a line has a fault. `allowed` has bit k set where Wk is switched off. Without the coverage of the
+/// source's image no line has W8.
 ///
 /// # Errors
 ///
@@ -28,6 +30,7 @@ pub fn warnings(
     source: &Source,
     profile: Profile,
     allowed: u16,
+    coverage: Option<Coverage<'_>>,
 ) -> Result<Vec<Warning>, AllocError>
     ensures places { IfOk result (λ warnings. All (StandsIn (lines_of bytes.now)) warnings.items) }
     ensures faulty { IfOk result
@@ -50,6 +53,7 @@ pub fn warnings(
             flow: &flow,
             profile,
             allowed,
+            coverage,
         };
         judge.push_warnings(alloc, &mut warnings, number, line)?;
         flow.leave(number, &seen);
@@ -66,6 +70,7 @@ struct Judge<'a> {
     flow: &'a Flow,
     profile: Profile,
     allowed: u16,
+    coverage: Option<Coverage<'a>>,
 }
 
 impl<'a> Judge<'a> {
@@ -92,7 +97,10 @@ impl<'a> Judge<'a> {
 
     /// Whether a line has a warning of a kind that isn't switched off.
     fn has(&self, code: WarningCode, seen: &Seen) -> bool {
-        !code.is_among(self.allowed) && self.flow.has(code, self.survey, seen, self.profile)
+        !code.is_among(self.allowed)
+            && self
+                .flow
+                .has(code, self.survey, seen, self.profile, self.coverage)
     }
 
     /// The warning of a kind of the line of a number.
@@ -107,7 +115,16 @@ impl<'a> Judge<'a> {
         ensures { IfOk result (StandsAt number line.now) }
     {
         let span = fault_span(alloc, line, fault_there(code))?;
-        let sentence = sentence(alloc, code, line, span, seen, self.flow, &self.survey.marks)?;
+        let sentence = sentence(
+            alloc,
+            code,
+            line,
+            span,
+            seen,
+            self.flow,
+            &self.survey.marks,
+            self.coverage,
+        )?;
         let help = Vec::from_slice(alloc, help(code))?;
         Ok(Warning {
             line: number,

@@ -2,6 +2,7 @@
 
 ghost use Rattle.std.specs.Prelude.{◌≤◌, length};
 
+use crate::coverage::Coverage;
 use crate::flow::{Flow, data_line};
 use crate::marks::Marks;
 use crate::seen::{Says, Seen};
@@ -28,6 +29,7 @@ pub(crate) fn sentence(
     seen: &Seen,
     flow: &Flow,
     marks: &Marks,
+    coverage: Option<Coverage<'_>>,
 ) -> Result<Vec<u8>, AllocError>
     requires rises { span.start ≤ span.end }
     requires inside { span.end ≤ length line.now }
@@ -49,6 +51,7 @@ pub(crate) fn sentence(
         WarningCode::JumpsToData => jump_sentence(alloc, seen, marks)?,
         WarningCode::OddAddress => odd_sentence(alloc, seen)?,
         WarningCode::NotInProfile => missing_sentence(alloc, seen)?,
+        WarningCode::NeverExecuted => never_sentence(alloc, coverage)?,
     };
     Ok(text.into_bytes())
 }
@@ -79,6 +82,19 @@ fn missing_sentence(alloc: Global, seen: &Seen) -> Result<String, AllocError> {
     format!(in alloc; "the profile vip has no instruction {instruction}")
 }
 
+/// Says up to which step no key script executes an instruction, or that none ever does.
+fn never_sentence(alloc: Global, coverage: Option<Coverage<'_>>) -> Result<String, AllocError> {
+    match coverage {
+        Some(
+            Coverage {
+                within: Some(step),
+                ..
+            },
+        ) => format!(in alloc; "no key script executes this up to step {step}"),
+        _ => String::from_str(alloc, "no key script executes this"),
+    }
+}
+
 /// What helps with a warning.
 pub(crate) fn help(code: WarningCode) -> &'static [u8] {
     match code {
@@ -91,5 +107,6 @@ pub(crate) fn help(code: WarningCode) -> &'static [u8] {
         WarningCode::JumpsToData => b"",
         WarningCode::OddAddress => b"put ALIGN ON before the data above it, or DB 0 after that",
         WarningCode::NotInProfile => b"schip has it",
+        WarningCode::NeverExecuted => b"",
     }
 }

@@ -22,13 +22,15 @@ pub enum WarningCode {
     OddAddress,
     /// W7: an instruction that the profile doesn't have.
     NotInProfile,
+    /// W8: an instruction that no key script executes.
+    NeverExecuted,
 }
 
 impl WarningCode {
-    /// The number that a warning has: 1 to 7.
+    /// The number that a warning has: 1 to 8.
     pub fn number(self) -> u32
         ensures value { result ≡ number_of_warning self }
-        ensures bound { result ≤ 7 }
+        ensures bound { result ≤ 8 }
     {
         match self {
             WarningCode::SplitRows => 1,
@@ -38,6 +40,7 @@ impl WarningCode {
             WarningCode::JumpsToData => 5,
             WarningCode::OddAddress => 6,
             WarningCode::NotInProfile => 7,
+            WarningCode::NeverExecuted => 8,
         }
     }
 
@@ -56,6 +59,7 @@ pub(crate) const CODES: &[WarningCode] = &[
     WarningCode::JumpsToData,
     WarningCode::OddAddress,
     WarningCode::NotInProfile,
+    WarningCode::NeverExecuted,
 ];
 
 /// A warning, and where it stands.

@@ -20,8 +20,7 @@ fn main(rt: HostRuntime) -> ExitCode {
     let host = Host {
         name_seed: name_seed(&rt),
         takes_color: rt.stdout().is_terminal() && wants_color(&rt),
-        // Each search that begins anew tells of its first turn, which is too much for who didn't ask.
-        has_reader: false,
+        has_reader: rt.stderr().is_terminal(),
     };
     let status = program(
         alloc,

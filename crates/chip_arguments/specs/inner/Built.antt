@@ -61,6 +61,7 @@ rule_by argument.Json = line.json
 rule_by argument.Allow = line.allow
 rule_by argument.Reach = line.reach
 rule_by argument.Cover = line.cover
+rule_by argument.CheckCover = line.cover
 rule_by argument.Progress = line.progress
 rule_by argument.Hex = line.hex
 

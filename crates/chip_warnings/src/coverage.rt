@@ -1,0 +1,21 @@
+//! What a search over all key scripts saw executed.
+
+use crate::seen::{Says, Seen};
+
+/// What the key scripts of an image execute, as a search over all of them saw it.
+#[derive(Clone, Copy)]
+pub struct Coverage<'a> {
+    /// Whether some key script makes a step at an address, by the address. One past its end counts
+    /// as executed.
+    pub executed: &'a [bool],
+    /// The step up to which the search went, or none where it went to the end.
+    pub within: Option<u64>,
+}
+
+impl<'a> Coverage<'a> {
+    /// Whether a line is an instruction at whose address no key script makes a step.
+    pub(crate) fn leaves_out(&self, seen: &Seen) -> bool {
+        matches!(seen.says, Says::Code { .. })
+            && matches!(self.executed.get(seen.address), Some(false))
+    }
+}
