@@ -4,7 +4,6 @@ use Rattle.std.specs.Result.{result_ok}
 use Rattle.std.specs.FinMap.{get-empty}
 use Rattle.std.specs.Ordering.{nat_cmp}
 use Rattle.std.specs.Cmp.Lexicographic.{slice_cmp}
-use Rattle.chip_lang.specs.declared.expr.Operator.{Operator}
 use Rattle.chip_lang.specs.declared.fault.Fault.{Fault}
 use Rattle.chip_lang.specs.Tree.{Tree, number, name, unary, binary}
 use Rattle.chip_lang.specs.Uses.{constant, if_nameless, names_in}

@@ -1,6 +1,6 @@
 -- The names of expressions and of their items.
 use Rattle.std.proofs.Common.{◌≡◌, ℕ, zero, suc, List, [], ◌∷◌, ◌++◌, drop, refl, sym, ap, ◌∙◌, append_assoc, append-nil}
-use Rattle.std.specs.List.{slice_get, fold, flat_map}
+use Rattle.std.specs.List.{slice_get, fold}
 use Rattle.std.proofs.lemmas.List.Concat.{flat_map-cons}
 use Rattle.chip_lang.specs.declared.postfix.Item.{Item}
 use Rattle.chip_lang.specs.declared.postfix.Item.TheVariants.{Number, Name, Unary, Binary}

@@ -3,7 +3,7 @@ use Rattle.std.proofs.Common.{◌≡◌, ℕ, ◌==◌, Bool, true, false, if◌
 use Rattle.chip_lang.specs.declared.lexeme.Lexeme.{Lexeme}
 use Rattle.chip_lang.specs.declared.lexeme.Lexeme.TheVariants.{Word, Number, Text, Sign, Bad}
 use Rattle.chip_lang.specs.declared.expr.Prefix.{Prefix}
-use Rattle.chip_lang.specs.Tree.{Tree, number, name}
+use Rattle.chip_lang.specs.Tree.{name}
 use Rattle.chip_lang.specs.Reserved.{is_reserved}
 use Rattle.chip_lang.specs.Grammar.{prefix_of}
 use Rattle.chip_lang.specs.computed.Parse.{expression_of, one_byte, whole}

@@ -1,5 +1,4 @@
 -- Expressions without where they lie in memory (own).
-use Rattle.std.specs.Prelude.{ℕ, ℤ, List}
 use Rattle.chip_lang.specs.declared.expr.Expr.{Expr}
 use Rattle.chip_lang.specs.declared.expr.Expr.TheVariants.{Number, Name, Compound}
 pub use Rattle.chip_lang.specs.Expression.{Tree, number, name, unary, binary}

@@ -1,5 +1,5 @@
 -- What a function of the parser answers, without where it lies in memory (own).
-use Rattle.std.specs.Prelude.{List, Option, Some, None, option_map}
+use Rattle.std.specs.Prelude.{List, Option, Some, None}
 use Rattle.std.specs.Borrow.{Bor}
 use Rattle.chip_lang.specs.declared.lexeme.Lexeme.{Lexeme}
 use Rattle.chip_lang.specs.declared.expr.Expr.{Expr}

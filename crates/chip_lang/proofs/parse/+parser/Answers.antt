@@ -1,5 +1,5 @@
-use Rattle.std.proofs.Common.{◌≡◌, ◌∙◌, ◌-◌, ap, sym, rules, arith, Some, None}
-use Rattle.chip_lang.specs.inner.Postfix.{top, popped}
+use Rattle.std.proofs.Common.{◌∙◌, ◌-◌, ap, sym, rules, arith, Some, None}
+use Rattle.chip_lang.specs.inner.Postfix.{top}
 use Rattle.chip_lang.specs.inner.Seen.{seen}
 use Rattle.chip_lang.proofs.Steps.{sunk, onward, settled, plain_ok, parentheses_at, slice_after, after_shorter, leads_on, leads_nowhere, leads_end}
 use Rattle.chip_lang.proofs.parse.+parser.Goals.{parse_level-then-loop-done-test+else-next-level, parse_level-else-loop-done-test}
