@@ -75,15 +75,15 @@ color_fault (Some word) =
     else (if bytes_eq word (codes "never") then [] else kind.InvalidValue ∷ []))
 
 -- the first fault of the values of these arguments
-abbrev pub first_fault : (Option (List ℕ) → Kinds) → List (List ℕ) → List Row → Kinds
-first_fault fault [] rows = []
-first_fault fault (id ∷ ids) rows = or_else (fault (first_of id rows)) (first_fault fault ids rows)
+abbrev pub first_value_fault : (Option (List ℕ) → Kinds) → List (List ℕ) → List Row → Kinds
+first_value_fault fault [] rows = []
+first_value_fault fault (id ∷ ids) rows = or_else (fault (first_of id rows)) (first_value_fault fault ids rows)
 
 -- the kinds of fault of values that `clap` takes and the program doesn't
 abbrev pub value_faults : List Row → Kinds
 value_faults rows =
-    or_else (first_fault number_fault numbers rows)
-    (or_else (first_fault new_file_fault new_files rows)
+    or_else (first_value_fault number_fault numbers rows)
+    (or_else (first_value_fault new_file_fault new_files rows)
     (or_else (clash_faults rows)
     (or_else (color_fault (first_of (codes "color") rows))
     (profile_fault (first_of (codes "profile") rows)))))

@@ -5,7 +5,7 @@ ghost use Rattle.std.specs.List.{list_all};
 ghost use Rattle.clap.specs.Matches.{found_of};
 ghost use Rattle.clap.specs.Words.{FailsBy, first_of, kind_of, one_of, rows_of};
 ghost use Rattle.chip_arguments.specs.SettingWords.{default_words};
-ghost use Rattle.chip_arguments.specs.CommandWords.{Asks, AsksFor, AsksSettings, IsProfile, ReadsNumber, AsksCheck, color_asked, AsksExplore, AsksPicture, AsksRun, AsksTest, AsksTrace, clash_fault, clash_faults, color_fault, first_fault, new_file_fault, new_files, number_fault, numbers, value_faults, word_faults, needed, profile_fault};
+ghost use Rattle.chip_arguments.specs.CommandWords.{Asks, AsksFor, AsksSettings, IsProfile, ReadsNumber, AsksCheck, color_asked, AsksExplore, AsksPicture, AsksRun, AsksTest, AsksTrace, clash_fault, clash_faults, color_fault, first_value_fault, new_file_fault, new_files, number_fault, numbers, value_faults, word_faults, needed, profile_fault};
 ghost use Rattle.chip_arguments.specs.inner.Built.{IsOneOf, command_names};
 
 use crate::commands::chipbench;
@@ -308,7 +308,7 @@ fn check_numbers(
     found: &ArgMatches<'_>,
     arguments: &[(&str, &str)],
 ) -> Result<(), Error>
-    ensures { FailsBy (first_fault number_fault (map (λ argument. argument.0.now) arguments.now)
+    ensures { FailsBy (first_value_fault number_fault (map (λ argument. argument.0.now) arguments.now)
         (rows_of (found_of found.now))) result }
 {
     for (id, shown) in arguments {
@@ -323,7 +323,7 @@ fn check_new_files(
     found: &ArgMatches<'_>,
     arguments: &[(&str, &str)],
 ) -> Result<(), Error>
-    ensures { FailsBy (first_fault new_file_fault (map (λ argument. argument.0.now) arguments.now)
+    ensures { FailsBy (first_value_fault new_file_fault (map (λ argument. argument.0.now) arguments.now)
         (rows_of (found_of found.now))) result }
 {
     for (id, shown) in arguments {

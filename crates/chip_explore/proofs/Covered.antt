@@ -8,7 +8,7 @@ use Rattle.chip_machine.specs.Choices.{IsChoice, IsWithin, Represents}
 use Rattle.chip_machine.specs.Forgotten.{IsUnread, IsForgottenAfter}
 use Rattle.chip_machine.specs.Relevant.{Alike, AlikeSteps, DrawsGrow, QuietTick}
 use Rattle.chip_machine.specs.State.{Core, State, IsProper}
-use Rattle.chip_machine.specs.Step.{effect_at, is_down, perform, settle, step_of}
+use Rattle.chip_machine.specs.Step.{effect_at, is_key_down, perform, settle, step_of}
 use Rattle.chip_replay.specs.Run.{run}
 use Rattle.chip_explore.specs.Executed.{StaysAmong, is_among, is_at_one}
 use Rattle.chip_explore.specs.Scripts.{Avoids, IsScript}
@@ -21,9 +21,9 @@ use Rattle.chip_explore.specs.inner.Cover.{phase, tick_at, View, IsFine, forgott
 no_choice : (one : ℕ) → IsChoice 0 one → one ≡ 0
 no_choice one choice =
     ⊎_elim (λ (none : one ≡ 0). none)
-    (λ (some : (k : ℕ) × (is_down 0 k ≡ true) × (one ≡ 2 ^ k)).
-    let up : is_down 0 some.0 ≡ false = ap (λ b. b == 1) (bit_at-zero some.0) in
-    let down : is_down 0 some.0 ≡ true = some.1 in
+    (λ (some : (k : ℕ) × (is_key_down 0 k ≡ true) × (one ≡ 2 ^ k)).
+    let up : is_key_down 0 some.0 ≡ false = ap (λ b. b == 1) (bit_at-zero some.0) in
+    let down : is_key_down 0 some.0 ≡ true = some.1 in
     absurd (cc))
     choice
 

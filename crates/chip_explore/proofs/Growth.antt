@@ -10,7 +10,7 @@ use Rattle.chip_machine.specs.Choices.{IsChoice}
 use Rattle.chip_machine.specs.Forgotten.{IsUnread, IsForgottenAfter}
 use Rattle.chip_machine.specs.Relevant.{Alike}
 use Rattle.chip_machine.specs.State.{State}
-use Rattle.chip_machine.specs.Step.{is_down, step_of}
+use Rattle.chip_machine.specs.Step.{is_key_down, step_of}
 use Rattle.chip_explore.specs.declared.kept.Base.{Base}
 use Rattle.chip_explore.specs.declared.kept.Kept.{Kept}
 use Rattle.chip_explore.specs.declared.members.Members.{Members}
@@ -264,16 +264,16 @@ leads_after p l m n two place step keys leads = still_goes p (view_of m) (view_o
 module _ (p : Setting) (l m n : Members) (one : Goes p l m) (two : Goes p m n) (place step choices : ℕ) (kept : place < length l.steps.items)
     (has : HasChoices p (forgotten_at (view_of l) place) ((view_of l).member place) choices)
     (none : Leads p l m place step 0)
-    (each : (key : ℕ) → key < 16 → is_down choices key ≡ true → Leads p m n place step (2 ^ key)) where
+    (each : (key : ℕ) → key < 16 → is_key_down choices key ≡ true → Leads p m n place step (2 ^ key)) where
   by_choice : (keys : ℕ) → IsChoice choices keys → Leads p l n place step keys
   by_choice keys choice =
       ⊎_elim
       (λ (up : keys ≡ 0). subst (λ (k : ℕ). Leads p l n place step k) (sym up) (leads_after p l m n two place step 0 none))
-      (λ (down : (k : ℕ) × (is_down choices k ≡ true) × (keys ≡ 2 ^ k)).
-      let there : is_down choices down.0 ≡ true = down.1 in
+      (λ (down : (k : ℕ) × (is_key_down choices k ≡ true) × (keys ≡ 2 ^ k)).
+      let there : is_key_down choices down.0 ≡ true = down.1 in
       let below : down.0 < 16 =
       ⊎_elim (λ (inside : down.0 < 16). inside)
-      (λ (past : 16 ≤ down.0). let dark : is_down choices down.0 ≡ false = ap (λ b. b == 1) (bit_at_above choices 16 down.0 has.few past) in absurd (cc))
+      (λ (past : 16 ≤ down.0). let dark : is_key_down choices down.0 ≡ false = ap (λ b. b == 1) (bit_at_above choices 16 down.0 has.few past) in absurd (cc))
       (cases_lt down.0 16) in
       subst (λ (k : ℕ). Leads p l n place step k) (sym down.2)
       (leads_before p l m n one place step (2 ^ down.0) kept (each down.0 below there)))

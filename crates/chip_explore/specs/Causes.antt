@@ -5,10 +5,10 @@
 use Rattle.std.specs.Prelude.{ℕ, ◌^◌, ◌&&◌, Bool, nat_le, Option, Some, None, bit_or, if◌then◌else◌}
 use Rattle.chip_machine.specs.declared.stop.Stop.{Stop}
 use Rattle.chip_machine.specs.Numbers.{stop_number}
-use Rattle.chip_machine.specs.Step.{is_down}
+use Rattle.chip_machine.specs.Step.{is_key_down}
 
 abbrev pub is_wanted : ℕ → Stop → Bool
-is_wanted causes cause = is_down causes (stop_number cause)
+is_wanted causes cause = is_key_down causes (stop_number cause)
 
 abbrev pub with_number : ℕ → ℕ → Option ℕ
 with_number causes k =

@@ -6,7 +6,7 @@ ghost use Rattle.chip_machine.specs.Step as spec;
 /// Whether a key is down.
 pub(crate) fn is_down(keys: u16, key: u32) -> bool
     requires { key < 16 }
-    ensures { result ≡ spec.is_down keys key }
+    ensures { result ≡ spec.is_key_down keys key }
 {
     keys >> key & 1 == 1
 }

@@ -219,7 +219,7 @@ impl Search {
         requires in_range { step < 2 ^ 64 - 1 }
         ensures goes { Goes setting.now self.old.members self.new.members }
         ensures leads { IfOk result (λ answer. IsTrue answer
-            → (key : ℕ) → key < 16 → spec.is_down choices key ≡ true
+            → (key : ℕ) → key < 16 → spec.is_key_down choices key ≡ true
             → Leads setting.now self.old.members self.new.members place step (2 ^ key)) }
     {
         for key in 0..16u32 {

@@ -2,7 +2,7 @@ use Rattle.std.proofs.Common.{◌∙◌, ℕ, List, Option, IfOk, ap, codes, sub
 use Rattle.std.proofs.lemmas.Result.{err_from_is_err_and}
 use Rattle.clap.specs.Kinds.{HasKind, Kinds}
 use Rattle.clap.specs.Words.{FailsBy, first_of, found_of, rows_of}
-use Rattle.chip_arguments.specs.CommandWords.{IsProfile, clash_faults, color_fault, first_fault, new_file_fault, new_files, number_fault, numbers, profile_fault}
+use Rattle.chip_arguments.specs.CommandWords.{IsProfile, clash_faults, color_fault, first_value_fault, new_file_fault, new_files, number_fault, numbers, profile_fault}
 use Rattle.chip_arguments.proofs.FaultLemmas.{fails_fifth, fails_fourth, fails_second, fails_third}
 use Rattle.chip_arguments.proofs.WordLemmas.{first_is, still_fails}
 use Rattle.chip_arguments.proofs.command_line.judged.Goals as goal
@@ -11,14 +11,14 @@ pub returns-in_err-check_numbers-clause-fault : goal.returns-in_err-check_number
 returns-in_err-check_numbers-clause-fault c =
     let given = err_from_is_err_and c.from_residual.result c.from_residual.ensures.1 in
     rw (given.1, given.2)
-    (still_fails (first_fault number_fault numbers (rows_of (found_of c.args.found.now))) _ c.in_err-check_numbers.field-0.0 c.in_err-check_numbers.ensures)
+    (still_fails (first_value_fault number_fault numbers (rows_of (found_of c.args.found.now))) _ c.in_err-check_numbers.field-0.0 c.in_err-check_numbers.ensures)
 
 pub returns-in_err-check_new_files-clause-fault : goal.returns-in_err-check_new_files-clause-fault
 returns-in_err-check_new_files-clause-fault c =
     let given = err_from_is_err_and c.from_residual-in_err-check_new_files.result c.from_residual-in_err-check_new_files.ensures.1 in
     let rows = rows_of (found_of c.args.found.now) in
     rw (given.1, given.2)
-    (fails_second (first_fault number_fault numbers rows) (first_fault new_file_fault new_files rows) _ c.in_err-check_new_files.field-0.0
+    (fails_second (first_value_fault number_fault numbers rows) (first_value_fault new_file_fault new_files rows) _ c.in_err-check_new_files.field-0.0
     c.in_ok-check_numbers.ensures c.in_err-check_new_files.ensures)
 
 pub returns-in_err-check_clashes-clause-fault : goal.returns-in_err-check_clashes-clause-fault
@@ -26,7 +26,7 @@ returns-in_err-check_clashes-clause-fault c =
     let given = err_from_is_err_and c.from_residual-in_err-check_clashes.result c.from_residual-in_err-check_clashes.ensures.1 in
     let rows = rows_of (found_of c.args.found.now) in
     rw (given.1, given.2)
-    (fails_third (first_fault number_fault numbers rows) (first_fault new_file_fault new_files rows) (clash_faults rows) _ c.in_err-check_clashes.field-0.0
+    (fails_third (first_value_fault number_fault numbers rows) (first_value_fault new_file_fault new_files rows) (clash_faults rows) _ c.in_err-check_clashes.field-0.0
     c.in_ok-check_numbers.ensures c.in_ok-check_new_files.ensures c.in_err-check_clashes.ensures)
 
 pub returns-in_err-check_color-clause-fault : goal.returns-in_err-check_color-clause-fault
@@ -36,7 +36,7 @@ returns-in_err-check_color-clause-fault c =
     let word = first_is (found_of c.args.found.now) (codes "color") _ c.get_str.ensures in
     let e = c.in_err-check_color.field-0.0 in
     rw (given.1, given.2)
-    (fails_fourth (first_fault number_fault numbers rows) (first_fault new_file_fault new_files rows) (clash_faults rows)
+    (fails_fourth (first_value_fault number_fault numbers rows) (first_value_fault new_file_fault new_files rows) (clash_faults rows)
     (color_fault (first_of (codes "color") rows)) _ e
     c.in_ok-check_numbers.ensures c.in_ok-check_new_files.ensures c.in_ok-check_clashes.ensures
     (subst (λ (kinds : Kinds). HasKind kinds e) (ap color_fault word) c.in_err-check_color.ensures))
@@ -51,7 +51,7 @@ returns-clause-fault c =
     let rows = rows_of (found_of c.args.found.now) in
     let name = first_is (found_of c.args.found.now) (codes "profile") _ c.get_str-2.ensures in
     let word = first_is (found_of c.args.found.now) (codes "color") _ c.get_str.ensures in
-    fails_fifth (first_fault number_fault numbers rows) (first_fault new_file_fault new_files rows) (clash_faults rows)
+    fails_fifth (first_value_fault number_fault numbers rows) (first_value_fault new_file_fault new_files rows) (clash_faults rows)
     (color_fault (first_of (codes "color") rows)) (profile_fault (first_of (codes "profile") rows))
     c.profile_asked.result c.in_ok-check_numbers.ensures c.in_ok-check_new_files.ensures c.in_ok-check_clashes.ensures
     (sym (ap color_fault word) ∙ c.in_ok-check_color.ensures)

@@ -1,5 +1,5 @@
 use Rattle.std.proofs.Common.{◌≡◌, ◌+◌, ◌<◌, ◌^◌, ℕ, true, false, rules, ap, sym, subst, ◌∙◌, below_more}
-use Rattle.chip_machine.specs.Step.{is_down}
+use Rattle.chip_machine.specs.Step.{is_key_down}
 use Rattle.chip_explore.specs.declared.members.Members.{Members}
 use Rattle.chip_explore.specs.declared.search.Search.{Search}
 use Rattle.chip_explore.specs.declared.setting.Setting.{Setting}
@@ -11,7 +11,7 @@ use Rattle.chip_explore.proofs.search.Search.follow_each.Goals.{else-is_down-via
 -- each key below one was followed, up to a view of the states
 abbrev Followed : Setting → Members → ℕ → ℕ → ℕ → ℕ → Members → Type 0
 Followed p l place step choices count n =
-    (key : ℕ) → key < count → is_down choices key ≡ true → Leads p l n place step (2 ^ key)
+    (key : ℕ) → key < count → is_key_down choices key ≡ true → Leads p l n place step (2 ^ key)
 
 pub loop-key-preserved : goal.loop-key-preserved
 loop-key-preserved c =
@@ -32,7 +32,7 @@ loop-key-preserved c =
           let here : Leads p l n place step (2 ^ key) =
           leads_before p l m n before.goes place step (2 ^ key) c.requires.kept (subst (λ (keys : ℕ). Leads p m n place step keys) w.alone.ensures made) in
           let all : Followed p l place step choices (key + 1) n =
-          below_more (λ key. is_down choices key ≡ true → Leads p l n place step (2 ^ key)) key
+          below_more (λ key. is_key_down choices key ≡ true → Leads p l n place step (2 ^ key)) key
           (λ key below up. leads_after p l m n told.goes place step (2 ^ key) (before.leads key below up))
           (λ up. here) in
           record {
@@ -42,9 +42,9 @@ loop-key-preserved c =
       | else-is_down-via-else-is_down w ↦ (
           let is = ap (λ (s : Search). s.members) w.self-is in
           let all : Followed p l place step choices (key + 1) m =
-          below_more (λ key. is_down choices key ≡ true → Leads p l m place step (2 ^ key)) key
+          below_more (λ key. is_key_down choices key ≡ true → Leads p l m place step (2 ^ key)) key
           before.leads
-          (λ up. let not_down : is_down choices key ≡ false = sym c.is_down.ensures ∙ w.if-is_down.false in absurd (cc)) in
+          (λ up. let not_down : is_key_down choices key ≡ false = sym c.is_down.ensures ∙ w.if-is_down.false in absurd (cc)) in
           record {
             goes = subst (λ (x : Members). Goes p l x) (sym is) before.goes;
             leads = subst (λ (x : Members). Followed p l place step choices (key + 1) x) (sym is) all;
