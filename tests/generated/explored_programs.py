@@ -273,7 +273,7 @@ def warned(program, folder, *options):
 
 
 def wrong_warnings(program, number, folder):
-    """What is wrong with the warnings of a program; None where it comes to NOWHERE."""
+    """What is wrong with the warnings of a program, and how many lines have W8; None where it comes to NOWHERE."""
     pathlib.Path(folder, "image").write_bytes(image(number))
     pathlib.Path(folder, "source").write_bytes(program.run(["dis", "image"], b"", folder).stdout)
     answer = program.run(["explore", "source", "--reach", NOWHERE, "--cover"], b"", folder).stdout.decode().splitlines()
@@ -290,20 +290,23 @@ def wrong_warnings(program, number, folder):
         expected.setdefault(line, []).extend(told)
     found = warned(program, folder, "--cover")
     if {line: sorted(told) for line, told in found.items()} == {line: sorted(told) for line, told in expected.items()}:
-        return ""
-    return f"{found} and not {expected}"
+        return "", len(unmarked - unreachable)
+    return f"{found} and not {expected}", 0
 
 
 def wrong_warned_group(program, numbers):
-    """What is wrong with the warnings of some programs. Most have such a warning."""
-    left_out = 0
+    """What is wrong with the warnings of some programs. Half of them have W8 at least."""
+    having = 0
     with tempfile.TemporaryDirectory() as folder:
         for number in numbers:
-            wrong = wrong_warnings(program, number, folder)
-            left_out += wrong is None
+            told = wrong_warnings(program, number, folder)
+            if told is None:
+                continue
+            wrong, count = told
+            having += count > 0
             if wrong:
                 return f"program {number} ({image(number).hex()}): {wrong}"
-    return f"{left_out} programs are left out" if left_out > len(numbers) // 10 else ""
+    return f"only {having} programs have W8" if having < len(numbers) // 2 else ""
 
 
 def checks(program):

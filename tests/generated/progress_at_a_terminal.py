@@ -1,4 +1,4 @@
-"""A long search says how far it is where standard error is a terminal, or with `--progress`; a short one doesn't.
+"""A long search shows its progress where standard error is a terminal, or with `--progress`; a short one doesn't.
 
 With two keys there are twice as many states after each, so that 250,000 of them are taken up before the search keeps 1,000,000.
 """
