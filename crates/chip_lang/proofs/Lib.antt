@@ -12,6 +12,7 @@ pub mod OneToken
 pub mod Pieces
 pub mod SameCode
 pub mod KeptValue
+pub mod LastOutcome
 pub mod Outcomes
 pub mod Scan
 pub mod SaidForm
@@ -25,6 +26,7 @@ pub mod TopDigit
 pub mod NamesUsed
 pub mod NamesBound
 pub mod FormedLine
+pub mod Fused
 pub mod Lookup
 pub mod Misfit
 pub mod FaultSpan

@@ -3,26 +3,35 @@ use Rattle.std.proofs.Common.{◌≡◌, ℕ, zero, suc, List, [], ◌∷◌, �
 use Rattle.std.specs.List.{slice_get, fold}
 use Rattle.std.proofs.lemmas.List.Concat.{flat_map-cons}
 use Rattle.chip_lang.specs.declared.postfix.Item.{Item}
-use Rattle.chip_lang.specs.declared.postfix.Item.TheVariants.{Number, Name, Unary, Binary}
+use Rattle.chip_lang.specs.declared.postfix.Item.TheVariants.{Operand, Unary, Binary, WithOperand}
+use Rattle.chip_lang.specs.declared.postfix.Leaf.{Leaf}
+use Rattle.chip_lang.specs.declared.postfix.Leaf.TheVariants.{Number, Name}
 use Rattle.chip_lang.specs.Expression.{Tree}
 use Rattle.chip_lang.specs.Uses.{names_in}
-use Rattle.chip_lang.specs.inner.Postfix.{top, popped, pushed, stack_of, name_of_item, names_of}
+use Rattle.chip_lang.specs.inner.Postfix.{top, popped, leaf_tree, pushed, stack_of, name_of_leaf, name_of_item, names_of}
 
 -- the names in the trees of a stack, the lowest first
 names_on : List Tree → List (List ℕ)
 names_on [] = []
 names_on (t ∷ stack) = names_on stack ++ names_in t
 
+names_in-leaf : (leaf : Leaf) → names_in (leaf_tree leaf) ≡ name_of_leaf leaf
+names_in-leaf (Number z) = refl
+names_in-leaf (Name n) = refl
+
 names_on-pushed : (stack : List Tree) (i : Item) → names_on (pushed stack i) ≡ names_on stack ++ name_of_item i
 unfolding names_on
-names_on-pushed stack (Number z) = refl
-names_on-pushed stack (Name n) = refl
+names_on-pushed stack (Operand leaf) = ap (λ names. names_on stack ++ names) (names_in-leaf leaf)
 names_on-pushed [] (Unary sign) = refl
 names_on-pushed (a ∷ stack) (Unary sign) = sym (append-nil (names_on stack ++ names_in a))
 names_on-pushed [] (Binary sign) = refl
 names_on-pushed (b ∷ []) (Binary sign) = sym (append-nil (names_in b))
 names_on-pushed (b ∷ a ∷ stack) (Binary sign) =
     sym (append_assoc (names_on stack) (names_in a) (names_in b)) ∙ sym (append-nil ((names_on stack ++ names_in a) ++ names_in b))
+names_on-pushed [] (WithOperand sign leaf) = names_in-leaf leaf
+names_on-pushed (a ∷ stack) (WithOperand sign leaf) =
+    sym (append_assoc (names_on stack) (names_in a) (names_in (leaf_tree leaf)))
+    ∙ ap (λ names. (names_on stack ++ names_in a) ++ names) (names_in-leaf leaf)
 
 names_on-fold : (items : List Item) (stack : List Tree) → names_on (fold pushed stack items) ≡ names_on stack ++ names_of items
 names_on-fold [] stack = sym (append-nil (names_on stack))

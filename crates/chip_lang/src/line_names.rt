@@ -180,8 +180,8 @@ fn name_in_items(items: &[Item]) -> Option<(&[u8], &[Item])>
 {
     let mut rest = items;
     while let Some((item, after)) = rest.split_first() {
-        if let Item::Name(name) = item {
-            return Some((name.get(), after));
+        if let Some(name) = item.name() {
+            return Some((name, after));
         }
         rest = after;
     }

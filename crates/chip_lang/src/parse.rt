@@ -148,12 +148,12 @@ fn push_operand(builder: &mut Builder, token: &Lexeme) -> Result<bool, AllocErro
             }
             builder.push_name(word.get())?;
         }
-        Lexeme::Number(number) => builder.push(Item::Number(*number))?,
+        Lexeme::Number(number) => builder.push_number(*number)?,
         Lexeme::Text(text) => {
             let Some(number) = text_number(text.get()) else {
                 return Ok(false);
             };
-            builder.push(Item::Number(number))?;
+            builder.push_number(number)?;
         }
         Lexeme::Sign(_) | Lexeme::Bad(_) => return Ok(false),
     }
@@ -181,7 +181,7 @@ fn parse_further<'a>(
         let Some(more) = parse_level(builder, &rest[1..], level - 1)? else {
             return Ok(None);
         };
-        builder.push(Item::Binary(sign))?;
+        builder.push_binary(sign)?;
         rest = more;
     }
     Ok(Some(rest))

@@ -1,26 +1,50 @@
 //! Expressions of several tokens, in postfix order.
 
-ghost use Rattle.std.specs.Prelude.{◌≡◌, [], ◌∷◌, IfOk, OnOk};
-ghost use Rattle.chip_lang.specs.Expression.{name};
+ghost use Rattle.std.specs.Prelude.{◌≡◌, [], ◌∷◌, IfOk, OnOk, MatchOption};
+ghost use Rattle.chip_lang.specs.Expression.{name, number};
 ghost use Rattle.chip_lang.specs.Uses.{names_in};
-ghost use Rattle.chip_lang.specs.inner.Postfix.{top, popped, pushed, stack_of, names_of};
+ghost use Rattle.chip_lang.specs.inner.Postfix.{top, popped, pushed, stack_of, name_of_item, names_of};
 
 use crate::expr::{Operator, Prefix};
 use crate::short_bytes::ShortBytes;
 use std::alloc::{AllocError, Global};
 use std::marker::Model;
 
-/// A part of an expression.
+/// An operand of one token.
 #[derive(Drop)]
-pub(crate) enum Item {
+pub(crate) enum Leaf {
     /// A number.
     Number(i32),
     /// A name, in upper case.
     Name(ShortBytes),
-    /// The sign before an operand, which the items before it end with.
+}
+
+/// A part of an expression.
+#[derive(Drop)]
+pub(crate) enum Item {
+    /// An operand.
+    Operand(Leaf),
+    /// The sign before an operand, with which the items before it end.
     Unary(Prefix),
-    /// The sign between two operands, which the items before it end with.
+    /// The sign between two operands, with which the items before it end.
     Binary(Operator),
+    /// The sign between an operand, with which the items before it end, and another one.
+    WithOperand(Operator, Leaf),
+}
+
+impl Item {
+    /// The name in an item, if there is one.
+    pub fn name(&self) -> Option<&[u8]>
+        ensures { MatchOption result (name_of_item self.now ≡ [])
+            (λ name. name_of_item self.now ≡ name.now ∷ []) }
+    {
+        match self {
+            Item::Operand(Leaf::Name(name)) | Item::WithOperand(_, Leaf::Name(name)) => {
+                Some(name.get())
+            }
+            _ => None,
+        }
+    }
 }
 
 /// An expression of several tokens, which contracts see as a tree. It is one array in postfix order:
@@ -92,12 +116,35 @@ impl Builder {
         Ok(())
     }
 
+    /// Appends a number.
+    pub fn push_number(&mut self, value: i32) -> Result<(), AllocError>
+        ensures { OnOk result (self.new ≡ number value ∷ self.old) }
+    {
+        self.push(Item::Operand(Leaf::Number(value)))
+    }
+
     /// Appends a name, given in upper case.
     pub fn push_name(&mut self, word: &[u8]) -> Result<(), AllocError>
         ensures { OnOk result (self.new ≡ name word.now ∷ self.old) }
     {
         let name = ShortBytes::from_slice(self.alloc, word)?;
-        self.push(Item::Name(name))
+        self.push(Item::Operand(Leaf::Name(name)))
+    }
+
+    /// Appends the sign between two operands, in one item with the second where that is one token.
+    #[tactic(auto, using(crate::proofs::Fused::fused))]
+    pub fn push_binary(&mut self, sign: Operator) -> Result<(), AllocError>
+        ensures { OnOk result (self.new ≡ pushed self.old (Item.Binary sign)) }
+    {
+        match self.items.pop() {
+            Some(Item::Operand(leaf)) => self.items.push(Item::WithOperand(sign, leaf))?,
+            Some(last) => {
+                self.items.push(last)?;
+                self.items.push(Item::Binary(sign))?;
+            }
+            None => self.items.push(Item::Binary(sign))?,
+        }
+        Ok(())
     }
 
     /// The expression that all items are.

@@ -1,16 +1,16 @@
 //! The value of an expression.
 
-ghost use Rattle.std.specs.Prelude.{◌≡◌, ◌*ℤ◌, pos, ◌^◌, ◌<◌, ℕ, neg_ℤ, ◌≤◌, IfSome, Ok, length};
+ghost use Rattle.std.specs.Prelude.{◌≡◌, ◌*ℤ◌, pos, ◌^◌, ◌<◌, ℕ, neg_ℤ, ◌≤◌, ◌-◌, ◌∷◌, List, IfSome, Ok, length};
 ghost use Rattle.chip_lang.specs.Tree.{tree_of};
 ghost use Rattle.chip_lang.specs.Uses.{constant};
 ghost use Rattle.chip_lang.specs.Value.{Symbols, value, value_of_name, or_fault, no_names, apply, apply_prefix, shift_left, shift_right, divide};
-ghost use Rattle.chip_lang.specs.inner.Outcome.{prefixed_outcome, joined_outcome};
-ghost use Rattle.chip_lang.specs.inner.Postfix.{top, popped, stack_of};
+ghost use Rattle.chip_lang.specs.inner.Outcome.{Outcome, last_outcome, prefixed_outcome, joined_outcome};
+ghost use Rattle.chip_lang.specs.inner.Postfix.{top, leaf_tree, stack_of};
 
 use crate::expr::{Expr, Operator, Prefix};
 use crate::fault::Fault;
 use crate::names::Names;
-use crate::postfix::Item;
+use crate::postfix::{Item, Leaf};
 
 /// The value of an expression, or the first fault from the left.
 pub fn eval<N: Names>(expr: &Expr, names: &N) -> Result<i32, Fault>
@@ -19,7 +19,7 @@ pub fn eval<N: Names>(expr: &Expr, names: &N) -> Result<i32, Fault>
     match expr {
         Expr::Number(number) => Ok(*number),
         Expr::Name(name) => value_of_name(names, name.get()),
-        Expr::Compound(compound) => eval_last(compound.items(), names).0,
+        Expr::Compound(compound) => eval_items(compound.items(), names),
     }
 }
 
@@ -31,28 +31,61 @@ fn value_of_name<N: Names>(names: &N, name: &[u8]) -> Result<i32, Fault>
     names.value(name).ok_or(Fault::UndefinedName)
 }
 
-/// The value of the last operand that items leave, and the items before it.
-fn eval_last<'a, N: Names>(items: &'a [Item], names: &N) -> (Result<i32, Fault>, &'a [Item])
-    ensures value { result.0 ≡ value (top (stack_of items.now)) (N.symbols names.now) }
-    ensures before { stack_of result.1.now ≡ popped (stack_of items.now) }
-    ensures shorter { length result.1.now ≤ length items.now }
+#[inline]
+fn value_of_leaf<N: Names>(names: &N, leaf: &Leaf) -> Result<i32, Fault>
+    ensures { result ≡ value (leaf_tree leaf.now) (N.symbols names.now) }
 {
-    let Some((last, before)) = items.split_last() else {
-        return (Ok(0), items);
-    };
-    match last {
-        Item::Number(number) => (Ok(*number), before),
-        Item::Name(name) => (value_of_name(names, name.get()), before),
-        Item::Unary(sign) => {
-            let (operand, before) = eval_last(before, names);
-            (after_prefix(*sign, operand), before)
-        }
-        Item::Binary(sign) => {
-            let (right, before) = eval_last(before, names);
-            let (left, before) = eval_last(before, names);
-            (joined(*sign, left, right), before)
+    match leaf {
+        Leaf::Number(number) => Ok(*number),
+        Leaf::Name(name) => value_of_name(names, name.get()),
+    }
+}
+
+/// The outcome of the tree on top of those that items leave. One turn takes all items of an
+/// expression; a sign with no left side, as no expression has, takes 0 for it.
+#[tactic(auto, using(crate::proofs::LastOutcome::zero_under))]
+fn eval_items<N: Names>(items: &[Item], names: &N) -> Result<i32, Fault>
+    ensures { result ≡ value (top (stack_of items.now)) (N.symbols names.now) }
+{
+    let mut top = Ok(0);
+    let mut rest = items;
+    while !rest.is_empty() {
+        let (outcome, after) = eval_right(Ok(0), top, rest, names);
+        top = outcome;
+        rest = after;
+    }
+    top
+}
+
+/// From a left operand and how the right one begins to the sign between them: its outcome, and the
+/// items after it. Without such a sign, the outcome of the right operand.
+fn eval_right<'a, N: Names>(
+    left: Result<i32, Fault>,
+    first: Result<i32, Fault>,
+    items: &'a [Item],
+    names: &N,
+) -> (Result<i32, Fault>, &'a [Item])
+    ensures value { (under : List Outcome)
+        → last_outcome (N.symbols names.now) (first ∷ left ∷ under) items.now
+        ≡ last_outcome (N.symbols names.now) (result.0 ∷ under) result.1.now }
+    ensures shorter { length result.1.now ≤ length items.now - 1 }
+{
+    let mut right = first;
+    let mut rest = items;
+    while let Some((item, after)) = rest.split_first() {
+        rest = after;
+        match item {
+            Item::WithOperand(sign, leaf) => {
+                right = joined(*sign, right, value_of_leaf(names, leaf));
+            }
+            Item::Unary(sign) => right = after_prefix(*sign, right),
+            Item::Binary(sign) => return (joined(*sign, left, right), after),
+            Item::Operand(leaf) => {
+                (right, rest) = eval_right(right, value_of_leaf(names, leaf), after, names);
+            }
         }
     }
+    (right, rest)
 }
 
 /// The outcome of a sign before an operand.

@@ -4,12 +4,14 @@ use Rattle.std.specs.Coded.{Coded, code_by, coded_list}
 use Rattle.std.specs.List.{fold, flat_map}
 use Rattle.std.proofs.Common.{ap, ◌∙◌}
 use Rattle.chip_lang.specs.contracts.postfix.Item as item_type
+use Rattle.chip_lang.specs.declared.postfix.Leaf.{Leaf}
+use Rattle.chip_lang.specs.declared.postfix.Leaf.TheVariants.{Number, Name}
 use Rattle.chip_lang.specs.declared.postfix.Item.{Item}
-use Rattle.chip_lang.specs.declared.postfix.Item.TheVariants.{Number, Name, Unary, Binary}
+use Rattle.chip_lang.specs.declared.postfix.Item.TheVariants.{Operand, Unary, Binary, WithOperand}
 use Rattle.chip_lang.specs.Expression.{Tree, number, name, unary, binary}
 
 -- The tree on top of a stack. Under the last one stand zeros without end, so that each item has its
--- operands; where there is one tree in the end, none of them was taken.
+-- operands.
 abbrev pub top : List Tree → Tree
 top [] = number (pos 0)
 top (t ∷ stack) = t
@@ -19,24 +21,32 @@ abbrev pub popped : List Tree → List Tree
 popped [] = []
 popped (t ∷ stack) = stack
 
+abbrev pub leaf_tree : Leaf → Tree
+leaf_tree (Number z) = number z
+leaf_tree (Name n) = name n
+
 -- the stack after an item: a sign takes its operands from the top
 abbrev pub pushed : List Tree → Item → List Tree
-pushed stack (Number z) = number z ∷ stack
-pushed stack (Name n) = name n ∷ stack
+pushed stack (Operand leaf) = leaf_tree leaf ∷ stack
 pushed stack (Unary sign) = unary sign (top stack) ∷ popped stack
 pushed stack (Binary sign) =
     binary sign (top (popped stack)) (top stack) ∷ popped (popped stack)
+pushed stack (WithOperand sign leaf) = binary sign (top stack) (leaf_tree leaf) ∷ popped stack
 
 -- the stack that items leave
 abbrev pub stack_of : List Item → List Tree
 stack_of items = fold pushed [] items
 
--- the name that an item is
+abbrev pub name_of_leaf : Leaf → List (List ℕ)
+name_of_leaf (Number z) = []
+name_of_leaf (Name n) = n ∷ []
+
+-- the name in an item
 abbrev pub name_of_item : Item → List (List ℕ)
-name_of_item (Number z) = []
-name_of_item (Name n) = n ∷ []
+name_of_item (Operand leaf) = name_of_leaf leaf
 name_of_item (Unary sign) = []
 name_of_item (Binary sign) = []
+name_of_item (WithOperand sign leaf) = name_of_leaf leaf
 
 -- the names among items
 abbrev pub names_of : List Item → List (List ℕ)
@@ -46,8 +56,8 @@ names_of items = flat_map name_of_item items
 
 -- the items of a tree, before others
 abbrev pub items_before : Tree → List Item → List Item
-items_before (number z) rest = Number z ∷ rest
-items_before (name n) rest = Name n ∷ rest
+items_before (number z) rest = Operand (Number z) ∷ rest
+items_before (name n) rest = Operand (Name n) ∷ rest
 items_before (unary sign a) rest = items_before a (Unary sign ∷ rest)
 items_before (binary sign a b) rest = items_before a (items_before b (Binary sign ∷ rest))
 

@@ -73,13 +73,13 @@ parse_further-loop-sign-preserved t c =
     let shorter = rw (slice_after c.loop-sign.rest.now) at short in
     let kept = rw c.in-Some-2.is at c.in_ok-more.ensures.kept in
     record {
-      leads = rw (c.in_ok-push.ensures, kept) (
+      leads = rw (c.in_ok-push_binary.ensures, kept) (
           leads_on c.args.level (c.args.level - 1) (top c.args.builder.now) (top c.loop-sign.builder) right c.in-Some.sign c.args.tokens.now
           c.loop-sign.rest.now _ c.in-Some-2.more.now c.loop-sign.invariant.leads (omega arith) c.requires.high (slice_after c.loop-sign.rest.now) (search rules)
           (sym c.in-Some.is ∙ c.operator_in_front.ensures.value) short
           (λ m q. ap (seen right) (sym c.in-Some-2.is) ∙ c.in_ok-more.ensures.value m q)
           );
-      kept = rw (c.in_ok-push.ensures, kept) c.loop-sign.invariant.kept;
+      kept = rw (c.in_ok-push_binary.ensures, kept) c.loop-sign.invariant.kept;
       shorter = omega (arith, shorter, after_shorter c.loop-sign.rest.now);
     }
 
