@@ -8,6 +8,7 @@ mod checking;
 mod ending;
 mod entry;
 mod exploring;
+mod file_access;
 pub mod laws;
 pub mod limits;
 mod output;
