@@ -6,3 +6,4 @@ pub mod CheckLemmas
 pub mod DoingLemmas
 pub mod SetLemmas
 pub mod ExploringLemmas
+pub mod PictureLemmas

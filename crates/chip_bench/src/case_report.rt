@@ -63,16 +63,19 @@ impl Report {
 
     /// Adds how many cases passed, and how many failed.
     pub(crate) fn push_counts(&mut self) -> Result<(), AllocError> {
+        let mut passed = Buffer::new();
+        let mut other = Buffer::new();
         if self.is_tap {
-            self.text.extend_from_slice(b"1..")?;
-            push_number(&mut self.text, self.passed.saturating_add(self.failed))?;
+            let all = other.format(self.passed.saturating_add(self.failed));
+            push_parts(&mut self.text, &[b"1..", all.as_bytes(), b"\n"])
         } else {
-            push_number(&mut self.text, self.passed)?;
-            self.text.extend_from_slice(b" passed, ")?;
-            push_number(&mut self.text, self.failed)?;
-            self.text.extend_from_slice(b" failed")?;
+            let passed = passed.format(self.passed).as_bytes();
+            let failed = other.format(self.failed).as_bytes();
+            push_parts(
+                &mut self.text,
+                &[passed, b" passed, ", failed, b" failed\n"],
+            )
         }
-        self.text.extend_from_slice(b"\n")
     }
 
     fn push_tap_line(
@@ -81,18 +84,22 @@ impl Report {
         case: &Case<'_>,
         has_passed: bool,
     ) -> Result<(), AllocError> {
-        if !has_passed {
-            self.text.extend_from_slice(b"not ")?;
-        }
-        self.text.extend_from_slice(b"ok ")?;
-        push_number(&mut self.text, self.passed.saturating_add(self.failed))?;
-        self.text.extend_from_slice(b" - ")?;
-        self.text.extend_from_slice(file.as_bytes())?;
-        if !case.name.is_empty() {
-            self.text.extend_from_slice(b": ")?;
-            self.text.extend_from_slice(case.name)?;
-        }
-        self.text.extend_from_slice(b"\n")
+        let outcome = if has_passed { "ok " } else { "not ok " };
+        let colon = if case.name.is_empty() { "" } else { ": " };
+        let mut digits = Buffer::new();
+        let number = digits.format(self.passed.saturating_add(self.failed));
+        push_parts(
+            &mut self.text,
+            &[
+                outcome.as_bytes(),
+                number.as_bytes(),
+                b" - ",
+                file.as_bytes(),
+                colon.as_bytes(),
+                case.name,
+                b"\n",
+            ],
+        )
     }
 
     // Adds lines, which are comments in the Test Anything Protocol.
@@ -153,14 +160,11 @@ fn answer_at(others: &[Given], line: usize) -> Option<&Given> {
 
 // Adds the place of a failure: the file, the line and the case.
 fn push_place(text: &mut Vec<u8>, file: &str, line: usize, name: &[u8]) -> Result<(), AllocError> {
-    text.extend_from_slice(file.as_bytes())?;
-    text.push(b':')?;
-    push_number(text, line as u64)?;
-    text.extend_from_slice(b": ")?;
+    let mut digits = Buffer::new();
+    let number = digits.format(line as u64).as_bytes();
+    push_parts(text, &[file.as_bytes(), b":", number, b": "])?;
     if !name.is_empty() {
-        text.extend_from_slice(b"case ")?;
-        text.extend_from_slice(name)?;
-        text.extend_from_slice(b": ")?;
+        push_parts(text, &[b"case ", name, b": "])?;
     }
     Ok(())
 }
@@ -196,7 +200,10 @@ fn push_title(text: &mut Vec<u8>, code: &[u8]) -> Result<(), AllocError> {
     Ok(())
 }
 
-fn push_number(text: &mut Vec<u8>, number: u64) -> Result<(), AllocError> {
-    let mut digits = Buffer::new();
-    text.extend_from_slice(digits.format(number).as_bytes())
+// Adds texts, one after another.
+fn push_parts(text: &mut Vec<u8>, parts: &[&[u8]]) -> Result<(), AllocError> {
+    for part in parts {
+        text.extend_from_slice(part)?;
+    }
+    Ok(())
 }

@@ -1,22 +1,22 @@
 //! The settings, the source and the key events that the lines of a case ask for.
-ghost use Rattle.std.specs.Prelude.{◌≡◌, IfOk, IfErr, Some, option_copied};
+ghost use Rattle.std.specs.Prelude.{◌≡◌, ◌≤◌, IfOk, IfErr, Some, length, option_copied};
 ghost use Rattle.chip_arguments.specs.CommandWords.{IsProfile, ReadsNumber, ReadsOr};
 ghost use Rattle.chip_bench.specs.SettingWords.{settings_asked};
 ghost use Rattle.chip_bench.specs.Testing.{IsCaseKeys, IsCaseSource, IsHindrance, IsSourceOfImage, SetBy, text_of};
 
 use crate::ending::{Failure, TestFault};
+use crate::file_access::FileAccess;
 use crate::limits::KEY_FILE_BYTES;
-use crate::reading::{MOST_SOURCE, settings_of, source_of};
+use crate::reading::{MOST_SOURCE, settings_of};
 use chip_arguments::{SettingWords, number, seed};
 use chip_cases::{Placed, Setup, SourceWords};
-use chip_files::read_file;
 use chip_machine::Profile;
 use chip_machine::limits::IMAGE_BYTES;
 use chip_replay::{LEAST_SPACING, MOST_RATE, MOST_SPACING};
 use chip_session::Settings;
+use chip_views::source_of_image;
 use std::alloc::Global;
 use std::path::Path;
-use std::rt::Files;
 use std::{io, str};
 
 // Why a line of a case can't be met, with its number.
@@ -130,7 +130,7 @@ fn profile_of(placed: Option<Placed<'_>>) -> Result<Profile, BadLine>
 }
 
 /// The source of a case.
-pub(crate) fn case_source<'a, F: Files>(
+pub(crate) fn case_source<'a, F: FileAccess>(
     alloc: Global,
     files: &F,
     name: &'a str,
@@ -148,7 +148,7 @@ pub(crate) fn case_source<'a, F: Files>(
 }
 
 // What `dis` prints of the image in a file, unless it is too long.
-fn read_image<'a, F: Files>(
+fn read_image<'a, F: FileAccess>(
     alloc: Global,
     files: &F,
     name: &'a str,
@@ -157,18 +157,13 @@ fn read_image<'a, F: Files>(
     ensures ok { IfOk result (λ source. IsSourceOfImage source.items) }
     ensures err { IfErr result IsHindrance }
 {
-    let image = read_named(alloc, files, name, placed, IMAGE_BYTES as u32 + 1)?;
-    match source_of(alloc, name, &image) {
-        Ok(source) => Ok(source),
-        Err(Failure::CannotRead(_, error)) => {
-            Err(Failure::UnreadInTest(name, placed.line, error))
-        }
-        Err(failure) => Err(failure),
-    }
+    let most = IMAGE_BYTES as u32;
+    let image = read_within(alloc, files, name, placed, most, "it has over 3584 bytes")?;
+    Ok(source_of_image(alloc, &image)?)
 }
 
 /// The bytes of a case's file of key events, or none without one.
-pub(crate) fn case_keys<'a, F: Files>(
+pub(crate) fn case_keys<'a, F: FileAccess>(
     alloc: Global,
     files: &F,
     name: &'a str,
@@ -177,20 +172,42 @@ pub(crate) fn case_keys<'a, F: Files>(
     ensures ok { IfOk result (λ bytes. IsCaseKeys keys.entry bytes.items) }
     ensures err { IfErr result IsHindrance }
 {
-    let Some(placed) = keys else {
-        return Ok(Vec::new(alloc));
-    };
-    let most = KEY_FILE_BYTES.saturating_add(1);
-    let bytes = read_named(alloc, files, name, placed, most)?;
-    if bytes.len() > KEY_FILE_BYTES as usize {
-        let error = io::Error::new(io::ErrorKind::InvalidData, "it has over 10000000 bytes");
+    match keys {
+        None => Ok(Vec::new(alloc)),
+        Some(placed) => read_within(
+            alloc,
+            files,
+            name,
+            placed,
+            KEY_FILE_BYTES,
+            "it has over 10000000 bytes",
+        ),
+    }
+}
+
+// The bytes of a file that is named from the folder of the file of cases, unless there are over so
+// many.
+fn read_within<'a, F: FileAccess>(
+    alloc: Global,
+    files: &F,
+    name: &'a str,
+    placed: Placed<'_>,
+    most: u32,
+    over: &'static str,
+) -> Result<Vec<u8>, Failure<'a>>
+    ensures ok { IfOk result (λ bytes. length bytes.items ≤ most) }
+    ensures err { IfErr result IsHindrance }
+{
+    let bytes = read_named(alloc, files, name, placed, most.saturating_add(1))?;
+    if bytes.len() > most as usize {
+        let error = io::Error::new(io::ErrorKind::InvalidData, over);
         return Err(Failure::UnreadInTest(name, placed.line, error));
     }
     Ok(bytes)
 }
 
-// The bytes of a file that is named from the folder of the file of cases.
-fn read_named<'a, F: Files>(
+// The first bytes of such a file, up to a number.
+fn read_named<'a, F: FileAccess>(
     alloc: Global,
     files: &F,
     name: &'a str,
@@ -203,7 +220,7 @@ fn read_named<'a, F: Files>(
         return Err(Failure::BadTest(name, placed.line, TestFault::NotText));
     };
     let path = Path::new(name).with_file_name(alloc, own_name)?;
-    match read_file(alloc, files, path.as_str(), most) {
+    match files.read(alloc, path.as_str(), most) {
         Ok(bytes) => Ok(bytes),
         Err(error) if error.kind() == io::ErrorKind::OutOfMemory => Err(Failure::OutOfMemory),
         Err(error) => Err(Failure::UnreadInTest(name, placed.line, error)),

@@ -15,6 +15,7 @@ ghost use Rattle.std.specs.IoError.{error_kind};
 use crate::checking::check;
 use crate::ending::{Ending, Failure};
 use crate::exploring::explore;
+use crate::file_access::FileAccess;
 use crate::limits::TRACE_FILE_BYTES;
 use crate::output::{
     answer_script, explain, image_or_faults, list_source, print, print_source, print_symbols,
@@ -28,7 +29,7 @@ use crate::reading::{
 use crate::testing::test_files;
 use crate::tracing::{Shown, compare_source, trace_source};
 use chip_arguments::{CommandLine, RunWords, SettingWords, TraceWords, not_text, parse_words};
-use chip_files::{first_line, write_file};
+use chip_files::first_line;
 use chip_machine::limits::IMAGE_BYTES;
 use chip_session::Counted;
 use chip_trace::{Columns, Form, HeaderError};
@@ -227,7 +228,7 @@ struct Given<'a> {
 }
 
 // The settings are judged before SOURCE is read.
-fn debug<'a, F: Files, I: Read, O: Write, E: Write>(
+fn debug<'a, F: FileAccess, I: Read, O: Write, E: Write>(
     alloc: Global,
     files: &F,
     name_seed: u64,
@@ -252,7 +253,7 @@ fn debug<'a, F: Files, I: Read, O: Write, E: Write>(
     }
 }
 
-fn asm<'a, F: Files, I: Read, O: Write>(
+fn asm<'a, F: FileAccess, I: Read, O: Write>(
     alloc: Global,
     files: &F,
     source: &'a str,
@@ -270,7 +271,7 @@ fn asm<'a, F: Files, I: Read, O: Write>(
     write_image(alloc, files, &[file_name(source)], image, &assembled)
 }
 
-fn list<'a, F: Files, I: Read, O: Write>(
+fn list<'a, F: FileAccess, I: Read, O: Write>(
     alloc: Global,
     files: &F,
     source: &'a str,
@@ -285,7 +286,7 @@ fn list<'a, F: Files, I: Read, O: Write>(
     list_source(alloc, bytes, is_hex, output)
 }
 
-fn syms<'a, F: Files, I: Read, O: Write>(
+fn syms<'a, F: FileAccess, I: Read, O: Write>(
     alloc: Global,
     files: &F,
     source: &'a str,
@@ -297,11 +298,11 @@ fn syms<'a, F: Files, I: Read, O: Write>(
         (printed_symbols is_hex) source.entry result }
 {
     let bytes = read_source(alloc, files, source, input)?;
-    print_symbols(alloc, &bytes, is_hex, output)
+    print_symbols(alloc, bytes, is_hex, output)
 }
 
 // Writes a file whole, or leaves what was there. A file of the names that are taken stays.
-pub(crate) fn write_image<'a, F: Files>(
+pub(crate) fn write_image<'a, F: FileAccess>(
     alloc: Global,
     files: &F,
     taken: &[Option<&str>],
@@ -310,14 +311,14 @@ pub(crate) fn write_image<'a, F: Files>(
 ) -> Result<Ending, Failure<'a>>
     ensures { IsFileWritten image.entry result }
 {
-    match write_file(alloc, files, taken, image, bytes) {
+    match files.write(alloc, taken, image, bytes) {
         Ok(()) => Ok(Ending::Done),
         Err(error) if error.kind() == io::ErrorKind::OutOfMemory => Err(Failure::OutOfMemory),
         Err(error) => Err(Failure::CannotWrite(image, error)),
     }
 }
 
-fn dis<'a, F: Files, I: Read, O: Write>(
+fn dis<'a, F: FileAccess, I: Read, O: Write>(
     alloc: Global,
     files: &F,
     image: &'a str,
@@ -335,7 +336,7 @@ fn dis<'a, F: Files, I: Read, O: Write>(
     print_source(alloc, &bytes, output)
 }
 
-fn run<'a, F: Files, I: Read, O: Write, E: Write>(
+fn run<'a, F: FileAccess, I: Read, O: Write, E: Write>(
     alloc: Global,
     files: &F,
     words: &RunWords<'a>,
@@ -354,7 +355,7 @@ fn run<'a, F: Files, I: Read, O: Write, E: Write>(
     run_source(alloc, &source, &keys, words.steps, settings, output)
 }
 
-fn trace<'a, F: Files, I: Read, O: Write, E: Write>(
+fn trace<'a, F: FileAccess, I: Read, O: Write, E: Write>(
     alloc: Global,
     files: &F,
     words: &TraceWords<'a>,

@@ -8,6 +8,7 @@ ghost use Rattle.chip_bench.specs.Exploring.{address_of, cause_word, covering_te
 
 use crate::ending::{Ending, Failure};
 use crate::entry::write_image;
+use crate::file_access::FileAccess;
 use crate::output::{print, print_faults, refuse_source};
 use crate::progress::Progress;
 use crate::reading::{file_name, read_given, settings_of};
@@ -24,11 +25,10 @@ use chip_session::{Counted, Settings, number_of};
 use itoa::Buffer;
 use std::alloc::{AllocError, Global};
 use std::io::{Read, Write};
-use std::rt::Files;
 
 /// `explore`: what a search over all key scripts answers of a source's image, or the faults where
 /// there is no image. Settings and sets are judged before the source is read.
-pub(crate) fn explore<'a, F: Files, I: Read, O: Write, E: Write>(
+pub(crate) fn explore<'a, F: FileAccess, I: Read, O: Write, E: Write>(
     alloc: Global,
     files: &F,
     has_reader: bool,
@@ -59,7 +59,7 @@ pub(crate) fn explore<'a, F: Files, I: Read, O: Write, E: Write>(
     )
 }
 
-fn search_source<'a, F: Files, O: Write, W: Watcher>(
+fn search_source<'a, F: FileAccess, O: Write, W: Watcher>(
     alloc: Global,
     files: &F,
     words: &ExploreWords<'a>,
@@ -142,7 +142,7 @@ fn in_memory(number: i64) -> Option<u16>
     }
 }
 
-fn search<'a, F: Files, O: Write, W: Watcher>(
+fn search<'a, F: FileAccess, O: Write, W: Watcher>(
     alloc: Global,
     files: &F,
     words: &ExploreWords<'a>,
@@ -172,7 +172,7 @@ fn search<'a, F: Files, O: Write, W: Watcher>(
 }
 
 // Writes the key events of the script that was found, where there is a file for them.
-fn write_script<'a, F: Files>(
+fn write_script<'a, F: FileAccess>(
     alloc: Global,
     files: &F,
     words: &ExploreWords<'a>,

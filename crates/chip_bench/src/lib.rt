@@ -9,6 +9,7 @@ mod covering;
 mod ending;
 mod entry;
 mod exploring;
+mod file_access;
 pub mod laws;
 pub mod limits;
 mod output;

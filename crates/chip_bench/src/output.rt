@@ -12,13 +12,13 @@ ghost use Rattle.chip_bench.specs.inner.Reads.{IsImageHindered, IsImageOrFaults}
 ghost use Rattle.chip_arguments.specs.Version.{version_text};
 
 use crate::ending::{Code, Ending, Failure};
-use chip_arguments::{SettingWords, VERSION};
+use chip_arguments::VERSION;
 use chip_asm::{OpenError, Source};
 use chip_machine::limits::IMAGE_BYTES;
 use chip_pages::{contents, page_text};
 use chip_session::{
     Bench, Counted, KeyFileError, PictureForm, Question, Refusal, ServeError, Settings,
-    faults_answer, insert_keys, listing_answer, refuse, serve, write_all,
+    faults_answer, insert_keys, listing_answer, refuse, serve, symbols_answer, write_all,
 };
 use chip_views::{hex_listing, hex_symbols, source_of_image};
 use std::alloc::{AllocError, Global};
@@ -104,55 +104,52 @@ pub(crate) fn list_source<'a, O: Write>(
 /// `syms`: the names of a source, or its faults.
 pub(crate) fn print_symbols<'a, O: Write>(
     alloc: Global,
-    source: &[u8],
+    source: Vec<u8>,
     is_hex: bool,
     output: &mut Counted<O>,
 ) -> Result<Ending, Failure<'a>>
     ensures { Prints O.contents output.old output.new
-        (printed_of (open_fault source.now) (printed_symbols is_hex (lines_of source.now)))
+        (printed_of (open_fault source.items) (printed_symbols is_hex (lines_of source.items)))
         result }
 {
-    // No step is made. The settings are in their ranges, so nothing but memory can lack.
-    let Ok(settings) = Settings::new(alloc, SettingWords::DEFAULT.rate, &[0]) else {
-        return Err(Failure::OutOfMemory);
-    };
-    match Bench::open(alloc, source, settings) {
-        Ok(mut bench) => print_table(alloc, &mut bench, is_hex, output),
+    match Source::open_bytes(alloc, source) {
+        Ok(opened) => {
+            let ending = print_table(alloc, &opened, is_hex, output)?;
+            // The program ends here, and its memory goes back at once.
+            mem::forget(opened);
+            Ok(ending)
+        }
         Err(error) => refuse_source(error, output),
     }
 }
 
 fn print_table<'a, O: Write>(
     alloc: Global,
-    bench: &mut Bench,
+    source: &Source,
     is_hex: bool,
     output: &mut Counted<O>,
 ) -> Result<Ending, Failure<'a>>
-    ensures { Prints O.contents output.old output.new
-        (printed_symbols is_hex bench.old.session.lines) result }
+    ensures { Prints O.contents output.old output.new (printed_symbols is_hex source.now.lines)
+        result }
 {
-    let Some(_) = bench.source().image() else {
-        return print_faults(alloc, bench.source(), output);
+    let Some(_) = source.image() else {
+        return print_faults(alloc, source, output);
     };
-    let table = symbols_shown(alloc, bench, is_hex)?;
+    let table = symbols_shown(alloc, source, is_hex)?;
     print(&table, Ending::Done, output)
 }
 
 // The answer of `syms`, with values in decimal or in hexadecimal.
-fn symbols_shown(alloc: Global, bench: &mut Bench, is_hex: bool) -> Result<Vec<u8>, AllocError>
+fn symbols_shown(alloc: Global, source: &Source, is_hex: bool) -> Result<Vec<u8>, AllocError>
     ensures { IfOk result (λ table.
-        table.items ≡ symbols_shown is_hex (symbols_of bench.old.session.lines)) }
+        table.items ≡ symbols_shown is_hex (symbols_of source.now.lines)) }
 {
     if is_hex {
-        let mut table = hex_symbols(alloc, bench.source())?;
+        let mut table = hex_symbols(alloc, source)?;
         table.extend_from_slice(b".\n")?;
         return Ok(table);
     }
-    let mut table = Vec::new(alloc);
-    match bench.ask(alloc, &Question::Symbols, &mut table) {
-        Ok(()) => Ok(table),
-        Err(_) => Err(AllocError),
-    }
+    symbols_answer(alloc, source)
 }
 
 /// `dis`: a source of an image, whose image it is.

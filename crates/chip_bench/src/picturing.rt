@@ -5,6 +5,7 @@ ghost use Rattle.chip_bench.specs.Doing.{Pictures, PicturesBy, PrintsPicture, Wr
 
 use crate::ending::{Ending, Failure};
 use crate::entry::write_image;
+use crate::file_access::FileAccess;
 use crate::output::{picture_source, print};
 use crate::reading::{Asked, file_name, read_asked, settings_of};
 use chip_arguments::PictureWords;
@@ -12,10 +13,9 @@ use chip_session::{Counted, PictureForm};
 use chip_views::Letters;
 use std::alloc::Global;
 use std::io::{Read, Write};
-use std::rt::Files;
 
 // Without a file for it, the picture is printed.
-pub(crate) fn picture<'a, F: Files, I: Read, O: Write, E: Write>(
+pub(crate) fn picture<'a, F: FileAccess, I: Read, O: Write, E: Write>(
     alloc: Global,
     files: &F,
     words: &PictureWords<'a>,
@@ -84,7 +84,7 @@ impl<'a> Shot<'a> {
 
     // Writes the picture to a file, atomically. Where there is no picture, why is
     // printed.
-    fn write<F: Files, O: Write>(
+    fn write<F: FileAccess, O: Write>(
         &self,
         alloc: Global,
         files: &F,
@@ -113,7 +113,7 @@ impl<'a> Shot<'a> {
     }
 
     // Writes a bitmap, and then a PNG picture.
-    fn write_both<F: Files, O: Write>(
+    fn write_both<F: FileAccess, O: Write>(
         &self,
         alloc: Global,
         files: &F,

@@ -9,6 +9,7 @@ ghost use Rattle.chip_bench.specs.inner.Reads.{IsAsked, IsGiven, IsKeysUnread, I
 ghost use Rattle.chip_bench.specs.Doing.{GivesSource, IsImageRefused, IsInputUnread, IsSourceUnread};
 
 use crate::ending::Failure;
+use crate::file_access::FileAccess;
 use crate::limits::KEY_FILE_BYTES;
 use crate::output::KeyFile;
 use chip_arguments::{RunWords, SettingWords};
@@ -21,7 +22,6 @@ use hex::FromHexError;
 use std::alloc::Global;
 use std::io;
 use std::io::{Read, Write};
-use std::rt::Files;
 
 // The name of a source that is read from the standard input.
 const INPUT: &str = "-";
@@ -86,7 +86,7 @@ pub(crate) struct Asked<'a> {
 }
 
 // The settings are judged before a file is read, and the key events are read before the source.
-pub(crate) fn read_asked<'a, F: Files, I: Read, E: Write>(
+pub(crate) fn read_asked<'a, F: FileAccess, I: Read, E: Write>(
     alloc: Global,
     files: &F,
     words: &RunWords<'a>,
@@ -109,7 +109,7 @@ pub(crate) fn read_asked<'a, F: Files, I: Read, E: Write>(
 }
 
 // The file of key events of that name, or no events without one.
-fn read_keys<'a, F: Files>(
+fn read_keys<'a, F: FileAccess>(
     alloc: Global,
     files: &F,
     name: Option<&'a str>,
@@ -127,7 +127,7 @@ fn read_keys<'a, F: Files>(
 }
 
 // A file of key events, unless it is too long.
-fn read_key_file<'a, F: Files>(
+fn read_key_file<'a, F: FileAccess>(
     alloc: Global,
     files: &F,
     name: &'a str,
@@ -145,7 +145,7 @@ fn read_key_file<'a, F: Files>(
 }
 
 // The bytes of a file, unless there are over so many.
-pub(crate) fn read_bounded<'a, F: Files>(
+pub(crate) fn read_bounded<'a, F: FileAccess>(
     alloc: Global,
     files: &F,
     name: &'a str,
@@ -163,7 +163,7 @@ pub(crate) fn read_bounded<'a, F: Files>(
 }
 
 // The source of that name, or where an image has the name, what `dis` prints of it.
-pub(crate) fn read_given<'a, F: Files, I: Read, E: Write>(
+pub(crate) fn read_given<'a, F: FileAccess, I: Read, E: Write>(
     alloc: Global,
     files: &F,
     name: &'a str,
@@ -210,11 +210,7 @@ fn looks_like_image(bytes: &[u8]) -> bool {
 }
 
 // The source that `dis` prints of an image.
-pub(crate) fn source_of<'a>(
-    alloc: Global,
-    name: &'a str,
-    image: &[u8],
-) -> Result<Vec<u8>, Failure<'a>>
+fn source_of<'a>(alloc: Global, name: &'a str, image: &[u8]) -> Result<Vec<u8>, Failure<'a>>
     ensures ok { IfOk result (λ source. (length image.now ≤ IMAGE_BYTES)
         × (source.items ≡ source_of_image image.now)) }
     ensures err { IfErr result (IsImageRefused name.entry image.now) }
@@ -227,7 +223,7 @@ pub(crate) fn source_of<'a>(
 }
 
 // The bytes of a file, or of the standard input where the name is `-`.
-pub(crate) fn read_source<'a, F: Files, I: Read>(
+pub(crate) fn read_source<'a, F: FileAccess, I: Read>(
     alloc: Global,
     files: &F,
     name: &'a str,
@@ -260,7 +256,7 @@ fn read_input<'a, I: Read>(alloc: Global, input: &mut Counted<I>) -> Result<Vec<
 }
 
 // The bytes of a file, up to a number.
-pub(crate) fn read_file<'a, F: Files>(
+pub(crate) fn read_file<'a, F: FileAccess>(
     alloc: Global,
     files: &F,
     name: &'a str,
@@ -268,7 +264,7 @@ pub(crate) fn read_file<'a, F: Files>(
 ) -> Result<Vec<u8>, Failure<'a>>
     ensures { IfErr result (IsUnread name.entry) }
 {
-    match chip_files::read_file(alloc, files, name, most) {
+    match files.read(alloc, name, most) {
         Ok(bytes) => Ok(bytes),
         Err(error) if error.kind() == io::ErrorKind::OutOfMemory => Err(Failure::OutOfMemory),
         Err(error) => Err(Failure::CannotRead(name, error)),

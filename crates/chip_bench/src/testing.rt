@@ -7,6 +7,7 @@ use crate::case_run::{Verdict, run_case};
 use crate::case_setup::{case_keys, case_settings, case_source};
 use crate::ending::{Ending, Failure, TestFault};
 use crate::entry::write_image;
+use crate::file_access::FileAccess;
 use crate::limits::TEST_FILE_BYTES;
 use crate::output::print;
 use crate::reading::read_bounded;
@@ -15,10 +16,9 @@ use chip_cases::{Case, FileFault, Given, misplaced_refusal, read_cases, updated_
 use chip_session::Counted;
 use std::alloc::{AllocError, Global};
 use std::io::Write;
-use std::rt::Files;
 
 /// `test`: carries out the cases of the files, one file after another, and prints what failed.
-pub(crate) fn test_files<'a, F: Files, O: Write>(
+pub(crate) fn test_files<'a, F: FileAccess, O: Write>(
     alloc: Global,
     files: &F,
     words: &TestWords<'a>,
@@ -44,7 +44,7 @@ pub(crate) fn test_files<'a, F: Files, O: Write>(
 }
 
 // Carries out the cases of a file, and says whether all pass.
-fn test_file<'a, F: Files>(
+fn test_file<'a, F: FileAccess>(
     alloc: Global,
     files: &F,
     name: &'a str,
@@ -82,7 +82,7 @@ fn test_file<'a, F: Files>(
 }
 
 // Carries out cases, says whether all pass, and adds the answers that are not as expected.
-fn test_cases<'a, F: Files>(
+fn test_cases<'a, F: FileAccess>(
     alloc: Global,
     files: &F,
     name: &'a str,
@@ -113,7 +113,7 @@ fn push_all(others: &mut Vec<Given>, given: Vec<Given>) -> Result<(), AllocError
 }
 
 // Carries out a case on the source, the key events and the settings that its lines ask for.
-fn test_case<'a, F: Files>(
+fn test_case<'a, F: FileAccess>(
     alloc: Global,
     files: &F,
     name: &'a str,

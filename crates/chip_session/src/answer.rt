@@ -20,7 +20,7 @@ pub(crate) fn push_hex_line(text: &mut Vec<u8>, bytes: &[u8]) -> Result<(), Allo
 }
 
 /// A line for each name, with its value and its line.
-pub(crate) fn symbols_answer(alloc: Global, source: &Source) -> Result<Vec<u8>, AllocError>
+pub fn symbols_answer(alloc: Global, source: &Source) -> Result<Vec<u8>, AllocError>
     ensures { IfOk result (λ text. text.items ≡ symbols_text (symbols_of source.now.lines)) }
 {
     let mut text = Vec::new(alloc);

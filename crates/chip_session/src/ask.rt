@@ -63,9 +63,10 @@ fn answer_at(
     if let Some(why) = step_refusal(asked, step) {
         return Err(why);
     }
-    run.answer(alloc, asked, step, out)
-        .map_err(|_| Refusal::AnswerMemory)?;
-    Ok(())
+    match run.answer(alloc, asked, step, out) {
+        Ok(()) => Ok(()),
+        Err(_) => Err(Refusal::AnswerMemory),
+    }
 }
 
 /// The answer to a question, where `out` was empty.
@@ -107,7 +108,10 @@ fn image_answer(source: &Source, out: &mut Vec<u8>) -> Result<(), Refusal>
     let Some(image) = source.image() else {
         return Err(Refusal::NoImage);
     };
-    push_hex_line(out, image).map_err(|_| Refusal::AnswerMemory)
+    match push_hex_line(out, image) {
+        Ok(()) => Ok(()),
+        Err(_) => Err(Refusal::AnswerMemory),
+    }
 }
 
 /// An answer that only memory can refuse.
@@ -115,6 +119,11 @@ fn told(answer: Result<Vec<u8>, AllocError>, out: &mut Vec<u8>) -> Result<(), Re
     ensures { (bytes : List ℕ) → IfOk answer (λ v. v.items ≡ bytes)
         → IsAnswer (Ok bytes) result out.new.items }
 {
-    *out = answer.map_err(|_| Refusal::AnswerMemory)?;
-    Ok(())
+    match answer {
+        Ok(text) => {
+            *out = text;
+            Ok(())
+        }
+        Err(_) => Err(Refusal::AnswerMemory),
+    }
 }

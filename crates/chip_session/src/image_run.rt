@@ -164,9 +164,10 @@ impl ImageRun {
             text.old.items text.new.items) }
         ensures runs { RunsOnly self.old self.new }
     {
-        trace
-            .push_lines(&mut self.replay, text, most)
-            .map_err(|_| AllocError)
+        match trace.push_lines(&mut self.replay, text, most) {
+            Ok(is_more) => Ok(is_more),
+            Err(_) => Err(AllocError),
+        }
     }
 
     /// The first difference between the lines of the run and those of another trace.

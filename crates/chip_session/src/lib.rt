@@ -18,7 +18,7 @@ mod settings;
 mod tape;
 mod text;
 
-pub use answer::{faults_answer, listing_answer};
+pub use answer::{faults_answer, listing_answer, symbols_answer};
 pub use bench::Bench;
 pub use change::Change;
 pub use chip_asm::OpenError;

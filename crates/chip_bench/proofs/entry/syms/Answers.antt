@@ -1,5 +1,5 @@
 use Rattle.std.proofs.lemmas.Result.{err_from_is_err_and}
-use Rattle.std.proofs.Common.{◌∙◌, ap, Err}
+use Rattle.std.proofs.Common.{◌∙◌, ap, refl, Err}
 use Rattle.chip_bench.specs.Printing.{printed_symbols}
 use Rattle.chip_bench.proofs.DoingLemmas.{tells, tells_not}
 use Rattle.chip_bench.proofs.entry.syms.Goals as goal
@@ -13,4 +13,4 @@ returns-in_err-bytes g c =
 pub returns : goal.returns
 returns g c =
     tells g.I.Read.remaining g.O.Write.contents c.args.input.now c.read_source.new.input c.args.output.now c.print_symbols.new.output (printed_symbols c.args.is_hex)
-    c.args.source c.in_ok-bytes.bytes.items c.deref.result.now c.print_symbols.result c.deref.ensures.value c.in_ok-bytes.ensures.ok c.print_symbols.ensures
+    c.args.source c.in_ok-bytes.bytes.items c.in_ok-bytes.bytes.items c.print_symbols.result refl c.in_ok-bytes.ensures.ok c.print_symbols.ensures

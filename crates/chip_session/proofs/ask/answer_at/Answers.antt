@@ -6,8 +6,8 @@ use Rattle.chip_session.specs.Kept.{machine_after}
 use Rattle.chip_session.proofs.AnswerLemmas.{is_answer}
 use Rattle.chip_session.proofs.ask.answer_at.Goals as goal
 
-pub returns-clause-answer : goal.returns-clause-answer
-returns-clause-answer c =
+pub returns-in-Ok-clause-answer : goal.returns-in-Ok-clause-answer
+returns-in-Ok-clause-answer c =
     let lines = c.args.source.now.lines in
     let some : is_none (image_of lines) ≡ false = search rules in
     let fits : step_refusal c.args.asked c.args.step ≡ None = search rules in
