@@ -188,78 +188,27 @@ impl Pass {
         }
     }
 
-    fn is_past_end(&self, body: &Body, value: i32) -> bool
-        ensures { result ≡ is_past_end self.now.aligning self.now.here (seen_body body.now) value }
-    {
-        match body {
-            Body::Org(_) => value > MEMORY_BYTES as i32,
-            _ => self.full_size(body, value) > MEMORY_BYTES - self.here,
-        }
-    }
-
-    fn is_backwards(&self, body: &Body, value: i32) -> bool
-        ensures { result ≡ is_backwards self.now.here (seen_body body.now) value }
-    {
-        match body {
-            Body::Org(_) => value < self.here as i32,
-            _ => false,
-        }
-    }
-
     #[tactic(auto, unfolding(crate::specs::computed::Walk::fault_of_value))]
     fn fault_of_value(&self, body: &Body, value: Result<i32, Fault>) -> Option<Fault>
         ensures { result
             ≡ fault_of_value self.now.aligning self.now.here (seen_body body.now) value }
     {
-        match value {
-            Err(fault) => Some(fault),
-            Ok(value) => {
-                if matches!(body, Body::Ds(_)) && value < 0 {
-                    Some(Fault::OutOfRange)
-                } else if self.is_backwards(body, value) {
-                    Some(Fault::OrgBelowHere)
-                } else if self.is_past_end(body, value) {
-                    Some(Fault::PastMemory)
-                } else {
-                    None
-                }
-            }
+        let value = match value {
+            Ok(value) => value,
+            Err(fault) => return Some(fault),
+        };
+        match body {
+            Body::Ds(_) if value < 0 => Some(Fault::OutOfRange),
+            Body::Org(_) if value < self.here as i32 => Some(Fault::OrgBelowHere),
+            Body::Org(_) if value > MEMORY_BYTES as i32 => Some(Fault::PastMemory),
+            Body::Org(_) => None,
+            _ if self.full_size(body, value) > MEMORY_BYTES - self.here => Some(Fault::PastMemory),
+            _ => None,
         }
     }
 
-    /// The first fault of a live line, but for an IF without ENDIF.
+    /// The first fault of the line, where it is live, but for an IF without ENDIF.
     #[tactic(auto, unfolding(crate::specs::computed::Walk::first_fault))]
-    fn first_fault(
-        &self,
-        line: &Line,
-        defines: Option<NameId>,
-        value: Result<i32, Fault>,
-    ) -> Option<Fault>
-        requires { IsNumberOf self.now.names.keys defines (name_defined (seen_line line.now)) }
-        ensures fault { (before : List Placed) → Follows self.now before
-            → value ≡ value_at (symbols before) (body_of (seen_line line.now))
-            → result ≡ first_fault before (seen_line line.now) }
-        ensures new_name { result ≡ None
-            → is_redefinition self.now.names.symbols (name_defined (seen_line line.now)) ≡ false }
-        ensures fits { result ≡ None
-            → fault_of_value self.now.aligning self.now.here (body_of (seen_line line.now)) value
-            ≡ None }
-    {
-        match line {
-            Line::Bad(fault) => Some(*fault),
-            Line::Read { body, .. } => {
-                if self.is_misplaced(body) {
-                    Some(Fault::StrayBranch)
-                } else if self.is_redefinition(defines) {
-                    Some(Fault::DefinedTwice)
-                } else {
-                    self.fault_of_value(body, value)
-                }
-            }
-        }
-    }
-
-    /// The fault of the line, where it is live.
     fn fault_of(
         &self,
         live: bool,
@@ -277,10 +226,18 @@ impl Pass {
             → fault_of_value self.now.aligning self.now.here (body_of (seen_line line.now)) value
             ≡ None }
     {
-        if live {
-            self.first_fault(line, defines, value)
-        } else {
-            None
+        match line {
+            _ if !live => None,
+            Line::Bad(fault) => Some(*fault),
+            Line::Read { body, .. } => {
+                if self.is_misplaced(body) {
+                    Some(Fault::StrayBranch)
+                } else if self.is_redefinition(defines) {
+                    Some(Fault::DefinedTwice)
+                } else {
+                    self.fault_of_value(body, value)
+                }
+            }
         }
     }
 
