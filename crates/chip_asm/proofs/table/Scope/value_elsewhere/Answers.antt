@@ -1,9 +1,6 @@
-use Rattle.std.proofs.Common.{◌≡◌, ◌∙◌, ◌<◌, ℕ, ℤ, ap, sym, length, map, None, arith, List, Option, get_or}
-use Rattle.std.proofs.lemmas.List.{get_or_default}
+use Rattle.std.proofs.Common.{◌∙◌, ℕ, ap, sym, map}
 use Rattle.std.specs.Global.{Vec}
-use Rattle.chip_asm.specs.Names.{Name}
-use Rattle.chip_asm.specs.declared.table.Definitions.{Definitions}
-use Rattle.chip_asm.specs.inner.Tables.{AreDefined, Tables, key_at, symbols_in, value_among}
+use Rattle.chip_asm.specs.inner.Tables.{Tables, value_among}
 use Rattle.chip_asm.proofs.SymbolSteps.{found-kept, absent-kept, value-at, value-missing}
 use Rattle.chip_asm.proofs.table.Scope.value_elsewhere.Goals as goal
 
