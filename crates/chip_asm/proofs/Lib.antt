@@ -21,6 +21,7 @@ pub mod PlacesAgree
 pub mod UnclosedByPlace
 pub mod SymbolSteps
 pub mod CutSteps
+pub mod SameValues
 pub mod TakenBack
 pub mod InfoSteps
 pub mod QuietLines

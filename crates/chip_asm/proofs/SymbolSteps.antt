@@ -1,5 +1,5 @@
 -- The table of symbols: what stands at the number of a name.
-use Rattle.std.proofs.Common.{◌≡◌, ℕ, ◌+◌, ◌<◌, ◌≤◌, pos, Bool, true, false, cond, List, [], ◌∷◌, ◌++◌, All, map, length, take, set, get_or, slice_get, refl, ap, sym, subst, ◌∙◌, arith, Option, Some, None, option_map, is_some, eqb, ltb, not, ◌||◌, position, suc, zero, length-append, length-set}
+use Rattle.std.proofs.Common.{◌≡◌, ℕ, ◌+◌, ◌<◌, ◌≤◌, ℤ, pos, Bool, true, false, cond, List, [], ◌∷◌, ◌++◌, All, map, length, take, set, get_or, slice_get, refl, ap, sym, subst, ◌∙◌, arith, Option, Some, None, option_map, is_some, eqb, ltb, not, ◌||◌, position, suc, zero, length-append, length-set}
 use Rattle.std.specs.List.{list_any, position_or_len}
 use Rattle.std.specs.Global.{Vec}
 use Rattle.std.proofs.lemmas.List.Sums.{fails_before_first}
@@ -35,6 +35,11 @@ lookup-last (x ∷ xs) e name h = by (bytes_eq name x.0) h (lookup-last xs e nam
         → cond b (Some x.1) (lookup_name (xs ++ e ∷ []) name) ≡ cond (bytes_eq name e.0) (Some e.1) None
     by true h rest = cc
     by false h rest = rest h
+
+-- later symbols of other names change nothing
+pub lookup-front : (names later : List (Name × Symbol)) (name : Name) → lookup_name later name ≡ None → lookup_name (names ++ later) name ≡ lookup_name names name
+lookup-front [] later name h = h
+lookup-front (x ∷ xs) later name h = ap (cond (bytes_eq name x.0) (Some x.1)) (lookup-front xs later name h)
 
 -- one symbol more changes the value of its name alone
 pub value-other : (names : List (Name × Symbol)) (e : Name × Symbol) (name : Name) → bytes_eq name e.0 ≡ false → value_among (names ++ e ∷ []) name ≡ value_among names name
@@ -340,6 +345,12 @@ key-there keys i name s =
 -- a name's value stands at its number
 pub value-found : (keys : List Name) (d : Definitions) (name : Name) (i : ℕ) → AreDefined keys d → i < length keys → key_at keys i ≡ name → get_or d.values.items i None ≡ value_among (symbols_in keys d.entries.items) name
 value-found keys d name i a h same = a.valued i h ∙ ap (value_among (symbols_in keys d.entries.items)) same
+
+pub value-at : (keys : List Name) (d : Definitions) (name : Name) (i : ℕ) (x : Option ℤ) → AreDefined keys d → (i < length keys) × (key_at keys i ≡ name) → x ≡ get_or d.values.items i x
+    → x ≡ value_among (symbols_in keys d.entries.items) name
+value-at keys d name i x a f at =
+    let inside : i < length d.values.items = omega (arith, f.0, a.long) in
+    at ∙ get_or_default d.values.items i x None inside ∙ value-found keys d name i a f.0 f.1
 
 pub value-missing : (keys : List Name) (d : Definitions) (name : Name) → AreDefined keys d → ((i : ℕ) → i < length keys → key_at keys i ≡ name → ⊥) → value_among (symbols_in keys d.entries.items) name ≡ None
 value-missing keys d name a none = ap (option_map (λ (s : Symbol). s.value)) (lookup-missing keys d.entries.items name a.inside none)

@@ -2,13 +2,13 @@
 use Rattle.std.proofs.Common.{◌≡◌, ℕ, ◌+◌, ◌-◌, ◌<◌, ◌≤◌, Bool, true, false, eqb, List, [], ◌∷◌, ◌++◌, length, take, get_or, refl, ap, sym, subst, ◌∙◌, arith, suc, zero, Some, slice_get, length-append}
 use Rattle.std.proofs.Math.Seq.{get_or-append_seam, take-append_seam}
 use Rattle.std.proofs.lemmas.Bool.{eqb-true, eqb-false}
-use Rattle.std.proofs.lemmas.List.{get_or_append_left, get_or-append-add, get_or-take, take_all, take_more}
+use Rattle.std.proofs.lemmas.List.{get_or_append_left, get_or-append-add, get_or-take, take-append-le, take_all, take_more}
 use Rattle.std.proofs.lemmas.Option.{slice_get_within, get_or_from_slice_get}
 use Rattle.chip_asm.specs.declared.table.Definitions.{Definitions}
 use Rattle.chip_asm.specs.declared.table.Entry.{Entry}
 use Rattle.chip_asm.specs.declared.table.Symbol.{Symbol}
 use Rattle.chip_asm.specs.Names.{Name}
-use Rattle.chip_asm.specs.inner.Tables.{AreOver, AreUpTo, key_at, symbols_in}
+use Rattle.chip_asm.specs.inner.Tables.{AreDefined, AreOver, AreUpTo, BeginAlike, key_at, symbols_in}
 use Rattle.chip_asm.proofs.SymbolSteps.{symbols-push}
 
 -- the first symbols of some, among which are all of lines up to a number
@@ -111,3 +111,39 @@ pub going-there : (number : ℕ) (keys : List Name) (whole : List (Name × Symbo
 going-there number keys whole es e g at under early later is up over =
     let split : symbols_in keys es ≡ symbols_in keys (take (length es - 1) es) ++ (key_at keys e.id.number, e.symbol) ∷ [] = ap (symbols_in keys) (last-of es e at) ∙ symbols-push keys (take (length es - 1) es) e in
     split ∙ going-stops number whole (symbols_in keys (take (length es - 1) es)) (key_at keys e.id.number, e.symbol) (subst (Going number whole) split g) under early later is up over
+
+-- which entries are the same as before
+
+pub alike-whole : (now past : List Entry) → past ≡ now → BeginAlike (length now) now past
+alike-whole now past e = record { within = omega arith; past_within = omega (arith, ap length e); same = ap (take (length now)) (sym e) }
+
+pub alike-less : (es next past : List Entry) (e : Entry) → es ≡ next ++ e ∷ [] → BeginAlike (length es) es past → BeginAlike (length next) next past
+alike-less es next past e is a =
+    let count : length es ≡ length next + 1 = ap length is ∙ length-append next (e ∷ []) in record {
+      within = omega arith;
+      past_within = omega (arith, a.past_within, count);
+      same =
+          take_all (length next) next (omega arith)
+          ∙ sym (take-append_seam next (e ∷ []))
+          ∙ ap (take (length next)) (sym is)
+          ∙ sym (take-shorter (length next) (length es) es (omega (arith, count)))
+          ∙ ap (take (length next)) a.same
+          ∙ take-shorter (length next) (length es) past (omega (arith, count));
+    }
+
+pub alike-more : (count : ℕ) (now next past : List Entry) (e : Entry) → next ≡ now ++ e ∷ [] → BeginAlike count now past → BeginAlike count next past
+alike-more count now next past e is a = record {
+  within = omega (arith, a.within, ap length is, length-append now (e ∷ []));
+  past_within = a.past_within;
+  same = ap (take count) is ∙ take-append-le count now (e ∷ []) a.within ∙ a.same;
+}
+
+pub alike-swapped : (keys : List Name) (count : ℕ) (now past a b : Definitions) → a ≡ past → b ≡ now → AreDefined keys now → AreDefined keys past → BeginAlike count now.entries.items past.entries.items
+    → AreDefined keys a × (AreDefined keys b × BeginAlike count a.entries.items b.entries.items)
+alike-swapped keys count now past a b e f is was same = (
+  subst (AreDefined keys) (sym e) was,
+  (
+    subst (AreDefined keys) (sym f) is,
+    rw (e, f) (record { within = same.past_within; past_within = same.within; same = sym same.same }),
+  ),
+)

@@ -1,5 +1,5 @@
 //! The first pass: one line after another.
-ghost use Rattle.std.specs.Prelude.{◌≡◌, reverse, ◌+◌, ◌-◌, ◌≤◌, ◌<◌, ◌^◌, List, [], ◌∷◌, ◌++◌, OnOk, IfOk, IfSome, length, is_some, is_none, unsigned_abs, pos, Option, None, Some, Ok, true, false, not, ◌&&◌, ◌||◌, if◌then◌else◌, option_to_list};
+ghost use Rattle.std.specs.Prelude.{◌≡◌, reverse, ◌+◌, ◌-◌, ◌≤◌, ◌<◌, ◌^◌, List, [], ◌∷◌, ◌++◌, OnOk, IfOk, IfSome, length, is_some, is_none, unsigned_abs, pos, Option, None, Some, Ok, true, false, not, ◌&&◌, ◌||◌, if◌then◌else◌, option_to_list, unwrap_or};
 ghost use Rattle.std.specs.List.{list_all};
 ghost use Rattle.chip_asm.specs.inner.Bare.{IsBare, fault_of_bare};
 ghost use Rattle.chip_asm.specs.declared.block.Block.{Block};
@@ -188,78 +188,27 @@ impl Pass {
         }
     }
 
-    fn is_past_end(&self, body: &Body, value: i32) -> bool
-        ensures { result ≡ is_past_end self.now.aligning self.now.here (seen_body body.now) value }
-    {
-        match body {
-            Body::Org(_) => value > MEMORY_BYTES as i32,
-            _ => self.full_size(body, value) > MEMORY_BYTES - self.here,
-        }
-    }
-
-    fn is_backwards(&self, body: &Body, value: i32) -> bool
-        ensures { result ≡ is_backwards self.now.here (seen_body body.now) value }
-    {
-        match body {
-            Body::Org(_) => value < self.here as i32,
-            _ => false,
-        }
-    }
-
     #[tactic(auto, unfolding(crate::specs::computed::Walk::fault_of_value))]
     fn fault_of_value(&self, body: &Body, value: Result<i32, Fault>) -> Option<Fault>
         ensures { result
             ≡ fault_of_value self.now.aligning self.now.here (seen_body body.now) value }
     {
-        match value {
-            Err(fault) => Some(fault),
-            Ok(value) => {
-                if matches!(body, Body::Ds(_)) && value < 0 {
-                    Some(Fault::OutOfRange)
-                } else if self.is_backwards(body, value) {
-                    Some(Fault::OrgBelowHere)
-                } else if self.is_past_end(body, value) {
-                    Some(Fault::PastMemory)
-                } else {
-                    None
-                }
-            }
+        let value = match value {
+            Ok(value) => value,
+            Err(fault) => return Some(fault),
+        };
+        match body {
+            Body::Ds(_) if value < 0 => Some(Fault::OutOfRange),
+            Body::Org(_) if value < self.here as i32 => Some(Fault::OrgBelowHere),
+            Body::Org(_) if value > MEMORY_BYTES as i32 => Some(Fault::PastMemory),
+            Body::Org(_) => None,
+            _ if self.full_size(body, value) > MEMORY_BYTES - self.here => Some(Fault::PastMemory),
+            _ => None,
         }
     }
 
-    /// The first fault of a live line, but for an IF without ENDIF.
+    /// The first fault of the line, where it is live, but for an IF without ENDIF.
     #[tactic(auto, unfolding(crate::specs::computed::Walk::first_fault))]
-    fn first_fault(
-        &self,
-        line: &Line,
-        defines: Option<NameId>,
-        value: Result<i32, Fault>,
-    ) -> Option<Fault>
-        requires { IsNumberOf self.now.names.keys defines (name_defined (seen_line line.now)) }
-        ensures fault { (before : List Placed) → Follows self.now before
-            → value ≡ value_at (symbols before) (body_of (seen_line line.now))
-            → result ≡ first_fault before (seen_line line.now) }
-        ensures new_name { result ≡ None
-            → is_redefinition self.now.names.symbols (name_defined (seen_line line.now)) ≡ false }
-        ensures fits { result ≡ None
-            → fault_of_value self.now.aligning self.now.here (body_of (seen_line line.now)) value
-            ≡ None }
-    {
-        match line {
-            Line::Bad(fault) => Some(*fault),
-            Line::Read { body, .. } => {
-                if self.is_misplaced(body) {
-                    Some(Fault::StrayBranch)
-                } else if self.is_redefinition(defines) {
-                    Some(Fault::DefinedTwice)
-                } else {
-                    self.fault_of_value(body, value)
-                }
-            }
-        }
-    }
-
-    /// The fault of the line, where it is live.
     fn fault_of(
         &self,
         live: bool,
@@ -277,10 +226,18 @@ impl Pass {
             → fault_of_value self.now.aligning self.now.here (body_of (seen_line line.now)) value
             ≡ None }
     {
-        if live {
-            self.first_fault(line, defines, value)
-        } else {
-            None
+        match line {
+            _ if !live => None,
+            Line::Bad(fault) => Some(*fault),
+            Line::Read { body, .. } => {
+                if self.is_misplaced(body) {
+                    Some(Fault::StrayBranch)
+                } else if self.is_redefinition(defines) {
+                    Some(Fault::DefinedTwice)
+                } else {
+                    self.fault_of_value(body, value)
+                }
+            }
         }
     }
 
@@ -426,13 +383,15 @@ impl Pass {
         }
     }
 
-    /// What holds of such a line.
-    fn place_bare(&self, number: usize, size: usize, twice: bool) -> Placement
+    /// What holds of such a line. The value of a constant is known.
+    fn place_bare(&self, number: usize, size: usize, twice: bool, known: Option<i32>) -> Placement
         requires { number ≤ MOST_LINES + 1 }
         ensures placed { (lines : List Reading) (line : Reading) (name : Option Name)
-            → IsBare line name size → twice ≡ is_redefinition self.now.names.symbols name
+            → IsBare self.now.names.symbols line name size known
+            → twice ≡ is_redefinition self.now.names.symbols name
             → Follows self.now (placed lines) → number ≡ length lines + 1
             → result ≡ placement_of (place (placed lines) line) }
+        ensures value { result.value ≡ unwrap_or known (pos 0) }
         ensures here { result.here ≡ self.now.here }
         ensures fits { self.now.here + result.size ≤ MEMORY_BYTES }
         ensures new_name { is_placed result ≡ true → twice ≡ false }
@@ -441,7 +400,7 @@ impl Pass {
         let fault = self.fault_of_bare(live, twice, size);
         let taken = size_if(is_passed(live, fault), size);
         Placement {
-            value: 0,
+            value: known.unwrap_or(0),
             number: number as u16,
             here: self.here as u16,
             size: taken as u16,
@@ -454,57 +413,63 @@ impl Pass {
     /// Goes on by such a line without a name.
     pub(crate) fn step_bare(&mut self, number: usize, size: usize) -> Placement
         requires { number ≤ MOST_LINES + 1 }
-        ensures found { (lines : List Reading) (line : Reading) → IsBare line None size
-            → Follows self.old (placed lines) → number ≡ length lines + 1
+        ensures found { (lines : List Reading) (line : Reading)
+            → IsBare self.old.names.symbols line None size None → Follows self.old (placed lines) → number ≡ length lines + 1
             → result ≡ placement_of (place (placed lines) line) }
-        ensures follows { (lines : List Reading) (line : Reading) → IsBare line None size
-            → Follows self.old (placed lines) → number ≡ length lines + 1
+        ensures follows { (lines : List Reading) (line : Reading)
+            → IsBare self.old.names.symbols line None size None → Follows self.old (placed lines) → number ≡ length lines + 1
             → Follows self.new (placed (lines ++ line ∷ [])) }
         ensures keeps { KeepsBefore self.old.names self.new.names }
     {
-        let placement = self.place_bare(number, size, false);
+        let placement = self.place_bare(number, size, false, None);
         self.here += placement.size as usize;
         placement
     }
 
-    /// Goes on by such a line with the name of a number.
+    /// Goes on by such a line with the name of a number. The value of a constant is known.
     pub(crate) fn step_labelled(
         &mut self,
         number: usize,
         size: usize,
         id: NameId,
+        known: Option<i32>,
     ) -> Result<Placement, AllocError>
         requires number { number ≤ MOST_LINES + 1 }
         requires id { id.number < length self.old.names.keys }
         ensures found { (lines : List Reading) (line : Reading) (name : Name)
-            → IsNumber self.old.names.keys id name → IsBare line (Some name) size
+            → IsNumber self.old.names.keys id name
+            → IsBare self.old.names.symbols line (Some name) size known
             → Follows self.old (placed lines) → number ≡ length lines + 1
             → IfOk result (λ placement. placement ≡ placement_of (place (placed lines) line)) }
         ensures follows { (lines : List Reading) (line : Reading) (name : Name)
-            → IsNumber self.old.names.keys id name → IsBare line (Some name) size
+            → IsNumber self.old.names.keys id name
+            → IsBare self.old.names.symbols line (Some name) size known
             → Follows self.old (placed lines) → number ≡ length lines + 1
             → OnOk result (Follows self.new (placed (lines ++ line ∷ []))) }
         ensures keeps { KeepsBefore self.old.names self.new.names }
     {
         let twice = self.names.is_defined(id);
-        let placement = self.place_bare(number, size, twice);
-        self.note_label(placement.is_accepted(), number, id)?;
+        let placement = self.place_bare(number, size, twice, known);
+        let value = known.unwrap_or(self.here as i32);
+        self.note_label(placement.is_accepted(), number, id, value)?;
         self.here += placement.size as usize;
         Ok(placement)
     }
 
-    /// Notes the name of a number with the address where the pass stands, where its line is
-    /// accepted.
-    fn note_label(&mut self, accepted: bool, number: usize, id: NameId) -> Result<(), AllocError>
+    /// Notes the name of a number with a value, where its line is accepted.
+    fn note_label(
+        &mut self,
+        accepted: bool,
+        number: usize,
+        id: NameId,
+        value: i32,
+    ) -> Result<(), AllocError>
         requires id { id.number < length self.old.names.keys }
         requires new { accepted ≡ true → lookup_name self.old.names.symbols
             (key_at self.old.names.keys id.number) ≡ None }
         ensures names { OnOk result (self.new.names.symbols
             ≡ self.old.names.symbols ++ option_to_list (if accepted
-            then Some (
-              key_at self.old.names.keys id.number,
-              record { value = pos self.old.here; line = number },
-            )
+            then Some (key_at self.old.names.keys id.number, record { value = value; line = number })
             else None)) }
         ensures keeps { KeepsBefore self.old.names self.new.names }
         ensures here { self.new.here ≡ self.old.here }
@@ -517,7 +482,7 @@ impl Pass {
             return Ok(());
         }
         let symbol = Symbol {
-            value: self.here as i32,
+            value,
             line: number,
         };
         self.names.define(id, symbol)

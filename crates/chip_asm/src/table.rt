@@ -1,11 +1,11 @@
 //! The symbols of a source.
-ghost use Rattle.std.specs.Prelude.{◌≡◌, ◌++◌, [], ◌∷◌, ◌<◌, ℕ, All, List, true, OnOk, OnErr, IfOk, IfSome, None, Some, Option, is_some, length, map, option_map, slice_get};
+ghost use Rattle.std.specs.Prelude.{◌≡◌, ◌++◌, [], ◌∷◌, ◌<◌, ◌≤◌, ℕ, All, List, true, OnOk, OnErr, IfOk, IfSome, None, Some, Option, is_some, length, map, option_map, slice_get, take};
 ghost use Rattle.std.specs.List.{list_all};
 ghost use Rattle.std.specs.Str.{bytes_eq};
 ghost use Rattle.chip_lang.specs.Line.{upper};
 ghost use Rattle.chip_lang.specs.Uses.{has_same_value};
 ghost use Rattle.chip_asm.specs.Names.{Name, lookup_name, values_of};
-ghost use Rattle.chip_asm.specs.inner.Tables.{AreOver, AreUpTo, Extends, IsNumber, KeepsBefore, key_at, names_at};
+ghost use Rattle.chip_asm.specs.inner.Tables.{AreApart, AreDefined, AreOver, AreUpTo, Extends, HaveSame, IsNumber, KeepsBefore, key_at, names_at, value_among};
 
 use crate::name_hasher::NameHasher;
 use chip_lang::short_bytes::upper;
@@ -56,21 +56,61 @@ impl Definitions {
         }
     }
 
-    /// Makes it the same as another one. The growths come first.
-    fn copy_from(&mut self, other: &Definitions) -> Result<(), AllocError>
+    /// Makes it the same as another one, which has as many names, and so many first entries in
+    /// common with it. The growth comes first.
+    fn catch_up(&mut self, other: &Definitions, same: usize) -> Result<(), AllocError>
+        requires within { same ≤ length self.old.entries.items }
+        requires other_within { same ≤ length other.now.entries.items }
+        requires same { take same self.old.entries.items ≡ take same other.now.entries.items }
+        requires inside { All (λ e. e.id.number < length self.old.values.items) self.old.entries.items }
+        requires other_inside { All (λ e. e.id.number < length self.old.values.items)
+            other.now.entries.items }
+        requires long { length self.old.values.items ≡ length other.now.values.items }
         ensures entries { OnOk result (self.new.entries.items ≡ other.now.entries.items) }
-        ensures values { OnOk result (self.new.values.items ≡ other.now.values.items) }
+        ensures values { (keys : List Name) → AreApart keys → AreDefined keys self.old
+            → AreDefined keys other.now
+            → OnOk result (self.new.values.items ≡ other.now.values.items) }
         ensures same_entries { OnErr result (self.new.entries.items ≡ self.old.entries.items) }
         ensures same_values { OnErr result (self.new.values.items ≡ self.old.values.items) }
     {
-        self.entries.reserve(other.entries.len())?;
-        self.values.reserve(other.values.len())?;
-        self.entries.clear();
-        let _ = self.entries.extend_from_slice(&other.entries);
-        self.values.clear();
-        let _ = self.values.extend_from_slice(&other.values);
+        let later = &other.entries[same..];
+        self.entries.reserve(later.len())?;
+        copy_values(&mut self.values, &other.values, &self.entries[same..]);
+        copy_values(&mut self.values, &other.values, later);
+        self.entries.truncate(same);
+        let _ = self.entries.extend_from_slice(later);
         Ok(())
     }
+}
+
+/// Copies the values at the numbers of some entries.
+fn copy_values(values: &mut [Option<i32>], from: &[Option<i32>], entries: &[Entry])
+    requires inside { All (λ e. e.id.number < length values.old) entries.now }
+    requires long { length values.old ≡ length from.now }
+    ensures kept { (number : ℕ) → HaveSame values.old from.now number
+        → HaveSame values.new from.now number }
+    ensures copied { All (λ e. HaveSame values.new from.now e.id.number) entries.now }
+{
+    for entry in entries {
+        let index = entry.id.number as usize;
+        values[index] = from[index];
+    }
+}
+
+/// Whether the values at the numbers of some entries are the same.
+fn have_same(values: &[Option<i32>], others: &[Option<i32>], entries: &[Entry]) -> bool
+    requires inside { All (λ e. e.id.number < length values.now) entries.now }
+    requires long { length values.now ≡ length others.now }
+    ensures { result ≡ true
+        → All (λ e. HaveSame values.now others.now e.id.number) entries.now }
+{
+    for entry in entries {
+        let index = entry.id.number as usize;
+        if values[index] != others[index] {
+            return false;
+        }
+    }
+    true
 }
 
 /// The table of symbols. Names are in upper case. Each has a number as soon as a line uses or
@@ -81,11 +121,13 @@ pub(crate) struct Table {
     hasher: NameHasher,
     pub(crate) current: Definitions,
     pub(crate) past: Definitions,
+    /// So many first entries are the same now and before the edit.
+    pub(crate) same: usize,
 }
 
 impl Model for Table {
     ghost use Rattle.std.specs.Prelude.{map};
-    ghost use Rattle.chip_asm.specs.inner.Tables.{AreApart, AreDefined, Tables, symbols_in};
+    ghost use Rattle.chip_asm.specs.inner.Tables.{AreApart, AreDefined, BeginAlike, Tables, symbols_in};
 
     ghost Value = { Tables };
 
@@ -97,7 +139,8 @@ impl Model for Table {
 
     ghost invariant = { λ t. AreApart (map (λ k. k.items) t.keys.keys)
         × (AreDefined (map (λ k. k.items) t.keys.keys) t.current
-        × AreDefined (map (λ k. k.items) t.keys.keys) t.past) };
+        × (AreDefined (map (λ k. k.items) t.keys.keys) t.past
+        × BeginAlike t.same t.current.entries.items t.past.entries.items)) };
 }
 
 impl Table {
@@ -113,6 +156,7 @@ impl Table {
             hasher,
             current: Definitions::new(alloc),
             past: Definitions::new(alloc),
+            same: 0,
         }
     }
 
@@ -162,7 +206,8 @@ impl Table {
             → self.new.symbols ≡ early) }
         ensures same { OnErr result (self.new.symbols ≡ self.old.symbols) }
     {
-        self.past.copy_from(&self.current)?;
+        self.past.catch_up(&self.current, self.same)?;
+        self.same = self.current.entries.len();
         while let Some(entry) = self.current.entries.last() {
             if entry.symbol.line <= number {
                 break;
@@ -170,6 +215,7 @@ impl Table {
             let id = entry.id;
             self.current.values[id.number as usize] = None;
             self.current.entries.pop();
+            self.same -= 1;
         }
         Ok(())
     }
@@ -218,12 +264,9 @@ impl Table {
         ensures { result ≡ true → (name : Name)
             → has_same_value (values_of self.now.before) (values_of self.now.symbols) name ≡ true }
     {
-        for index in 0..self.current.values.len() {
-            if self.past.values[index] != self.current.values[index] {
-                return false;
-            }
-        }
-        true
+        let (past, current) = (&self.past, &self.current);
+        have_same(&past.values, &current.values, &past.entries[self.same..])
+            && have_same(&past.values, &current.values, &current.entries[self.same..])
     }
 
     /// Whether the names of these numbers have the values, or none, that they had before the edit.
@@ -341,42 +384,58 @@ fn is_spelled(text: &[u8], name: &[u8]) -> bool
     upper(*byte) == *letter && is_spelled(text, name)
 }
 
-/// A table, which is asked for the names of a line, mostly one after another.
+/// A table, which is asked for the names of a line, mostly one beside another.
 #[derive(Drop)]
 pub(crate) struct Scope<'a> {
     table: &'a Table,
     /// The numbers of the line's names.
     numbers: &'a [NameId],
-    /// The place of the number whose name is asked for next, as it seems.
-    next: Cell<usize>,
+    /// The place among them of the name found last.
+    place: Cell<usize>,
 }
 
 impl<'a> Scope<'a> {
-    /// A table, and the numbers of the names of which it is going to be asked.
+    /// A table, and the numbers of the names of which it is going to be asked. An expression asks
+    /// for its names from the last one on.
     pub(crate) fn new(table: &'a Table, numbers: &'a [NameId]) -> Self
         ensures { result.table.now ≡ table.now }
     {
         Scope {
             table,
             numbers,
-            next: Cell::new(0),
+            place: Cell::new(numbers.len()),
         }
     }
 
-    /// The number of a name, where it is the one that is asked for next.
+    /// The number at a place, where it is that of the name.
     #[inline(always)]
-    fn expected(&self, name: &[u8]) -> Option<NameId>
+    fn number_at(&self, place: usize, name: &[u8]) -> Option<NameId>
         ensures { IfSome result (λ id. IsNumber self.now.table.now.keys id name.now) }
     {
         let table = self.table;
-        let place = self.next.get();
         let id = self.numbers.get(place)?;
         let key = table.keys.get_index(id.number as usize)?;
         if name != key.as_slice() {
             return None;
         }
-        self.next.set(place + 1);
+        self.place.set(place);
         Some(*id)
+    }
+
+    /// The value of a name that stands elsewhere. Where it is one of the line's, the next one is
+    /// looked for beside it.
+    #[inline(never)]
+    fn value_elsewhere(&self, name: &[u8]) -> Option<i32>
+        ensures { result ≡ value_among self.now.table.now.symbols name.now }
+    {
+        let table = self.table;
+        let index = table.keys.get_index_of(name)?;
+        for place in 0..self.numbers.len() {
+            if self.numbers[place].number as usize == index {
+                self.place.set(place);
+            }
+        }
+        table.current.values[index]
     }
 }
 
@@ -385,10 +444,13 @@ impl<'a> Names for Scope<'a> {
 
     fn value(&self, name: &[u8]) -> Option<i32> {
         let table = self.table;
-        if let Some(id) = self.expected(name) {
+        let place = self.place.get();
+        if let Some(id) = self.number_at(place.wrapping_sub(1), name) {
             return table.current.values[id.number as usize];
         }
-        let index = table.keys.get_index_of(name)?;
-        table.current.values[index]
+        if let Some(id) = self.number_at(place.saturating_add(1), name) {
+            return table.current.values[id.number as usize];
+        }
+        self.value_elsewhere(name)
     }
 }

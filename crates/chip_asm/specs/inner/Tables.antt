@@ -59,6 +59,17 @@ pub record AreDefined (keys : List Name) (d : Definitions) : Type 0 where
       → slice_index_or d.values.items number None
       ≡ value_among (symbols_in keys d.entries.items) (key_at keys number)
 
+-- the same value, or none, stands at the number in both
+abbrev pub HaveSame : List (Option ℤ) → List (Option ℤ) → ℕ → Type 0
+HaveSame values others number =
+    slice_index_or values number None ≡ slice_index_or others number None
+
+-- so many first entries are the same in both
+pub record BeginAlike (count : ℕ) (now past : List Entry) : Type 0 where
+  pub within : count ≤ length now
+  pub past_within : count ≤ length past
+  pub same : take count now ≡ take count past
+
 -- a change leaves the names and the symbols before the edit
 pub record KeepsBefore (old new : Tables) : Type 0 where
   pub keys : new.keys ≡ old.keys

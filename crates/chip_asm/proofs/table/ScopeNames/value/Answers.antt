@@ -1,37 +1,31 @@
-use Rattle.std.proofs.Common.{◌≡◌, ◌∙◌, ◌<◌, ℕ, ℤ, ap, sym, subst, length, map, None, arith, List, Option, get_or}
-use Rattle.std.proofs.lemmas.List.{get_or_default}
+use Rattle.std.proofs.Common.{◌≡◌, ◌∙◌, ℕ, ℤ, ap, sym, subst, map, List, Option, get_or}
 use Rattle.std.specs.Global.{Vec}
 use Rattle.chip_lang.specs.Value.{value_of_name}
 use Rattle.chip_asm.specs.Names.{Name, values_of}
 use Rattle.chip_asm.specs.declared.table.Definitions.{Definitions}
-use Rattle.chip_asm.specs.inner.Tables.{AreDefined, IsNumber, Tables, key_at, symbols_in}
+use Rattle.chip_asm.specs.declared.table.NameId.{NameId}
+use Rattle.chip_asm.specs.inner.Tables.{AreDefined, IsNumber, Tables, symbols_in}
 use Rattle.chip_asm.proofs.NameValues.{value-of-name}
-use Rattle.chip_asm.proofs.SymbolSteps.{found-kept, absent-kept, value-found, value-missing}
+use Rattle.chip_asm.proofs.SymbolSteps.{value-at}
 use Rattle.chip_asm.proofs.table.ScopeNames.value.Goals as goal
 
-missing : (keys : List Name) (d : Definitions) (name : Name) → AreDefined keys d → ((i : ℕ) → i < length keys → key_at keys i ≡ name → ⊥) → None ≡ value_of_name (values_of (symbols_in keys d.entries.items)) name
-missing keys d name a none = sym (value-of-name (symbols_in keys d.entries.items) name ∙ value-missing keys d name a none)
-
-found : (keys : List Name) (d : Definitions) (name : Name) (i : ℕ) (x : Option ℤ) → AreDefined keys d → (i < length keys) × (key_at keys i ≡ name) → x ≡ get_or d.values.items i x → x ≡ value_of_name (values_of (symbols_in keys d.entries.items)) name
-found keys d name i x a f at =
-    let inside : i < length d.values.items = omega (arith, f.0, a.long) in
-    at ∙ get_or_default d.values.items i x None inside ∙ value-found keys d name i a f.0 f.1 ∙ sym (value-of-name (symbols_in keys d.entries.items) name)
+found : (t : Tables) (keys : List Name) (d : Definitions) (name : Name) (id : NameId) (x : Option ℤ) → AreDefined keys d → keys ≡ t.keys → symbols_in keys d.entries.items ≡ t.symbols → IsNumber t.keys id name → x ≡ get_or d.values.items id.number x
+    → x ≡ value_of_name (values_of t.symbols) name
+found t keys d name id x a k s n at =
+    let own : IsNumber keys id name = subst (λ ks. IsNumber ks id name) (sym k) n in
+    value-at keys d name id.number x a (own.within, own.named) at
+    ∙ sym (value-of-name (symbols_in keys d.entries.items) name)
+    ∙ ap (λ ss. value_of_name (values_of ss) name) s
 
 pub returns-in-Some : goal.returns-in-Some
 returns-in-Some c =
-    let keys : List Name = map (λ (k : Vec ℕ). k.items) c.table.inside.keys.keys in
-    let n : IsNumber keys c.in-Some.id c.args.name.now = subst (λ (t : Tables). IsNumber t.keys c.in-Some.id c.args.name.now) (sym c.table.view_is) c.in-Some.ensures in
-    found keys c.table.inside.current c.args.name.now c.in-Some.id.number c.index.result.now c.table.invariant.1.0 (n.within, n.named) c.index.ensures
-    ∙ ap (λ (t : Tables). value_of_name (values_of t.symbols) c.args.name.now) c.table.view_is
+    found c.args.self.now.table.now (map (λ (k : Vec ℕ). k.items) c.table.inside.keys.keys) c.table.inside.current c.args.name.now c.in-Some.id c.index.result.now c.table.invariant.1.0
+    (ap (λ (t : Tables). t.keys) c.table.view_is) (ap (λ (t : Tables). t.symbols) c.table.view_is) c.in-Some.ensures c.index.ensures
 
-pub returns-in_err-index : goal.returns-in_err-index
-returns-in_err-index c =
-    c.from_residual.ensures
-    ∙ missing (map (λ (k : Vec ℕ). k.items) c.table.inside.keys.keys) c.table.inside.current c.args.name.now c.table.invariant.1.0 (absent-kept c.table.inside.keys.keys c.args.name.now (sym c.in_err-index.ensures.index))
-    ∙ ap (λ (t : Tables). value_of_name (values_of t.symbols) c.args.name.now) c.table.view_is
+pub returns-in-Some-number_at : goal.returns-in-Some-number_at
+returns-in-Some-number_at c =
+    found c.args.self.now.table.now (map (λ (k : Vec ℕ). k.items) c.table.inside.keys.keys) c.table.inside.current c.args.name.now c.in-Some-number_at.id c.index-in-Some-number_at.result.now c.table.invariant.1.0
+    (ap (λ (t : Tables). t.keys) c.table.view_is) (ap (λ (t : Tables). t.symbols) c.table.view_is) c.in-Some-number_at.ensures c.index-in-Some-number_at.ensures
 
 pub returns : goal.returns
-returns c =
-    found (map (λ (k : Vec ℕ). k.items) c.table.inside.keys.keys) c.table.inside.current c.args.name.now c.in_ok-index.index c.index-2.result.now c.table.invariant.1.0
-    (found-kept c.table.inside.keys.keys c.args.name.now c.in_ok-index.index (sym c.in_ok-index.ensures.index)) c.index-2.ensures
-    ∙ ap (λ (t : Tables). value_of_name (values_of t.symbols) c.args.name.now) c.table.view_is
+returns c = c.value_elsewhere.ensures ∙ sym (value-of-name c.args.self.now.table.now.symbols c.args.name.now)

@@ -14,7 +14,10 @@ invariant_of-self-then-is_new c =
       apart-keys c.self.inside.keys.keys c.insert_full.new.self.keys c.in_ok-key.key o c.self.invariant.0,
       (
         defined-keys c.self.inside.keys.keys c.insert_full.new.self.keys c.in_ok-key.key c.self.inside.current _ o c.self.invariant.1.0 refl now,
-        defined-keys c.self.inside.keys.keys c.insert_full.new.self.keys c.in_ok-key.key c.self.inside.past _ o c.self.invariant.1.1 refl past,
+        (
+          defined-keys c.self.inside.keys.keys c.insert_full.new.self.keys c.in_ok-key.key c.self.inside.past _ o c.self.invariant.1.1.0 refl past,
+          c.self.invariant.1.1.1,
+        ),
       ),
     )
 
@@ -27,7 +30,7 @@ returns-then-is_new-clause-symbols c =
 pub returns-then-is_new-clause-before : goal.returns-then-is_new-clause-before
 returns-then-is_new-clause-before c =
     symbols-keys c.self.inside.keys.keys c.insert_full.new.self.keys c.in_ok-key.key c.self.inside.past
-    (one-key-more c.self.inside.keys.keys c.insert_full.new.self.keys c.in_ok-key.key c.in_ok-index.is_new c.if-is_new.true c.in_ok-index.ensures.added c.in_ok-index.ensures.keys) c.self.invariant.1.1
+    (one-key-more c.self.inside.keys.keys c.insert_full.new.self.keys c.in_ok-key.key c.in_ok-index.is_new c.if-is_new.true c.in_ok-index.ensures.added c.in_ok-index.ensures.keys) c.self.invariant.1.1.0
     ∙ ap (λ (t : Tables). t.before) c.self.view_is
 
 pub returns-then-is_new-clause-named : goal.returns-then-is_new-clause-named

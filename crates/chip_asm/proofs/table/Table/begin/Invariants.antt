@@ -1,5 +1,5 @@
 use Rattle.std.proofs.Common.{◌≡◌, map, length}
-use Rattle.chip_asm.specs.inner.Tables.{AreApart, AreDefined, symbols_in}
+use Rattle.chip_asm.specs.inner.Tables.{AreApart, AreDefined, BeginAlike, symbols_in}
 use Rattle.chip_asm.proofs.TakenBack.{Going}
 use Rattle.chip_asm.proofs.table.Table.begin.Given as goal
 
@@ -9,6 +9,8 @@ invariant-loop-entry l = record {
   before : symbols_in l.fn.self.keys l.self-inside.past.entries.items ≡ l.fn.self.symbols;
   apart : AreApart l.fn.self.keys;
   past : AreDefined l.fn.self.keys l.self-inside.past;
+  count : l.self-inside.same ≡ length l.self-inside.current.entries.items;
+  alike : BeginAlike l.self-inside.same l.self-inside.current.entries.items l.self-inside.past.entries.items;
   current : AreDefined l.fn.self.keys l.self-inside.current;
   going : Going l.number l.fn.self.symbols (symbols_in l.fn.self.keys l.self-inside.current.entries.items);
 }

@@ -4,6 +4,7 @@ use Rattle.std.specs.Global.{Vec}
 use Rattle.chip_asm.specs.Names.{Name, lookup_name}
 use Rattle.chip_asm.specs.inner.Tables.{Tables, key_at, symbols_in}
 use Rattle.chip_asm.proofs.SymbolSteps.{defined-more, symbols-push}
+use Rattle.chip_asm.proofs.TakenBack.{alike-more}
 use Rattle.chip_asm.proofs.table.Table.define.Goals as goal
 
 pub invariant_of-self-2 : goal.invariant_of-self-2
@@ -15,7 +16,7 @@ invariant_of-self-2 c =
         defined-more keys c.self.inside.current _ (record { id = c.args.id; symbol = c.args.symbol }) c.self.invariant.0 c.self.invariant.1.0
             (subst (λ (t : Tables). c.args.id.number < length t.keys) (sym c.self.view_is) c.requires.within)
             (subst (λ (t : Tables). lookup_name t.symbols (key_at t.keys c.args.id.number) ≡ None) (sym c.self.view_is) c.requires.new) c.in_ok-push.ensures.items (rw same refl),
-        c.self.invariant.1.1,
+        (c.self.invariant.1.1.0, alike-more c.self.inside.same c.self.inside.current.entries.items _ c.self.inside.past.entries.items (record { id = c.args.id; symbol = c.args.symbol }) c.in_ok-push.ensures.items c.self.invariant.1.1.1),
       ),
     )
 

@@ -19,7 +19,7 @@ pub returns : goal.returns
 returns c =
     let keys : List Name = map (λ (k : Vec ℕ). k.items) c.self.inside.keys.keys in
     let h : c.args.id.number < length keys = subst (λ (t : Tables). c.args.id.number < length t.keys) (sym c.self.view_is) c.requires in
-    let was = value-there keys c.self.inside.past c.args.id.number c.index.result.now c.self.invariant.1.1 h c.index.ensures
+    let was = value-there keys c.self.inside.past c.args.id.number c.index.result.now c.self.invariant.1.1.0 h c.index.ensures
     ∙ ap (λ (t : Tables). value_of_name (values_of t.before) (key_at t.keys c.args.id.number)) c.self.view_is in
     let is = value-there keys c.self.inside.current c.args.id.number c.index-2.result.now c.self.invariant.1.0 h c.index-2.ensures
     ∙ ap (λ (t : Tables). value_of_name (values_of t.symbols) (key_at t.keys c.args.id.number)) c.self.view_is in

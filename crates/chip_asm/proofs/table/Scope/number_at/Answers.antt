@@ -5,7 +5,7 @@ use Rattle.std.proofs.lemmas.List.{length-map}
 use Rattle.std.proofs.lemmas.Option.{slice_get_within}
 use Rattle.chip_asm.specs.inner.Tables.{IsNumber, Tables}
 use Rattle.chip_asm.proofs.SymbolSteps.{key-there}
-use Rattle.chip_asm.proofs.table.Scope.expected.Goals as goal
+use Rattle.chip_asm.proofs.table.Scope.number_at.Goals as goal
 
 not-not : (b : Bool) → not b ≡ false → b ≡ true
 not-not true h = refl
