@@ -65,39 +65,13 @@ byte-done lines placements place k byte h is =
     is.done (λ w. (let inside : w.place < length placements = slice_get_within placements w.place w.q w.there in let l = w.low in omega arith))
 
 -- a line has its bytes at each address that it covers
-pub byte-written : (lines : List Reading) (place : ℕ) (q : Placement) (a : AtPlace lines place q) (x : Placed) → a.x ≡ x → (k new old : ℕ) → covers_byte q k ≡ true
-    → new ≡ cond (covers_byte q k) (get_or (bytes_in_code (code_under (placed lines) x)) (IMAGE_START + k - q.here) 0) old → new ≡ right_byte lines k
-byte-written lines place q a x same k new old c is =
-    is ∙ ap (λ b. cond b (get_or (bytes_in_code (code_under (placed lines) x)) (IMAGE_START + k - q.here) 0) old) c
-    ∙ ap (λ y. get_or (bytes_in_code (code_under (placed lines) y)) (IMAGE_START + k - q.here) 0) (sym same) ∙ sym (byte-line lines place q a (IMAGE_START + k) c)
+pub byte-written : (lines : List Reading) (place : ℕ) (q : Placement) (a : AtPlace lines place q) (k new old : ℕ) → covers_byte q k ≡ true
+    → new ≡ cond (covers_byte q k) (get_or (bytes_in_code (code_under (placed lines) a.x)) (IMAGE_START + k - q.here) 0) old → new ≡ right_byte lines k
+byte-written lines place q a k new old c is =
+    is ∙ ap (λ b. cond b (get_or (bytes_in_code (code_under (placed lines) a.x)) (IMAGE_START + k - q.here) 0) old) c ∙ sym (byte-line lines place q a (IMAGE_START + k) c)
 
 pub byte-stays : (q : Placement) (k new written old : ℕ) → covers_byte q k ≡ false → new ≡ cond (covers_byte q k) written old → new ≡ old
 byte-stays q k new written old c is = is ∙ ap (λ b. cond b written old) c
-
--- the part of an image where a line stood has its bytes, with zeros behind
-pub part-right : (lines : List Reading) (place : ℕ) (q : Placement) (a : AtPlace lines place q) (image part : List ℕ) → ((k : ℕ) → k < IMAGE_BYTES → get_or image k 0 ≡ right_byte lines k) → length image ≡ IMAGE_BYTES
-    → is_placed q ≡ true → part ≡ take q.size (drop (q.here - IMAGE_START) image) → (j : ℕ) → get_or part j 0 ≡ get_or (bytes_in_code (code_under (placed lines) a.x)) j 0
-part-right lines place q a image part imaged long accepted is j = ap (λ bytes. get_or bytes j 0) is ∙ by (cases_lt j q.size)
-  where
-    inside : j < q.size → get_or (take q.size (drop (q.here - IMAGE_START) image)) j 0 ≡ get_or (bytes_in_code (code_under (placed lines) a.x)) j 0
-    inside h =
-        let from = low lines place q a in
-        let to = high lines place q a in
-        let k : ℕ = q.here - IMAGE_START + j in
-        let there : IMAGE_START + (q.here - IMAGE_START + j) ≡ q.here + j = omega arith in
-        let back : q.here + j - q.here ≡ j = omega arith in
-        get_or-take q.size (drop (q.here - IMAGE_START) image) j 0 h ∙ get_or-drop (q.here - IMAGE_START) image j 0 ∙ imaged (q.here - IMAGE_START + j) (omega arith)
-        ∙ (rw there (byte-line lines place q a (q.here + j) (covered q.here j q.size h) ∙ ap (λ i. get_or (bytes_in_code (code_under (placed lines) a.x)) i 0) back))
-      where
-        covered : (here j size : ℕ) → j < size → (leb here (here + j) && ltb (here + j) (here + size)) ≡ true
-        covered here j size h = grind (arith, nat_tests)
-
-    by : (j < q.size) ⊎ (q.size ≤ j) → get_or (take q.size (drop (q.here - IMAGE_START) image)) j 0 ≡ get_or (bytes_in_code (code_under (placed lines) a.x)) j 0
-    by (inl h) = inside h
-    by (inr h) =
-        let fit = bytes-fit lines place q a accepted in
-        get_or_past (take q.size (drop (q.here - IMAGE_START) image)) j 0 (omega (arith, length-take q.size (drop (q.here - IMAGE_START) image)))
-        ∙ sym (get_or_past (bytes_in_code (code_under (placed lines) a.x)) j 0 (omega arith))
 
 -- faults
 
@@ -179,13 +153,3 @@ count-numbered p xs i x e = by_test (p (i, x)) refl
 pub refilled : {X : Type 0} (count : ℕ) (written old : List X) → length written ≡ count → take count (written ++ drop (length written) old) ≡ written
 refilled count written old e =
     take-append-le count written (drop (length written) old) (omega arith) ∙ take_all count written (omega arith)
-
--- a vector of bytes that was filled up with zeros
-pub padded : (bytes copied image : List ℕ) (count : ℕ) → copied ≡ bytes → count ≡ length copied → length image ≡ IMAGE_BYTES → length bytes ≤ IMAGE_BYTES
-    → ((k d : ℕ) → k < IMAGE_BYTES → k < count → get_or image k d ≡ get_or copied k d) → ((k : ℕ) → count ≤ k → k < IMAGE_BYTES → get_or image k 0 ≡ 0) → (k : ℕ) → get_or image k 0 ≡ get_or bytes k 0
-padded bytes copied image count is counted long short front zeros k = by (cases_lt k count) (cases_lt k IMAGE_BYTES)
-  where
-    by : (k < count) ⊎ (count ≤ k) → (k < IMAGE_BYTES) ⊎ (IMAGE_BYTES ≤ k) → get_or image k 0 ≡ get_or bytes k 0
-    by (inl h) (inl inside) = front k 0 inside h ∙ ap (λ bs. get_or bs k 0) is
-    by (inr h) (inl inside) = zeros k h inside ∙ sym (get_or_past bytes k 0 (omega (arith, h, counted, ap length is)))
-    by some (inr past) = get_or_past image k 0 (omega (arith, past, long)) ∙ sym (get_or_past bytes k 0 (omega (arith, past, short)))

@@ -42,4 +42,4 @@ pub mod ImageSteps
 pub mod LinesByPlace
 pub mod CodeSteps
 pub mod RecodingSteps
-pub mod FrontSteps
+pub mod RunSteps

@@ -1,5 +1,5 @@
 //! The second pass, as it is kept: the image, and the fault of each line.
-ghost use Rattle.std.specs.Prelude.{◌≡◌, ℕ, ◌+◌, ◌-◌, ◌<◌, ◌≤◌, [], OnOk, None, length, slice_index, slice_index_or, slice_set, sum_by, vec_len};
+ghost use Rattle.std.specs.Prelude.{◌≡◌, ℕ, ◌+◌, ◌-◌, ◌<◌, ◌≤◌, ◌++◌, [], OnOk, None, drop, length, replicate, slice_index, slice_index_or, slice_set, sum_by, take, vec_len};
 ghost use Rattle.chip_asm.specs.inner.Codes.{AreCodesOf, IsWritten, coded_bytes, coded_fault, count_of};
 
 use crate::placement::Placement;
@@ -31,27 +31,15 @@ impl Codes {
         }
     }
 
-    /// Takes over the first bytes and the first faults of others: behind the bytes stand zeros, and
-    /// there is room for the faults of so many lines.
-    pub(crate) fn copy_first(
-        &mut self,
-        bytes: &[u8],
-        faults: &[Option<Fault>],
-        lines: usize,
-    ) -> Result<(), AllocError>
-        requires { length bytes.now ≤ IMAGE_BYTES }
-        ensures image { OnOk result (vec_len self.new.image ≡ IMAGE_BYTES) }
-        ensures bytes { OnOk result ((k : ℕ)
-            → slice_index self.new.image.items k ≡ slice_index bytes.now k) }
-        ensures faults { OnOk result (self.new.faults.items ≡ faults.now) }
+    /// Makes all bytes zeros, and takes the faults out: there is room for those of so many lines.
+    pub(crate) fn clear(&mut self, lines: usize) -> Result<(), AllocError>
+        ensures image { OnOk result (self.new.image.items ≡ replicate IMAGE_BYTES 0) }
+        ensures faults { OnOk result (self.new.faults.items ≡ []) }
     {
         self.image.clear();
-        self.image.reserve(IMAGE_BYTES)?;
-        self.image.extend_from_slice(bytes)?;
         self.image.resize(IMAGE_BYTES, 0)?;
         self.faults.clear();
-        self.faults.reserve(lines)?;
-        self.faults.extend_from_slice(faults)
+        self.faults.reserve(lines)
     }
 }
 
@@ -133,6 +121,15 @@ pub(crate) fn write_line(image: &mut [u8], placement: &Placement, bytes: &[u8])
     for index in 0..placement.size as usize {
         image[first + index] = byte_or_zero(bytes, index);
     }
+}
+
+/// Writes bytes at a place of the image.
+pub(crate) fn copy_to(image: &mut [u8], at: usize, bytes: &[u8])
+    requires { at + length bytes.now ≤ length image.old }
+    ensures { image.new
+        ≡ take at image.old ++ bytes.now ++ drop (at + length bytes.now) image.old }
+{
+    image[at..at + bytes.len()].copy_from_slice(bytes);
 }
 
 /// The bytes of a code; none of a fault.
