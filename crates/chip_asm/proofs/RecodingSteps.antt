@@ -25,7 +25,7 @@ use Rattle.chip_asm.specs.inner.KeptLine.{KeptLine}
 use Rattle.chip_asm.specs.inner.Layouts.{placements_of}
 use Rattle.chip_asm.specs.inner.Placements.{is_placed}
 use Rattle.chip_asm.specs.inner.Recode.{count_up_to, has_code, is_encoded_again, is_placed_at}
-use Rattle.chip_asm.specs.inner.Recoding.{AreWritten, IsRecoding, IsPlacedThen, code_then, count_then, is_again, is_kept, lines_again, lines_before, lines_then}
+use Rattle.chip_asm.specs.inner.Recoding.{AreWritten, IsAnew, IsRecoding, IsPlacedThen, code_then, count_then, is_again, is_kept, lines_again, lines_before, lines_then}
 use Rattle.chip_asm.specs.inner.Records.{lines_after, place_before, reading_in}
 use Rattle.chip_asm.proofs.CodeSteps.{byte-more, count-numbered, count_by-take, faults-more}
 use Rattle.chip_asm.proofs.ImageSteps.{same-bytes}
@@ -222,3 +222,19 @@ counted r known place inside start before now so_far more =
     let next = count-numbered (is_encoded_again (lines_before r) (lines_then r) (place_before r.edit.now)) (lines_then r) place line at in
     let whole = count_by-take (is_encoded_again (lines_before r) (lines_then r) (place_before r.edit.now)) (enumerate_from 0 (lines_then r)) (place + 1) in
     (omega arith, omega arith)
+
+-- a line that is accepted and doesn't keep its code is encoded again, if it has one
+pub encoded-anew : (r : Recoding) → IsRecoding r → (place : ℕ) (q : Placement) (kept : KeptLine) (line : Reading) → slice_get r.new.now.placements.items place ≡ Some q
+    → slice_get (lines_after r.lines.now r.edit.now) place ≡ Some kept → slice_get (lines_then r) place ≡ Some line → is_placed q ≡ true → IsAnew r place
+    → (before now : ℕ) → now ≤ before + cond (has_code (body_of (reading_in kept))) 1 0 → now ≤ before + cond (is_again r (place, line)) 1 0
+encoded-anew r known place q kept line there here at accepted anew before now few = by (has_code (body_of (reading_in kept))) refl few
+  where
+    read : reading_in kept ≡ line
+    read = read-at (lines_after r.lines.now r.edit.now) place kept line here at
+
+    by : (b : Bool) → has_code (body_of (reading_in kept)) ≡ b → now ≤ before + cond b 1 0 → now ≤ before + cond (is_again r (place, line)) 1 0
+    by true e h =
+        let again : is_again r (place, line) ≡ true
+        = again-is r known place q line there (ap (λ (l : Reading). has_code (body_of l)) (sym read) ∙ e) accepted (anew q line there at accepted) in
+        rw again h
+    by false e h = omega arith

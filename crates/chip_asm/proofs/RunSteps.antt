@@ -1,20 +1,22 @@
 -- Lines that keep their codes and stand as they stood, one after another: their bytes are copied
 -- together, and so are their faults.
-use Rattle.std.proofs.Common.{◌≡◌, ℕ, suc, zero, ◌+◌, ◌-◌, ◌<◌, ◌≤◌, Bool, true, false, eqb, leb, ltb, ◌&&◌, List, [], ◌++◌, length, take, drop, get_or, slice_get, refl, ap, sym, subst, ◌∙◌, arith, ◌⊎◌, inl, inr, Some, None, Option}
+use Rattle.std.proofs.Common.{◌≡◌, ℕ, suc, zero, ◌+◌, ◌-◌, ◌<◌, ◌≤◌, Bool, true, false, eqb, leb, ltb, ◌&&◌, List, [], ◌++◌, length, take, drop, get_or, slice_get, refl, ap, sym, subst, ◌∙◌, arith, ◌⊎◌, inl, inr, Some, None, Option, vec_len}
 use Rattle.std.proofs.Math.Seq.{take-add}
 use Rattle.std.proofs.lemmas.Bool.{and_from, cases_lt, eqb-false, eqb-true, false_from_ne_true}
 use Rattle.std.proofs.lemmas.Bool.Decides.{nat_tests}
-use Rattle.std.proofs.lemmas.List.{ext_get_or, get_or-drop, get_or-take, get_or_past, length-drop, length-map, length-take-le, take-take}
+use Rattle.std.proofs.lemmas.List.{ext_get_or, get_or-append_right, get_or_append_left, get_or-drop, get_or-take, get_or_past, length-drop, length-map, length-take-le, take-take}
 use Rattle.std.proofs.lemmas.Option.{get_or_from_slice_get, same_Some, slice_get-get_or, slice_get_within}
+use Rattle.std.specs.Prelude.{min}
 use Rattle.std.specs.List.{enumerate_from}
 use Rattle.chip_lang.specs.declared.fault.Fault.{Fault}
-use Rattle.chip_lang.specs.declared.limits.TheConstants.{IMAGE_BYTES, IMAGE_START}
+use Rattle.chip_lang.specs.declared.limits.TheConstants.{IMAGE_BYTES, IMAGE_START, MEMORY_BYTES}
 use Rattle.chip_lang.specs.Line.{Reading}
 use Rattle.chip_lang.specs.Uses.{agree_on}
 use Rattle.chip_asm.specs.Names.{values_of}
 use Rattle.chip_asm.specs.Layout.{Placed}
 use Rattle.chip_asm.specs.Program.{bytes_in_code, code_under, fault_in_code, names_of_lines}
 use Rattle.chip_asm.specs.computed.Walk.{placed}
+use Rattle.chip_asm.specs.declared.codes.Codes.{Codes}
 use Rattle.chip_asm.specs.declared.layout.Layout.{Layout}
 use Rattle.chip_asm.specs.declared.placement.Placement.{Placement}
 use Rattle.chip_asm.specs.declared.recoding.Recoding.{Recoding}
@@ -22,13 +24,14 @@ use Rattle.chip_asm.specs.inner.Codes.{IsByte, Waits, covers_byte, line_faults, 
 use Rattle.chip_asm.specs.inner.Layouts.{IsLayoutOf}
 use Rattle.chip_asm.specs.inner.Placements.{is_placed}
 use Rattle.chip_asm.specs.inner.Recode.{count_up_to, is_encoded_again}
-use Rattle.chip_asm.specs.inner.Recoding.{HasCodeAt, IsCarried, IsRecoding, IsRun, again_up_to, count_then, lines_before, lines_then}
-use Rattle.chip_asm.specs.inner.Records.{place_before, reading_in}
+use Rattle.chip_asm.specs.inner.Recoding.{AreWritten, HasCodeAt, IsCarried, IsRecoding, IsRun, again_up_to, count_then, lines_before, lines_then}
+use Rattle.chip_asm.specs.inner.Records.{IsStretch, place_before, reading_in}
+use Rattle.chip_asm.specs.inner.Resume.{first_changed}
 use Rattle.chip_asm.proofs.CodeSteps.{count_by-take, fault-at, length-faults}
-use Rattle.chip_asm.proofs.LinesAfter.{length-readings_after, origin}
+use Rattle.chip_asm.proofs.LinesAfter.{length-readings_after, origin, stretch-back, stretch-front}
 use Rattle.chip_asm.proofs.NameValues.{all-agree}
-use Rattle.chip_asm.proofs.LinesByPlace.{AtPlace, accepted-fault, at-place, byte-line, byte-nowhere, bytes-fit, covered-parts, lines-ordered, low, refused-byte, refused-fault}
-use Rattle.chip_asm.proofs.RecodingSteps.{Carried, SameCode, agree-kept, carried, kept-is, long-before, long-then, placed-before, placed-then}
+use Rattle.chip_asm.proofs.LinesByPlace.{AtPlace, accepted-fault, at-place, byte-line, byte-nowhere, bytes-fit, covered-parts, high, lines-ordered, low, refused-byte, refused-fault}
+use Rattle.chip_asm.proofs.RecodingSteps.{Carried, SameCode, agree-kept, before-at, carried, kept-is, long-before, long-then, now-at, placed-before, placed-then}
 use Rattle.chip_asm.proofs.RelayoutSteps.{Begun, begun, begun-alike}
 
 -- the code of a line
@@ -330,6 +333,138 @@ block-byte r known place start end b k old new is inside outside = record {
         low_start : IMAGE_START ≤ b.first.p.here
         low_start = low (lines_before r) start b.first.p (placed-before r known start b.first.p b.first.was.there)
 
+-- the first and the last line of a run, as they are read
+pub record Ends (r : Recoding) (place start end : ℕ) (run : IsRun r place start end) (now was last_now last_was : Placement) : Type 0 where
+  pub first : IsCarried r place start run.to run.from
+  pub last : IsCarried r (place + (end - start) - 1) (end - 1) run.to run.from
+  pub first_now : first.q ≡ now
+  pub first_was : first.p ≡ was
+  pub ends_now : last.q ≡ last_now
+  pub ends_was : last.p ≡ last_was
+
+pub ends : (r : Recoding) (place start end : ℕ) (run : IsRun r place start end) → start < end → (now was last_now last_was : Placement)
+    → now ≡ get_or r.new.now.placements.items place now → was ≡ get_or r.old.now.placements.items start was
+    → last_now ≡ get_or r.new.now.placements.items (place + (end - start) - 1) last_now → last_was ≡ get_or r.old.now.placements.items (end - 1) last_was
+    → Ends r place start end run now was last_now last_was
+ends r place start end run some now was last_now last_was a b c d =
+    let first : IsCarried r place start run.to run.from = run.each place start (omega arith) (omega arith) some in
+    let last : IsCarried r (place + (end - start) - 1) (end - 1) run.to run.from = run.each (place + (end - start) - 1) (end - 1) (omega arith) (omega arith) (omega arith) in
+    record {
+      first = first;
+      last = last;
+      first_now = sym {b = first.q} (a ∙ get_or_from_slice_get r.new.now.placements.items place first.q now first.now.there);
+      first_was = sym {b = first.p} (b ∙ get_or_from_slice_get r.old.now.placements.items start first.p was first.was.there);
+      ends_now = sym {b = last.q} (c ∙ get_or_from_slice_get r.new.now.placements.items (place + (end - start) - 1) last.q last_now last.now.there);
+      ends_was = sym {b = last.p} (d ∙ get_or_from_slice_get r.old.now.placements.items (end - 1) last.p last_was last.was.there);
+    }
+
+-- what is copied of it: no more than the lines took before, and than they take now
+pub record Copied (r : Recoding) (place start end : ℕ) (now was : Placement) (count : ℕ) : Type 0 where
+  pub b : Block r place start end
+  pub stop : b.stop ≡ place + (end - start)
+  pub first_now : b.first.q ≡ now
+  pub first_was : b.first.p ≡ was
+  pub counts : b.count ≡ count
+  pub low_now : IMAGE_START ≤ now.here
+  pub high_now : now.here + count ≤ MEMORY_BYTES
+  pub low_was : IMAGE_START ≤ was.here
+  pub high_was : was.here + count ≤ MEMORY_BYTES
+  pub long : vec_len r.codes.now.image ≡ IMAGE_BYTES
+
+pub copied : (r : Recoding) → IsRecoding r → (place start end : ℕ) (run : IsRun r place start end) → start < end → (now was last_now last_was : Placement) → Ends r place start end run now was last_now last_was
+    → (old_bytes new_bytes count : ℕ) → was.here + old_bytes ≡ last_was.here + last_was.size → now.here + new_bytes ≡ last_now.here + last_now.size → count ≡ min old_bytes new_bytes → Copied r place start end now was count
+copied r known place start end run some now was last_now last_was t old_bytes new_bytes count old new least =
+    let here : t.first.q.here ≡ now.here = ap (λ (x : Placement). x.here) t.first_now in
+    let stood : t.first.p.here ≡ was.here = ap (λ (x : Placement). x.here) t.first_was in
+    let end_now : t.last.q.here + t.last.q.size ≡ last_now.here + last_now.size = ap (λ (x : Placement). x.here + x.size) t.ends_now in
+    let end_was : t.last.p.here + t.last.p.size ≡ last_was.here + last_was.size = ap (λ (x : Placement). x.here + x.size) t.ends_was in
+    let top_now = high (lines_then r) (place + (end - start) - 1) t.last.q (placed-then r known (place + (end - start) - 1) t.last.q t.last.now.there) in
+    let top_was = high (lines_before r) (end - 1) t.last.p (placed-before r known (end - 1) t.last.p t.last.was.there) in
+    record {
+      b = record {
+        run = run;
+        some = some;
+        stop = place + (end - start);
+        last_now = place + (end - start) - 1;
+        last_was = end - 1;
+        stops = omega arith;
+        ends_now = omega arith;
+        ends_was = omega arith;
+        first = t.first;
+        last = t.last;
+        count = count;
+        within_now = omega arith;
+        within_was = omega arith;
+        whole = either (cases_lt old_bytes new_bytes) here stood end_now end_was;
+      };
+      stop = refl;
+      first_now = t.first_now;
+      first_was = t.first_was;
+      counts = refl;
+      low_now = (let bottom = low (lines_then r) place t.first.q (placed-then r known place t.first.q t.first.now.there) in omega (arith, bottom, here));
+      high_now = omega arith;
+      low_was = (let bottom = low (lines_before r) start t.first.p (placed-before r known start t.first.p t.first.was.there) in omega (arith, bottom, stood));
+      high_was = omega arith;
+      long = known.codes.long (omega (arith, some, run.inside, length-map r.lines.now reading_in));
+    }
+  where
+    either : (old_bytes < new_bytes) ⊎ (new_bytes ≤ old_bytes) → t.first.q.here ≡ now.here → t.first.p.here ≡ was.here → t.last.q.here + t.last.q.size ≡ last_now.here + last_now.size
+        → t.last.p.here + t.last.p.size ≡ last_was.here + last_was.size
+        → (t.first.q.here + count ≡ t.last.q.here + t.last.q.size) ⊎ (t.first.p.here + count ≡ t.last.p.here + t.last.p.size)
+    either (inl h) here stood end_now end_was = inr (omega arith)
+    either (inr h) here stood end_now end_was = inl (omega arith)
+
+-- the first line of a run begins where the last one does, or before
+pub rises : (lines : List Reading) (layout : Layout) → IsLayoutOf layout lines → (i j : ℕ) (p q : Placement) → i ≤ j → j < length layout.placements.items → p ≡ get_or layout.placements.items i p → q ≡ get_or layout.placements.items j q → p.here ≤ q.here
+rises lines layout laid i j p q h inside first second =
+    (in-order lines layout laid i j p q h (slice_get-get_or layout.placements.items i p (omega arith) ∙ ap Some (sym first)) (slice_get-get_or layout.placements.items j q inside ∙ ap Some (sym second))).0
+
+-- bytes in the middle of others
+
+inserted : (old bytes : List ℕ) (at k : ℕ) → at + length bytes ≤ length old → (at ≤ k) → k < at + length bytes → get_or (take at old ++ (bytes ++ drop (at + length bytes) old)) k 0 ≡ get_or bytes (k - at) 0
+inserted old bytes at k room low high =
+    get_or-append_right (take at old) (bytes ++ drop (at + length bytes) old) at k 0 (length-take-le at old (omega arith)) low
+    ∙ get_or_append_left bytes (drop (at + length bytes) old) 0 (k - at) (omega arith)
+
+around : (old bytes : List ℕ) (at k : ℕ) → at + length bytes ≤ length old → (k < at) ⊎ (at + length bytes ≤ k) → get_or (take at old ++ (bytes ++ drop (at + length bytes) old)) k 0 ≡ get_or old k 0
+around old bytes at k room (inl before) =
+    get_or_append_left (take at old) (bytes ++ drop (at + length bytes) old) 0 k (omega (arith, length-take-le at old (omega arith))) ∙ get_or-take at old k 0 before
+around old bytes at k room (inr behind) =
+    let back : at + length bytes + (k - at - length bytes) ≡ k = omega arith in
+    get_or-append_right (take at old) (bytes ++ drop (at + length bytes) old) at k 0 (length-take-le at old (omega arith)) (omega arith)
+    ∙ get_or-append_right bytes (drop (at + length bytes) old) (length bytes) (k - at) 0 refl (omega arith)
+    ∙ get_or-drop (at + length bytes) old (k - at - length bytes) 0
+    ∙ ap (λ n. get_or old n 0) back
+
+-- where a run can begin, and how far it can reach
+
+pub along : (r : Recoding) → IsRecoding r → (place start end changed : ℕ) → place < count_then r → place_before r.edit.now place ≡ Some start → changed ≡ first_changed r.edit.now
+    → ((place < changed) × (end ≡ changed)) ⊎ ((changed ≤ place) × (end ≡ length r.lines.now)) → IsStretch (length r.lines.now) r.edit.now place start end × (start < end)
+along r known place start end changed inside origin_is is (inl front) =
+    let below : place < first_changed r.edit.now = omega (arith, front.0, is) in
+    let same : start ≡ place = (let e : Some start ≡ Some place = sym origin_is ∙ origin r.edit.now place below in same_Some start place e) in
+    (subst (IsStretch (length r.lines.now) r.edit.now place start) (sym (front.1 ∙ is)) (stretch-front (length r.lines.now) r.edit.now place start known.within below origin_is), omega (arith, same, front.0, front.1))
+along r known place start end changed inside origin_is is (inr back) =
+    let above : first_changed r.edit.now ≤ place = omega (arith, back.0, is) in (
+      subst (IsStretch (length r.lines.now) r.edit.now place start) (sym back.1) (stretch-back (length r.lines.now) r.edit.now place start known.within (omega (arith, inside)) above origin_is),
+      omega (arith, before-at r known place start inside origin_is, back.1),
+    )
+
+-- the first lines stand as they stood
+pub front-run : SameCode → (r : Recoding) → IsRecoding r → r.same_names ≡ true → (place start : ℕ) (q p : Placement) → place < r.first → place_before r.edit.now place ≡ Some start
+    → q ≡ get_or r.new.now.placements.items place q → p ≡ get_or r.old.now.placements.items start p
+    → (start ≡ place) × ((next before : ℕ) → next + start ≡ place + before → before < r.first → IsCarried r next before q.here p.here)
+front-run law r known same place start q p first origin_is now was =
+    let here : start ≡ place = (let e : Some start ≡ Some place = sym origin_is ∙ origin r.edit.now place (let m = known.stays in omega arith) in same_Some start place e) in
+    let b : Begun r.lines.now r.edit.now r.first = begun-recoding r known in
+    let there : slice_get r.new.now.placements.items place ≡ Some q = now-at r known place q (omega (arith, first, b.within)) now in
+    let stood : p ≡ q = was ∙ ap (λ n. get_or r.old.now.placements.items n p) here ∙ get_or_from_slice_get r.old.now.placements.items place q p (front-same r known place q first there) in (
+      here,
+      λ next before shift below.
+          (let at : next ≡ before = omega (arith, shift, here) in
+          subst (λ n. IsCarried r n before q.here p.here) (sym at) (subst (λ (x : Placement). IsCarried r before before q.here x.here) (sym stood) (front-keeps law r known same before q below q.here))),
+    )
+
 -- faults
 
 pub block-faults : (r : Recoding) → IsRecoding r → (place start end : ℕ) (b : Block r place start end)
@@ -364,3 +499,53 @@ again-later r place stop h =
     let few = count_by-take (is_encoded_again (lines_before r) (lines_then r) (place_before r.edit.now)) (take stop (enumerate_from 0 (lines_then r))) place in
     let same : count_up_to (lines_before r) (lines_then r) (place_before r.edit.now) place ≤ count_up_to (lines_before r) (lines_then r) (place_before r.edit.now) stop = rw (take-take place stop (enumerate_from 0 (lines_then r)) h) at few in
     same
+
+-- the codes after a run
+pub run-written : (r : Recoding) → IsRecoding r → (place start end : ℕ) (now was : Placement) (count : ℕ) (t : Copied r place start end now was count) → (old new : Codes) (bytes from to : List ℕ) → AreWritten r old place
+    → from ≡ r.codes.now.image.items → bytes ≡ take (was.here - IMAGE_START + count - (was.here - IMAGE_START)) (drop (was.here - IMAGE_START) from)
+    → to ≡ old.image.items → new.image.items ≡ take (now.here - IMAGE_START) to ++ (bytes ++ drop (now.here - IMAGE_START + length bytes) to) → vec_len new.image ≡ IMAGE_BYTES
+    → new.faults.items ≡ old.faults.items ++ take (end - start) (drop start r.codes.now.faults.items) → AreWritten r new (place + (end - start))
+run-written r known place start end now was count t old new bytes from to so_far copied_from part copied_to written long faults = subst (AreWritten r new) t.stop (record {
+  long = long;
+  bytes = λ k h.
+      block-byte r known place start end t.b k (get_or old.image.items k 0) (get_or new.image.items k 0) (so_far.bytes k h)
+      (λ old_k from to shift. read k old_k (omega (arith, from, here)) (omega (arith, to, here, t.counts)) (omega (arith, shift, here, stood, t.low_now, t.low_was)))
+      (λ out. ap (λ l. get_or l k 0) image ∙ around old.image.items bytes (now.here - IMAGE_START) k room (apart k out));
+  faults = faults ∙ ap (λ fs. fs ++ take (end - start) (drop start r.codes.now.faults.items)) so_far.faults
+      ∙ ap (λ fs. take place (line_faults (lines_then r)) ++ take (end - start) (drop start fs)) known.codes.faulty ∙ block-faults r known place start end t.b;
+})
+  where
+    here : t.b.first.q.here ≡ now.here
+    here = ap (λ (x : Placement). x.here) t.first_now
+
+    stood : t.b.first.p.here ≡ was.here
+    stood = ap (λ (x : Placement). x.here) t.first_was
+
+    size : was.here - IMAGE_START + count - (was.here - IMAGE_START) ≡ count
+    size = omega arith
+
+    is : bytes ≡ take count (drop (was.here - IMAGE_START) r.codes.now.image.items)
+    is = part ∙ ap (λ n. take n (drop (was.here - IMAGE_START) from)) size ∙ ap (λ l. take count (drop (was.here - IMAGE_START) l)) copied_from
+
+    image : new.image.items ≡ take (now.here - IMAGE_START) old.image.items ++ (bytes ++ drop (now.here - IMAGE_START + length bytes) old.image.items)
+    image = written ∙ ap (λ l. take (now.here - IMAGE_START) l ++ (bytes ++ drop (now.here - IMAGE_START + length bytes) l)) copied_to
+
+    many : length bytes ≡ count
+    many = ap length is ∙ length-take-le count (drop (was.here - IMAGE_START) r.codes.now.image.items)
+        (omega (arith, length-drop (was.here - IMAGE_START) r.codes.now.image.items, t.long, r.codes.now.image.ok.0, t.low_was, t.high_was))
+
+    room : now.here - IMAGE_START + length bytes ≤ length old.image.items
+    room = omega (arith, many, so_far.long, old.image.ok.0, t.low_now, t.high_now)
+
+    read : (k old_k : ℕ) → now.here ≤ IMAGE_START + k → IMAGE_START + k < now.here + count → old_k + now.here ≡ k + was.here → get_or new.image.items k 0 ≡ right_byte (lines_before r) old_k
+    read k old_k from to shift =
+        let at : ℕ = now.here - IMAGE_START in
+        let there : was.here - IMAGE_START + (k - (now.here - IMAGE_START)) ≡ old_k = omega (arith, t.low_now, t.low_was) in
+        ap (λ l. get_or l k 0) image ∙ inserted old.image.items bytes (now.here - IMAGE_START) k room (omega arith) (omega (arith, many, t.low_now)) ∙ ap (λ l. get_or l (k - (now.here - IMAGE_START)) 0) is
+        ∙ get_or-take count (drop (was.here - IMAGE_START) r.codes.now.image.items) (k - (now.here - IMAGE_START)) 0 (omega (arith, t.low_now))
+        ∙ get_or-drop (was.here - IMAGE_START) r.codes.now.image.items (k - (now.here - IMAGE_START)) 0 ∙ ap (λ n. get_or r.codes.now.image.items n 0) there
+        ∙ known.codes.imaged old_k (omega (arith, t.low_now, t.low_was, t.high_was))
+
+    apart : (k : ℕ) → (IMAGE_START + k < t.b.first.q.here) ⊎ (t.b.first.q.here + t.b.count ≤ IMAGE_START + k) → (k < now.here - IMAGE_START) ⊎ (now.here - IMAGE_START + length bytes ≤ k)
+    apart k (inl before) = inl (omega (arith, here))
+    apart k (inr behind) = inr (omega (arith, here, many, t.counts, t.low_now))

@@ -1,5 +1,5 @@
 //! The second pass, as it is kept: the image, and the fault of each line.
-ghost use Rattle.std.specs.Prelude.{◌≡◌, ℕ, ◌+◌, ◌-◌, ◌<◌, ◌≤◌, ◌++◌, [], OnOk, None, drop, length, replicate, slice_index, slice_index_or, slice_set, sum_by, take, vec_len};
+ghost use Rattle.std.specs.Prelude.{◌≡◌, ℕ, ◌+◌, ◌-◌, ◌<◌, ◌≤◌, ◌++◌, [], OnOk, None, drop, length, slice_index, slice_index_or, slice_set, sum_by, take, vec_len};
 ghost use Rattle.chip_asm.specs.inner.Codes.{AreCodesOf, IsWritten, coded_bytes, coded_fault, count_of};
 
 use crate::placement::Placement;
@@ -33,7 +33,8 @@ impl Codes {
 
     /// Makes all bytes zeros, and takes the faults out: there is room for those of so many lines.
     pub(crate) fn clear(&mut self, lines: usize) -> Result<(), AllocError>
-        ensures image { OnOk result (self.new.image.items ≡ replicate IMAGE_BYTES 0) }
+        ensures image { OnOk result (vec_len self.new.image ≡ IMAGE_BYTES) }
+        ensures zeros { OnOk result ((k : ℕ) → slice_index self.new.image.items k ≡ 0) }
         ensures faults { OnOk result (self.new.faults.items ≡ []) }
     {
         self.image.clear();
@@ -127,7 +128,7 @@ pub(crate) fn write_line(image: &mut [u8], placement: &Placement, bytes: &[u8])
 pub(crate) fn copy_to(image: &mut [u8], at: usize, bytes: &[u8])
     requires { at + length bytes.now ≤ length image.old }
     ensures { image.new
-        ≡ take at image.old ++ bytes.now ++ drop (at + length bytes.now) image.old }
+        ≡ take at image.old ++ (bytes.now ++ drop (at + length bytes.now) image.old) }
 {
     image[at..at + bytes.len()].copy_from_slice(bytes);
 }

@@ -1,0 +1,51 @@
+use Rattle.std.proofs.Common.{◌≡◌, ◌∙◌, ◌+◌, ◌-◌, ◌<◌, ◌≤◌, List, ap, refl, arith, take}
+use Rattle.std.specs.List.{enumerate_from}
+use Rattle.std.proofs.lemmas.List.{take_all}
+use Rattle.chip_asm.specs.inner.Codes.{line_faults}
+use Rattle.chip_asm.specs.inner.Recode.{is_encoded_again}
+use Rattle.chip_asm.specs.inner.Recoding.{AreWritten, count_then, lines_before, lines_then}
+use Rattle.chip_asm.specs.inner.Records.{place_before}
+use Rattle.chip_asm.proofs.CodeSteps.{byte-done, byte-zero, count_by-take, count_faults, faults-counted, length-faults}
+use Rattle.chip_asm.proofs.LinesAfter.{length-readings_after}
+use Rattle.chip_asm.proofs.RecodingSteps.{long-then}
+use Rattle.chip_asm.proofs.recoding.Recoding.codes.Goals as goal
+
+pub loop-next-init : goal.loop-next-init
+loop-next-init c =
+    let r = c.args.self.now in
+    let clear = c.in_ok-clear.ensures in (
+      record {
+        long = clear.image;
+        bytes = λ k h. byte-zero (lines_then r) r.new.now c.requires.new k _ (clear.zeros k);
+        faults = clear.faults;
+      },
+      omega arith,
+      omega arith,
+      omega arith,
+      refl,
+    )
+
+pub returns-clause-codes : goal.returns-clause-codes
+returns-clause-codes c =
+    let r = c.args.self.now in
+    let known : AreWritten r c.loop-next.codes c.loop-next.next = c.loop-next.invariant.0 in
+    let all : count_then r ≤ c.loop-next.next = omega (arith, c.loop-next-test.false, c.len-count.ensures, long-then r c.requires, r.new.now.placements.ok.0) in
+    let faults : c.loop-next.codes.faults.items ≡ line_faults (lines_then r)
+    = known.faults ∙ take_all c.loop-next.next (line_faults (lines_then r)) (omega (arith, all, length-faults (lines_then r), length-readings_after r.lines.now r.edit.now c.requires.within)) in
+    record {
+      imaged = λ k h. byte-done (lines_then r) r.new.now.placements.items c.loop-next.next k _ (omega (arith, all, long-then r c.requires)) (known.bytes k h);
+      short = omega (arith, known.long);
+      long = λ some. known.long;
+      faulty = faults;
+      counted = c.count_faults.ensures ∙ ap count_faults (c.deref.ensures.value ∙ faults) ∙ faults-counted (lines_then r);
+    }
+
+pub returns-clause-encoded : goal.returns-clause-encoded
+returns-clause-encoded c =
+    let r = c.args.self.now in
+    omega (arith, c.loop-next.invariant.2, count_by-take (is_encoded_again (lines_before r) (lines_then r) (place_before r.edit.now)) (enumerate_from 0 (lines_then r)) c.loop-next.next)
+
+pub write_from-requires-clause-place : goal.write_from-requires-clause-place
+write_from-requires-clause-place c =
+    let r = c.args.self.now in
+    omega (arith, c.loop-next-test.true, c.len-count.ensures, long-then r c.requires, r.new.now.placements.ok.0)
