@@ -1,14 +1,14 @@
 -- The codes of lines that are written one after another: each byte, the faults and their number,
 -- and how many lines are encoded.
-use Rattle.std.proofs.Common.{◌≡◌, ℕ, suc, zero, ◌+◌, ◌-◌, ◌<◌, ◌≤◌, Bool, true, false, cond, ◌&&◌, eqb, leb, ltb, ◌⊎◌, inl, inr, List, [], ◌∷◌, ◌++◌, map, reverse, length, take, drop, get_or, slice_get, count_by, filter_map, refl, ap, sym, ◌∙◌, arith, Option, Some, None, option_map, sum_by}
+use Rattle.std.proofs.Common.{◌≡◌, ℕ, suc, zero, ◌+◌, ◌-◌, ◌<◌, ◌≤◌, Bool, true, false, cond, eqb, List, [], ◌∷◌, ◌++◌, map, reverse, length, take, drop, get_or, slice_get, count_by, filter_map, refl, ap, sym, ◌∙◌, arith, Option, Some, None, option_map, sum_by}
 use Rattle.std.specs.List.{enumerate_from, cons_option}
-use Rattle.std.proofs.lemmas.Bool.{eqb-true, eqb-false, false_from_ne_true, cases_lt}
-use Rattle.std.proofs.lemmas.List.{take_more, take_all, take-append-le, get_or-map, length-map, get_or-take, get_or-drop, get_or_past, length-take}
+use Rattle.std.proofs.lemmas.Bool.{eqb-true, eqb-false, false_from_ne_true}
+use Rattle.std.proofs.lemmas.List.{take_more, take_all, take-append-le, get_or-map, length-map}
 use Rattle.std.proofs.lemmas.List.Sums.{sum_by-cons, count_by_more_yes, count_by_more_no}
 use Rattle.std.proofs.lemmas.List.FromFn.{length-enumerate_from, get_or-enumerate_from}
 use Rattle.std.proofs.lemmas.Option.{get_or_from_slice_get, slice_get_within, same_Some}
 use Rattle.chip_lang.specs.declared.fault.Fault.{Fault}
-use Rattle.chip_lang.specs.declared.limits.TheConstants.{IMAGE_BYTES, IMAGE_START}
+use Rattle.chip_lang.specs.declared.limits.TheConstants.{IMAGE_START}
 use Rattle.chip_lang.specs.Line.{Reading}
 use Rattle.chip_asm.specs.declared.layout.Layout.{Layout}
 use Rattle.chip_asm.specs.declared.placement.Placement.{Placement}
@@ -16,11 +16,9 @@ use Rattle.chip_asm.specs.Layout.{Placed}
 use Rattle.chip_asm.specs.computed.Walk.{placed}
 use Rattle.chip_asm.specs.inner.Codes.{IsByte, Waits, count_of, covers_byte, line_faults, right_byte}
 use Rattle.chip_asm.specs.inner.Layouts.{IsLayoutOf}
-use Rattle.chip_asm.specs.inner.Placements.{is_placed}
 use Rattle.chip_asm.specs.Program.{bytes_in_code, code_under, fault_of, faults_of_lines, numbered_fault}
-use Rattle.chip_asm.proofs.LinesByPlace.{AtPlace, byte-line, byte-nowhere, bytes-fit, covered-once, low, high}
+use Rattle.chip_asm.proofs.LinesByPlace.{AtPlace, byte-line, byte-nowhere, covered-once}
 use Rattle.chip_asm.proofs.Placing.{length-numbered}
-use Rattle.std.proofs.lemmas.Bool.Decides.{nat_tests}
 
 -- at first each byte is zero
 pub byte-zero : (lines : List Reading) (layout : Layout) → IsLayoutOf layout lines → (k byte : ℕ) → byte ≡ 0 → IsByte lines layout.placements.items 0 k byte

@@ -5,7 +5,7 @@ use Rattle.std.proofs.Math.Seq.{take-add}
 use Rattle.std.proofs.lemmas.Bool.{and_from, cases_lt, eqb-false, eqb-true, false_from_ne_true}
 use Rattle.std.proofs.lemmas.Bool.Decides.{nat_tests}
 use Rattle.std.proofs.lemmas.List.{ext_get_or, get_or-append_right, get_or_append_left, get_or-drop, get_or-take, get_or_past, length-drop, length-map, length-take-le, take-take}
-use Rattle.std.proofs.lemmas.Option.{get_or_from_slice_get, same_Some, slice_get-get_or, slice_get_within}
+use Rattle.std.proofs.lemmas.Option.{get_or_from_slice_get, same_Some, slice_get-get_or}
 use Rattle.std.specs.Prelude.{min}
 use Rattle.std.specs.List.{enumerate_from}
 use Rattle.chip_lang.specs.declared.fault.Fault.{Fault}
@@ -13,7 +13,6 @@ use Rattle.chip_lang.specs.declared.limits.TheConstants.{IMAGE_BYTES, IMAGE_STAR
 use Rattle.chip_lang.specs.Line.{Reading}
 use Rattle.chip_lang.specs.Uses.{agree_on}
 use Rattle.chip_asm.specs.Names.{values_of}
-use Rattle.chip_asm.specs.Layout.{Placed}
 use Rattle.chip_asm.specs.Program.{bytes_in_code, code_under, fault_in_code, names_of_lines}
 use Rattle.chip_asm.specs.computed.Walk.{placed}
 use Rattle.chip_asm.specs.declared.codes.Codes.{Codes}
@@ -30,7 +29,7 @@ use Rattle.chip_asm.specs.inner.Resume.{first_changed}
 use Rattle.chip_asm.proofs.CodeSteps.{count_by-take, fault-at, length-faults}
 use Rattle.chip_asm.proofs.LinesAfter.{length-readings_after, origin, stretch-back, stretch-front}
 use Rattle.chip_asm.proofs.NameValues.{all-agree}
-use Rattle.chip_asm.proofs.LinesByPlace.{AtPlace, accepted-fault, at-place, byte-line, byte-nowhere, bytes-fit, covered-parts, high, lines-ordered, low, refused-byte, refused-fault}
+use Rattle.chip_asm.proofs.LinesByPlace.{AtPlace, accepted-fault, byte-line, byte-nowhere, bytes-fit, covered-parts, high, lines-ordered, low, refused-byte, refused-fault}
 use Rattle.chip_asm.proofs.RecodingSteps.{Carried, SameCode, agree-kept, before-at, carried, kept-is, long-before, long-then, now-at, placed-before, placed-then}
 use Rattle.chip_asm.proofs.RelayoutSteps.{Begun, begun, begun-alike}
 
@@ -342,6 +341,9 @@ pub record Ends (r : Recoding) (place start end : ℕ) (run : IsRun r place star
   pub ends_now : last.q ≡ last_now
   pub ends_was : last.p ≡ last_was
 
+read-is : (placements : List Placement) (n : ℕ) (q now : Placement) → slice_get placements n ≡ Some q → now ≡ get_or placements n now → q ≡ now
+read-is placements n q now there is = sym (is ∙ get_or_from_slice_get placements n q now there)
+
 pub ends : (r : Recoding) (place start end : ℕ) (run : IsRun r place start end) → start < end → (now was last_now last_was : Placement)
     → now ≡ get_or r.new.now.placements.items place now → was ≡ get_or r.old.now.placements.items start was
     → last_now ≡ get_or r.new.now.placements.items (place + (end - start) - 1) last_now → last_was ≡ get_or r.old.now.placements.items (end - 1) last_was
@@ -352,10 +354,10 @@ ends r place start end run some now was last_now last_was a b c d =
     record {
       first = first;
       last = last;
-      first_now = sym {b = first.q} (a ∙ get_or_from_slice_get r.new.now.placements.items place first.q now first.now.there);
-      first_was = sym {b = first.p} (b ∙ get_or_from_slice_get r.old.now.placements.items start first.p was first.was.there);
-      ends_now = sym {b = last.q} (c ∙ get_or_from_slice_get r.new.now.placements.items (place + (end - start) - 1) last.q last_now last.now.there);
-      ends_was = sym {b = last.p} (d ∙ get_or_from_slice_get r.old.now.placements.items (end - 1) last.p last_was last.was.there);
+      first_now = read-is r.new.now.placements.items place first.q now first.now.there a;
+      first_was = read-is r.old.now.placements.items start first.p was first.was.there b;
+      ends_now = read-is r.new.now.placements.items (place + (end - start) - 1) last.q last_now last.now.there c;
+      ends_was = read-is r.old.now.placements.items (end - 1) last.p last_was last.was.there d;
     }
 
 -- what is copied of it: no more than the lines took before, and than they take now

@@ -1,4 +1,4 @@
-use Rattle.std.proofs.Common.{◌≡◌, ◌∙◌, ◌+◌, ◌-◌, ◌<◌, ◌≤◌, inl, inr, ℕ, length, slice_get, refl, ap, subst, arith}
+use Rattle.std.proofs.Common.{◌≡◌, ◌∙◌, ◌+◌, ◌-◌, ◌<◌, inl, inr, length, slice_get, ap, subst, arith}
 use Rattle.chip_asm.specs.inner.Recoding.{IsAnew}
 use Rattle.chip_asm.specs.inner.Records.{IsStretch}
 use Rattle.chip_asm.proofs.RecodingSteps.{before-at, long-before, long-then, now-at, was-at}

@@ -1,4 +1,4 @@
-use Rattle.std.proofs.Common.{◌≡◌, ◌∙◌, ◌+◌, ◌-◌, ◌<◌, ◌≤◌, sym, arith}
+use Rattle.std.proofs.Common.{◌∙◌, ◌+◌, ◌-◌, sym, arith}
 use Rattle.chip_asm.specs.inner.Recoding.{again_up_to}
 use Rattle.chip_asm.proofs.RecodingSteps.{counted, new-anew}
 use Rattle.chip_asm.proofs.RunSteps.{again-later}
