@@ -9,7 +9,7 @@ use Rattle.chip_asm.specs.declared.placement.Placement.{Placement}
 use Rattle.chip_asm.specs.inner.KeptLine.{KeptLine}
 use Rattle.chip_asm.proofs.FoundLines.{found-kept, read-found}
 use Rattle.chip_asm.proofs.LinesByPlace.{AtPlace, high, low}
-use Rattle.chip_asm.proofs.ListingSteps.{listed, listed-more, listed-all}
+use Rattle.chip_asm.proofs.ListingSteps.{listed-more, listed-all}
 use Rattle.chip_asm.proofs.Resumed.{length-laid}
 use Rattle.chip_asm.proofs.WholeImage.{bytes-found, fault-kept, length-faults, number-at}
 use Rattle.chip_asm.proofs.listing.listing_in.Goals as goal

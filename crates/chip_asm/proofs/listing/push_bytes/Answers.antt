@@ -1,4 +1,4 @@
-use Rattle.std.proofs.Common.{◌≡◌, ◌∙◌, ◌++◌, ◌∷◌, ◌-◌, ◌*◌, ◌/◌, ◌%◌, [], ℕ, ap, arith, replicate, sym}
+use Rattle.std.proofs.Common.{◌≡◌, ◌∙◌, ◌++◌, ◌∷◌, ◌-◌, ◌*◌, ◌/◌, ◌%◌, [], ap, arith, replicate, sym}
 use Rattle.chip_lang.specs.Show.{hex_byte, hex_digit}
 use Rattle.chip_asm.specs.Listing.{bytes_shown}
 use Rattle.chip_asm.proofs.ListingSteps.{length-bytes, pair-more}

@@ -1,11 +1,9 @@
 use Rattle.std.proofs.Common.{◌≡◌, ◌∙◌, ◌++◌, ◌∷◌, ap, sym, arith, true, w32, to_z, of_z}
 use Rattle.std.proofs.lemmas.Int.{to_z-of_z}
 use Rattle.std.specs.Fmt.{signed_decimal}
-use Rattle.chip_lang.specs.declared.line.Line.{Line}
 use Rattle.chip_lang.specs.SeenLine.{seen_line}
 use Rattle.chip_asm.specs.Layout.{body_of, value_given}
 use Rattle.chip_asm.specs.Listing.{at_left, is_definition}
-use Rattle.chip_asm.specs.inner.Records.{reading_in}
 use Rattle.chip_asm.proofs.listing.push_field.Goals as goal
 
 pub returns-then-is_definition : goal.returns-then-is_definition
