@@ -4,17 +4,18 @@ use Rattle.std.proofs.Common.{◌≡◌, ℕ, suc, zero, ◌+◌, ◌-◌, ◌<�
 use Rattle.std.specs.List.{enumerate_from, cons_option}
 use Rattle.std.proofs.lemmas.Bool.{eqb-true, eqb-false, false_from_ne_true}
 use Rattle.std.proofs.lemmas.List.{take_more, take_all, take-append-le, get_or-map, length-map}
-use Rattle.std.proofs.lemmas.List.Sums.{sum_by-cons, count_by_more_yes, count_by_more_no}
+use Rattle.std.proofs.lemmas.List.Sums.{sum_by-cons, sum_by-take-drop, sum_by-take-le, count_by_more_yes, count_by_more_no}
 use Rattle.std.proofs.lemmas.List.FromFn.{length-enumerate_from, get_or-enumerate_from}
 use Rattle.std.proofs.lemmas.Option.{get_or_from_slice_get, slice_get_within, same_Some}
 use Rattle.chip_lang.specs.declared.fault.Fault.{Fault}
 use Rattle.chip_lang.specs.declared.limits.TheConstants.{IMAGE_START}
 use Rattle.chip_lang.specs.Line.{Reading}
+use Rattle.chip_asm.specs.declared.codes.Codes.{Codes}
 use Rattle.chip_asm.specs.declared.layout.Layout.{Layout}
 use Rattle.chip_asm.specs.declared.placement.Placement.{Placement}
 use Rattle.chip_asm.specs.Layout.{Placed}
 use Rattle.chip_asm.specs.computed.Walk.{placed}
-use Rattle.chip_asm.specs.inner.Codes.{IsByte, Waits, count_of, covers_byte, line_faults, right_byte}
+use Rattle.chip_asm.specs.inner.Codes.{AreCodesOf, IsByte, Waits, count_of, covers_byte, line_faults, right_byte}
 use Rattle.chip_asm.specs.inner.Layouts.{IsLayoutOf}
 use Rattle.chip_asm.specs.Program.{bytes_in_code, code_under, fault_of, faults_of_lines, numbered_fault}
 use Rattle.chip_asm.proofs.LinesByPlace.{AtPlace, byte-line, byte-nowhere, covered-once}
@@ -104,6 +105,10 @@ pub one-fault : (f : Option Fault) → count_of f ≤ 1
 one-fault None = omega arith
 one-fault (Some f) = omega arith
 
+pub count-few : (fs : List (Option Fault)) → count_faults fs ≤ length fs
+count-few [] = omega arith
+count-few (f ∷ fs) = omega (arith, sum_by-cons count_of f fs, one-fault f, count-few fs)
+
 count-numbered-faults : (all xs : List Placed) → length (filter_map (numbered_fault all) xs) ≡ count_faults (map (fault_of all) xs)
 count-numbered-faults all [] = refl
 count-numbered-faults all (x ∷ xs) = step (fault_of all x) x.number (filter_map (numbered_fault all) xs) (map (fault_of all) xs) (count-numbered-faults all xs)
@@ -115,6 +120,14 @@ count-numbered-faults all (x ∷ xs) = step (fault_of all x) x.number (filter_ma
 pub faults-counted : (lines : List Reading) → count_faults (line_faults lines) ≡ length (faults_of_lines lines)
 unfolding line_faults
 faults-counted lines = sym (count-numbered-faults (placed lines) (reverse (placed lines)))
+
+-- the kept faults are counted
+pub codes-counted : (codes : Codes) (lines : List Reading) → AreCodesOf codes lines → codes.count ≡ count_faults codes.faults.items
+codes-counted codes lines k = k.counted ∙ sym (faults-counted lines) ∙ ap count_faults (sym k.faulty)
+
+-- there is no fault in a part where there is none
+pub part-faultless : (fs : List (Option Fault)) (start n : ℕ) → count_faults fs ≡ 0 → count_faults (take n (drop start fs)) ≡ 0
+part-faultless fs start n none = omega (arith, none, sum_by-take-drop count_of fs start, sum_by-take-le count_of (drop start fs) n)
 
 -- the number of lines that are encoded
 

@@ -1,5 +1,5 @@
 -- What is known of the line at a place after an edit, when it gets its code.
-use Rattle.std.proofs.Common.{◌≡◌, ℕ, zero, suc, cond, is_some, [], ◌∷◌, ◌++◌, ◌+◌, ◌<◌, ◌≤◌, Bool, true, false, ◌&&◌, List, length, get_or, slice_get, reverse, refl, ap, sym, ◌∙◌, arith, Option, Some, None, vec_len}
+use Rattle.std.proofs.Common.{◌≡◌, ℕ, zero, suc, cond, is_some, [], ◌∷◌, ◌++◌, ◌+◌, ◌<◌, ◌≤◌, Bool, true, false, ◌&&◌, List, length, get_or, slice_get, reverse, refl, ap, sym, subst, ◌∙◌, arith, Option, Some, None, vec_len}
 use Rattle.std.specs.List.{enumerate_from}
 use Rattle.std.specs.Option.{option_map_or}
 use Rattle.std.proofs.lemmas.Bool.{and_parts}
@@ -19,7 +19,7 @@ use Rattle.chip_asm.specs.computed.Walk.{placed}
 use Rattle.chip_asm.specs.declared.codes.Codes.{Codes}
 use Rattle.chip_asm.specs.declared.placement.Placement.{Placement}
 use Rattle.chip_asm.specs.declared.recoding.Recoding.{Recoding}
-use Rattle.chip_asm.specs.inner.Codes.{IsByte, covers_byte, right_byte}
+use Rattle.chip_asm.specs.inner.Codes.{IsByte, IsCounted, covers_byte, right_byte}
 use Rattle.chip_asm.specs.inner.Infos.{IsInfo}
 use Rattle.chip_asm.specs.inner.KeptLine.{KeptLine}
 use Rattle.chip_asm.specs.inner.Layouts.{placements_of}
@@ -161,10 +161,6 @@ again-is r k place q line there coded accepted kept =
 pub now-at : (r : Recoding) → IsRecoding r → (place : ℕ) (q : Placement) → place < count_then r → q ≡ get_or r.new.now.placements.items place q → slice_get r.new.now.placements.items place ≡ Some q
 now-at r k place q inside is = slice_get_read r.new.now.placements.items _ place q refl (let n = long-then r k in omega arith) is
 
-pub coded-is : (r : Recoding) → IsRecoding r → (place : ℕ) (q : Placement) (a : AtPlace (lines_then r) place q) (kept : KeptLine) → slice_get (lines_after r.lines.now r.edit.now) place ≡ Some kept
-    → kept.info.is_coded ≡ has_code (body_of a.x.line)
-coded-is r k place q a kept there = (kept-info r k place kept there).coded ∙ ap (λ line. has_code (body_of line)) (kept-line r place q a kept there)
-
 -- one line more is written
 
 some-within : {X : Type 0} (xs : List X) (n : ℕ) → n < length xs → is_some (slice_get xs n) ≡ true
@@ -198,16 +194,17 @@ bytes-more r known place inside old new so_far right others k h = by (slice_get 
         byte-more (lines_then r) r.new.now known.new place q k (get_or old k 0) (get_or new k 0) e (so_far k h) (λ covered zero_now. right q k e covered zero_now) (λ apart. others q k e apart)
 
 -- the codes after one line more
-pub written-more : (r : Recoding) → IsRecoding r → (place : ℕ) → place < count_then r → (old new : Codes) (fault : Option Fault) → AreWritten r old place → vec_len new.image ≡ IMAGE_BYTES
-    → new.faults.items ≡ old.faults.items ++ fault ∷ [] → ((x : Placed) → IsPlacedThen r place x → fault ≡ fault_of (placed (lines_then r)) x)
-    → ((q : Placement) (k : ℕ) → slice_get r.new.now.placements.items place ≡ Some q → covers_byte q k ≡ true → get_or old.image.items k 0 ≡ 0 → get_or new.image.items k 0 ≡ right_byte (lines_then r) k)
-    → ((q : Placement) (k : ℕ) → slice_get r.new.now.placements.items place ≡ Some q → covers_byte q k ≡ false → get_or new.image.items k 0 ≡ get_or old.image.items k 0) → AreWritten r new (place + 1)
-written-more r known place inside old new fault so_far long pushed is right others =
+pub written-more : (r : Recoding) → IsRecoding r → (place : ℕ) → place < count_then r → (old new : Codes) (fault : Option Fault) (image : List ℕ) → AreWritten r old place → vec_len new.image ≡ IMAGE_BYTES
+    → new.image.items ≡ image → new.faults.items ≡ old.faults.items ++ fault ∷ [] → IsCounted new → ((x : Placed) → IsPlacedThen r place x → fault ≡ fault_of (placed (lines_then r)) x)
+    → ((q : Placement) (k : ℕ) → slice_get r.new.now.placements.items place ≡ Some q → covers_byte q k ≡ true → get_or old.image.items k 0 ≡ 0 → get_or image k 0 ≡ right_byte (lines_then r) k)
+    → ((q : Placement) (k : ℕ) → slice_get r.new.now.placements.items place ≡ Some q → covers_byte q k ≡ false → get_or image k 0 ≡ get_or old.image.items k 0) → AreWritten r new (place + 1)
+written-more r known place inside old new fault image so_far long written pushed counts is right others =
     let line : LineThen r place = line-then r known place inside in
     record {
       long = long;
-      bytes = bytes-more r known place inside old.image.items new.image.items so_far.bytes right others;
+      bytes = λ k h. subst (λ bytes. IsByte (lines_then r) r.new.now.placements.items (place + 1) k (get_or bytes k 0)) (sym written) (bytes-more r known place inside old.image.items image so_far.bytes right others k h);
       faults = pushed ∙ ap (λ fs. fs ++ fault ∷ []) so_far.faults ∙ sym (faults-more (lines_then r) place line.x fault line.at (is line.x line.at));
+      counted = counts;
     }
 
 -- how many lines are encoded up to the next place

@@ -19,7 +19,7 @@ use Rattle.chip_asm.specs.declared.codes.Codes.{Codes}
 use Rattle.chip_asm.specs.declared.layout.Layout.{Layout}
 use Rattle.chip_asm.specs.declared.placement.Placement.{Placement}
 use Rattle.chip_asm.specs.declared.recoding.Recoding.{Recoding}
-use Rattle.chip_asm.specs.inner.Codes.{IsByte, Waits, covers_byte, line_faults, right_byte}
+use Rattle.chip_asm.specs.inner.Codes.{IsByte, IsCounted, Waits, covers_byte, line_faults, right_byte}
 use Rattle.chip_asm.specs.inner.Layouts.{IsLayoutOf}
 use Rattle.chip_asm.specs.inner.Placements.{is_placed}
 use Rattle.chip_asm.specs.inner.Recode.{count_up_to, is_encoded_again}
@@ -506,8 +506,8 @@ again-later r place stop h =
 pub run-written : (r : Recoding) → IsRecoding r → (place start end : ℕ) (now was : Placement) (count : ℕ) (t : Copied r place start end now was count) → (old new : Codes) (bytes from to : List ℕ) → AreWritten r old place
     → from ≡ r.codes.now.image.items → bytes ≡ take (was.here - IMAGE_START + count - (was.here - IMAGE_START)) (drop (was.here - IMAGE_START) from)
     → to ≡ old.image.items → new.image.items ≡ take (now.here - IMAGE_START) to ++ (bytes ++ drop (now.here - IMAGE_START + length bytes) to) → vec_len new.image ≡ IMAGE_BYTES
-    → new.faults.items ≡ old.faults.items ++ take (end - start) (drop start r.codes.now.faults.items) → AreWritten r new (place + (end - start))
-run-written r known place start end now was count t old new bytes from to so_far copied_from part copied_to written long faults = subst (AreWritten r new) t.stop (record {
+    → new.faults.items ≡ old.faults.items ++ take (end - start) (drop start r.codes.now.faults.items) → IsCounted new → AreWritten r new (place + (end - start))
+run-written r known place start end now was count t old new bytes from to so_far copied_from part copied_to written long faults counts = subst (AreWritten r new) t.stop (record {
   long = long;
   bytes = λ k h.
       block-byte r known place start end t.b k (get_or old.image.items k 0) (get_or new.image.items k 0) (so_far.bytes k h)
@@ -515,6 +515,7 @@ run-written r known place start end now was count t old new bytes from to so_far
       (λ out. ap (λ l. get_or l k 0) image ∙ around old.image.items bytes (now.here - IMAGE_START) k room (apart k out));
   faults = faults ∙ ap (λ fs. fs ++ take (end - start) (drop start r.codes.now.faults.items)) so_far.faults
       ∙ ap (λ fs. take place (line_faults (lines_then r)) ++ take (end - start) (drop start fs)) known.codes.faulty ∙ block-faults r known place start end t.b;
+  counted = counts;
 })
   where
     here : t.b.first.q.here ≡ now.here

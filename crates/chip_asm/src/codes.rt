@@ -1,6 +1,6 @@
 //! The second pass, as it is kept: the image, and the fault of each line.
-ghost use Rattle.std.specs.Prelude.{◌≡◌, ℕ, ◌+◌, ◌-◌, ◌<◌, ◌≤◌, ◌++◌, [], OnOk, None, drop, length, slice_index, slice_index_or, slice_set, sum_by, take, vec_len};
-ghost use Rattle.chip_asm.specs.inner.Codes.{AreCodesOf, IsWritten, coded_bytes, coded_fault, count_of};
+ghost use Rattle.std.specs.Prelude.{◌≡◌, ℕ, ◌+◌, ◌-◌, ◌<◌, ◌≤◌, ◌++◌, ◌∷◌, [], OnOk, None, drop, length, slice_index, slice_index_or, slice_set, sum_by, take, vec_len};
+ghost use Rattle.chip_asm.specs.inner.Codes.{AreCodesOf, IsCounted, IsWritten, coded_bytes, coded_fault, count_of};
 
 use crate::placement::Placement;
 use chip_lang::limits::{IMAGE_BYTES, IMAGE_START, MEMORY_BYTES};
@@ -36,11 +36,49 @@ impl Codes {
         ensures image { OnOk result (vec_len self.new.image ≡ IMAGE_BYTES) }
         ensures zeros { OnOk result ((k : ℕ) → slice_index self.new.image.items k ≡ 0) }
         ensures faults { OnOk result (self.new.faults.items ≡ []) }
+        ensures count { OnOk result (self.new.count ≡ 0) }
     {
         self.image.clear();
         self.image.resize(IMAGE_BYTES, 0)?;
         self.faults.clear();
+        self.count = 0;
         self.faults.reserve(lines)
+    }
+
+    /// Adds the fault of one line more.
+    pub(crate) fn push_fault(&mut self, fault: Option<Fault>) -> Result<(), AllocError>
+        requires { IsCounted self.old }
+        ensures image { self.new.image ≡ self.old.image }
+        ensures faults { OnOk result (self.new.faults.items ≡ self.old.faults.items ++ fault ∷ []) }
+        ensures counted { OnOk result (IsCounted self.new) }
+    {
+        self.faults.push(fault)?;
+        self.count += count_of(fault);
+        Ok(())
+    }
+
+    /// Adds the faults of others from one place up to another one.
+    pub(crate) fn copy_faults(
+        &mut self,
+        others: &Codes,
+        start: usize,
+        end: usize,
+    ) -> Result<(), AllocError>
+        requires counted { IsCounted self.old }
+        requires others { IsCounted others.now }
+        requires ordered { start ≤ end }
+        requires within { end ≤ vec_len others.now.faults }
+        ensures image { self.new.image ≡ self.old.image }
+        ensures faults { OnOk result (self.new.faults.items
+            ≡ self.old.faults.items ++ take (end - start) (drop start others.now.faults.items)) }
+        ensures counted { OnOk result (IsCounted self.new) }
+    {
+        let faults = &others.faults[start..end];
+        self.faults.extend_from_slice(faults)?;
+        if others.count > 0 {
+            self.count += count_faults(faults);
+        }
+        Ok(())
     }
 }
 

@@ -11,7 +11,7 @@ ghost use Rattle.chip_asm.specs.inner.Recode.{has_code};
 ghost use Rattle.chip_asm.specs.inner.Recoding.{AreWritten, IsAnew, IsCarried, IsRecoding, IsRun, again_up_to, count_then, is_again, lines_again, lines_then};
 ghost use Rattle.chip_asm.specs.inner.Records.{place_before, reading_in};
 
-use crate::codes::{Codes, bytes_of, copy_to, count_faults, fault_in, write_line};
+use crate::codes::{Codes, bytes_of, copy_to, fault_in, write_line};
 use crate::edit::{Edit, first_changed, kept_after, place_before};
 use crate::kept_line::BoxedLine;
 use crate::layout::Layout;
@@ -170,9 +170,8 @@ impl<'a> Recoding<'a> {
             now.here as usize - IMAGE_START,
             &self.codes.image[at..at + old_bytes.min(new_bytes)],
         );
-        codes
-            .faults
-            .extend_from_slice(&self.codes.faults[start..end])
+        codes.copy_faults(self.codes, start, end)?;
+        Ok(())
     }
 
     /// Encodes the line at a place, unless it is refused or takes no space.
@@ -196,13 +195,13 @@ impl<'a> Recoding<'a> {
     {
         let placement = &self.new.placements[place];
         if placement.size == 0 || !placement.is_accepted() {
-            codes.faults.push(placement.fault)?;
+            codes.push_fault(placement.fault)?;
             return Ok(());
         }
         let kept = kept_after(self.lines, self.edit, place);
         let code = code_of(alloc, meter, self.names, kept)?;
         write_line(&mut codes.image, placement, bytes_of(&code));
-        codes.faults.push(fault_in(&code))?;
+        codes.push_fault(fault_in(&code))?;
         Ok(())
     }
 
@@ -259,7 +258,6 @@ impl<'a> Recoding<'a> {
         while next < count {
             next = self.write_from(alloc, meter, &mut codes, next)?;
         }
-        codes.count = count_faults(&codes.faults);
         Ok(codes)
     }
 }

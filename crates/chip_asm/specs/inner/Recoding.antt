@@ -13,7 +13,7 @@ use Rattle.chip_asm.specs.Program.{code_under, names_of_lines}
 use Rattle.chip_asm.specs.inner.Placements.{is_placed}
 use Rattle.chip_asm.specs.declared.codes.Codes.{Codes}
 use Rattle.chip_lang.specs.declared.limits.TheConstants.{IMAGE_BYTES, IMAGE_START}
-use Rattle.chip_asm.specs.inner.Codes.{AreCodesOf, IsByte, covers_byte, line_faults, right_byte}
+use Rattle.chip_asm.specs.inner.Codes.{AreCodesOf, IsByte, IsCounted, covers_byte, line_faults, right_byte}
 use Rattle.chip_asm.specs.inner.Infos.{AreInfos}
 use Rattle.chip_asm.specs.inner.Layouts.{IsLayoutOf}
 use Rattle.chip_asm.specs.inner.Recode.{count_again, count_up_to, is_encoded_again, keeps_code}
@@ -113,3 +113,4 @@ pub record AreWritten (r : Recoding) (codes : Codes) (place : ℕ) : Type 0 wher
   pub bytes : (k : ℕ) → k < IMAGE_BYTES
       → IsByte (lines_then r) r.new.now.placements.items place k (slice_index codes.image.items k)
   pub faults : codes.faults.items ≡ take place (line_faults (lines_then r))
+  pub counted : IsCounted codes

@@ -1,12 +1,11 @@
-use Rattle.std.proofs.Common.{◌≡◌, ◌∙◌, ◌+◌, ◌-◌, ◌++◌, ℕ, length, take, drop, refl, ap, arith, OnOk, Result, Ok, Err}
+use Rattle.std.proofs.Common.{◌≡◌, ◌∙◌, ◌+◌, ◌-◌, ℕ, length, drop, refl, ap, arith}
 use Rattle.std.proofs.lemmas.List.{length-map, length-take}
-use Rattle.std.proofs.lemmas.Slice.{pushed}
-use Rattle.std.specs.Vec.{with_items}
+use Rattle.std.specs.Prelude.{vec_len}
 use Rattle.chip_lang.specs.declared.limits.TheConstants.{IMAGE_START}
 use Rattle.chip_asm.specs.declared.placement.Placement.{Placement}
 use Rattle.chip_asm.specs.inner.Recoding.{lines_before, lines_then}
 use Rattle.chip_asm.specs.inner.Records.{reading_in}
-use Rattle.chip_asm.proofs.CodeSteps.{length-faults, refilled}
+use Rattle.chip_asm.proofs.CodeSteps.{codes-counted, length-faults, refilled}
 use Rattle.chip_asm.proofs.LinesByPlace.{high, low}
 use Rattle.chip_asm.proofs.RecodingSteps.{long-before, long-then, placed-before, placed-then}
 use Rattle.chip_asm.proofs.RunSteps.{Copied, Ends, copied, ends, rises, run-written}
@@ -104,14 +103,13 @@ copy_to-requires c =
     let from : ℕ = c.index.result.now.here - IMAGE_START in
     omega (arith, t.low_now, t.high_now, c.requires.written.long, c.deref_mut.ensures.len, length-take (from + c.min.result - from) (drop from c.deref.result.now))
 
-pub slice_bounds-extend_from_slice-end : goal.slice_bounds-extend_from_slice-end
-slice_bounds-extend_from_slice-end c =
-    let r = c.args.self.now in
-    omega (arith, c.requires.run.inside, ap length c.deref-2.ensures.value, ap length c.requires.recoding.codes.faulty, length-faults (lines_before r), length-map r.lines.now reading_in)
+pub copy_faults-requires-clause-others : goal.copy_faults-requires-clause-others
+copy_faults-requires-clause-others c = codes-counted c.args.self.now.codes.now (lines_before c.args.self.now) c.requires.recoding.codes
 
-on-ok : {T E P : Type 0} (r : Result T E) → ((x : T) → r ≡ Ok x → P) → OnOk r P
-on-ok (Ok x) p = p x refl
-on-ok (Err e) p = tt
+pub copy_faults-requires-clause-within : goal.copy_faults-requires-clause-within
+copy_faults-requires-clause-within c =
+    let r = c.args.self.now in
+    omega (arith, c.requires.run.inside, r.codes.now.faults.ok.0, ap length c.requires.recoding.codes.faulty, length-faults (lines_before r), length-map r.lines.now reading_in)
 
 pub returns : goal.returns
 returns c =
@@ -122,9 +120,6 @@ returns c =
     c.bytes_to-old_bytes.result c.bytes_to-new_bytes.result c.min.result c.bytes_to-old_bytes.ensures c.bytes_to-new_bytes.ensures c.min.ensures in
     let long : length c.copy_to.new.image ≡ c.args.codes.now.image.len = c.copy_to.auto.image ∙ c.deref_mut.ensures.len in
     let image = refilled c.args.codes.now.image.len c.copy_to.new.image c.args.codes.now.image.items long in
-    on-ok c.extend_from_slice.result
-    (λ x ok. run-written r c.requires.recoding c.args.place c.args.start c.args.end c.index-2.result.now c.index.result.now c.min.result t c.args.codes.now
-    (record { image = with_items c.args.codes.now.image c.copy_to.new.image; faults = c.extend_from_slice.new.self; count = c.args.codes.now.count })
-    _ c.deref.result.now c.deref_mut.result.now c.requires.written c.deref.ensures.value refl c.deref_mut.ensures.value (image ∙ c.copy_to.ensures) c.requires.written.long
-    (pushed (take (c.args.end - c.args.start) (drop c.args.start c.deref-2.result.now)) refl ok c.extend_from_slice.ensures.items
-    ∙ ap (λ l. c.args.codes.now.faults.items ++ take (c.args.end - c.args.start) (drop c.args.start l)) c.deref-2.ensures.value))
+    run-written r c.requires.recoding c.args.place c.args.start c.args.end c.index-2.result.now c.index.result.now c.min.result t c.args.codes.now c.copy_faults.new.self
+    _ c.deref.result.now c.deref_mut.result.now c.requires.written c.deref.ensures.value refl c.deref_mut.ensures.value (ap (λ v. v.items) c.copy_faults.ensures.image ∙ image ∙ c.copy_to.ensures)
+    (ap vec_len c.copy_faults.ensures.image ∙ c.requires.written.long) c.in_ok-copy_faults.ensures.faults c.in_ok-copy_faults.ensures.counted

@@ -1,4 +1,4 @@
-use Rattle.std.proofs.Common.{◌≡◌, ◌∙◌, ◌≤◌, ap, refl, arith}
+use Rattle.std.proofs.Common.{◌≡◌, ◌∙◌, ◌≤◌, ap, refl, sym, arith}
 use Rattle.std.specs.List.{enumerate_from}
 use Rattle.std.proofs.lemmas.List.{take_all}
 use Rattle.chip_asm.specs.inner.Codes.{line_faults}
@@ -18,6 +18,7 @@ loop-next-init c =
         long = clear.image;
         bytes = λ k h. byte-zero (lines_then r) r.new.now c.requires.new k _ (clear.zeros k);
         faults = clear.faults;
+        counted = clear.count ∙ sym (ap count_faults clear.faults);
       },
       omega arith,
       omega arith,
@@ -37,7 +38,7 @@ returns-clause-codes c =
       short = omega (arith, known.long);
       long = λ some. known.long;
       faulty = faults;
-      counted = c.count_faults.ensures ∙ ap count_faults (c.deref.ensures.value ∙ faults) ∙ faults-counted (lines_then r);
+      counted = known.counted ∙ ap count_faults faults ∙ faults-counted (lines_then r);
     }
 
 pub returns-clause-encoded : goal.returns-clause-encoded

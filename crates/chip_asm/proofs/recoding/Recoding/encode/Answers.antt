@@ -1,6 +1,6 @@
 use Rattle.std.proofs.Common.{◌≡◌, ◌∙◌, ◌+◌, ◌-◌, List, ℕ, Some, cond, get_or, length, slice_get, refl, ap, sym, arith}
 use Rattle.std.proofs.lemmas.Option.{same_Some}
-use Rattle.std.specs.Vec.{with_items}
+use Rattle.std.specs.Prelude.{vec_len}
 use Rattle.chip_lang.specs.declared.limits.TheConstants.{IMAGE_START}
 use Rattle.chip_lang.specs.Code.{coded}
 use Rattle.chip_asm.specs.Program.{fault_of}
@@ -31,7 +31,7 @@ returns-then-placement-eq0-clause-written c =
       | then-placement-eq0-via-else-placement-eq0+then-not-is_accepted w ↦
           refused-fault (lines_then r) c.args.place p a (sym w.is_accepted.ensures ∙ w.if-not-is_accepted.true)
     ] in
-    written-more r c.requires.recoding c.args.place c.requires.place c.args.codes.now (record { image = c.args.codes.now.image; faults = c.push.new.self; count = c.args.codes.now.count }) p.fault c.requires.written c.requires.written.long c.in_ok-push.ensures.items
+    written-more r c.requires.recoding c.args.place c.requires.place c.args.codes.now c.push_fault.new.self p.fault c.args.codes.now.image.items c.requires.written (ap vec_len c.push_fault.ensures.image ∙ c.requires.written.long) (ap (λ v. v.items) c.push_fault.ensures.image) c.in_ok-push_fault.ensures.faults c.in_ok-push_fault.ensures.counted
     (λ x at. is ∙ ap (fault_of (placed (lines_then r))) (same-placed (lines_then r) c.args.place p a x at))
     (λ q k there covered zero_now.
     (let same : q ≡ p = same_Some q p (sym there ∙ p_at) in
@@ -66,8 +66,8 @@ write_line-requires-clause-high c =
     let to = high (lines_then r) c.args.place p (placed-then r c.requires.recoding c.args.place p (now-at r c.requires.recoding c.args.place p c.requires.place c.index-placement.ensures)) in
     omega (arith, to, c.requires.written.long, c.deref_mut.ensures.len)
 
-pub returns-in_err-push-2-clause-encoded : goal.returns-in_err-push-2-clause-encoded
-returns-in_err-push-2-clause-encoded c = λ line at.
+pub returns-in_err-push_fault-2-clause-encoded : goal.returns-in_err-push_fault-2-clause-encoded
+returns-in_err-push_fault-2-clause-encoded c = λ line at.
     let r = c.args.self.now in
     let p : Placement = c.index-placement.result.now in
     encoded-anew r c.requires.recoding c.args.place p c.kept_after-kept.result.now line (now-at r c.requires.recoding c.args.place p c.requires.place c.index-placement.ensures) c.kept_after-kept.ensures at
@@ -84,18 +84,16 @@ returns-clause-written c =
     let long : length c.write_line.new.image ≡ c.args.codes.now.image.len = c.write_line.auto.image ∙ c.deref_mut.ensures.len in
     let image = refilled c.args.codes.now.image.len c.write_line.new.image c.args.codes.now.image.items long in
     let covers_same : (q : Placement) (k : ℕ) → slice_get r.new.now.placements.items c.args.place ≡ Some q → covers_byte p k ≡ covers_byte q k = λ q k there. ap (λ o. covers_byte o k) (same_Some p q (sym p_at ∙ there)) in
-    written-more r c.requires.recoding c.args.place c.requires.place c.args.codes.now (record { image = with_items c.args.codes.now.image c.write_line.new.image; faults = c.push-2.new.self; count = c.args.codes.now.count }) c.fault_in.result c.requires.written c.requires.written.long c.in_ok-push-2.ensures.items
+    written-more r c.requires.recoding c.args.place c.requires.place c.args.codes.now c.push_fault-2.new.self c.fault_in.result c.write_line.new.image c.requires.written (ap vec_len c.push_fault-2.ensures.image ∙ c.requires.written.long) (ap (λ v. v.items) c.push_fault-2.ensures.image ∙ image) c.in_ok-push_fault-2.ensures.faults c.in_ok-push_fault-2.ensures.counted
     (λ x at.
     c.fault_in.ensures ∙ ap coded_fault code ∙ fault-coded (code_then r a.x) ∙ sym (accepted-fault (lines_then r) c.args.place p a (sym c.is_accepted.ensures ∙ c.if-not-is_accepted.false))
     ∙ ap (fault_of (placed (lines_then r))) (same-placed (lines_then r) c.args.place p a x at))
     (λ q k there covered zero_now.
-    ap (λ l. get_or l k 0) image
-    ∙ byte-written (lines_then r) c.args.place p a k (get_or c.write_line.new.image k 0) (get_or c.deref_mut.result.now k 0) (covers_same q k there ∙ covered)
+    byte-written (lines_then r) c.args.place p a k (get_or c.write_line.new.image k 0) (get_or c.deref_mut.result.now k 0) (covers_same q k there ∙ covered)
     (c.write_line.ensures k
     ∙ ap (λ (bytes : List ℕ). cond (covers_byte p k) (get_or bytes (IMAGE_START + k - p.here) 0) (get_or c.deref_mut.result.now k 0)) (c.bytes_of.ensures ∙ ap coded_bytes code ∙ bytes-coded (code_then r a.x))))
     (λ q k there apart.
-    ap (λ l. get_or l k 0) image
-    ∙ byte-stays p k (get_or c.write_line.new.image k 0) _ (get_or c.deref_mut.result.now k 0) (covers_same q k there ∙ apart) (c.write_line.ensures k)
+    byte-stays p k (get_or c.write_line.new.image k 0) _ (get_or c.deref_mut.result.now k 0) (covers_same q k there ∙ apart) (c.write_line.ensures k)
     ∙ ap (λ l. get_or l k 0) c.deref_mut.ensures.value)
 
 pub returns-clause-encoded : goal.returns-clause-encoded
