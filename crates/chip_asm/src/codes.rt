@@ -84,23 +84,23 @@ impl Codes {
 
 impl Codes {
     /// Puts the code of a line at a place in the stead of the one that it had.
-    pub(crate) fn put(&mut self, at: usize, placement: &Placement, code: &Coded)
+    pub(crate) fn put(&mut self, at: usize, placement: &Placement, code: Coded)
         requires low { IMAGE_START ≤ placement.now.here }
         requires high { placement.now.here + placement.now.size ≤ MEMORY_BYTES }
         requires long { vec_len self.old.image ≡ IMAGE_BYTES }
         requires there { at < vec_len self.old.faults }
         requires counted { count_of (slice_index_or self.old.faults.items at None) ≤ self.old.count }
         requires few { self.old.count ≤ vec_len self.old.faults }
-        ensures written { IsWritten placement.now (coded_bytes code.now) self.old.image.items
+        ensures written { IsWritten placement.now (coded_bytes code) self.old.image.items
             self.new.image.items }
         ensures long { vec_len self.new.image ≡ IMAGE_BYTES }
         ensures faults { self.new.faults.items
-            ≡ slice_set self.old.faults.items at (coded_fault code.now) }
+            ≡ slice_set self.old.faults.items at (coded_fault code) }
         ensures count { self.new.count + count_of (slice_index_or self.old.faults.items at None)
-            ≡ self.old.count + count_of (coded_fault code.now) }
+            ≡ self.old.count + count_of (coded_fault code) }
     {
-        write_line(&mut self.image, placement, bytes_of(code));
-        let fault = fault_in(code);
+        write_line(&mut self.image, placement, bytes_of(&code));
+        let fault = fault_in(&code);
         self.count = self.count + count_of(fault) - count_of(self.faults[at]);
         self.faults[at] = fault;
     }
