@@ -9,7 +9,7 @@ use Rattle.std.proofs.lemmas.List.{map-append, append-nil, set-append_right, tak
 use Rattle.std.proofs.lemmas.Grind.{flat_map-append}
 use Rattle.std.proofs.lemmas.Option.{slice_get-get_or, slice_get-map}
 use Rattle.chip_lang.specs.declared.fault.Fault.{Fault}
-use Rattle.chip_lang.specs.Show.{hex_byte}
+use Rattle.chip_lang.specs.Show.{two_hex_digits}
 use Rattle.chip_lang.specs.Line.{Body}
 use Rattle.chip_asm.specs.inner.KeptLine.{KeptLine}
 use Rattle.chip_asm.specs.declared.placement.Placement.{Placement}
@@ -20,15 +20,15 @@ use Rattle.chip_asm.specs.Program.{fault_of, code_under, bytes_in_code}
 use Rattle.chip_asm.specs.inner.Records.{reading_in, readings_in, texts_in}
 use Rattle.chip_asm.proofs.LinesByPlace.{AtPlace}
 
-one-byte : (b : ℕ) → flat_map hex_byte (b ∷ []) ≡ hex_byte b
-one-byte b = append-nil (hex_byte b)
+one-byte : (b : ℕ) → flat_map two_hex_digits (b ∷ []) ≡ two_hex_digits b
+one-byte b = append-nil (two_hex_digits b)
 
 -- one byte more
-pub bytes-more : (n : ℕ) (bytes : List ℕ) → bytes_shown (n + 1) bytes ≡ bytes_shown n bytes ++ hex_byte (get_or bytes n 0)
+pub bytes-more : (n : ℕ) (bytes : List ℕ) → bytes_shown (n + 1) bytes ≡ bytes_shown n bytes ++ two_hex_digits (get_or bytes n 0)
 bytes-more n bytes =
-    ap (λ r. flat_map hex_byte (map (λ i. get_or bytes i 0) r)) (range-more n)
-    ∙ ap (flat_map hex_byte) (map-append (λ i. get_or bytes i 0) (range_with_len 0 n) (n ∷ []))
-    ∙ flat_map-append hex_byte (map (λ i. get_or bytes i 0) (range_with_len 0 n)) (get_or bytes n 0 ∷ [])
+    ap (λ r. flat_map two_hex_digits (map (λ i. get_or bytes i 0) r)) (range-more n)
+    ∙ ap (flat_map two_hex_digits) (map-append (λ i. get_or bytes i 0) (range_with_len 0 n) (n ∷ []))
+    ∙ flat_map-append two_hex_digits (map (λ i. get_or bytes i 0) (range_with_len 0 n)) (get_or bytes n 0 ∷ [])
     ∙ ap (λ l. bytes_shown n bytes ++ l) (one-byte (get_or bytes n 0))
   where
     from : (a n : ℕ) → range_with_len a (suc n) ≡ range_with_len a n ++ (a + n) ∷ []
@@ -45,9 +45,9 @@ bytes-more n bytes =
 pub length-bytes : (n : ℕ) (bytes : List ℕ) → length (bytes_shown n bytes) ≡ 2 * n
 length-bytes zero bytes = refl
 length-bytes (suc n) bytes =
-    omega (arith, length-bytes n bytes, ap length (ap (λ m. bytes_shown m bytes) (sym (add-one n)) ∙ bytes-more n bytes), length-append (bytes_shown n bytes) (hex_byte (get_or bytes n 0)))
+    omega (arith, length-bytes n bytes, ap length (ap (λ m. bytes_shown m bytes) (sym (add-one n)) ∙ bytes-more n bytes), length-append (bytes_shown n bytes) (two_hex_digits (get_or bytes n 0)))
 
-pub pair-more : (n : ℕ) (bytes digits : List ℕ) (a b : ℕ) → n < 6 → digits ≡ bytes_shown n bytes ++ replicate (12 - 2 * n) 32 → a ∷ b ∷ [] ≡ hex_byte (get_or bytes n 0)
+pub pair-more : (n : ℕ) (bytes digits : List ℕ) (a b : ℕ) → n < 6 → digits ≡ bytes_shown n bytes ++ replicate (12 - 2 * n) 32 → a ∷ b ∷ [] ≡ two_hex_digits (get_or bytes n 0)
     → set (set digits (2 * n) a) (2 * n + 1) b ≡ bytes_shown (n + 1) bytes ++ replicate (12 - 2 * (n + 1)) 32
 pair-more n bytes digits a b h is pair =
     let room : 12 - 2 * n ≡ suc (suc (12 - 2 * (n + 1))) = omega arith in
@@ -85,8 +85,8 @@ shown-same zero a b h = refl
 shown-same (suc n) a b h =
     ap (λ m. bytes_shown m a) (sym (add-one n))
     ∙ bytes-more n a
-    ∙ ap (λ l. l ++ hex_byte (get_or a n 0)) (shown-same n a b (λ k less. h k (omega arith)))
-    ∙ ap (λ c. bytes_shown n b ++ hex_byte c) (h n (omega arith))
+    ∙ ap (λ l. l ++ two_hex_digits (get_or a n 0)) (shown-same n a b (λ k less. h k (omega arith)))
+    ∙ ap (λ c. bytes_shown n b ++ two_hex_digits c) (h n (omega arith))
     ∙ sym (bytes-more n b)
     ∙ ap (λ m. bytes_shown m b) (add-one n)
 

@@ -10,7 +10,7 @@ use Rattle.std.proofs.lemmas.Option.{get_or_from_slice_get, slice_get_within}
 use Rattle.chip_lang.specs.declared.limits.TheConstants.{IMAGE_START}
 use Rattle.chip_lang.specs.declared.fault.Fault.{Fault}
 use Rattle.chip_lang.specs.declared.fault.Fault.TheVariants.{DefinedTwice, StrayBranch, OutOfRange, OrgBelowHere, PastMemory}
-use Rattle.chip_lang.specs.Line.{Body, else_line, endif, Reading, bad, read, fault_if, first_fault as first_fault_of}
+use Rattle.chip_lang.specs.Line.{Body, else_line, endif, Reading, bad, read, fault_if, first_that_holds as first_fault_of}
 use Rattle.chip_asm.specs.Layout.{Placed, body_of, is_side_or_end, is_origin, is_align, is_align_off_body, first_of, has_else, has_ended, holds, is_redefinition, is_negative_space, is_backwards, is_past_end, value_at, value_or_zero, full_size}
 use Rattle.chip_asm.specs.computed.Walk.{place, placed, is_aligning, address, symbols, enclosing, is_live, is_misplaced, first_fault, fault_of_value}
 use Rattle.chip_asm.specs.Places.{Passes, IsLast, IsFromLast, Encloses, IsLive, sizes, fault_in_value, is_stray, first_pass_faults, IsPlaced, ArePlaced}

@@ -5,7 +5,7 @@ use Rattle.std.specs.List.{flat_map, range_with_len}
 use Rattle.std.specs.Fmt.{decimal, signed_decimal}
 use Rattle.chip_lang.specs.declared.fault.Fault.{Fault}
 use Rattle.chip_lang.specs.FaultNumber.{number_of_fault}
-use Rattle.chip_lang.specs.Show.{hex_byte, hex_word}
+use Rattle.chip_lang.specs.Show.{two_hex_digits, four_hex_digits}
 use Rattle.chip_lang.specs.Line.{Body, equ, define, reading_of}
 use Rattle.chip_asm.specs.Layout.{Placed, body_of, value_given}
 use Rattle.chip_asm.specs.computed.Walk.{placed}
@@ -20,7 +20,7 @@ at_left places text = text ++ replicate (places - length text) 32
 
 -- the address of a line; four dashes for a line that isn't live
 abbrev pub address_shown : Bool → ℕ → List ℕ
-address_shown live here = if live then hex_word here else codes "----"
+address_shown live here = if live then four_hex_digits here else codes "----"
 
 -- the line gives its name a value of its own
 abbrev pub is_definition : Body → Bool
@@ -30,7 +30,7 @@ is_definition _ = false
 
 -- so many of the first bytes, with zeros past the line's own
 abbrev pub bytes_shown : ℕ → List ℕ → List ℕ
-bytes_shown count bytes = flat_map hex_byte (map (slice_index bytes) (range_with_len 0 count))
+bytes_shown count bytes = flat_map two_hex_digits (map (slice_index bytes) (range_with_len 0 count))
 
 -- what stands in the field of a line: its fault, its value, or its first six bytes
 abbrev pub field_shown : Option Fault → (live : Bool) → Body → (here : ℕ) → (value : ℤ) → (size : ℕ)

@@ -7,7 +7,7 @@ use Rattle.std.specs.List.{list_any}
 use Rattle.chip_lang.specs.declared.limits.TheConstants.{IMAGE_START}
 use Rattle.chip_lang.specs.declared.fault.Fault.{Fault}
 use Rattle.chip_lang.specs.declared.fault.Fault.TheVariants.{DefinedTwice, OutOfRange, OrgBelowHere, PastMemory, StrayBranch}
-use Rattle.chip_lang.specs.Line.{Body, Reading, bad, read, fault_if, first_fault}
+use Rattle.chip_lang.specs.Line.{Body, Reading, bad, read, fault_if, first_that_holds}
 use Rattle.chip_lang.specs.Uses.{name_defined}
 use Rattle.chip_asm.specs.declared.table.Symbol.{Symbol}
 use Rattle.chip_asm.specs.Names.{Name}
@@ -104,7 +104,7 @@ pub record IsPlaced (before : List Placed) (line : Reading) (p : Placed) : Type 
   pub aligning : Bool
   pub is_aligning : IsFromLast (Passes is_align before)
       (λ j p. not (is_align_off_body (body_of p.line))) true aligning
-  pub fault : p.fault ≡ (if p.live then first_fault (first_pass_faults before aligning p) else None)
+  pub fault : p.fault ≡ (if p.live then first_that_holds (first_pass_faults before aligning p) else None)
   pub size : p.size
       ≡ (if takes_effect p then full_size aligning p.here (body_of line) p.value else 0)
 

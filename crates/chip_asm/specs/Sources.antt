@@ -2,6 +2,6 @@
 use Rattle.std.specs.Prelude.{ℕ, List}
 use Rattle.chip_lang.specs.declared.meter.Meter.{Meter}
 
-pub record Text : Type 0 where
+pub record SourceValue : Type 0 where
   pub lines : List (List ℕ)
   pub work : Meter

@@ -30,9 +30,9 @@ pub struct Source {
 }
 
 impl Model for Source {
-    ghost use Rattle.chip_asm.specs.Sources.{Text};
+    ghost use Rattle.chip_asm.specs.Sources.{SourceValue};
 
-    ghost Value = { Text };
+    ghost Value = { SourceValue };
 
     ghost use Rattle.chip_asm.specs.inner.Records.{texts_in};
     ghost use Rattle.chip_asm.specs.inner.Kept.{IsKept};

@@ -8,7 +8,7 @@ use Rattle.chip_asm.specs.declared.refusal.OpenError.TheVariants as unopened
 use Rattle.chip_session.specs.Settings.{SessionSettings, default_settings}
 use Rattle.chip_session.specs.Serving.{Exchanges}
 use Rattle.chip_bench.specs.Printing.{Refuses}
-use Rattle.chip_bench.specs.Running.{AnswersAs, AnswersIfAsked, AnswersScript, Converses, Declines, RunsSession, status_after, status_of}
+use Rattle.chip_bench.specs.Running.{AnswersAs, AnswersIfAsked, AnswersScript, Converses, Declines, RunsSession, result_after, status_of}
 use Rattle.chip_session.specs.Tally.{Tally, failures_after_flush}
 use Rattle.chip_bench.specs.declared.ending.Ending.{Ending}
 use Rattle.chip_bench.specs.declared.ending.Failure.{Failure}
@@ -112,7 +112,7 @@ module _ {R W : Type 0} (remaining : R → Option (List ℕ)) (contents : W → 
   runs_session in_old in_new out_old out_mid out_new ended flushed status kept same s (served, a) = by_ending served a
     where
       finished : (served : Result Unit ServeError) → Converses remaining contents default_settings [] in_old in_new out_old out_mid served →
-          status_of ended flushed ≡ status_after served flushed → RunsSession remaining contents in_old in_new out_old out_new status
+          status_of ended flushed ≡ status_of (result_after served) flushed → RunsSession remaining contents in_old in_new out_old out_new status
       finished served c e = record {
         served = served;
         flushed = flushed;

@@ -26,15 +26,37 @@ use Rattle.chip_session.specs.declared.server.ServeError.TheVariants as fault
 use Rattle.chip_session.specs.declared.settings.SetError.{SetError}
 use Rattle.chip_session.specs.declared.settings.SetError.TheVariants as set
 
--- the status of the program after a way to end a session on a source that opens, and a flush that
--- went well or didn't
-abbrev pub status_after : Result Unit ServeError → Bool → ℕ
-status_after (Ok _) flushed = if flushed then 0 else 3
-status_after (Err fault.ReaderFailed) flushed = 3
-status_after (Err fault.WriterFailed) flushed = 3
-status_after (Err fault.TooMuchInput) flushed = 3
-status_after (Err fault.OutOfMemory) flushed = 4
-status_after (Err (fault.Source e)) flushed = 4
+-- the status after a way to end, where the flush at the end went well
+abbrev pub ending_status : Ending → ℕ
+ending_status Done = 0
+ending_status Faulty = 1
+ending_status Short = 4
+
+-- the status after what hindered the program
+abbrev pub failure_status : Failure → ℕ
+failure_status (failure.Usage error) = 2
+failure_status failure.BadTape = 2
+failure_status (failure.BadCauses text) = 2
+failure_status (failure.BadPlayerKeys text) = 2
+failure_status (failure.BadWarnings text) = 2
+failure_status (failure.BadPlace text) = 2
+failure_status (failure.BadKeys name number code) = 2
+failure_status (failure.BadTrace name fault) = 2
+failure_status (failure.NoPage code) = 2
+failure_status (failure.CannotRead name error) = 3
+failure_status (failure.CannotWrite name error) = 3
+failure_status (failure.BadTest name line fault) = 3
+failure_status (failure.UnreadInTest name line error) = 3
+failure_status failure.Input = 3
+failure_status failure.Output = 3
+failure_status failure.TooMuchInput = 3
+failure_status failure.OutOfMemory = 4
+
+-- the status after a way to end and a flush: a flush that failed takes the place of a good ending
+-- alone
+abbrev pub status_of : Result Ending Failure → Bool → ℕ
+status_of (Ok ending) flushed = if flushed then ending_status ending else 3
+status_of (Err failure) flushed = failure_status failure
 
 -- how the program ends after a session on a source that opens, before the flush
 abbrev pub result_after : Result Unit ServeError → Result Ending Failure
@@ -100,7 +122,7 @@ module _ {R W : Type 0} (remaining : R → Option (List ℕ)) (contents : W → 
     pub reader_failed : in_new.failures ≡ reader_failures served in_old.failures
     pub writer_failed : out_new.failures
         ≡ failures_after_flush flushed (writer_failures served out_old.failures)
-    pub status_is : status ≡ status_after served flushed
+    pub status_is : status ≡ status_of (result_after served) flushed
 
 abbrev pub settings_failure : SetError → Failure
 settings_failure set.RateOutOfRange = failure.BadTape
@@ -121,36 +143,6 @@ words_failure _ error = failure.Usage error
 abbrev pub IsWithoutWords : IoErrorKind → ℕ → Type 0
 IsWithoutWords io_kind.OutOfMemory status = status ≡ 4
 IsWithoutWords _ status = (status ≡ 2) ⊎ (status ≡ 4)
-
-abbrev pub ending_status : Ending → ℕ
-ending_status Done = 0
-ending_status Faulty = 1
-ending_status Short = 4
-
-abbrev pub failure_status : Failure → ℕ
-failure_status (failure.Usage error) = 2
-failure_status failure.BadTape = 2
-failure_status (failure.BadCauses text) = 2
-failure_status (failure.BadPlayerKeys text) = 2
-failure_status (failure.BadWarnings text) = 2
-failure_status (failure.BadPlace text) = 2
-failure_status (failure.BadKeys name number code) = 2
-failure_status (failure.BadTrace name fault) = 2
-failure_status (failure.NoPage code) = 2
-failure_status (failure.CannotRead name error) = 3
-failure_status (failure.CannotWrite name error) = 3
-failure_status (failure.BadTest name line fault) = 3
-failure_status (failure.UnreadInTest name line error) = 3
-failure_status failure.Input = 3
-failure_status failure.Output = 3
-failure_status failure.TooMuchInput = 3
-failure_status failure.OutOfMemory = 4
-
--- the status after a way to end and a flush: a flush that failed takes the place of a good ending
--- alone
-abbrev pub status_of : Result Ending Failure → Bool → ℕ
-status_of (Ok ending) flushed = if flushed then ending_status ending else 3
-status_of (Err failure) flushed = failure_status failure
 
 -- words with a fault: they are not a request for help, nor in order
 abbrev pub AreFaulty : Kinds → Type 0

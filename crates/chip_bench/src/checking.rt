@@ -7,6 +7,7 @@ ghost use Rattle.chip_bench.specs.Printing.{IsCheckText, IsPrintedCheck, Prints,
 use crate::covering::Covered;
 use crate::ending::{Ending, Failure};
 use crate::entry::Host;
+use crate::file_access::FileAccess;
 use crate::output::{print, unopened_text};
 use crate::progress::Progress;
 use crate::reading::read_source;
@@ -20,7 +21,6 @@ use chip_session::Counted;
 use chip_warnings::{Warning, warnings};
 use std::alloc::{AllocError, Global};
 use std::io::{Read, Write};
-use std::rt::Files;
 
 /// How sources are checked, and how what is found in them is printed.
 #[derive(Clone, Copy)]
@@ -40,7 +40,7 @@ pub(crate) struct Checker {
 
 /// `check`: what is found in each of the sources, one after another. The warnings that are allowed
 /// are judged before the first is read, and a source that can't be read ends the check.
-pub(crate) fn check<'a, F: Files, I: Read, O: Write, E: Write>(
+pub(crate) fn check<'a, F: FileAccess, I: Read, O: Write, E: Write>(
     alloc: Global,
     files: &F,
     host: Host,
@@ -91,7 +91,7 @@ fn worse(ending: Ending, later: Ending) -> Ending
 }
 
 impl Checker {
-    fn check_each<'a, F: Files, I: Read, O: Write, W: Watcher>(
+    fn check_each<'a, F: FileAccess, I: Read, O: Write, W: Watcher>(
         self,
         alloc: Global,
         files: &F,
@@ -111,7 +111,7 @@ impl Checker {
         Ok(ending)
     }
 
-    fn check_one<'a, F: Files, I: Read, O: Write, W: Watcher>(
+    fn check_one<'a, F: FileAccess, I: Read, O: Write, W: Watcher>(
         self,
         alloc: Global,
         files: &F,

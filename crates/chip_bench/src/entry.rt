@@ -129,7 +129,7 @@ fn report<E: Write>(failure: Failure<'_>, errors: &mut E) -> u8
     failure.status()
 }
 
-fn carry_out<'a, F: Files, S: AsStr, I: Read, O: Write, E: Write>(
+fn carry_out<'a, F: FileAccess, S: AsStr, I: Read, O: Write, E: Write>(
     alloc: Global,
     files: &F,
     host: Host,
@@ -158,7 +158,7 @@ fn carry_out<'a, F: Files, S: AsStr, I: Read, O: Write, E: Write>(
     }
 }
 
-fn perform<'a, F: Files, I: Read, O: Write, E: Write>(
+fn perform<'a, F: FileAccess, I: Read, O: Write, E: Write>(
     alloc: Global,
     files: &F,
     host: Host,

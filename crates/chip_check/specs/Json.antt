@@ -4,7 +4,7 @@ use Rattle.std.specs.Fmt.{decimal}
 use Rattle.std.specs.List.{flat_map}
 use Rattle.std.specs.Str.Lossy.{utf8_lossy}
 use Rattle.chip_lang.specs.declared.fault_place.Span.{Span}
-use Rattle.chip_lang.specs.Show.{hex_byte}
+use Rattle.chip_lang.specs.Show.{two_hex_digits}
 use Rattle.chip_asm.specs.declared.refusal.OpenError.{OpenError}
 use Rattle.chip_asm.specs.declared.refusal.OpenError.TheVariants as unopened
 use Rattle.chip_check.specs.declared.hint.Hint.{Hint}
@@ -17,7 +17,7 @@ use Rattle.chip_check.specs.Check.{Print, AreReports, IsCheckedIn}
 abbrev pub escaped : ℕ → List ℕ
 escaped b =
     if (b == 34) || (b == 92) then 92 ∷ b ∷ []
-    else (if nat_lt b 32 then codes "\\u00" ++ hex_byte b else b ∷ [])
+    else (if nat_lt b 32 then codes "\\u00" ++ two_hex_digits b else b ∷ [])
 
 -- a string: bytes that are not UTF-8 become U+FFFD
 unfoldable pub quoted : List ℕ → List ℕ

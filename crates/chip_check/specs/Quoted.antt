@@ -6,7 +6,7 @@
 use Rattle.std.specs.Prelude.{ℕ, zero, suc, ◌-◌, ◌==◌, ◌&&◌, ◌||◌, Bool, true, not, nat_lt, List, [], ◌∷◌, ◌++◌, codes, if◌then◌else◌}
 use Rattle.std.specs.List.{flat_map}
 use Rattle.std.specs.Str.Lossy.{utf8_valid_len}
-use Rattle.chip_lang.specs.Show.{hex_byte}
+use Rattle.chip_lang.specs.Show.{two_hex_digits}
 use Rattle.chip_check.specs.declared.quoted.ShownByte.{ShownByte}
 use Rattle.chip_check.specs.declared.quoted.ShownByte.TheVariants.{Plain, Escaped}
 
@@ -33,7 +33,7 @@ shown_bytes line = shown_after 0 line
 -- an escape is `\x` and two digits in lower case
 abbrev pub byte_text : ShownByte → List ℕ
 byte_text (Plain b) = b ∷ []
-byte_text (Escaped b) = codes "\\x" ++ hex_byte b
+byte_text (Escaped b) = codes "\\x" ++ two_hex_digits b
 
 abbrev pub quoted_line : List ℕ → List ℕ
 quoted_line line = flat_map byte_text (shown_bytes line)

@@ -5,7 +5,8 @@ use Rattle.std.proofs.lemmas.Bool.{and_parts, cases_lt, eqb-true}
 use Rattle.std.proofs.lemmas.List.{append_assoc, append-nil, drop_all, drop_more, length-set, take_all, take_more_set}
 use Rattle.hex.specs.Hex.{encode_with, lower_digits}
 use Rattle.hex.proofs.Pairs.{take-two_writes}
-use Rattle.chip_session.specs.Text.{hex_byte, spaced}
+use Rattle.chip_trace.specs.Digits.{hex_byte}
+use Rattle.chip_session.specs.Text.{spaced}
 use Rattle.chip_session.specs.declared.text.TheConstants.{DIGIT_PAIRS}
 
 -- the digit of a number, by arithmetic

@@ -25,10 +25,6 @@ settings_of rate tape =
 abbrev pub IsRate : ℕ → Type 0
 IsRate rate = (0 < rate) × (rate ≤ MOST_RATE)
 
--- a number of bytes that a tape may have
-abbrev pub IsTapeLength : ℕ → Type 0
-IsTapeLength count = (0 < count) × (count ≤ TAPE_BYTES)
-
 -- the first reason why there are no such settings, if there is one
 abbrev pub settings_fault : ℕ → List ℕ → Option SetError
 settings_fault rate tape =

@@ -1,15 +1,7 @@
 -- Pieces of answers (own).
-use Rattle.std.specs.Prelude.{ℕ, ◌/◌, ◌%◌, List, [], ◌∷◌, ◌++◌, codes}
+use Rattle.std.specs.Prelude.{ℕ, List, [], ◌∷◌, ◌++◌, codes}
 use Rattle.std.specs.List.{flat_map}
 use Rattle.hex.specs.Hex.{encode_lower}
-
--- a byte in two hexadecimal digits
-abbrev pub hex_byte : ℕ → List ℕ
-hex_byte b = encode_lower (b ∷ [])
-
--- a number of 16 bits in four hexadecimal digits
-abbrev pub hex_word : ℕ → List ℕ
-hex_word w = encode_lower (w / 256 ∷ w % 256 ∷ [])
 
 -- each item after a space
 abbrev pub spaced : (ℕ → List ℕ) → List ℕ → List ℕ

@@ -1,7 +1,7 @@
 -- What contracts see of a bench (own).
 use Rattle.std.specs.Prelude.{ℕ, List}
 use Rattle.chip_lang.specs.declared.meter.Meter.{Meter}
-use Rattle.chip_asm.specs.Sources.{Text as SourceText}
+use Rattle.chip_asm.specs.Sources.{SourceValue}
 use Rattle.chip_asm.specs.Program.{image_of}
 use Rattle.chip_session.specs.Session.{Session, Change, insert_line, replace_line, delete_line, insert_event, replace_event, delete_event}
 use Rattle.chip_session.specs.Kept.{KeptRun, session_on, FollowsImage, FollowsEvent}
@@ -16,7 +16,7 @@ pub record Workbench : Type 0 where
   pub ran : ℕ
 
 -- a bench of a source and of what is kept beside it
-abbrev pub workbench : SourceText → KeptRun → Workbench
+abbrev pub workbench : SourceValue → KeptRun → Workbench
 workbench source kept =
     record {
       session = session_on source.lines kept;

@@ -9,6 +9,7 @@ mod command;
 mod counted;
 mod image_run;
 mod key_file;
+pub mod laws;
 pub mod limits;
 mod machine_answer;
 mod question;

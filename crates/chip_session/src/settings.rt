@@ -57,11 +57,11 @@ impl Model for Settings {
     ghost view = { λ s.
         record { rate = s.rate; tape = s.tape.items; profile = s.profile; spacing = s.spacing } };
 
-    ghost use Rattle.std.specs.Prelude.{vec_len};
     ghost use Rattle.chip_replay.specs.Limits.{IsSpacing};
-    ghost use Rattle.chip_session.specs.Settings.{IsRate, IsTapeLength};
+    ghost use Rattle.chip_machine.specs.Start.{IsTape};
+    ghost use Rattle.chip_session.specs.Settings.{IsRate};
 
-    ghost invariant = { λ s. IsRate s.rate × IsTapeLength (vec_len s.tape) × IsSpacing s.spacing };
+    ghost invariant = { λ s. IsRate s.rate × IsTape s.tape.items × IsSpacing s.spacing };
 }
 
 impl Settings {

@@ -3,7 +3,8 @@
 ghost use Rattle.std.specs.Prelude.{◌≡◌, ◌^◌, ◌<◌, ◌*◌, ◌++◌, ◌∷◌, [], length, slice_index, OnOk};
 ghost use Rattle.std.specs.Fmt.{decimal, signed_decimal};
 ghost use Rattle.hex.specs.Hex.{encode_lower, lower_digits};
-ghost use Rattle.chip_session.specs.Text.{spaced, hex_byte, hex_word};
+ghost use Rattle.chip_trace.specs.Digits.{hex_byte, hex_word};
+ghost use Rattle.chip_session.specs.Text.{spaced};
 
 use itoa::Buffer;
 use std::alloc::AllocError;

@@ -9,7 +9,7 @@ use Rattle.chip_lang.specs.declared.token.Kind.TheVariants.{Number, Word, Bad}
 use Rattle.chip_lang.specs.declared.fault.Fault.TheVariants.{BadCharacter, NumberTooLarge}
 use Rattle.chip_lang.specs.Token.{is_hexadecimal, is_name_byte, is_digit_of, digit_value, number_of, kind_of_number, kind_of_digits, token_at}
 use Rattle.chip_lang.specs.computed.Tokens.{tokens_from, tokens_of}
-use Rattle.chip_lang.specs.Show.{hex_digit, hex_word, hex_address, hex_byte}
+use Rattle.chip_lang.specs.Show.{hex_digit, four_hex_digits, three_hex_digits, two_hex_digits}
 use Rattle.chip_lang.specs.Keyword.{directive_of}
 use Rattle.chip_lang.specs.computed.Parse.{expression_of}
 use Rattle.chip_lang.specs.Tree.{number}
@@ -107,30 +107,30 @@ word_token = record { kind = Word; start = 0; end = 2 }
 abbrev number_at_3 : ℕ → ℕ → Token
 number_at_3 digits n = record { kind = Number (pos n); start = 3; end = 3 + (digits + 1) }
 
-pub word_line : (w : ℕ) → w < 65536 → reading_of (codes "DW #" ++ hex_word w) ≡ read None (dw (number (pos w) ∷ []))
+pub word_line : (w : ℕ) → w < 65536 → reading_of (codes "DW #" ++ four_hex_digits w) ≡ read None (dw (number (pos w) ∷ []))
 unfolding token_at directive_of expression_of
 word_line w lt =
     let a = good (w / 4096 % 16) (omega arith) in
     let b = good (w / 256 % 16) (omega arith) in
     let c = good (w / 16 % 16) (omega arith) in
     let d = good (w % 16) (omega arith) in
-    let names : list_all is_name_byte (hex_word w) ≡ true = rw (a.name, b.name, c.name, d.name) refl in
-    let digits : list_all (is_digit_of 16) (hex_word w) ≡ true = rw (a.hexadecimal, b.hexadecimal, c.hexadecimal, d.hexadecimal) refl in
-    let value : number_of 16 (hex_word w) ≡ w = rw (a.value, b.value, c.value, d.value) (omega arith) in
-    let last = number_token 3 (hex_digit (w / 4096 % 16)) (hex_address w) names digits in
-    let tokens : tokens_of (codes "DW #" ++ hex_word w) ≡ word_token ∷ number_at_3 4 w ∷ [] =
-    ap (λ ts. word_token ∷ ts) (last ∙ ap (λ (k : Kind). record { kind = k; start = 3; end = 3 + (4 + 1) } ∷ []) (number_kind w lt (hex_word w) value)) in
-    reading_by (codes "DW #" ++ hex_word w) word_token (number_at_3 4 w) tokens (read None (dw (number (pos w) ∷ []))) refl
+    let names : list_all is_name_byte (four_hex_digits w) ≡ true = rw (a.name, b.name, c.name, d.name) refl in
+    let digits : list_all (is_digit_of 16) (four_hex_digits w) ≡ true = rw (a.hexadecimal, b.hexadecimal, c.hexadecimal, d.hexadecimal) refl in
+    let value : number_of 16 (four_hex_digits w) ≡ w = rw (a.value, b.value, c.value, d.value) (omega arith) in
+    let last = number_token 3 (hex_digit (w / 4096 % 16)) (three_hex_digits w) names digits in
+    let tokens : tokens_of (codes "DW #" ++ four_hex_digits w) ≡ word_token ∷ number_at_3 4 w ∷ [] =
+    ap (λ ts. word_token ∷ ts) (last ∙ ap (λ (k : Kind). record { kind = k; start = 3; end = 3 + (4 + 1) } ∷ []) (number_kind w lt (four_hex_digits w) value)) in
+    reading_by (codes "DW #" ++ four_hex_digits w) word_token (number_at_3 4 w) tokens (read None (dw (number (pos w) ∷ []))) refl
 
-pub byte_line : (b : ℕ) → b < 256 → reading_of (codes "DB #" ++ hex_byte b) ≡ read None (db (number (pos b) ∷ []))
+pub byte_line : (b : ℕ) → b < 256 → reading_of (codes "DB #" ++ two_hex_digits b) ≡ read None (db (number (pos b) ∷ []))
 unfolding token_at directive_of expression_of
 byte_line b lt =
     let c = good (b / 16 % 16) (omega arith) in
     let d = good (b % 16) (omega arith) in
-    let names : list_all is_name_byte (hex_byte b) ≡ true = rw (c.name, d.name) refl in
-    let digits : list_all (is_digit_of 16) (hex_byte b) ≡ true = rw (c.hexadecimal, d.hexadecimal) refl in
-    let value : number_of 16 (hex_byte b) ≡ b = rw (c.value, d.value) (omega arith) in
+    let names : list_all is_name_byte (two_hex_digits b) ≡ true = rw (c.name, d.name) refl in
+    let digits : list_all (is_digit_of 16) (two_hex_digits b) ≡ true = rw (c.hexadecimal, d.hexadecimal) refl in
+    let value : number_of 16 (two_hex_digits b) ≡ b = rw (c.value, d.value) (omega arith) in
     let last = number_token 3 (hex_digit (b / 16 % 16)) (hex_digit (b % 16) ∷ []) names digits in
-    let tokens : tokens_of (codes "DB #" ++ hex_byte b) ≡ word_token ∷ number_at_3 2 b ∷ [] =
-    ap (λ ts. word_token ∷ ts) (last ∙ ap (λ (k : Kind). record { kind = k; start = 3; end = 3 + (2 + 1) } ∷ []) (number_kind b (omega arith) (hex_byte b) value)) in
-    reading_by (codes "DB #" ++ hex_byte b) word_token (number_at_3 2 b) tokens (read None (db (number (pos b) ∷ []))) refl
+    let tokens : tokens_of (codes "DB #" ++ two_hex_digits b) ≡ word_token ∷ number_at_3 2 b ∷ [] =
+    ap (λ ts. word_token ∷ ts) (last ∙ ap (λ (k : Kind). record { kind = k; start = 3; end = 3 + (2 + 1) } ∷ []) (number_kind b (omega arith) (two_hex_digits b) value)) in
+    reading_by (codes "DB #" ++ two_hex_digits b) word_token (number_at_3 2 b) tokens (read None (db (number (pos b) ∷ []))) refl

@@ -17,7 +17,7 @@ use Rattle.chip_lang.specs.Value.{no_names}
 use Rattle.chip_lang.specs.Tree.{number}
 use Rattle.chip_lang.specs.Line.{Body, empty, equ, org, ds, db, dw, da, code, define, ifdef, ifund, else_line, endif, end_line, align, options, used, xref, Reading, bad, read, reading_of}
 use Rattle.chip_lang.specs.Code.{own_bytes, word_bytes}
-use Rattle.chip_lang.specs.Show.{show_of, hex_word, hex_byte}
+use Rattle.chip_lang.specs.Show.{show_of, four_hex_digits, two_hex_digits}
 use Rattle.chip_asm.specs.Lines.{is_long, fault_of_lines, open_fault}
 use Rattle.chip_asm.specs.Names.{values_of}
 use Rattle.chip_asm.specs.Layout.{Placed, is_align_body}
@@ -108,7 +108,7 @@ line_shown high low l shown =
       short = leb-true (length (show_of w)) LINE_BYTES parts.0;
     }
 
-line_of_data : (high low : ℕ) → high < 256 → low < 256 → WordLine (codes "DW #" ++ hex_word (256 * high + low)) high low
+line_of_data : (high low : ℕ) → high < 256 → low < 256 → WordLine (codes "DW #" ++ four_hex_digits (256 * high + low)) high low
 line_of_data high low h l =
     let w : ℕ = 256 * high + low in
     let own : own_bytes (dw (number (pos w) ∷ [])) (values_of []) ≡ Ok (high ∷ low ∷ []) =
@@ -123,7 +123,7 @@ line_of_data high low h l =
     }
 
 line_chosen : (high low : ℕ) → high < 256 → low < 256 → (a b : Bool) → is_plain (show_of (256 * high + low)) ≡ a → gives_word (256 * high + low) (reading_of (show_of (256 * high + low))) ≡ b →
-    WordLine (if a && b then show_of (256 * high + low) else codes "DW #" ++ hex_word (256 * high + low)) high low
+    WordLine (if a && b then show_of (256 * high + low) else codes "DW #" ++ four_hex_digits (256 * high + low)) high low
 line_chosen high low h l true true plain gives = line_shown high low l (record { plain = plain; gives = gives })
 line_chosen high low h l true false plain gives = line_of_data high low h l
 line_chosen high low h l false b plain gives = line_of_data high low h l
@@ -156,7 +156,7 @@ laid (b ∷ []) all done bytes built fits =
     let own : own_bytes (db (number (pos b) ∷ [])) (values_of []) ≡ Ok (b ∷ []) = ap (own_bytes (db (number (pos b) ∷ []))) no_values ∙ byte_own b (bytes 0) in
     record {
       aligning = false;
-      built = built_line false (place all off ∷ all) done (b ∷ []) (db (number (pos b) ∷ [])) (reading_of (codes "DB #" ++ hex_byte b)) (byte_line b (bytes 0)) first_done (steady_byte (number (pos b)) (b ∷ []) own refl) refl fits;
+      built = built_line false (place all off ∷ all) done (b ∷ []) (db (number (pos b) ∷ [])) (reading_of (codes "DB #" ++ two_hex_digits b)) (byte_line b (bytes 0)) first_done (steady_byte (number (pos b)) (b ∷ []) own refl) refl fits;
     }
 laid (high ∷ low ∷ rest) all done bytes built fits =
     let line = word_line_of high low (bytes 0) (bytes 1) in

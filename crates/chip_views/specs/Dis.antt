@@ -10,7 +10,7 @@ use Rattle.chip_lang.specs.declared.code.Coded.TheVariants.{Bytes, Faulty}
 use Rattle.chip_lang.specs.Code.{own_bytes, word_bytes}
 use Rattle.chip_lang.specs.Value.{no_names}
 use Rattle.chip_lang.specs.Line.{code, Reading, read, reading_of}
-use Rattle.chip_lang.specs.Show.{show_of, hex_word, hex_byte}
+use Rattle.chip_lang.specs.Show.{show_of, four_hex_digits, two_hex_digits}
 
 -- a letter, a digit, a sign or a space
 abbrev pub is_visible : ℕ → Bool
@@ -39,12 +39,12 @@ gives_word w reading = false
 unfoldable pub word_text : ℕ → List ℕ
 word_text w =
     if is_plain (show_of w) && gives_word w (reading_of (show_of w)) then show_of w
-    else codes "DW #" ++ hex_word w
+    else codes "DW #" ++ four_hex_digits w
 
 -- the lines of an image: a line for each word, and an odd last byte as data that isn't padded
 abbrev pub lines_of_image : List ℕ → List (List ℕ)
 lines_of_image [] = []
-lines_of_image (b ∷ []) = codes "ALIGN OFF" ∷ (codes "DB #" ++ hex_byte b) ∷ []
+lines_of_image (b ∷ []) = codes "ALIGN OFF" ∷ (codes "DB #" ++ two_hex_digits b) ∷ []
 lines_of_image (high ∷ low ∷ rest) = word_text (256 * high + low) ∷ lines_of_image rest
 
 -- a line and a newline

@@ -7,7 +7,7 @@ use Rattle.std.specs.Fmt.{decimal}
 use Rattle.std.specs.Int.{is_negative}
 use Rattle.std.specs.List.{enumerate_from, flat_map}
 use Rattle.std.specs.Str.Lines.{lines}
-use Rattle.chip_lang.specs.Show.{hex_word}
+use Rattle.chip_lang.specs.Show.{four_hex_digits}
 use Rattle.chip_asm.specs.Listing.{at_left}
 use Rattle.chip_asm.specs.declared.table.Symbol.{Symbol}
 
@@ -15,7 +15,7 @@ use Rattle.chip_asm.specs.declared.table.Symbol.{Symbol}
 abbrev pub hex_number : ℕ → List ℕ
 hex_number n =
     codes "#"
-    ++ (if nat_lt n 65536 then hex_word n else hex_word (n / 65536) ++ hex_word (n % 65536))
+    ++ (if nat_lt n 65536 then four_hex_digits n else four_hex_digits (n / 65536) ++ four_hex_digits (n % 65536))
 
 -- a negative value is its magnitude after a minus sign
 unfoldable pub hex_value : ℤ → List ℕ

@@ -6,7 +6,7 @@ ghost use Rattle.std.specs.List.{list_all};
 ghost use Rattle.std.specs.FinMap as map;
 ghost use Rattle.chip_lang.specs.Line.{reading_of};
 ghost use Rattle.chip_lang.specs.SeenLine.{seen_line};
-ghost use Rattle.chip_lang.specs.Show.{hex_digit, hex_word, hex_byte};
+ghost use Rattle.chip_lang.specs.Show.{hex_digit, four_hex_digits, two_hex_digits};
 ghost use Rattle.chip_asm.specs.Lines.{open_fault};
 ghost use Rattle.chip_asm.specs.Program.{image_of};
 ghost use Rattle.chip_views.specs.Dis.{is_visible, is_plain, is_word, result_of, gives_word, word_text, line_text, source_of_image};
@@ -132,7 +132,7 @@ fn is_word(coded: &Coded, word: u16) -> bool
 }
 
 fn push_data_word(text: &mut Vec<u8>, word: u16) -> Result<(), AllocError>
-    ensures { OnOk result (text.new.items ≡ text.old.items ++ codes "DW #" ++ hex_word word) }
+    ensures { OnOk result (text.new.items ≡ text.old.items ++ codes "DW #" ++ four_hex_digits word) }
 {
     text.extend_from_slice(b"DW #")?;
     push_word(text, word)
@@ -140,7 +140,7 @@ fn push_data_word(text: &mut Vec<u8>, word: u16) -> Result<(), AllocError>
 
 /// Adds four digits to the base 16.
 pub(crate) fn push_word(text: &mut Vec<u8>, word: u16) -> Result<(), AllocError>
-    ensures { OnOk result (text.new.items ≡ text.old.items ++ hex_word word) }
+    ensures { OnOk result (text.new.items ≡ text.old.items ++ four_hex_digits word) }
 {
     text.extend_from_slice(&[
         hex_digit(word / 4096 % 16),
@@ -154,7 +154,7 @@ pub(crate) fn push_word(text: &mut Vec<u8>, word: u16) -> Result<(), AllocError>
 fn push_byte_lines(text: &mut Vec<u8>, byte: u8) -> Result<(), AllocError>
     ensures { OnOk result (text.new.items
         ≡ text.old.items ++ line_text (codes "ALIGN OFF")
-        ++ line_text (codes "DB #" ++ hex_byte byte)) }
+        ++ line_text (codes "DB #" ++ two_hex_digits byte)) }
 {
     let byte = u16::from(byte);
     text.extend_from_slice(b"ALIGN OFF\nDB #")?;

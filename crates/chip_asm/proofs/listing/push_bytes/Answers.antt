@@ -1,5 +1,5 @@
 use Rattle.std.proofs.Common.{◌≡◌, ◌∙◌, ◌++◌, ◌∷◌, ◌-◌, ◌*◌, ◌/◌, ◌%◌, [], ap, arith, replicate, sym}
-use Rattle.chip_lang.specs.Show.{hex_byte, hex_digit}
+use Rattle.chip_lang.specs.Show.{two_hex_digits, hex_digit}
 use Rattle.chip_asm.specs.Listing.{bytes_shown}
 use Rattle.chip_asm.proofs.ListingSteps.{length-bytes, pair-more}
 use Rattle.chip_asm.proofs.listing.push_bytes.Goals as goal
@@ -7,7 +7,7 @@ use Rattle.chip_asm.proofs.listing.push_bytes.Goals as goal
 pub loop-index-preserved : goal.loop-index-preserved
 loop-index-preserved c =
     pair-more c.loop-index.index c.args.bytes.now c.loop-index.digits c.hex_digit.result c.hex_digit-in-loop-index.result (omega arith) c.loop-index.invariant
-    (ap (λ a. a ∷ c.hex_digit-in-loop-index.result ∷ []) c.hex_digit.ensures ∙ ap (λ b. hex_digit (c.byte_or_zero-byte.result / 16 % 16) ∷ b ∷ []) c.hex_digit-in-loop-index.ensures ∙ ap hex_byte c.byte_or_zero-byte.ensures)
+    (ap (λ a. a ∷ c.hex_digit-in-loop-index.result ∷ []) c.hex_digit.ensures ∙ ap (λ b. hex_digit (c.byte_or_zero-byte.result / 16 % 16) ∷ b ∷ []) c.hex_digit-in-loop-index.ensures ∙ ap two_hex_digits c.byte_or_zero-byte.ensures)
 
 pub returns : goal.returns
 returns c =

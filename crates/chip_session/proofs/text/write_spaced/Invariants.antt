@@ -1,5 +1,6 @@
 use Rattle.std.proofs.Common.{◌≡◌, ◌*◌, ◌++◌, take, drop}
-use Rattle.chip_session.specs.Text.{hex_byte, spaced}
+use Rattle.chip_trace.specs.Digits.{hex_byte}
+use Rattle.chip_session.specs.Text.{spaced}
 use Rattle.chip_session.proofs.text.write_spaced.Given as goal
 
 abbrev pub invariant-bytes : goal.invariant-bytes
