@@ -30,7 +30,8 @@ pub fn parse_expression(alloc: Global, tokens: &[Lexeme]) -> Result<Option<Expr>
     if let [token] = tokens {
         return expression_of_token(alloc, token);
     }
-    let mut builder = Builder::new(alloc, tokens.len())?;
+    // Room for a sum of names and numbers, which has one item for each operand.
+    let mut builder = Builder::new(alloc, tokens.len() / 2 + 1)?;
     let Some(rest) = parse_level(&mut builder, tokens, 7)? else {
         return Ok(None);
     };
