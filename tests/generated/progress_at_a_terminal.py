@@ -1,6 +1,6 @@
 """A long search shows its progress where standard error is a terminal, or with `--progress`; a short one doesn't.
 
-With two keys there are twice as many states after each, so that 250,000 of them are taken up before the search keeps 1,000,000.
+With two keys there are twice as many states after each, so that many more than 250,000 are kept or taken up.
 """
 import os
 import pathlib

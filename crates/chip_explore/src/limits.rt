@@ -17,5 +17,5 @@ pub(crate) const MOST_PRESSES: u16 = (MOST_EVENTS / 2) as u16;
 /// About how many bytes a state takes, without its backdrop, with what the finder knows of it.
 pub(crate) const STATE_BYTES: u64 = 80;
 
-/// A watcher is told of each turn whose number is a multiple of it, other than 0.
-pub(crate) const TURNS_TOLD: u64 = 250_000;
+/// A watcher is told each time so many states more were kept or taken up.
+pub(crate) const STATES_TOLD: u64 = 250_000;

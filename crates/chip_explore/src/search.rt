@@ -10,7 +10,7 @@ use crate::finder::{Finder, Origin, Turn};
 use crate::kept::{Base, Kept};
 use crate::keys::{alone, is_down};
 use crate::leg::{End, Runner};
-use crate::limits::{STATE_BYTES, TURNS_TOLD};
+use crate::limits::{STATE_BYTES, STATES_TOLD};
 use crate::members::Members;
 use crate::setting::Setting;
 use crate::sum::Sums;
@@ -312,6 +312,7 @@ impl Search {
         requires holds { Holds setting.now self.old.members }
         ensures { Goes setting.now self.old.members self.new.members }
     {
+        let mut told = 0;
         for turns in 0..u64::MAX {
             let Some(turn) = self.finder.next() else {
                 return Ok(());
@@ -323,7 +324,9 @@ impl Search {
             if turn.step >= self.members.limit || turn.step >= most_steps {
                 return Ok(());
             }
-            if turns != 0 && turns % TURNS_TOLD == 0 {
+            let done = turns.saturating_add(self.members.states.len() as u64) / STATES_TOLD;
+            if done > told {
+                told = done;
                 watcher.note(turn.step, self.members.states.len(), self.room());
             }
             if self.members.is_open(place, turn.step) {
