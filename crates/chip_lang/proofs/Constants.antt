@@ -1,45 +1,46 @@
--- The value that an expression has whatever the names mean, by its parts.
-use Rattle.std.proofs.Common.{◌≡◌, ℕ, ℤ, List, [], ◌∷◌, ◌++◌, Result, Ok, Err, Some, None, refl}
-use Rattle.std.specs.Option.{option_and_then}
+-- The value that an expression has whatever the names mean.
+use Rattle.std.proofs.Common.{◌≡◌, ℕ, ℤ, List, [], ◌∷◌, ◌++◌, Result, Ok, Err, Some, None, refl, sym, ◌∙◌}
 use Rattle.std.specs.Result.{result_ok}
-use Rattle.chip_lang.specs.declared.expr.Prefix.{Prefix}
-use Rattle.chip_lang.specs.declared.expr.Operator.{Operator}
+use Rattle.std.specs.FinMap.{get-empty}
+use Rattle.std.specs.Ordering.{nat_cmp}
+use Rattle.std.specs.Cmp.Lexicographic.{slice_cmp}
 use Rattle.chip_lang.specs.declared.fault.Fault.{Fault}
 use Rattle.chip_lang.specs.Tree.{Tree, number, name, unary, binary}
 use Rattle.chip_lang.specs.Uses.{constant, if_nameless, names_in}
-use Rattle.chip_lang.specs.Value.{apply, apply_prefix, no_names, ◌>>=◌, value}
+use Rattle.chip_lang.specs.Value.{Symbols, apply, apply_prefix, no_names, ◌>>=◌, value, value_of_name}
+use Rattle.chip_lang.proofs.KeptValue.{kept-value}
 
-pub constant-number : (z : ℤ) → constant (number z) ≡ Some z
-unfolding constant
-constant-number z = refl
+pub no_value : (n : List ℕ) → value_of_name no_names n ≡ None
+no_value n = get-empty (slice_cmp nat_cmp) n
 
-pub constant-name : (n : List ℕ) → constant (name n) ≡ None
-unfolding constant
-constant-name n = refl
+after_operand : (xs : List (List ℕ)) (p : Result ℤ Fault) (go : ℤ → Result ℤ Fault)
+    → if_nameless xs (result_ok p) ≡ result_ok p → if_nameless xs (result_ok (p >>= go)) ≡ result_ok (p >>= go)
+after_operand [] p go h = refl
+after_operand (x ∷ xs) (Ok z) go h = cc
+after_operand (x ∷ xs) (Err f) go h = refl
 
-pub constant-unary : (sign : Prefix) (a : Tree) → constant (unary sign a) ≡ option_and_then (λ x. result_ok (apply_prefix sign x)) (constant a)
+after_operands : (xs ys : List (List ℕ)) (p q : Result ℤ Fault) (go : ℤ → ℤ → Result ℤ Fault)
+    → if_nameless xs (result_ok p) ≡ result_ok p → if_nameless ys (result_ok q) ≡ result_ok q
+    → if_nameless (xs ++ ys) (result_ok (p >>= λ x. q >>= go x)) ≡ result_ok (p >>= λ x. q >>= go x)
+after_operands [] ys (Ok x) q go h i = after_operand ys q (go x) i
+after_operands [] [] (Err f) q go h i = refl
+after_operands [] (y ∷ ys) (Err f) q go h i = refl
+after_operands (x ∷ xs) ys (Ok z) q go h i = cc
+after_operands (x ∷ xs) ys (Err f) q go h i = refl
+
+-- it is the value under no names, where a name has none
+pub constant-value : (e : Tree) → constant e ≡ result_ok (value e no_names)
 unfolding constant
-constant-unary sign a = by (names_in a) (value a no_names)
+constant-value (number z) = refl
+constant-value (name n) = rw (no_value n) refl
+constant-value (unary sign a) = after_operand (names_in a) (value a no_names) (apply_prefix sign) (constant-value a)
+constant-value (binary sign a b) =
+    after_operands (names_in a) (names_in b) (value a no_names) (value b no_names) (apply sign) (constant-value a) (constant-value b)
+
+pub kept_from_none : (e : Tree) (symbols : Symbols) (v : ℤ) → value e no_names ≡ Ok v → value e symbols ≡ Ok v
+kept_from_none e symbols v h = kept-value e no_names symbols v (λ n w is. absurd (some_none w (sym is ∙ no_value n))) h
   where
-    by : (xs : List (List ℕ)) (p : Result ℤ Fault)
-        → if_nameless xs (result_ok (p >>= apply_prefix sign)) ≡ option_and_then (λ x. result_ok (apply_prefix sign x)) (if_nameless xs (result_ok p))
-    by [] (Ok x) = refl
-    by [] (Err f) = refl
-    by (n ∷ xs) p = refl
+    some_none : (w : ℤ) → Some w ≡ None → ⊥
+    some_none w e = cc
 
-pub constant-binary : (sign : Operator) (a b : Tree)
-    → constant (binary sign a b) ≡ option_and_then (λ x. option_and_then (λ y. result_ok (apply sign x y)) (constant b)) (constant a)
-unfolding constant
-constant-binary sign a b = by (names_in a) (names_in b) (value a no_names) (value b no_names)
-  where
-    by : (xs ys : List (List ℕ)) (p q : Result ℤ Fault)
-        → if_nameless (xs ++ ys) (result_ok (p >>= λ x. q >>= apply sign x))
-        ≡ option_and_then (λ x. option_and_then (λ y. result_ok (apply sign x y)) (if_nameless ys (result_ok q))) (if_nameless xs (result_ok p))
-    by [] [] (Ok x) (Ok y) = refl
-    by [] [] (Ok x) (Err f) = refl
-    by [] [] (Err f) q = refl
-    by [] (y ∷ ys) (Ok x) q = refl
-    by [] (y ∷ ys) (Err f) q = refl
-    by (x ∷ xs) ys p q = refl
-
-pub ruleset constants = (constant-number, constant-name, constant-unary, constant-binary)
+pub ruleset constants = (constant-value, kept_from_none)

@@ -3,18 +3,11 @@ use Rattle.std.proofs.Common.{◌≡◌, ℕ, ◌==◌, Bool, true, false, if◌
 use Rattle.chip_lang.specs.declared.lexeme.Lexeme.{Lexeme}
 use Rattle.chip_lang.specs.declared.lexeme.Lexeme.TheVariants.{Word, Number, Text, Sign, Bad}
 use Rattle.chip_lang.specs.declared.expr.Prefix.{Prefix}
-use Rattle.chip_lang.specs.Tree.{Tree, number, name}
+use Rattle.chip_lang.specs.Tree.{name}
 use Rattle.chip_lang.specs.Reserved.{is_reserved}
 use Rattle.chip_lang.specs.Grammar.{prefix_of}
 use Rattle.chip_lang.specs.computed.Parse.{expression_of, one_byte, whole}
-
--- a name, a number or a text of one byte
-abbrev pub atom_of : Lexeme → Option Tree
-atom_of (Word w) = if is_reserved w then None else Some (name w)
-atom_of (Number z) = Some (number z)
-atom_of (Text bytes) = whole (one_byte bytes [])
-atom_of (Sign c) = None
-atom_of (Bad f) = None
+use Rattle.chip_lang.specs.inner.Atom.{atom_of}
 
 of_word : (w : List ℕ) (b : Bool) → is_reserved w ≡ b → expression_of (Word w ∷ []) ≡ (if b then None else Some (name w))
 unfolding expression_of

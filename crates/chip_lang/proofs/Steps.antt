@@ -1,19 +1,17 @@
 -- One step of the parser.
-use Rattle.std.proofs.Common.{◌≡◌, ℕ, zero, suc, ◌+◌, ◌*◌, ◌-◌, ◌<◌, ◌≤◌, ◌==◌, Bool, true, false, if◌then◌else◌, List, [], ◌∷◌, ◌++◌, length, Option, Some, None, refl, sym, ap, arith, ◌∙◌}
+use Rattle.std.proofs.Common.{◌≡◌, ℕ, zero, suc, ◌+◌, ◌*◌, ◌-◌, ◌<◌, ◌≤◌, ◌==◌, Bool, true, false, if◌then◌else◌, List, [], ◌∷◌, length, Option, Some, None, refl, sym, ap, arith, ◌∙◌}
 use Rattle.std.proofs.lemmas.Bool.Decides.{nat_tests}
 use Rattle.chip_lang.specs.declared.lexeme.Lexeme.{Lexeme}
 use Rattle.chip_lang.specs.declared.lexeme.Lexeme.TheVariants.{Word, Number, Text, Sign, Bad}
 use Rattle.chip_lang.specs.declared.expr.Operator.{Operator}
-use Rattle.chip_lang.specs.declared.expr.Prefix.{Prefix}
-use Rattle.chip_lang.specs.Tree.{Tree, name, unary, binary}
+use Rattle.chip_lang.specs.Tree.{Tree, binary}
 use Rattle.chip_lang.specs.Grammar.{operator_of, level_of}
-use Rattle.chip_lang.specs.Reserved.{is_reserved}
 use Rattle.std.proofs.Common.{take, drop, Result, Ok, Err}
-use Rattle.std.specs.declared.alloc.AllocError.{AllocError}
+use Rattle.std.specs.Borrow.{Bor}
 use Rattle.std.specs.Result.{IfOk}
-use Rattle.chip_lang.specs.inner.Seen.{Answer, seen}
+use Rattle.chip_lang.specs.inner.Seen.{seen}
 use Rattle.chip_lang.proofs.Scan.{to_end}
-use Rattle.chip_lang.specs.computed.Parse.{Parsed, level_or_8, front_level, if_level, front_prefix, front_operator, after, below, on_found, closed, prefixed, with_right, parse, further, sign_then, unless_sign, prefixes, after_prefixes, signed}
+use Rattle.chip_lang.specs.computed.Parse.{Parsed, level_or_8, front_level, if_level, front_prefix, front_operator, after, below, on_found, closed, prefixed, with_right, parse, further}
 
 -- a level: what the stronger level finds, and the operators after it
 pub level_step : (n k : ℕ) (ts rest : List Lexeme) (left : Tree) (y : Parsed) → 1 ≤ k → 9 * length ts + suc k < n → length rest < length ts →
@@ -37,11 +35,8 @@ pub prefixed_step : (n : ℕ) (ts : List Lexeme) (y : Parsed) → 9 * length ts 
 prefixed_step zero ts y q front found = absurd (omega arith)
 prefixed_step (suc n) ts y q front found = found n (omega arith) ∙ ap (λ o. prefixed (parse n 1) (parse n 0) o ts) front
 
--- a name
-pub name_step : (n : ℕ) (w : List ℕ) (ts : List Lexeme) (y : Parsed) → 0 < n → y ≡ (if is_reserved w then None else Some (name w, ts)) →
-    y ≡ parse n 0 (Word w ∷ ts)
-name_step zero w ts y q found = absurd (omega arith)
-name_step (suc n) w ts y q found = found
+same_level : (a b : ℕ) → (a == b) ≡ true → a ≡ b
+same_level a b h = grind (arith, nat_tests)
 
 -- parentheses
 pub parentheses_step : (n c : ℕ) (ts : List Lexeme) (p : Parsed) → c ≡ 40 → 9 * suc (length ts) < n →
@@ -68,9 +63,6 @@ further_end zero level left rest h front = absurd (omega arith)
 further_end (suc n) level left rest h front = ap (λ o. with_right (parse n (below level)) (further n level) o left rest) front
 
 -- ---- levels one after another
-
-same_level : (a b : ℕ) → (a == b) ≡ true → a ≡ b
-same_level a b h = grind (arith, nat_tests)
 
 -- the operator at the front is of no level but its own
 other_sign : (o : Option Operator) (level : ℕ) → (level_or_8 o ≡ level → ⊥) → None ≡ if_level o level
@@ -140,11 +132,11 @@ sunk (suc d) k level ts is low none n b =
 
 -- ---- the same, of what a function answers
 
-pub name_ok : (r : Result Answer AllocError) (w : List ℕ) (ts rest : List Lexeme) → ts ≡ Word w ∷ rest →
-    IfOk r (λ found. seen found ≡ (if is_reserved w then None else Some (name w, rest))) →
-    IfOk r (λ found. (n : ℕ) → 9 * length ts < n → seen found ≡ parse n 0 ts)
-name_ok (Err e) w ts rest is found = tt
-name_ok (Ok y) w ts rest is found = λ n b. name_step n w rest (seen y) (omega arith) found ∙ ap (parse n 0) (sym is)
+pub plain_ok : {E : Type 0} (e : Tree) (r : Result (Option (Bor (List Lexeme))) E) (ts : List Lexeme) → None ≡ front_prefix ts →
+    IfOk r (λ found. (n : ℕ) → 9 * length ts < n → seen e found ≡ parse n 0 ts) →
+    IfOk r (λ found. (n : ℕ) → 9 * length ts + 1 < n → seen e found ≡ parse n 1 ts)
+plain_ok e (Err x) ts front found = tt
+plain_ok e (Ok y) ts front found = λ n b. prefixed_step n ts (seen e y) b front found
 
 pub parentheses_at : (n c : ℕ) (ts rest : List Lexeme) (p : Parsed) → ts ≡ Sign c ∷ rest → c ≡ 40 → 9 * length ts < n →
     ((m : ℕ) → 9 * length rest + 7 < m → p ≡ parse m 7 rest) → on_found p closed ≡ parse n 0 ts
@@ -196,65 +188,6 @@ leads_nowhere level k first left sign ts rest next leads is high same l front fo
 pub leads_end : (level : ℕ) (first left : Tree) (ts rest : List Lexeme) → Leads level first ts left rest → None ≡ front_operator rest level →
     (n : ℕ) → 9 * length ts + 8 < n → Some (left, rest) ≡ further n level first ts
 leads_end level first left ts rest leads front = leads (Some (left, rest)) (λ m b. further_end m level left rest (omega arith) front)
-
--- ---- signs before an operand
-
-pub sign_first : (ts : List Lexeme) (sign : Prefix) → Some sign ≡ front_prefix ts →
-    (prefixes ts ≡ sign ∷ prefixes (after ts)) × (after_prefixes ts ≡ after_prefixes (after ts)) × (length ts ≡ suc (length (after ts)))
-sign_first [] sign h = absurd (none_some sign h)
-  where
-    none_some : (sign : Prefix) → Some sign ≡ None → ⊥
-    none_some sign h = cc
-sign_first (t ∷ ts) sign h = (ap (λ o. sign_then o (prefixes ts)) (sym h), ap (λ o. unless_sign o (t ∷ ts) (after_prefixes ts)) (sym h), refl)
-
-pub no_sign : (ts : List Lexeme) → None ≡ front_prefix ts → (prefixes ts ≡ []) × (after_prefixes ts ≡ ts)
-no_sign [] h = (refl, refl)
-no_sign (t ∷ ts) h = (ap (λ o. sign_then o (prefixes ts)) (sym h), ap (λ o. unless_sign o (t ∷ ts) (after_prefixes ts)) (sym h))
-
-pub signed_last : (signs : List Prefix) (sign : Prefix) (e : Tree) → signed (signs ++ sign ∷ []) e ≡ signed signs (unary sign e)
-signed_last [] sign e = refl
-signed_last (s ∷ signs) sign e = ap (unary s) (signed_last signs sign e)
-
--- what is found, with some signs before it
-abbrev pub with_signs : List Prefix → Parsed → Parsed
-with_signs signs y = on_found y (λ e rest. Some (signed signs e, rest))
-
-with_none : (y : Parsed) → with_signs [] y ≡ y
-with_none None = refl
-with_none (Some x) = refl
-
-with_more : (sign : Prefix) (signs : List Prefix) (y : Parsed) → with_signs (sign ∷ signs) y ≡ on_found (with_signs signs y) (λ e rest. Some (unary sign e, rest))
-with_more sign signs None = refl
-with_more sign signs (Some x) = refl
-
--- an operand after its signs
-abbrev pub Signed : List Lexeme → Type 0
-Signed ts =
-    (n : ℕ) (y : Parsed) → 9 * length ts + 1 < n → ((m : ℕ) → 9 * length (after_prefixes ts) < m → y ≡ parse m 0 (after_prefixes ts)) → with_signs (prefixes ts) y ≡ parse n 1 ts
-
-signed_plain : (ts : List Lexeme) → None ≡ front_prefix ts → Signed ts
-signed_plain ts h n y b found =
-    let none = no_sign ts h in
-    ap (λ signs. with_signs signs y) none.0 ∙ with_none y
-    ∙ prefixed_step n ts y b h (λ m q. found m (rw none.1 q) ∙ ap (parse m 0) none.1)
-
-signed_step : (t : Lexeme) (ts : List Lexeme) (o : Option Prefix) → o ≡ front_prefix (t ∷ ts) → Signed ts → Signed (t ∷ ts)
-signed_step t ts None h again n y b found = signed_plain (t ∷ ts) h n y b found
-signed_step t ts (Some sign) h again zero y b found = absurd (omega arith)
-signed_step t ts (Some sign) h again (suc n) y b found =
-    let first = sign_first (t ∷ ts) sign h in
-    ap (λ signs. with_signs signs y) first.0 ∙ with_more sign (prefixes ts) y
-    ∙ ap (λ p. on_found p (λ e rest. Some (unary sign e, rest))) (again n y (omega arith) (λ m q. found m (rw first.1 q) ∙ ap (parse m 0) first.1))
-    ∙ ap (λ o. prefixed (parse n 1) (parse n 0) o (t ∷ ts)) h
-
-pub signed_all : (ts : List Lexeme) → Signed ts
-signed_all [] = signed_plain [] refl
-signed_all (t ∷ ts) = signed_step t ts (front_prefix (t ∷ ts)) refl (signed_all ts)
-
-pub signed_at : (ts rest : List Lexeme) (signs : List Prefix) (y : Parsed) → rest ≡ after_prefixes ts → signs ≡ prefixes ts →
-    ((m : ℕ) → 9 * length rest < m → y ≡ parse m 0 rest) → (n : ℕ) → 9 * length ts + 1 < n → with_signs signs y ≡ parse n 1 ts
-signed_at ts rest signs y is same found n b =
-    ap (λ all. with_signs all y) same ∙ signed_all ts n y b (λ m q. found m (rw is q) ∙ ap (parse m 0) is)
 
 pub after_shorter : (ts : List Lexeme) → length (after ts) ≤ length ts
 after_shorter [] = omega arith

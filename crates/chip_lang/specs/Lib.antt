@@ -5,7 +5,7 @@
 --     Scan       what makes a list the tokens of a line
 --     Named, Keyword, Reserved      words of the language
 --     Form       the source form of a name and operands
---     Tree, Grammar, Value          expressions, and their values
+--     Expression, Tree, Grammar, Value      expressions, and their values
 --     Show       the source text of a word
 --     Operand, Encoding             operands, and the word of a form
 --     Statement  the word of a statement, and what it decodes to
@@ -24,6 +24,7 @@ pub mod Code
 pub mod Decoding
 pub mod Encoding
 pub mod Examples
+pub mod Expression
 pub mod FaultNumber
 pub mod FaultPlace
 pub mod Form

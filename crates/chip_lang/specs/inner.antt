@@ -1,8 +1,11 @@
--- What the functions inside say of digits, rows of words, forms of a name and values; no public
--- clause cites these files.
+-- What the functions inside say of digits, rows of words, forms of a name, values and expressions in
+-- postfix order; no public clause cites these files.
+pub mod Atom
 pub mod ByDigits
 pub mod NamedForms
 pub mod NamedRow
+pub mod Outcome
+pub mod Postfix
 pub mod Scanned
 pub mod Seen
 pub mod SeenShape

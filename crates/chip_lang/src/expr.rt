@@ -1,6 +1,7 @@
 //! Expressions and their values.
 
 use crate::bytes::Bytes;
+use crate::postfix::Postfix;
 
 /// A sign before an operand.
 #[derive(Clone, Copy, PartialEq, Eq)]
@@ -38,24 +39,11 @@ pub enum Operator {
 
 /// An expression.
 #[derive(Drop)]
-#[cycle(expression)]
 pub enum Expr {
     /// A number, or the byte of a text of one byte.
     Number(i32),
     /// A name, in upper case.
     Name(Bytes),
-    /// A sign before an operand.
-    Unary(Prefix, Box<Expr>),
-    /// A sign between two operands.
-    Binary(Operator, Box<Sides>),
-}
-
-/// The operands of a sign between two.
-#[derive(Drop)]
-#[cycle(expression)]
-pub struct Sides {
-    /// The one before the sign.
-    pub left: Expr,
-    /// The one after it.
-    pub right: Expr,
+    /// An expression of several tokens.
+    Compound(Postfix),
 }

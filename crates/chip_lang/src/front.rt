@@ -1,19 +1,19 @@
 //! What stands in front of tokens.
 
-ghost use Rattle.std.specs.Prelude.{[], ◌≡◌, ◌<◌, ◌≤◌, ◌+◌, length, IfSome, IfOk, true, is_some, if◌then◌else◌};
+ghost use Rattle.std.specs.Prelude.{◌≡◌, ◌<◌, ◌≤◌, ◌+◌, List, length, IfSome, IfOk, true, is_some, option_map, if◌then◌else◌};
 ghost use Rattle.chip_lang.specs.Grammar.{prefix_of, operator_of, level_of};
-ghost use Rattle.chip_lang.specs.computed.Parse.{Parsed, front_prefix, front_operator, front_level, closed, one_byte, whole};
-ghost use Rattle.chip_lang.specs.inner.Seen.{seen, seen_whole};
-ghost use Rattle.chip_lang.specs.Tree.{tree_of, name};
+ghost use Rattle.chip_lang.specs.computed.Parse.{front_prefix, front_operator, front_level, closed, one_byte};
+ghost use Rattle.chip_lang.specs.declared.lexeme.Lexeme.{Lexeme};
+ghost use Rattle.chip_lang.specs.inner.Seen.{seen};
+ghost use Rattle.chip_lang.specs.Expression.{Tree, number};
 ghost use Rattle.chip_lang.specs.Reserved.{is_reserved};
 ghost use Rattle.chip_lang.specs.Keyword.{register_of};
 
 use crate::bytes::Bytes;
-use crate::expr::{Expr, Operator, Prefix};
+use crate::expr::{Operator, Prefix};
 use crate::form::is_mnemonic;
 use crate::keyword::{directive_of, register_of, special_of};
 use crate::lexeme::Lexeme;
-use crate::short_bytes::ShortBytes;
 use std::alloc::{AllocError, Global};
 
 fn prefix_of(sign: u8) -> Option<Prefix>
@@ -98,52 +98,25 @@ pub fn level_in_front(tokens: &[Lexeme]) -> u32
     }
 }
 
-/// An expression before a closing parenthesis, which is taken too.
-pub fn closed(inside: Expr, tokens: &[Lexeme]) -> Option<(Expr, &[Lexeme])>
-    ensures value { seen result ≡ closed (tree_of inside) tokens.now }
-    ensures shorter { IfSome result (λ x. length x.1.now < length tokens.now) }
+/// The tokens after a closing parenthesis in front.
+pub fn closed(tokens: &[Lexeme]) -> Option<&[Lexeme]>
+    ensures value { (inside : Tree) → seen inside result ≡ closed inside tokens.now }
+    ensures shorter { IfSome result (λ rest. length rest.now < length tokens.now) }
 {
     match tokens.split_first() {
-        Some((Lexeme::Sign(b')'), rest)) => Some((inside, rest)),
+        Some((Lexeme::Sign(b')'), rest)) => Some(rest),
         _ => None,
-    }
-}
-
-/// A text of one byte, as a number.
-pub fn text_atom<'a>(text: &ShortBytes, tokens: &'a [Lexeme]) -> Option<(Expr, &'a [Lexeme])>
-    ensures value { seen result ≡ one_byte text.now tokens.now }
-    ensures shorter { IfSome result (λ x. length x.1.now ≤ length tokens.now) }
-{
-    match text_number(text.get()) {
-        Some(number) => Some((number, tokens)),
-        None => None,
     }
 }
 
 /// The number of a text of one byte.
-pub fn text_number(text: &[u8]) -> Option<Expr>
-    ensures { seen_whole result ≡ whole (one_byte text.now []) }
+pub fn text_number(text: &[u8]) -> Option<i32>
+    ensures { (rest : List Lexeme)
+        → option_map (λ value. (number value, rest)) result ≡ one_byte text.now rest }
 {
     match text {
-        [byte] => Some(Expr::Number(i32::from(*byte))),
+        [byte] => Some(i32::from(*byte)),
         _ => None,
-    }
-}
-
-/// A name that isn't reserved.
-pub fn name_atom<'a>(
-    alloc: Global,
-    word: &ShortBytes,
-    tokens: &'a [Lexeme],
-) -> Result<Option<(Expr, &'a [Lexeme])>, AllocError>
-    ensures value { IfOk result (λ found. seen found
-        ≡ (if is_reserved word.now then None else Some (name word.now, tokens.now))) }
-    ensures shorter { IfOk result
-        (λ found. IfSome found (λ x. length x.1.now ≤ length tokens.now)) }
-{
-    match free_name(alloc, word.get())? {
-        Some(name) => Ok(Some((Expr::Name(name), tokens))),
-        None => Ok(None),
     }
 }
 

@@ -1,22 +1,24 @@
 //! The parser of expressions.
 
-ghost use Rattle.std.specs.Prelude.{[], ◌∷◌, ◌≡◌, ◌<◌, ◌≤◌, ◌+◌, ◌*◌, ℕ, length, IfOk, IfSome, IfNone, Option, Some, None, OnOk};
-ghost use Rattle.chip_lang.specs.Grammar.{IsExpression, prefix_of, operator_of, level_of};
-ghost use Rattle.chip_lang.specs.computed.Parse.{Parsed, front_prefix, front_operator, after, expression_of, parse, further, prefixes, after_prefixes, signed};
+ghost use Rattle.std.specs.Prelude.{[], ◌∷◌, ◌≡◌, ◌<◌, ◌≤◌, ◌+◌, ◌*◌, ℕ, length, IfOk, IfSome, IfNone, Some, None, true, if◌then◌else◌};
+ghost use Rattle.chip_lang.specs.Grammar.{IsExpression};
+ghost use Rattle.chip_lang.specs.computed.Parse.{expression_of, parse, further};
+ghost use Rattle.chip_lang.specs.inner.Atom.{atom_of};
+ghost use Rattle.chip_lang.specs.inner.Postfix.{top, popped};
 ghost use Rattle.chip_lang.specs.inner.Seen.{seen, seen_whole};
-ghost use Rattle.chip_lang.specs.Tree.{Tree, tree_of, binary};
-ghost use Rattle.chip_lang.specs.Reserved.{is_reserved};
+ghost use Rattle.chip_lang.specs.Tree.{Tree, tree_of};
 
-use crate::expr::{Expr, Operator, Prefix, Sides};
+use crate::expr::Expr;
 use crate::front::{
-    closed, free_name, level_in_front, name_atom, operator_in_front, prefix_in_front, text_atom,
-    text_number,
+    closed, free_name, is_reserved, level_in_front, operator_in_front, prefix_in_front, text_number,
 };
 use crate::lexeme::Lexeme;
+use crate::postfix::{Builder, Item};
 use std::alloc::{AllocError, Global};
 
-/// An expression and the tokens after it, if there is one.
-type Found<'a> = Option<(Expr, &'a [Lexeme])>;
+/// The tokens after an expression, which a builder then has on top; none where there is no
+/// expression, and what the builder has then means nothing.
+type Found<'a> = Option<&'a [Lexeme]>;
 
 /// The expression that tokens are, if they are one.
 pub fn parse_expression(alloc: Global, tokens: &[Lexeme]) -> Result<Option<Expr>, AllocError>
@@ -28,11 +30,12 @@ pub fn parse_expression(alloc: Global, tokens: &[Lexeme]) -> Result<Option<Expr>
     if let [token] = tokens {
         return expression_of_token(alloc, token);
     }
-    let Some((expr, rest)) = parse_level(alloc, tokens, 7)? else {
+    let mut builder = Builder::new(alloc, tokens.len())?;
+    let Some(rest) = parse_level(&mut builder, tokens, 7)? else {
         return Ok(None);
     };
     if rest.is_empty() {
-        Ok(Some(expr))
+        Ok(Some(Expr::Compound(builder.finish())))
     } else {
         Ok(None)
     }
@@ -46,141 +49,140 @@ fn expression_of_token(alloc: Global, token: &Lexeme) -> Result<Option<Expr>, Al
     match token {
         Lexeme::Word(word) => Ok(free_name(alloc, word.get())?.map(Expr::Name)),
         Lexeme::Number(number) => Ok(Some(Expr::Number(*number))),
-        Lexeme::Text(text) => Ok(text_number(text.get())),
+        Lexeme::Text(text) => Ok(text_number(text.get()).map(Expr::Number)),
         Lexeme::Sign(_) | Lexeme::Bad(_) => Ok(None),
     }
 }
 
 /// An expression of a level. The levels of which no operator stands in front are passed over.
 #[cycle(parser)]
-fn parse_level<'a>(alloc: Global, tokens: &'a [Lexeme], level: u32) -> Result<Found<'a>, AllocError>
+fn parse_level<'a>(
+    builder: &mut Builder,
+    tokens: &'a [Lexeme],
+    level: u32,
+) -> Result<Found<'a>, AllocError>
     requires { level ≤ 7 }
     ensures value { IfOk result (λ found. (n : ℕ) → 9 * length tokens.now + level < n
-        → seen found ≡ parse n level tokens.now) }
+        → seen (top builder.new) found ≡ parse n level tokens.now) }
+    ensures kept { IfOk result
+        (λ found. IfSome found (λ _. popped builder.new ≡ builder.old)) }
     ensures shorter { IfOk result
-        (λ found. IfSome found (λ x. length x.1.now < length tokens.now)) }
+        (λ found. IfSome found (λ rest. length rest.now < length tokens.now)) }
 {
     if level == 0 {
-        return parse_atom(alloc, tokens);
+        return parse_atom(builder, tokens);
     }
-    let Some((first, more)) = parse_prefixed(alloc, tokens)? else {
+    let Some(first) = parse_prefixed(builder, tokens)? else {
         return Ok(None);
     };
-    let mut left = first;
-    let mut rest = more;
+    let mut rest = first;
     let mut done = 1;
     let mut next = level_in_front(rest);
     while done < next && next <= level {
-        let Some((wider, more)) = parse_further(alloc, left, rest, next)? else {
+        let Some(more) = parse_further(builder, rest, next)? else {
             return Ok(None);
         };
-        left = wider;
         rest = more;
         done = next;
         next = level_in_front(rest);
     }
-    Ok(Some((left, rest)))
+    Ok(Some(rest))
 }
 
+/// An operand with the signs before it.
 #[cycle(parser)]
-fn parse_prefixed<'a>(alloc: Global, tokens: &'a [Lexeme]) -> Result<Found<'a>, AllocError>
+fn parse_prefixed<'a>(builder: &mut Builder, tokens: &'a [Lexeme]) -> Result<Found<'a>, AllocError>
     ensures value { IfOk result (λ found. (n : ℕ) → 9 * length tokens.now + 1 < n
-        → seen found ≡ parse n 1 tokens.now) }
+        → seen (top builder.new) found ≡ parse n 1 tokens.now) }
+    ensures kept { IfOk result
+        (λ found. IfSome found (λ _. popped builder.new ≡ builder.old)) }
     ensures shorter { IfOk result
-        (λ found. IfSome found (λ x. length x.1.now < length tokens.now)) }
+        (λ found. IfSome found (λ rest. length rest.now < length tokens.now)) }
 {
-    let (signs, rest) = prefixes(alloc, tokens)?;
-    let Some((operand, rest)) = parse_atom(alloc, rest)? else {
+    let Some(sign) = prefix_in_front(tokens) else {
+        return parse_atom(builder, tokens);
+    };
+    let Some(rest) = parse_prefixed(builder, &tokens[1..])? else {
         return Ok(None);
     };
-    let signed = signed(alloc, signs, operand)?;
-    Ok(Some((signed, rest)))
+    builder.push(Item::Unary(sign))?;
+    Ok(Some(rest))
 }
 
 #[cycle(parser)]
-fn parse_atom<'a>(alloc: Global, tokens: &'a [Lexeme]) -> Result<Found<'a>, AllocError>
+fn parse_atom<'a>(builder: &mut Builder, tokens: &'a [Lexeme]) -> Result<Found<'a>, AllocError>
     ensures value { IfOk result (λ found. (n : ℕ) → 9 * length tokens.now < n
-        → seen found ≡ parse n 0 tokens.now) }
+        → seen (top builder.new) found ≡ parse n 0 tokens.now) }
+    ensures kept { IfOk result
+        (λ found. IfSome found (λ _. popped builder.new ≡ builder.old)) }
     ensures shorter { IfOk result
-        (λ found. IfSome found (λ x. length x.1.now < length tokens.now)) }
+        (λ found. IfSome found (λ rest. length rest.now < length tokens.now)) }
 {
     let Some((first, rest)) = tokens.split_first() else {
         return Ok(None);
     };
-    match first {
-        Lexeme::Word(word) => name_atom(alloc, word, rest),
-        Lexeme::Number(number) => Ok(Some((Expr::Number(*number), rest))),
-        Lexeme::Text(text) => Ok(text_atom(text, rest)),
-        Lexeme::Bad(_) => Ok(None),
-        Lexeme::Sign(sign) => {
-            if *sign != b'(' {
-                return Ok(None);
-            }
-            let Some((inside, rest)) = parse_level(alloc, rest, 7)? else {
-                return Ok(None);
-            };
-            Ok(closed(inside, rest))
-        }
+    if let Lexeme::Sign(b'(') = first {
+        let Some(rest) = parse_level(builder, rest, 7)? else {
+            return Ok(None);
+        };
+        return Ok(closed(rest));
+    }
+    if push_operand(builder, first)? {
+        Ok(Some(rest))
+    } else {
+        Ok(None)
     }
 }
 
+/// Appends the expression that one token is, if it is one. Otherwise what the builder has then means
+/// nothing.
+fn push_operand(builder: &mut Builder, token: &Lexeme) -> Result<bool, AllocError>
+    ensures value { IfOk result
+        (λ found. (if found then Some (top builder.new) else None) ≡ atom_of token.now) }
+    ensures kept { IfOk result (λ found. found ≡ true → popped builder.new ≡ builder.old) }
+{
+    match token {
+        Lexeme::Word(word) => {
+            if is_reserved(word.get()) {
+                return Ok(false);
+            }
+            builder.push_name(word.get())?;
+        }
+        Lexeme::Number(number) => builder.push(Item::Number(*number))?,
+        Lexeme::Text(text) => {
+            let Some(number) = text_number(text.get()) else {
+                return Ok(false);
+            };
+            builder.push(Item::Number(number))?;
+        }
+        Lexeme::Sign(_) | Lexeme::Bad(_) => return Ok(false),
+    }
+    Ok(true)
+}
+
+/// The operators of a level and their right sides, after a left side that the builder has on top.
 #[cycle(parser)]
 fn parse_further<'a>(
-    alloc: Global,
-    first: Expr,
+    builder: &mut Builder,
     tokens: &'a [Lexeme],
     level: u32,
 ) -> Result<Found<'a>, AllocError>
     requires low { 2 ≤ level }
     requires high { level ≤ 7 }
     ensures value { IfOk result (λ found. (n : ℕ) → 9 * length tokens.now + 8 < n
-        → seen found ≡ further n level (tree_of first) tokens.now) }
+        → seen (top builder.new) found ≡ further n level (top builder.old) tokens.now) }
+    ensures kept { IfOk result
+        (λ found. IfSome found (λ _. popped builder.new ≡ popped builder.old)) }
     ensures shorter { IfOk result
-        (λ found. IfSome found (λ x. length x.1.now ≤ length tokens.now)) }
+        (λ found. IfSome found (λ rest. length rest.now ≤ length tokens.now)) }
 {
-    let mut left = first;
     let mut rest = tokens;
     while let Some(sign) = operator_in_front(rest, level) {
-        let Some((right, more)) = parse_level(alloc, &rest[1..], level - 1)? else {
+        let Some(more) = parse_level(builder, &rest[1..], level - 1)? else {
             return Ok(None);
         };
-        left = binary(alloc, sign, left, right)?;
+        builder.push(Item::Binary(sign))?;
         rest = more;
     }
-    Ok(Some((left, rest)))
-}
-
-/// A sign between two operands.
-fn binary(alloc: Global, sign: Operator, left: Expr, right: Expr) -> Result<Expr, AllocError>
-    ensures { IfOk result (λ e. tree_of e ≡ binary sign (tree_of left) (tree_of right)) }
-{
-    let sides = Box::new(alloc, Sides { left, right })?;
-    Ok(Expr::Binary(sign, sides))
-}
-
-/// The signs before an operand, and the tokens after them.
-fn prefixes(alloc: Global, tokens: &[Lexeme]) -> Result<(Vec<Prefix>, &[Lexeme]), AllocError>
-    ensures signs { IfOk result (λ x. x.0.items ≡ prefixes tokens.now) }
-    ensures rest { IfOk result (λ x. x.1.now ≡ after_prefixes tokens.now) }
-    ensures shorter { IfOk result (λ x. length x.1.now ≤ length tokens.now) }
-{
-    let mut signs = Vec::new(alloc);
-    let mut rest = tokens;
-    while let Some(sign) = prefix_in_front(rest) {
-        signs.push(sign)?;
-        rest = &rest[1..];
-    }
-    Ok((signs, rest))
-}
-
-/// An operand with the signs before it.
-fn signed(alloc: Global, signs: Vec<Prefix>, operand: Expr) -> Result<Expr, AllocError>
-    ensures { IfOk result (λ e. tree_of e ≡ signed signs.items (tree_of operand)) }
-{
-    let mut signs = signs;
-    let mut signed = operand;
-    while let Some(sign) = signs.pop() {
-        signed = Expr::Unary(sign, Box::new(alloc, signed)?);
-    }
-    Ok(signed)
+    Ok(Some(rest))
 }

@@ -1,13 +1,16 @@
 //! The value of an expression.
 
-ghost use Rattle.std.specs.Prelude.{◌≡◌, ◌*ℤ◌, pos, ◌^◌, ◌<◌, ℕ, neg_ℤ, ◌≤◌, IfSome, Ok};
+ghost use Rattle.std.specs.Prelude.{◌≡◌, ◌*ℤ◌, pos, ◌^◌, ◌<◌, ℕ, neg_ℤ, ◌≤◌, IfSome, Ok, length};
 ghost use Rattle.chip_lang.specs.Tree.{tree_of};
 ghost use Rattle.chip_lang.specs.Uses.{constant};
-ghost use Rattle.chip_lang.specs.Value.{Symbols, value, apply, apply_prefix, shift_left, shift_right, divide};
+ghost use Rattle.chip_lang.specs.Value.{Symbols, value, value_of_name, or_fault, no_names, apply, apply_prefix, shift_left, shift_right, divide};
+ghost use Rattle.chip_lang.specs.inner.Outcome.{prefixed_outcome, joined_outcome};
+ghost use Rattle.chip_lang.specs.inner.Postfix.{top, popped, stack_of};
 
 use crate::expr::{Expr, Operator, Prefix};
 use crate::fault::Fault;
 use crate::names::Names;
+use crate::postfix::Item;
 
 /// The value of an expression, or the first fault from the left.
 pub fn eval<N: Names>(expr: &Expr, names: &N) -> Result<i32, Fault>
@@ -15,16 +18,71 @@ pub fn eval<N: Names>(expr: &Expr, names: &N) -> Result<i32, Fault>
 {
     match expr {
         Expr::Number(number) => Ok(*number),
-        Expr::Name(name) => names.value(name.get()).ok_or(Fault::UndefinedName),
-        Expr::Unary(sign, operand) => {
-            let value = eval(operand, names)?;
-            apply_prefix(*sign, value)
+        Expr::Name(name) => value_of_name(names, name.get()),
+        Expr::Compound(compound) => eval_last(compound.items(), names).0,
+    }
+}
+
+#[inline]
+fn value_of_name<N: Names>(names: &N, name: &[u8]) -> Result<i32, Fault>
+    ensures { result ≡ or_fault (value_of_name (N.symbols names.now) name.now)
+        Fault.UndefinedName }
+{
+    names.value(name).ok_or(Fault::UndefinedName)
+}
+
+/// The value of the last operand that items leave, and the items before it.
+fn eval_last<'a, N: Names>(items: &'a [Item], names: &N) -> (Result<i32, Fault>, &'a [Item])
+    ensures value { result.0 ≡ value (top (stack_of items.now)) (N.symbols names.now) }
+    ensures before { stack_of result.1.now ≡ popped (stack_of items.now) }
+    ensures shorter { length result.1.now ≤ length items.now }
+{
+    let Some((last, before)) = items.split_last() else {
+        return (Ok(0), items);
+    };
+    match last {
+        Item::Number(number) => (Ok(*number), before),
+        Item::Name(name) => (value_of_name(names, name.get()), before),
+        Item::Unary(sign) => {
+            let (operand, before) = eval_last(before, names);
+            (after_prefix(*sign, operand), before)
         }
-        Expr::Binary(sign, sides) => {
-            let a = eval(&sides.left, names)?;
-            let b = eval(&sides.right, names)?;
-            apply(*sign, a, b)
+        Item::Binary(sign) => {
+            let (right, before) = eval_last(before, names);
+            let (left, before) = eval_last(before, names);
+            (joined(*sign, left, right), before)
         }
+    }
+}
+
+/// The outcome of a sign before an operand.
+#[inline]
+fn after_prefix(sign: Prefix, operand: Result<i32, Fault>) -> Result<i32, Fault>
+    ensures { result ≡ prefixed_outcome sign operand }
+{
+    let value = operand?;
+    apply_prefix(sign, value)
+}
+
+/// The outcome of a sign between two operands: the left one's fault comes first.
+#[inline]
+fn joined(sign: Operator, left: Result<i32, Fault>, right: Result<i32, Fault>) -> Result<i32, Fault>
+    ensures { result ≡ joined_outcome sign left right }
+{
+    let a = left?;
+    let b = right?;
+    apply(sign, a, b)
+}
+
+/// A table with no names.
+struct NoNames;
+
+#[tactic(auto, using(crate::proofs::Constants::no_value))]
+impl Names for NoNames {
+    ghost symbols = { λ _. no_names };
+
+    fn value(&self, _name: &[u8]) -> Option<i32> {
+        None
     }
 }
 
@@ -36,19 +94,7 @@ pub fn constant(expr: &Expr) -> Option<i32>
     ensures always { (symbols : Symbols)
         → IfSome result (λ number. value (tree_of expr.now) symbols ≡ Ok number) }
 {
-    match expr {
-        Expr::Number(number) => Some(*number),
-        Expr::Name(_) => None,
-        Expr::Unary(sign, operand) => {
-            let value = constant(operand)?;
-            apply_prefix(*sign, value).ok()
-        }
-        Expr::Binary(sign, sides) => {
-            let a = constant(&sides.left)?;
-            let b = constant(&sides.right)?;
-            apply(*sign, a, b).ok()
-        }
-    }
+    eval(expr, &NoNames).ok()
 }
 
 fn apply_prefix(sign: Prefix, value: i32) -> Result<i32, Fault>

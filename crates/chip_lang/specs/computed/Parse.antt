@@ -124,28 +124,3 @@ whole (Some (e, t ∷ ts)) = None
 -- the expression that tokens are, if they are one
 unfoldable pub expression_of : List Lexeme → Option Tree
 expression_of ts = whole (parse (9 * length ts + 8) 7 ts)
-
--- ---- the same signs, taken together
-
-abbrev pub sign_then : Option Prefix → List Prefix → List Prefix
-sign_then None signs = []
-sign_then (Some sign) signs = sign ∷ signs
-
--- the signs before an operand at the front
-abbrev pub prefixes : List Lexeme → List Prefix
-prefixes [] = []
-prefixes (t ∷ ts) = sign_then (front_prefix (t ∷ ts)) (prefixes ts)
-
-abbrev pub unless_sign : {A : Type 0} → Option Prefix → (here later : A) → A
-unless_sign None here later = here
-unless_sign (Some sign) here later = later
-
--- the tokens after those signs
-abbrev pub after_prefixes : List Lexeme → List Lexeme
-after_prefixes [] = []
-after_prefixes (t ∷ ts) = unless_sign (front_prefix (t ∷ ts)) (t ∷ ts) (after_prefixes ts)
-
--- an expression after some signs
-abbrev pub signed : List Prefix → Tree → Tree
-signed [] e = e
-signed (sign ∷ signs) e = unary sign (signed signs e)

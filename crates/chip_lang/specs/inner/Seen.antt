@@ -6,14 +6,10 @@ use Rattle.chip_lang.specs.declared.expr.Expr.{Expr}
 use Rattle.chip_lang.specs.Tree.{Tree, tree_of}
 use Rattle.chip_lang.specs.computed.Parse.{Parsed}
 
--- what a function of the parser answers
-abbrev pub Answer : Type 0
-Answer = Option (Expr × Bor (List Lexeme))
-
--- an expression and the tokens after it
-abbrev pub seen : Answer → Parsed
-seen None = None
-seen (Some x) = Some (tree_of x.0, x.1.now)
+-- an expression, and the tokens after it if it was found
+abbrev pub seen : Tree → Option (Bor (List Lexeme)) → Parsed
+seen e None = None
+seen e (Some rest) = Some (e, rest.now)
 
 abbrev pub seen_whole : Option Expr → Option Tree
 seen_whole None = None

@@ -1,6 +1,6 @@
 use Rattle.std.proofs.Common.{◌≡◌, ℕ, ◌+◌, ◌-◌, ◌*◌, ◌<◌, ◌≤◌, length, Some}
 use Rattle.chip_lang.specs.computed.Parse.{front_level, parse}
-use Rattle.chip_lang.specs.Tree.{tree_of}
+use Rattle.chip_lang.specs.inner.Postfix.{top, popped}
 use Rattle.chip_lang.proofs.Steps.{Leads}
 use Rattle.chip_lang.proofs.parse.+parser.Given as goal
 
@@ -18,7 +18,8 @@ decreases-parse_further l = 9 * length l.tokens.now + 8
 
 abbrev pub invariant-parse_further-loop-sign : goal.invariant-parse_further-loop-sign
 invariant-parse_further-loop-sign l = record {
-  leads : Leads l.level (tree_of l.fn.first) l.tokens (tree_of l.left) l.rest;
+  leads : Leads l.level (top l.initial.builder) l.tokens (top l.builder) l.rest;
+  kept : popped l.builder ≡ popped l.initial.builder;
   shorter : length l.rest ≤ length l.tokens;
 }
 
@@ -31,7 +32,8 @@ invariant-parse_level-loop-done l = record {
   high : l.done ≤ l.level;
   next : l.next ≡ front_level l.rest;
   shorter : length l.rest < length l.tokens;
-  found : (m : ℕ) → 9 * length l.tokens + l.done < m → Some (tree_of l.left, l.rest) ≡ parse m l.done l.tokens;
+  kept : popped l.builder ≡ popped l.initial.builder;
+  found : (m : ℕ) → 9 * length l.tokens + l.done < m → Some (top l.builder, l.rest) ≡ parse m l.done l.tokens;
 }
 
 abbrev pub decreases-parse_level-loop-done : goal.decreases-parse_level-loop-done

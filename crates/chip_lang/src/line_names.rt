@@ -1,0 +1,189 @@
+//! Which names a line uses and defines.
+
+ghost use Rattle.std.specs.Prelude.{◌≡◌, ◌∷◌, [], ◌++◌, map, drop, slice_get, MatchOption};
+ghost use Rattle.std.specs.List.{flat_map};
+ghost use Rattle.std.specs.Option.{option_copied};
+ghost use Rattle.chip_lang.specs.SeenLine.{seen_line};
+ghost use Rattle.chip_lang.specs.Tree.{tree_of};
+ghost use Rattle.chip_lang.specs.Operand.{operand_of};
+ghost use Rattle.chip_lang.specs.Uses.{names_in, names_in_operand, names_used, name_defined};
+ghost use Rattle.chip_lang.specs.inner.Postfix.{names_of};
+
+use crate::expr::Expr;
+use crate::form::Operand;
+use crate::line::{Body, Line};
+use crate::postfix::Item;
+use std::marker::Model;
+use std::slice;
+
+/// The name that a label, EQU, `=` or DEFINE gives, in upper case. None for a line with a reading
+/// fault.
+pub fn defines(line: &Line) -> Option<&[u8]>
+    ensures { option_copied result ≡ name_defined (seen_line line.now) }
+{
+    match line {
+        Line::Bad(_) => None,
+        Line::Read { label, .. } => match label {
+            Some(name) => Some(name.get()),
+            None => None,
+        },
+    }
+}
+
+/// The names in the expressions of a line, left to right. A name that stands there twice comes
+/// twice. All of them take time linear in the length of the line.
+pub fn used_names(line: &Line) -> UsedNames<'_>
+    ensures { result ≡ names_used (seen_line line.now) }
+{
+    match line {
+        Line::Bad(_) => UsedNames::of_exprs(&[]),
+        Line::Read { body, .. } => match body {
+            Body::Equ(expr) | Body::Org(expr) | Body::Ds(expr) => {
+                UsedNames::of_exprs(slice::from_ref(expr))
+            }
+            Body::Db(exprs) | Body::Dw(exprs) => UsedNames::of_exprs(exprs),
+            Body::Code(_, operands) => UsedNames {
+                items: &[],
+                exprs: &[],
+                operands,
+            },
+            _ => UsedNames::of_exprs(&[]),
+        },
+    }
+}
+
+/// The name at a place, from 0 on, in the list of the names in the expressions of a line, left to
+/// right. A name that stands there twice is two places. None past the last.
+#[tactic(auto, using(crate::proofs::NamesUsed::names_left))]
+pub fn uses(line: &Line, place: usize) -> Option<&[u8]>
+    ensures { option_copied result ≡ slice_get (names_used (seen_line line.now)) place }
+{
+    let mut names = used_names(line);
+    for _ in 0..place {
+        names.next()?;
+    }
+    names.next()
+}
+
+/// Names that are left of those in the expressions of a line, left to right.
+#[derive(Drop)]
+pub struct UsedNames<'a> {
+    items: &'a [Item],
+    exprs: &'a [Expr],
+    operands: &'a [Operand],
+}
+
+impl<'a> Model for UsedNames<'a> {
+    ghost use Rattle.std.specs.Prelude.{List, ℕ, ◌++◌, map};
+    ghost use Rattle.std.specs.List.{flat_map};
+    ghost use Rattle.chip_lang.specs.Tree.{tree_of};
+    ghost use Rattle.chip_lang.specs.Operand.{operand_of};
+    ghost use Rattle.chip_lang.specs.Uses.{names_in, names_in_operand};
+    ghost use Rattle.chip_lang.specs.inner.Postfix.{names_of};
+
+    ghost Value = { List (List ℕ) };
+
+    ghost view = { λ names. names_of names.items.now
+        ++ (flat_map names_in (map tree_of names.exprs.now)
+        ++ flat_map names_in_operand (map operand_of names.operands.now)) };
+}
+
+impl<'a> UsedNames<'a> {
+    fn of_exprs(exprs: &'a [Expr]) -> UsedNames<'a>
+        ensures { result ≡ flat_map names_in (map tree_of exprs.now) }
+    {
+        UsedNames {
+            items: &[],
+            exprs,
+            operands: &[],
+        }
+    }
+
+    /// The next name, which is then no longer left; none where none is left.
+    #[tactic(auto, using(crate::proofs::NamesUsed::names_left))]
+    pub fn next(&mut self) -> Option<&'a [u8]>
+        ensures next { option_copied result ≡ slice_get self.old 0 }
+        ensures rest { self.new ≡ drop 1 self.old }
+    {
+        if let Some((name, items)) = name_in_items(self.items) {
+            self.items = items;
+            return Some(name);
+        }
+        if let Some((name, items, exprs)) = name_in_each(self.exprs) {
+            self.items = items;
+            self.exprs = exprs;
+            return Some(name);
+        }
+        let (name, items, operands) = name_in_operands(self.operands)?;
+        self.items = items;
+        self.exprs = &[];
+        self.operands = operands;
+        Some(name)
+    }
+}
+
+/// The first name in expressions, the items after it, and the expressions after those.
+#[tactic(auto, using(crate::proofs::NamesUsed::names_left))]
+fn name_in_each(exprs: &[Expr]) -> Option<(&[u8], &[Item], &[Expr])>
+    ensures { MatchOption result (flat_map names_in (map tree_of exprs.now) ≡ [])
+        (λ found. flat_map names_in (map tree_of exprs.now) ≡ found.0.now
+        ∷ (names_of found.1.now ++ flat_map names_in (map tree_of found.2.now))) }
+{
+    let mut rest = exprs;
+    while let Some((expr, after)) = rest.split_first() {
+        if let Some((name, items)) = name_in(expr) {
+            return Some((name, items, after));
+        }
+        rest = after;
+    }
+    None
+}
+
+/// The first name in operands, the items after it, and the operands after those.
+#[tactic(auto, using(crate::proofs::NamesUsed::names_left))]
+fn name_in_operands(operands: &[Operand]) -> Option<(&[u8], &[Item], &[Operand])>
+    ensures { MatchOption result
+        (flat_map names_in_operand (map operand_of operands.now) ≡ [])
+        (λ found. flat_map names_in_operand (map operand_of operands.now) ≡ found.0.now
+        ∷ (names_of found.1.now
+        ++ flat_map names_in_operand (map operand_of found.2.now))) }
+{
+    let mut rest = operands;
+    while let Some((operand, after)) = rest.split_first() {
+        if let Operand::Value(expr) = operand
+            && let Some((name, items)) = name_in(expr)
+        {
+            return Some((name, items, after));
+        }
+        rest = after;
+    }
+    None
+}
+
+/// The first name in an expression, and the items after it.
+fn name_in(expr: &Expr) -> Option<(&[u8], &[Item])>
+    ensures { MatchOption result (names_in (tree_of expr.now) ≡ [])
+        (λ found. names_in (tree_of expr.now) ≡ found.0.now ∷ names_of found.1.now) }
+{
+    match expr {
+        Expr::Number(_) => None,
+        Expr::Name(name) => Some((name.get(), &[])),
+        Expr::Compound(compound) => name_in_items(compound.items()),
+    }
+}
+
+/// The first name among items, and the items after it.
+#[tactic(auto, using(crate::proofs::NamesUsed::names_left))]
+fn name_in_items(items: &[Item]) -> Option<(&[u8], &[Item])>
+    ensures { MatchOption result (names_of items.now ≡ [])
+        (λ found. names_of items.now ≡ found.0.now ∷ names_of found.1.now) }
+{
+    let mut rest = items;
+    while let Some((item, after)) = rest.split_first() {
+        if let Item::Name(name) = item {
+            return Some((name.get(), after));
+        }
+        rest = after;
+    }
+    None
+}
