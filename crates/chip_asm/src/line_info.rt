@@ -1,5 +1,5 @@
 //! What is kept of a line beside its reading, for steps over all lines.
-ghost use Rattle.std.specs.Prelude.{◌≡◌, List, IfOk, IfSome, None, OnOk, take, vec_len};
+ghost use Rattle.std.specs.Prelude.{◌≡◌, ◌++◌, List, IfOk, IfSome, None, OnOk};
 ghost use Rattle.chip_lang.specs.Line.{Reading};
 ghost use Rattle.chip_lang.specs.SeenLine.{seen_line};
 ghost use Rattle.chip_lang.specs.Uses.{name_defined, names_used};
@@ -17,7 +17,7 @@ ghost use Rattle.chip_asm.specs.declared.table.Symbol.{Symbol};
 
 use crate::kept_line::BoxedLine;
 use crate::table::{NameId, Table};
-use chip_lang::{Body, Line, defines, uses};
+use chip_lang::{Body, Line, UsedNames, defines, used_names};
 use std::alloc::{AllocError, Global};
 
 /// What is known of the names in a line's expressions.
@@ -118,22 +118,20 @@ fn number_defined(
     }
 }
 
-/// Adds the numbers of the names that a line uses to those of the first ones.
+/// Adds the numbers of names.
 fn push_numbers(
     alloc: Global,
     table: &mut Table,
-    line: &Line,
+    mut names: UsedNames,
     numbers: &mut Vec<NameId>,
 ) -> Result<(), AllocError>
-    requires { AreNumbers table.old.keys numbers.old.items
-        (take (vec_len numbers.old) (names_used (seen_line line.now))) }
     ensures keys { Extends table.old.keys table.new.keys }
     ensures symbols { table.new.symbols ≡ table.old.symbols }
     ensures before { table.new.before ≡ table.old.before }
-    ensures are { OnOk result (AreNumbers table.new.keys numbers.new.items
-        (names_used (seen_line line.now))) }
+    ensures are { (front : List Name) → AreNumbers table.old.keys numbers.old.items front
+        → OnOk result (AreNumbers table.new.keys numbers.new.items (front ++ names.entry)) }
 {
-    while let Some(name) = uses(line, numbers.len()) {
+    while let Some(name) = names.next() {
         let id = table.number(alloc, name)?;
         numbers.push(id)?;
     }
@@ -149,14 +147,15 @@ fn uses_of(alloc: Global, table: &mut Table, line: &Line) -> Result<(Uses, Vec<N
         (numbers_used used.0 used.1.items) (names_used (seen_line line.now))) }
 {
     let mut numbers = Vec::new(alloc);
-    let Some(name) = uses(line, 0) else {
+    let mut names = used_names(line);
+    let Some(name) = names.next() else {
         return Ok((Uses::Nothing, numbers));
     };
-    if uses(line, 1).is_none() {
+    if names.next().is_none() {
         let id = table.number(alloc, name)?;
         return Ok((Uses::One(id), numbers));
     }
-    push_numbers(alloc, table, line, &mut numbers)?;
+    push_numbers(alloc, table, used_names(line), &mut numbers)?;
     Ok((Uses::Several, numbers))
 }
 
