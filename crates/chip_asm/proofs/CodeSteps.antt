@@ -1,26 +1,25 @@
 -- The codes of lines that are written one after another: each byte, the faults and their number,
 -- and how many lines are encoded.
-use Rattle.std.proofs.Common.{◌≡◌, ℕ, suc, zero, ◌+◌, ◌-◌, ◌<◌, ◌≤◌, Bool, true, false, cond, ◌&&◌, eqb, leb, ltb, ◌⊎◌, inl, inr, List, [], ◌∷◌, ◌++◌, map, reverse, length, take, drop, get_or, slice_get, count_by, filter_map, refl, ap, sym, ◌∙◌, arith, Option, Some, None, option_map, sum_by}
+use Rattle.std.proofs.Common.{◌≡◌, ℕ, suc, zero, ◌+◌, ◌-◌, ◌<◌, ◌≤◌, Bool, true, false, cond, eqb, List, [], ◌∷◌, ◌++◌, map, reverse, length, take, drop, get_or, slice_get, count_by, filter_map, refl, ap, sym, ◌∙◌, arith, Option, Some, None, option_map, sum_by}
 use Rattle.std.specs.List.{enumerate_from, cons_option}
-use Rattle.std.proofs.lemmas.Bool.{eqb-true, eqb-false, false_from_ne_true, cases_lt}
-use Rattle.std.proofs.lemmas.List.{take_more, take_all, take-append-le, get_or-map, length-map, get_or-take, get_or-drop, get_or_past, length-take}
-use Rattle.std.proofs.lemmas.List.Sums.{sum_by-cons, count_by_more_yes, count_by_more_no}
+use Rattle.std.proofs.lemmas.Bool.{eqb-true, eqb-false, false_from_ne_true}
+use Rattle.std.proofs.lemmas.List.{take_more, take_all, take-append-le, get_or-map, length-map}
+use Rattle.std.proofs.lemmas.List.Sums.{sum_by-cons, sum_by-take-drop, sum_by-take-le, count_by_more_yes, count_by_more_no}
 use Rattle.std.proofs.lemmas.List.FromFn.{length-enumerate_from, get_or-enumerate_from}
 use Rattle.std.proofs.lemmas.Option.{get_or_from_slice_get, slice_get_within, same_Some}
 use Rattle.chip_lang.specs.declared.fault.Fault.{Fault}
-use Rattle.chip_lang.specs.declared.limits.TheConstants.{IMAGE_BYTES, IMAGE_START}
+use Rattle.chip_lang.specs.declared.limits.TheConstants.{IMAGE_START}
 use Rattle.chip_lang.specs.Line.{Reading}
+use Rattle.chip_asm.specs.declared.codes.Codes.{Codes}
 use Rattle.chip_asm.specs.declared.layout.Layout.{Layout}
 use Rattle.chip_asm.specs.declared.placement.Placement.{Placement}
 use Rattle.chip_asm.specs.Layout.{Placed}
 use Rattle.chip_asm.specs.computed.Walk.{placed}
-use Rattle.chip_asm.specs.inner.Codes.{IsByte, Waits, count_of, covers_byte, line_faults, right_byte}
+use Rattle.chip_asm.specs.inner.Codes.{AreCodesOf, IsByte, Waits, count_of, covers_byte, line_faults, right_byte}
 use Rattle.chip_asm.specs.inner.Layouts.{IsLayoutOf}
-use Rattle.chip_asm.specs.inner.Placements.{is_placed}
 use Rattle.chip_asm.specs.Program.{bytes_in_code, code_under, fault_of, faults_of_lines, numbered_fault}
-use Rattle.chip_asm.proofs.LinesByPlace.{AtPlace, byte-line, byte-nowhere, bytes-fit, covered-once, low, high}
+use Rattle.chip_asm.proofs.LinesByPlace.{AtPlace, byte-line, byte-nowhere, covered-once}
 use Rattle.chip_asm.proofs.Placing.{length-numbered}
-use Rattle.std.proofs.lemmas.Bool.Decides.{nat_tests}
 
 -- at first each byte is zero
 pub byte-zero : (lines : List Reading) (layout : Layout) → IsLayoutOf layout lines → (k byte : ℕ) → byte ≡ 0 → IsByte lines layout.placements.items 0 k byte
@@ -65,39 +64,13 @@ byte-done lines placements place k byte h is =
     is.done (λ w. (let inside : w.place < length placements = slice_get_within placements w.place w.q w.there in let l = w.low in omega arith))
 
 -- a line has its bytes at each address that it covers
-pub byte-written : (lines : List Reading) (place : ℕ) (q : Placement) (a : AtPlace lines place q) (x : Placed) → a.x ≡ x → (k new old : ℕ) → covers_byte q k ≡ true
-    → new ≡ cond (covers_byte q k) (get_or (bytes_in_code (code_under (placed lines) x)) (IMAGE_START + k - q.here) 0) old → new ≡ right_byte lines k
-byte-written lines place q a x same k new old c is =
-    is ∙ ap (λ b. cond b (get_or (bytes_in_code (code_under (placed lines) x)) (IMAGE_START + k - q.here) 0) old) c
-    ∙ ap (λ y. get_or (bytes_in_code (code_under (placed lines) y)) (IMAGE_START + k - q.here) 0) (sym same) ∙ sym (byte-line lines place q a (IMAGE_START + k) c)
+pub byte-written : (lines : List Reading) (place : ℕ) (q : Placement) (a : AtPlace lines place q) (k new old : ℕ) → covers_byte q k ≡ true
+    → new ≡ cond (covers_byte q k) (get_or (bytes_in_code (code_under (placed lines) a.x)) (IMAGE_START + k - q.here) 0) old → new ≡ right_byte lines k
+byte-written lines place q a k new old c is =
+    is ∙ ap (λ b. cond b (get_or (bytes_in_code (code_under (placed lines) a.x)) (IMAGE_START + k - q.here) 0) old) c ∙ sym (byte-line lines place q a (IMAGE_START + k) c)
 
 pub byte-stays : (q : Placement) (k new written old : ℕ) → covers_byte q k ≡ false → new ≡ cond (covers_byte q k) written old → new ≡ old
 byte-stays q k new written old c is = is ∙ ap (λ b. cond b written old) c
-
--- the part of an image where a line stood has its bytes, with zeros behind
-pub part-right : (lines : List Reading) (place : ℕ) (q : Placement) (a : AtPlace lines place q) (image part : List ℕ) → ((k : ℕ) → k < IMAGE_BYTES → get_or image k 0 ≡ right_byte lines k) → length image ≡ IMAGE_BYTES
-    → is_placed q ≡ true → part ≡ take q.size (drop (q.here - IMAGE_START) image) → (j : ℕ) → get_or part j 0 ≡ get_or (bytes_in_code (code_under (placed lines) a.x)) j 0
-part-right lines place q a image part imaged long accepted is j = ap (λ bytes. get_or bytes j 0) is ∙ by (cases_lt j q.size)
-  where
-    inside : j < q.size → get_or (take q.size (drop (q.here - IMAGE_START) image)) j 0 ≡ get_or (bytes_in_code (code_under (placed lines) a.x)) j 0
-    inside h =
-        let from = low lines place q a in
-        let to = high lines place q a in
-        let k : ℕ = q.here - IMAGE_START + j in
-        let there : IMAGE_START + (q.here - IMAGE_START + j) ≡ q.here + j = omega arith in
-        let back : q.here + j - q.here ≡ j = omega arith in
-        get_or-take q.size (drop (q.here - IMAGE_START) image) j 0 h ∙ get_or-drop (q.here - IMAGE_START) image j 0 ∙ imaged (q.here - IMAGE_START + j) (omega arith)
-        ∙ (rw there (byte-line lines place q a (q.here + j) (covered q.here j q.size h) ∙ ap (λ i. get_or (bytes_in_code (code_under (placed lines) a.x)) i 0) back))
-      where
-        covered : (here j size : ℕ) → j < size → (leb here (here + j) && ltb (here + j) (here + size)) ≡ true
-        covered here j size h = grind (arith, nat_tests)
-
-    by : (j < q.size) ⊎ (q.size ≤ j) → get_or (take q.size (drop (q.here - IMAGE_START) image)) j 0 ≡ get_or (bytes_in_code (code_under (placed lines) a.x)) j 0
-    by (inl h) = inside h
-    by (inr h) =
-        let fit = bytes-fit lines place q a accepted in
-        get_or_past (take q.size (drop (q.here - IMAGE_START) image)) j 0 (omega (arith, length-take q.size (drop (q.here - IMAGE_START) image)))
-        ∙ sym (get_or_past (bytes_in_code (code_under (placed lines) a.x)) j 0 (omega arith))
 
 -- faults
 
@@ -132,6 +105,10 @@ pub one-fault : (f : Option Fault) → count_of f ≤ 1
 one-fault None = omega arith
 one-fault (Some f) = omega arith
 
+pub count-few : (fs : List (Option Fault)) → count_faults fs ≤ length fs
+count-few [] = omega arith
+count-few (f ∷ fs) = omega (arith, sum_by-cons count_of f fs, one-fault f, count-few fs)
+
 count-numbered-faults : (all xs : List Placed) → length (filter_map (numbered_fault all) xs) ≡ count_faults (map (fault_of all) xs)
 count-numbered-faults all [] = refl
 count-numbered-faults all (x ∷ xs) = step (fault_of all x) x.number (filter_map (numbered_fault all) xs) (map (fault_of all) xs) (count-numbered-faults all xs)
@@ -143,6 +120,14 @@ count-numbered-faults all (x ∷ xs) = step (fault_of all x) x.number (filter_ma
 pub faults-counted : (lines : List Reading) → count_faults (line_faults lines) ≡ length (faults_of_lines lines)
 unfolding line_faults
 faults-counted lines = sym (count-numbered-faults (placed lines) (reverse (placed lines)))
+
+-- the kept faults are counted
+pub codes-counted : (codes : Codes) (lines : List Reading) → AreCodesOf codes lines → codes.count ≡ count_faults codes.faults.items
+codes-counted codes lines k = k.counted ∙ sym (faults-counted lines) ∙ ap count_faults (sym k.faulty)
+
+-- there is no fault in a part where there is none
+pub part-faultless : (fs : List (Option Fault)) (start n : ℕ) → count_faults fs ≡ 0 → count_faults (take n (drop start fs)) ≡ 0
+part-faultless fs start n none = omega (arith, none, sum_by-take-drop count_of fs start, sum_by-take-le count_of (drop start fs) n)
 
 -- the number of lines that are encoded
 
@@ -179,13 +164,3 @@ count-numbered p xs i x e = by_test (p (i, x)) refl
 pub refilled : {X : Type 0} (count : ℕ) (written old : List X) → length written ≡ count → take count (written ++ drop (length written) old) ≡ written
 refilled count written old e =
     take-append-le count written (drop (length written) old) (omega arith) ∙ take_all count written (omega arith)
-
--- a vector of bytes that was filled up with zeros
-pub padded : (bytes copied image : List ℕ) (count : ℕ) → copied ≡ bytes → count ≡ length copied → length image ≡ IMAGE_BYTES → length bytes ≤ IMAGE_BYTES
-    → ((k d : ℕ) → k < IMAGE_BYTES → k < count → get_or image k d ≡ get_or copied k d) → ((k : ℕ) → count ≤ k → k < IMAGE_BYTES → get_or image k 0 ≡ 0) → (k : ℕ) → get_or image k 0 ≡ get_or bytes k 0
-padded bytes copied image count is counted long short front zeros k = by (cases_lt k count) (cases_lt k IMAGE_BYTES)
-  where
-    by : (k < count) ⊎ (count ≤ k) → (k < IMAGE_BYTES) ⊎ (IMAGE_BYTES ≤ k) → get_or image k 0 ≡ get_or bytes k 0
-    by (inl h) (inl inside) = front k 0 inside h ∙ ap (λ bs. get_or bs k 0) is
-    by (inr h) (inl inside) = zeros k h inside ∙ sym (get_or_past bytes k 0 (omega (arith, h, counted, ap length is)))
-    by some (inr past) = get_or_past image k 0 (omega (arith, past, long)) ∙ sym (get_or_past bytes k 0 (omega (arith, past, short)))

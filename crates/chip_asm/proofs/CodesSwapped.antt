@@ -2,7 +2,7 @@
 use Rattle.std.proofs.Common.{◌≡◌, ℕ, zero, suc, ◌+◌, ◌-◌, ◌<◌, ◌≤◌, Bool, true, false, cond, ◌&&◌, ltb, leb, List, [], ◌∷◌, ◌++◌, map, reverse, length, set, get_or, slice_get, refl, ap, sym, ◌∙◌, arith, Option, Some, None, is_none, is_some, length-set, subst, vec_len, eq-eqb}
 use Rattle.std.specs.Option.{option_map_or}
 use Rattle.std.proofs.lemmas.Bool.Decides.{nat_tests}
-use Rattle.std.proofs.lemmas.List.Sums.{get_or-le-sum_by, sum_by-cons, sum_by-set}
+use Rattle.std.proofs.lemmas.List.Sums.{get_or-le-sum_by, sum_by-set}
 use Rattle.std.proofs.lemmas.List.{get_or-set_same, length-map, length-reverse}
 use Rattle.std.proofs.lemmas.Option.{slice_get-get_or, slice_get_within}
 use Rattle.chip_lang.specs.declared.code.Coded.{Coded}
@@ -25,7 +25,7 @@ use Rattle.chip_asm.specs.inner.Layouts.{IsLayoutOf, final_placement}
 use Rattle.chip_asm.specs.inner.Placements.{is_placed}
 use Rattle.chip_asm.proofs.BlockSteps.{reverse-cons}
 use Rattle.chip_asm.proofs.Bounds.{IsWithinMemory}
-use Rattle.chip_asm.proofs.CodeSteps.{count_faults, faults-counted, length-faults, one-fault}
+use Rattle.chip_asm.proofs.CodeSteps.{codes-counted, count-few, count_faults, faults-counted, length-faults}
 use Rattle.chip_asm.proofs.FoundLines.{default-at, found-at, same-found}
 use Rattle.chip_asm.proofs.ImageSteps.{bytes-coded, fault-coded}
 use Rattle.chip_asm.proofs.LinesByPlace.{AtPlace}
@@ -199,19 +199,11 @@ line_faults-stay lines at new s same =
 
 -- how many faults there are
 
-count-few : (fs : List (Option Fault)) → count_faults fs ≤ length fs
-count-few [] = omega arith
-count-few (f ∷ fs) = omega (arith, sum_by-cons count_of f fs, one-fault f, count-few fs)
-
--- the count of the kept faults
-counted : (codes : Codes) (lines : List Reading) → AreCodesOf codes lines → codes.count ≡ count_faults codes.faults.items
-counted codes lines k = k.counted ∙ sym (faults-counted lines) ∙ ap count_faults (sym k.faulty)
-
 pub count-kept : (codes : Codes) (lines : List Reading) (at : ℕ) → AreCodesOf codes lines → at < length codes.faults.items → count_of (get_or codes.faults.items at None) ≤ codes.count
-count-kept codes lines at k inside = omega (arith, counted codes lines k, get_or-le-sum_by count_of codes.faults.items at None inside)
+count-kept codes lines at k inside = omega (arith, codes-counted codes lines k, get_or-le-sum_by count_of codes.faults.items at None inside)
 
 pub few-kept : (codes : Codes) (lines : List Reading) → AreCodesOf codes lines → codes.count ≤ vec_len codes.faults
-few-kept codes lines k = omega (arith, counted codes lines k, count-few codes.faults.items, codes.faults.ok.0)
+few-kept codes lines k = omega (arith, codes-counted codes lines k, count-few codes.faults.items, codes.faults.ok.0)
 
 -- all is right again
 
@@ -232,7 +224,7 @@ codes-swapped old now lines at new q code e k accepted c written long faults cou
       long = λ some. long;
       faulty = faulty;
       counted = (let total : now.count ≡ count_faults now.faults.items
-          = omega (arith, count, set_count, counted old lines k, sum_by-set count_of old.faults.items at (coded_fault code) None inside) in
+          = omega (arith, count, set_count, codes-counted old lines k, sum_by-set count_of old.faults.items at (coded_fault code) None inside) in
           total ∙ ap count_faults faulty ∙ faults-counted (set lines at new));
     }
 
@@ -263,7 +255,7 @@ codes-stay codes lines at new q e k refused =
       short = k.short;
       long = λ some. k.long (omega (arith, some, length-set lines at new));
       faulty = k.faulty ∙ sym same;
-      counted = counted codes lines k ∙ ap count_faults (k.faulty ∙ sym same) ∙ faults-counted (set lines at new);
+      counted = codes-counted codes lines k ∙ ap count_faults (k.faulty ∙ sym same) ∙ faults-counted (set lines at new);
     }
 
 -- where the line is encoded, the edit needs it

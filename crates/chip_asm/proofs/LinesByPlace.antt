@@ -1,10 +1,10 @@
 -- The lines of a source by their places: they stand one after another, and each has its bytes in
 -- the image, and its fault.
-use Rattle.std.proofs.Common.{◌≡◌, ℕ, zero, suc, ◌+◌, ◌-◌, ◌<◌, ◌≤◌, Bool, true, false, cond, ◌&&◌, ltb, leb, List, [], ◌∷◌, reverse, length, take, get_or, slice_get, ◌⊎◌, inl, inr, find, fold, filter, refl, ap, sym, ◌∙◌, arith, Option, Some, None, is_none, is_some}
+use Rattle.std.proofs.Common.{◌≡◌, ℕ, zero, suc, ◌+◌, ◌-◌, ◌<◌, ◌≤◌, Bool, true, false, cond, ◌&&◌, ltb, leb, List, [], ◌∷◌, reverse, length, take, get_or, slice_get, find, fold, filter, refl, ap, sym, ◌∙◌, arith, Option, Some, None, is_none, is_some}
 use Rattle.std.specs.Option.{option_map_or}
-use Rattle.std.proofs.lemmas.Bool.{and_parts, and_from, cases_lt, leb-true, ltb-true}
+use Rattle.std.proofs.lemmas.Bool.{and_parts, and_from, leb-true, ltb-true}
 use Rattle.std.proofs.lemmas.Bool.Decides.{nat_tests}
-use Rattle.std.proofs.lemmas.List.{take_all, get_or-reverse, length-reverse, length-map, get_or-map, get_or_default}
+use Rattle.std.proofs.lemmas.List.{get_or-reverse, length-reverse, length-map, get_or-map, get_or_default}
 use Rattle.std.proofs.lemmas.Option.{get_or_from_slice_get, slice_get-get_or, slice_get_within}
 use Rattle.chip_lang.specs.declared.fault.Fault.{Fault}
 use Rattle.chip_lang.specs.declared.fault.Fault.TheVariants.{UnclosedIf}
@@ -24,7 +24,7 @@ use Rattle.chip_asm.proofs.ImageSteps.{empty-code, no-code, code-no_if, own-shor
 use Rattle.chip_asm.proofs.LinesApart.{one-covers}
 use Rattle.chip_asm.proofs.NextLine.{none_from}
 use Rattle.chip_asm.proofs.Placing.{onto, length-numbered}
-use Rattle.chip_asm.proofs.Resumed.{address-before, length-laid, next-placed}
+use Rattle.chip_asm.proofs.Resumed.{next-placed}
 
 -- one after another
 
@@ -198,66 +198,6 @@ lines-ordered lines layout laid i j p q h first second =
     let q_is : b.x ≡ get_or (reverse (placed lines)) j no-line = sym (get_or_from_slice_get (reverse (placed lines)) j b.x no-line b.at) in
     rw (a.placement, b.placement, p_is, q_is) (order-placed lines i j no-line no-line h (omega (arith, length-numbered lines)))
 
-ends-fold : (before : List Placed) (lines : List Reading) → AllEndBy (address before) before → AllEndBy (address (fold onto before lines)) (fold onto before lines)
-ends-fold before [] e = e
-ends-fold before (line ∷ lines) e =
-    let past = passes before line in
-    let here = stands-here before line in
-    ends-fold (onto before line) lines (past, end-more (address before) (address (place before line ∷ before)) before (omega arith) e)
-
-ends : (lines : List Reading) → AllEndBy (address (placed lines)) (placed lines)
-unfolding placed
-ends lines = ends-fold [] lines tt
-
--- the first lines end before the address that follows them
-pub ends-by : (lines : List Reading) (layout : Layout) → IsLayoutOf layout lines → (first i : ℕ) (q : Placement) → i < first → first ≤ length lines
-    → slice_get layout.placements.items i ≡ Some q → q.here + q.size ≤ address (placed (take first lines))
-ends-by lines layout laid first i q h k there = by (cases_lt first (length lines))
-  where
-    by : (first < length lines) ⊎ (length lines ≤ first) → q.here + q.size ≤ address (placed (take first lines))
-    by (inl more) =
-        let all : List Placement = layout.placements.items in
-        let next : Placement = get_or all first q in
-        let inside : first < length all = omega (arith, more, length-laid layout lines laid) in
-        let apart = lines-ordered lines layout laid i first q next h there (slice_get-get_or all first q inside) in
-        let here : next.here ≡ address (placed (take first lines))
-        = address-before lines first next more (get_or_default all first q next inside ∙ ap (λ qs. get_or qs first next) laid.placements) in
-        omega (arith, apart, here)
-    by (inr whole) =
-        let a : AtPlace lines i q = at-place lines layout laid i q there in
-        let same : length (reverse (placed lines)) ≡ length (placed lines) = length-reverse (placed lines) in
-        let inside : i < length (reverse (placed lines)) = slice_get_within (reverse (placed lines)) i a.x a.at in
-        let x_is : get_or (placed lines) (length (placed lines) - 1 - i) a.x ≡ a.x
-        = sym (get_or-reverse (placed lines) i a.x (omega arith)) ∙ get_or_from_slice_get (reverse (placed lines)) i a.x a.x a.at in
-        let last = end-get (address (placed lines)) (placed lines) (length (placed lines) - 1 - i) a.x (ends lines) (omega arith) in
-        rw (take_all first lines whole, a.placement) (rw x_is at last)
-
--- the others begin there, or behind it
-pub starts-by : (lines : List Reading) (layout : Layout) → IsLayoutOf layout lines → (first i : ℕ) (q : Placement) → first ≤ i
-    → slice_get layout.placements.items i ≡ Some q → address (placed (take first lines)) ≤ q.here
-starts-by lines layout laid first i q h there = by (cases_lt first i)
-  where
-    all : List Placement
-    all = layout.placements.items
-
-    next : Placement
-    next = get_or all first q
-
-    inside : first < length all
-    inside = (let n = slice_get_within all i q there in omega arith)
-
-    here : next.here ≡ address (placed (take first lines))
-    here = address-before lines first next (omega (arith, inside, length-laid layout lines laid)) (get_or_default all first q next inside ∙ ap (λ qs. get_or qs first next) laid.placements)
-
-    by : (first < i) ⊎ (i ≤ first) → address (placed (take first lines)) ≤ q.here
-    by (inl less) =
-        let apart = lines-ordered lines layout laid first i next q less (slice_get-get_or all first q inside) there in
-        omega (arith, apart, here)
-    by (inr same) =
-        let at : i ≡ first = omega arith in
-        let is : next ≡ q = ap (λ j. get_or all j q) (sym at) ∙ get_or_from_slice_get all i q q there in
-        omega (arith, here, ap (λ p. p.here) is)
-
 -- each line stands in memory
 pub low : (lines : List Reading) (n : ℕ) (q : Placement) → AtPlace lines n q → IMAGE_START ≤ q.here
 low lines n q a = rw a.placement a.within.0
@@ -334,9 +274,6 @@ accepted-by false fault code h = cc
 pub accepted-fault : (lines : List Reading) (n : ℕ) (q : Placement) (a : AtPlace lines n q) → is_placed q ≡ true → fault_of (placed lines) a.x ≡ fault_in_code (code_under (placed lines) a.x)
 accepted-fault lines n q a accepted =
     accepted-by a.x.live (first_pass_fault (placed lines) a.x) (fault_in_code (code_under (placed lines) a.x)) (ap is_placed (sym a.placement) ∙ accepted)
-
-pub uncoded-fault : (lines : List Reading) (n : ℕ) (q : Placement) (a : AtPlace lines n q) → is_placed q ≡ true → has_code (body_of a.x.line) ≡ false → fault_of (placed lines) a.x ≡ None
-uncoded-fault lines n q a accepted none = accepted-fault lines n q a accepted ∙ ap fault_in_code (no-code (body_of a.x.line) (values_of (symbols (placed lines))) none)
 
 -- an accepted line has room for its bytes
 

@@ -1,9 +1,11 @@
 -- The listing, line by line.
-use Rattle.std.proofs.Common.{◌≡◌, ℕ, suc, zero, ◌+◌, ◌<◌, ◌≤◌, ℤ, Bool, true, false, List, [], ◌∷◌, ◌++◌, map, reverse, length, take, get_or, slice_get, zip, refl, ap, sym, ◌∙◌, arith, add-one, Option, Some, None, option_map}
+use Rattle.std.proofs.Common.{◌≡◌, ℕ, suc, zero, ◌+◌, ◌-◌, ◌*◌, ◌/◌, ◌%◌, ◌<◌, ◌≤◌, ℤ, Bool, true, false, List, [], ◌∷◌, ◌++◌, map, reverse, length, take, set, get_or, slice_get, zip, replicate, append_assoc, length-append, refl, ap, sym, ◌∙◌, arith, add-one, Option, Some, None, option_map}
 use Rattle.std.specs.Prelude.{min}
+use Rattle.std.specs.Fmt.{decimal}
 use Rattle.std.specs.List.{flat_map, range_with_len}
 use Rattle.std.proofs.Math.Nat.{min-le_right}
-use Rattle.std.proofs.lemmas.List.{map-append, append-nil, take_all, length-map}
+use Rattle.std.proofs.lemmas.Fmt.{decimal_digit, decimal_step}
+use Rattle.std.proofs.lemmas.List.{map-append, append-nil, set-append_right, take_all, length-map}
 use Rattle.std.proofs.lemmas.Grind.{flat_map-append}
 use Rattle.std.proofs.lemmas.Option.{slice_get-get_or, slice_get-map}
 use Rattle.chip_lang.specs.declared.fault.Fault.{Fault}
@@ -37,6 +39,45 @@ bytes-more n bytes =
 
     range-more : (n : ℕ) → range_with_len 0 (n + 1) ≡ range_with_len 0 n ++ n ∷ []
     range-more n = let e : 0 + n ≡ n = omega arith in ap (range_with_len 0) (add-one n) ∙ from 0 n ∙ ap (λ k. range_with_len 0 n ++ k ∷ []) e
+
+-- their digits in the field
+
+pub length-bytes : (n : ℕ) (bytes : List ℕ) → length (bytes_shown n bytes) ≡ 2 * n
+length-bytes zero bytes = refl
+length-bytes (suc n) bytes =
+    omega (arith, length-bytes n bytes, ap length (ap (λ m. bytes_shown m bytes) (sym (add-one n)) ∙ bytes-more n bytes), length-append (bytes_shown n bytes) (hex_byte (get_or bytes n 0)))
+
+pub pair-more : (n : ℕ) (bytes digits : List ℕ) (a b : ℕ) → n < 6 → digits ≡ bytes_shown n bytes ++ replicate (12 - 2 * n) 32 → a ∷ b ∷ [] ≡ hex_byte (get_or bytes n 0)
+    → set (set digits (2 * n) a) (2 * n + 1) b ≡ bytes_shown (n + 1) bytes ++ replicate (12 - 2 * (n + 1)) 32
+pair-more n bytes digits a b h is pair =
+    let room : 12 - 2 * n ≡ suc (suc (12 - 2 * (n + 1))) = omega arith in
+    let rest : List ℕ = replicate (12 - 2 * (n + 1)) 32 in
+    let long : length (bytes_shown n bytes) ≡ 2 * n = length-bytes n bytes in
+    let first : 2 * n - 2 * n ≡ 0 = omega arith in
+    let second : 2 * n + 1 - 2 * n ≡ 1 = omega arith in
+    ap (λ l. set (set l (2 * n) a) (2 * n + 1) b) (is ∙ ap (λ m. bytes_shown n bytes ++ replicate m 32) room)
+    ∙ ap (λ l. set l (2 * n + 1) b)
+    (set-append_right (bytes_shown n bytes) (32 ∷ 32 ∷ replicate (12 - 2 * (n + 1)) 32) (2 * n) (2 * n) a long (omega arith)
+    ∙ ap (λ i. bytes_shown n bytes ++ set (32 ∷ 32 ∷ replicate (12 - 2 * (n + 1)) 32) i a) first)
+    ∙ set-append_right (bytes_shown n bytes) (a ∷ 32 ∷ replicate (12 - 2 * (n + 1)) 32) (2 * n) (2 * n + 1) b long (omega arith)
+    ∙ ap (λ i. bytes_shown n bytes ++ set (a ∷ 32 ∷ replicate (12 - 2 * (n + 1)) 32) i b) second
+    ∙ sym (append_assoc (bytes_shown n bytes) (a ∷ b ∷ []) (replicate (12 - 2 * (n + 1)) 32))
+    ∙ ap (λ l. (bytes_shown n bytes ++ l) ++ replicate (12 - 2 * (n + 1)) 32) pair
+    ∙ ap (λ l. l ++ replicate (12 - 2 * (n + 1)) 32) (sym (bytes-more n bytes))
+
+-- numbers of up to four digits
+
+pub one-digit : (n : ℕ) → n / 10 ≡ 0 → decimal n ≡ (48 + n % 10) ∷ []
+one-digit n h = let same : n ≡ n % 10 = omega arith in decimal_digit n (omega arith) ∙ ap (λ m. (48 + m) ∷ []) same
+
+pub two-digits : (n : ℕ) → 1 ≤ n / 10 → n / 10 < 10 → decimal n ≡ (48 + n / 10) ∷ (48 + n % 10) ∷ []
+two-digits n h k = decimal_step n (omega arith) (omega arith) ∙ ap (λ l. l ++ (48 + n % 10) ∷ []) (decimal_digit (n / 10) k)
+
+pub three-digits : (n : ℕ) → 1 ≤ n / 10 / 10 → n / 10 / 10 < 10 → decimal n ≡ (48 + n / 10 / 10) ∷ (48 + n / 10 % 10) ∷ (48 + n % 10) ∷ []
+three-digits n h k = decimal_step n (omega arith) (omega arith) ∙ ap (λ l. l ++ (48 + n % 10) ∷ []) (two-digits (n / 10) h k)
+
+pub four-digits : (n : ℕ) → 1 ≤ n / 10 / 10 / 10 → n / 10 / 10 / 10 < 10 → decimal n ≡ (48 + n / 10 / 10 / 10) ∷ (48 + n / 10 / 10 % 10) ∷ (48 + n / 10 % 10) ∷ (48 + n % 10) ∷ []
+four-digits n h k = decimal_step n (omega arith) (omega arith) ∙ ap (λ l. l ++ (48 + n % 10) ∷ []) (three-digits (n / 10) h k)
 
 -- the same bytes are shown the same
 shown-same : (n : ℕ) (a b : List ℕ) → ((k : ℕ) → k < n → get_or a k 0 ≡ get_or b k 0) → bytes_shown n a ≡ bytes_shown n b

@@ -1,5 +1,5 @@
 -- What is known of the line at a place after an edit, when it gets its code.
-use Rattle.std.proofs.Common.{◌≡◌, ℕ, zero, suc, cond, is_some, [], ◌∷◌, ◌+◌, ◌<◌, ◌≤◌, Bool, true, false, ◌&&◌, List, length, get_or, slice_get, reverse, refl, ap, sym, ◌∙◌, arith, Option, Some, None, vec_len}
+use Rattle.std.proofs.Common.{◌≡◌, ℕ, zero, suc, cond, is_some, [], ◌∷◌, ◌++◌, ◌+◌, ◌<◌, ◌≤◌, Bool, true, false, ◌&&◌, List, length, get_or, slice_get, reverse, refl, ap, sym, subst, ◌∙◌, arith, Option, Some, None, vec_len}
 use Rattle.std.specs.List.{enumerate_from}
 use Rattle.std.specs.Option.{option_map_or}
 use Rattle.std.proofs.lemmas.Bool.{and_parts}
@@ -8,24 +8,26 @@ use Rattle.std.proofs.lemmas.Option.{same_Some, slice_get_within, slice_get_read
 use Rattle.chip_lang.specs.Code.{code_of, own_bytes}
 use Rattle.chip_lang.specs.declared.limits.TheConstants.{IMAGE_BYTES}
 use Rattle.chip_lang.specs.Line.{Reading, bad}
+use Rattle.chip_lang.specs.declared.fault.Fault.{Fault}
 use Rattle.chip_lang.specs.declared.fault.Fault.TheVariants.{UnclosedIf}
 use Rattle.chip_lang.specs.Uses.{agree_on}
 use Rattle.chip_lang.specs.Value.{Symbols}
 use Rattle.chip_asm.specs.Layout.{Placed, body_of}
 use Rattle.chip_asm.specs.Names.{values_of}
-use Rattle.chip_asm.specs.Program.{code_under, names_of_lines}
+use Rattle.chip_asm.specs.Program.{code_under, fault_of, names_of_lines}
 use Rattle.chip_asm.specs.computed.Walk.{placed}
+use Rattle.chip_asm.specs.declared.codes.Codes.{Codes}
 use Rattle.chip_asm.specs.declared.placement.Placement.{Placement}
 use Rattle.chip_asm.specs.declared.recoding.Recoding.{Recoding}
-use Rattle.chip_asm.specs.inner.Codes.{IsByte, IsWritten, covers_byte, right_byte}
+use Rattle.chip_asm.specs.inner.Codes.{IsByte, IsCounted, covers_byte, right_byte}
 use Rattle.chip_asm.specs.inner.Infos.{IsInfo}
 use Rattle.chip_asm.specs.inner.KeptLine.{KeptLine}
 use Rattle.chip_asm.specs.inner.Layouts.{placements_of}
 use Rattle.chip_asm.specs.inner.Placements.{is_placed}
 use Rattle.chip_asm.specs.inner.Recode.{count_up_to, has_code, is_encoded_again, is_placed_at}
-use Rattle.chip_asm.specs.inner.Recoding.{IsRecoding, IsPlacedThen, code_bytes, code_then, count_then, is_again, is_kept, lines_again, lines_before, lines_then}
+use Rattle.chip_asm.specs.inner.Recoding.{AreWritten, IsAnew, IsRecoding, IsPlacedThen, code_then, count_then, is_again, is_kept, lines_again, lines_before, lines_then}
 use Rattle.chip_asm.specs.inner.Records.{lines_after, place_before, reading_in}
-use Rattle.chip_asm.proofs.CodeSteps.{byte-more, byte-stays, byte-written, count-numbered, count_by-take}
+use Rattle.chip_asm.proofs.CodeSteps.{byte-more, count-numbered, count_by-take, faults-more}
 use Rattle.chip_asm.proofs.ImageSteps.{same-bytes}
 use Rattle.chip_asm.proofs.LinesAfter.{Stood, info-at, length-lines_after, length-readings_after, line-at, read-at, stood, stood-at}
 use Rattle.chip_asm.proofs.LinesByPlace.{AtPlace, at-place}
@@ -159,25 +161,6 @@ again-is r k place q line there coded accepted kept =
 pub now-at : (r : Recoding) → IsRecoding r → (place : ℕ) (q : Placement) → place < count_then r → q ≡ get_or r.new.now.placements.items place q → slice_get r.new.now.placements.items place ≡ Some q
 now-at r k place q inside is = slice_get_read r.new.now.placements.items _ place q refl (let n = long-then r k in omega arith) is
 
-pub coded-is : (r : Recoding) → IsRecoding r → (place : ℕ) (q : Placement) (a : AtPlace (lines_then r) place q) (kept : KeptLine) → slice_get (lines_after r.lines.now r.edit.now) place ≡ Some kept
-    → kept.info.is_coded ≡ has_code (body_of a.x.line)
-coded-is r k place q a kept there = (kept-info r k place kept there).coded ∙ ap (λ line. has_code (body_of line)) (kept-line r place q a kept there)
-
--- a line that is written has its bytes, and leaves others alone
-pub written-right : (r : Recoding) → IsRecoding r → (place : ℕ) (p q : Placement) → slice_get r.new.now.placements.items place ≡ Some p → slice_get r.new.now.placements.items place ≡ Some q
-    → (k : ℕ) → covers_byte q k ≡ true → (old new : List ℕ) → ((x : Placed) → IsPlacedThen r place x → IsWritten p (code_bytes r x) old new) → get_or new k 0 ≡ right_byte (lines_then r) k
-written-right r known place p q p_at there k covered old new written =
-    let a : AtPlace (lines_then r) place p = placed-then r known place p p_at in
-    let same : q ≡ p = same_Some q p (sym there ∙ p_at) in
-    byte-written (lines_then r) place p a a.x refl k (get_or new k 0) (get_or old k 0) (ap (λ z. covers_byte z k) (sym same) ∙ covered) (written a.x a.at k)
-
-pub written-other : (r : Recoding) → IsRecoding r → (place : ℕ) (p q : Placement) → slice_get r.new.now.placements.items place ≡ Some p → slice_get r.new.now.placements.items place ≡ Some q
-    → (k : ℕ) → covers_byte q k ≡ false → (old new : List ℕ) → ((x : Placed) → IsPlacedThen r place x → IsWritten p (code_bytes r x) old new) → get_or new k 0 ≡ get_or old k 0
-written-other r known place p q p_at there k apart old new written =
-    let a : AtPlace (lines_then r) place p = placed-then r known place p p_at in
-    let same : q ≡ p = same_Some q p (sym there ∙ p_at) in
-    byte-stays p k (get_or new k 0) _ (get_or old k 0) (ap (λ z. covers_byte z k) (sym same) ∙ apart) (written a.x a.at k)
-
 -- one line more is written
 
 some-within : {X : Type 0} (xs : List X) (n : ℕ) → n < length xs → is_some (slice_get xs n) ≡ true
@@ -200,7 +183,7 @@ line-then r known place inside = by (slice_get (reverse (placed (lines_then r)))
     by (Some x) e = record { x = x; at = e }
 
 pub bytes-more : (r : Recoding) → IsRecoding r → (place : ℕ) → place < count_then r → (old new : List ℕ) → ((k : ℕ) → k < IMAGE_BYTES → IsByte (lines_then r) r.new.now.placements.items place k (get_or old k 0))
-    → ((q : Placement) (k : ℕ) → slice_get r.new.now.placements.items place ≡ Some q → k < IMAGE_BYTES → covers_byte q k ≡ true → get_or old k 0 ≡ 0 → get_or new k 0 ≡ right_byte (lines_then r) k)
+    → ((q : Placement) (k : ℕ) → slice_get r.new.now.placements.items place ≡ Some q → covers_byte q k ≡ true → get_or old k 0 ≡ 0 → get_or new k 0 ≡ right_byte (lines_then r) k)
     → ((q : Placement) (k : ℕ) → slice_get r.new.now.placements.items place ≡ Some q → covers_byte q k ≡ false → get_or new k 0 ≡ get_or old k 0)
     → (k : ℕ) → k < IMAGE_BYTES → IsByte (lines_then r) r.new.now.placements.items (place + 1) k (get_or new k 0)
 bytes-more r known place inside old new so_far right others k h = by (slice_get r.new.now.placements.items place) refl
@@ -208,7 +191,21 @@ bytes-more r known place inside old new so_far right others k h = by (slice_get 
     by : (o : Option Placement) → slice_get r.new.now.placements.items place ≡ o → IsByte (lines_then r) r.new.now.placements.items (place + 1) k (get_or new k 0)
     by None e = absurd (let bad : false ≡ true = ap is_some (sym e) ∙ some-within r.new.now.placements.items place (let n = long-then r known in omega arith) in cc)
     by (Some q) e =
-        byte-more (lines_then r) r.new.now known.new place q k (get_or old k 0) (get_or new k 0) e (so_far k h) (λ covered zero_now. right q k e h covered zero_now) (λ apart. others q k e apart)
+        byte-more (lines_then r) r.new.now known.new place q k (get_or old k 0) (get_or new k 0) e (so_far k h) (λ covered zero_now. right q k e covered zero_now) (λ apart. others q k e apart)
+
+-- the codes after one line more
+pub written-more : (r : Recoding) → IsRecoding r → (place : ℕ) → place < count_then r → (old new : Codes) (fault : Option Fault) (image : List ℕ) → AreWritten r old place → vec_len new.image ≡ IMAGE_BYTES
+    → new.image.items ≡ image → new.faults.items ≡ old.faults.items ++ fault ∷ [] → IsCounted new → ((x : Placed) → IsPlacedThen r place x → fault ≡ fault_of (placed (lines_then r)) x)
+    → ((q : Placement) (k : ℕ) → slice_get r.new.now.placements.items place ≡ Some q → covers_byte q k ≡ true → get_or old.image.items k 0 ≡ 0 → get_or image k 0 ≡ right_byte (lines_then r) k)
+    → ((q : Placement) (k : ℕ) → slice_get r.new.now.placements.items place ≡ Some q → covers_byte q k ≡ false → get_or image k 0 ≡ get_or old.image.items k 0) → AreWritten r new (place + 1)
+written-more r known place inside old new fault image so_far long written pushed counts is right others =
+    let line : LineThen r place = line-then r known place inside in
+    record {
+      long = long;
+      bytes = λ k h. subst (λ bytes. IsByte (lines_then r) r.new.now.placements.items (place + 1) k (get_or bytes k 0)) (sym written) (bytes-more r known place inside old.image.items image so_far.bytes right others k h);
+      faults = pushed ∙ ap (λ fs. fs ++ fault ∷ []) so_far.faults ∙ sym (faults-more (lines_then r) place line.x fault line.at (is line.x line.at));
+      counted = counts;
+    }
 
 -- how many lines are encoded up to the next place
 pub counted : (r : Recoding) → IsRecoding r → (place : ℕ) → place < count_then r → (start before now : ℕ) → before ≤ start + count_up_to (lines_before r) (lines_then r) (place_before r.edit.now) place
@@ -222,3 +219,19 @@ counted r known place inside start before now so_far more =
     let next = count-numbered (is_encoded_again (lines_before r) (lines_then r) (place_before r.edit.now)) (lines_then r) place line at in
     let whole = count_by-take (is_encoded_again (lines_before r) (lines_then r) (place_before r.edit.now)) (enumerate_from 0 (lines_then r)) (place + 1) in
     (omega arith, omega arith)
+
+-- a line that is accepted and doesn't keep its code is encoded again, if it has one
+pub encoded-anew : (r : Recoding) → IsRecoding r → (place : ℕ) (q : Placement) (kept : KeptLine) (line : Reading) → slice_get r.new.now.placements.items place ≡ Some q
+    → slice_get (lines_after r.lines.now r.edit.now) place ≡ Some kept → slice_get (lines_then r) place ≡ Some line → is_placed q ≡ true → IsAnew r place
+    → (before now : ℕ) → now ≤ before + cond (has_code (body_of (reading_in kept))) 1 0 → now ≤ before + cond (is_again r (place, line)) 1 0
+encoded-anew r known place q kept line there here at accepted anew before now few = by (has_code (body_of (reading_in kept))) refl few
+  where
+    read : reading_in kept ≡ line
+    read = read-at (lines_after r.lines.now r.edit.now) place kept line here at
+
+    by : (b : Bool) → has_code (body_of (reading_in kept)) ≡ b → now ≤ before + cond b 1 0 → now ≤ before + cond (is_again r (place, line)) 1 0
+    by true e h =
+        let again : is_again r (place, line) ≡ true
+        = again-is r known place q line there (ap (λ (l : Reading). has_code (body_of l)) (sym read) ∙ e) accepted (anew q line there at accepted) in
+        rw again h
+    by false e h = omega arith

@@ -1,6 +1,6 @@
 //! The second pass, as it is kept: the image, and the fault of each line.
-ghost use Rattle.std.specs.Prelude.{◌≡◌, ℕ, ◌+◌, ◌-◌, ◌<◌, ◌≤◌, [], OnOk, None, length, slice_index, slice_index_or, slice_set, sum_by, vec_len};
-ghost use Rattle.chip_asm.specs.inner.Codes.{AreCodesOf, IsWritten, coded_bytes, coded_fault, count_of};
+ghost use Rattle.std.specs.Prelude.{◌≡◌, ℕ, ◌+◌, ◌-◌, ◌<◌, ◌≤◌, ◌++◌, ◌∷◌, [], OnOk, None, drop, length, slice_index, slice_index_or, slice_set, sum_by, take, vec_len};
+ghost use Rattle.chip_asm.specs.inner.Codes.{AreCodesOf, IsCounted, IsWritten, coded_bytes, coded_fault, count_of};
 
 use crate::placement::Placement;
 use chip_lang::limits::{IMAGE_BYTES, IMAGE_START, MEMORY_BYTES};
@@ -31,49 +31,76 @@ impl Codes {
         }
     }
 
-    /// Takes over the first bytes and the first faults of others: behind the bytes stand zeros, and
-    /// there is room for the faults of so many lines.
-    pub(crate) fn copy_first(
-        &mut self,
-        bytes: &[u8],
-        faults: &[Option<Fault>],
-        lines: usize,
-    ) -> Result<(), AllocError>
-        requires { length bytes.now ≤ IMAGE_BYTES }
+    /// Makes all bytes zeros, and takes the faults out: there is room for those of so many lines.
+    pub(crate) fn clear(&mut self, lines: usize) -> Result<(), AllocError>
         ensures image { OnOk result (vec_len self.new.image ≡ IMAGE_BYTES) }
-        ensures bytes { OnOk result ((k : ℕ)
-            → slice_index self.new.image.items k ≡ slice_index bytes.now k) }
-        ensures faults { OnOk result (self.new.faults.items ≡ faults.now) }
+        ensures zeros { OnOk result ((k : ℕ) → slice_index self.new.image.items k ≡ 0) }
+        ensures faults { OnOk result (self.new.faults.items ≡ []) }
+        ensures count { OnOk result (self.new.count ≡ 0) }
     {
         self.image.clear();
-        self.image.reserve(IMAGE_BYTES)?;
-        self.image.extend_from_slice(bytes)?;
         self.image.resize(IMAGE_BYTES, 0)?;
         self.faults.clear();
-        self.faults.reserve(lines)?;
-        self.faults.extend_from_slice(faults)
+        self.count = 0;
+        self.faults.reserve(lines)
+    }
+
+    /// Adds the fault of one line more.
+    pub(crate) fn push_fault(&mut self, fault: Option<Fault>) -> Result<(), AllocError>
+        requires { IsCounted self.old }
+        ensures image { self.new.image ≡ self.old.image }
+        ensures faults { OnOk result (self.new.faults.items ≡ self.old.faults.items ++ fault ∷ []) }
+        ensures counted { OnOk result (IsCounted self.new) }
+    {
+        self.faults.push(fault)?;
+        self.count += count_of(fault);
+        Ok(())
+    }
+
+    /// Adds the faults of others from one place up to another one.
+    pub(crate) fn copy_faults(
+        &mut self,
+        others: &Codes,
+        start: usize,
+        end: usize,
+    ) -> Result<(), AllocError>
+        requires counted { IsCounted self.old }
+        requires others { IsCounted others.now }
+        requires ordered { start ≤ end }
+        requires within { end ≤ vec_len others.now.faults }
+        ensures image { self.new.image ≡ self.old.image }
+        ensures faults { OnOk result (self.new.faults.items
+            ≡ self.old.faults.items ++ take (end - start) (drop start others.now.faults.items)) }
+        ensures counted { OnOk result (IsCounted self.new) }
+    {
+        let faults = &others.faults[start..end];
+        self.faults.extend_from_slice(faults)?;
+        if others.count > 0 {
+            self.count += count_faults(faults);
+        }
+        Ok(())
     }
 }
 
 impl Codes {
     /// Puts the code of a line at a place in the stead of the one that it had.
-    pub(crate) fn put(&mut self, at: usize, placement: &Placement, code: &Coded)
+    pub(crate) fn put(&mut self, at: usize, placement: &Placement, code: Coded)
         requires low { IMAGE_START ≤ placement.now.here }
         requires high { placement.now.here + placement.now.size ≤ MEMORY_BYTES }
         requires long { vec_len self.old.image ≡ IMAGE_BYTES }
         requires there { at < vec_len self.old.faults }
         requires counted { count_of (slice_index_or self.old.faults.items at None) ≤ self.old.count }
         requires few { self.old.count ≤ vec_len self.old.faults }
-        ensures written { IsWritten placement.now (coded_bytes code.now) self.old.image.items
+        ensures written { IsWritten placement.now (coded_bytes code) self.old.image.items
             self.new.image.items }
         ensures long { vec_len self.new.image ≡ IMAGE_BYTES }
         ensures faults { self.new.faults.items
-            ≡ slice_set self.old.faults.items at (coded_fault code.now) }
+            ≡ slice_set self.old.faults.items at (coded_fault code) }
         ensures count { self.new.count + count_of (slice_index_or self.old.faults.items at None)
-            ≡ self.old.count + count_of (coded_fault code.now) }
+            ≡ self.old.count + count_of (coded_fault code) }
     {
-        write_line(&mut self.image, placement, bytes_of(code));
-        let fault = fault_in(code);
+        write_line(&mut self.image, placement, bytes_of(&code));
+        let fault = fault_in(&code);
         self.count = self.count + count_of(fault) - count_of(self.faults[at]);
         self.faults[at] = fault;
     }
@@ -133,6 +160,15 @@ pub(crate) fn write_line(image: &mut [u8], placement: &Placement, bytes: &[u8])
     for index in 0..placement.size as usize {
         image[first + index] = byte_or_zero(bytes, index);
     }
+}
+
+/// Writes bytes at a place of the image.
+pub(crate) fn copy_to(image: &mut [u8], at: usize, bytes: &[u8])
+    requires { at + length bytes.now ≤ length image.old }
+    ensures { image.new
+        ≡ take at image.old ++ (bytes.now ++ drop (at + length bytes.now) image.old) }
+{
+    image[at..at + bytes.len()].copy_from_slice(bytes);
 }
 
 /// The bytes of a code; none of a fault.

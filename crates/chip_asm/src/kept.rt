@@ -253,7 +253,7 @@ impl Kept {
         let placement = self.layout.placements[at];
         if placement.is_accepted() {
             let code = code_of(alloc, meter, &self.names, &added)?;
-            self.codes.put(at, &placement, &code);
+            self.codes.put(at, &placement, code);
         }
         self.settled = self.settled.min(at);
         replace_line(&mut self.lines, at, added);

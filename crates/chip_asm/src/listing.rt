@@ -1,8 +1,8 @@
 //! The listing of a source.
-ghost use Rattle.std.specs.Prelude.{◌≡◌, ◌+◌, ◌-◌, ◌≤◌, ◌++◌, ◌∷◌, [], ℕ, true, OnOk, IfOk, length, replicate, codes};
+ghost use Rattle.std.specs.Prelude.{◌≡◌, ◌+◌, ◌<◌, ◌≤◌, ◌++◌, ◌∷◌, [], ℕ, true, OnOk, IfOk, codes, length};
 ghost use Rattle.chip_lang.specs.SeenLine.{seen_line};
 ghost use Rattle.std.specs.Fmt.{decimal, signed_decimal};
-ghost use Rattle.chip_lang.specs.Show.{hex_byte, hex_word, hex_digit};
+ghost use Rattle.chip_lang.specs.Show.{hex_digit};
 ghost use Rattle.chip_asm.specs.Layout.{value_given, body_of};
 ghost use Rattle.chip_asm.specs.computed.Walk.{placed};
 ghost use Rattle.chip_asm.specs.inner.Layouts.{IsLayoutOf};
@@ -13,48 +13,51 @@ ghost use Rattle.chip_asm.specs.inner.Codes.{AreCodesOf};
 use crate::codes::{Codes, byte_or_zero};
 use crate::kept_line::BoxedLine;
 use crate::layout::Layout;
+use crate::limits::MOST_LINES;
 use crate::placement::Placement;
 use chip_lang::{Body, Fault, Line};
 use itoa::Buffer;
 use std::alloc::{AllocError, Global};
 
-// As many spaces as a field of a listing has places at most.
+// As many spaces as the field of a listing has places.
 const SPACES: [u8; 12] = [b' '; 12];
 
-/// Appends spaces.
-fn push_spaces(out: &mut Vec<u8>, count: usize) -> Result<(), AllocError>
-    requires { count ≤ 12 }
-    ensures { OnOk result (out.new.items ≡ out.old.items ++ replicate count 32) }
+/// A digit below 10.
+fn digit(value: usize) -> u8
+    requires { value ≤ 9 }
+    ensures { result ≡ 48 + value }
 {
-    out.extend_from_slice(&SPACES[..count])?;
-    Ok(())
+    b'0' + value as u8
 }
 
-/// Appends a text at the right of so many places.
-fn push_right(out: &mut Vec<u8>, places: usize, text: &[u8]) -> Result<(), AllocError>
-    requires { places ≤ 12 }
-    ensures { OnOk result (out.new.items ≡ out.old.items ++ at_right places text.now) }
-{
-    push_spaces(out, places.saturating_sub(text.len()))?;
-    out.extend_from_slice(text)?;
-    Ok(())
-}
-
-/// Appends a number in decimal, at the right of four places.
+/// Appends a number below 10,000 in decimal, at the right of four places, and a space.
 fn push_number(out: &mut Vec<u8>, number: usize) -> Result<(), AllocError>
-    ensures { OnOk result (out.new.items ≡ out.old.items ++ at_right 4 (decimal number)) }
+    requires { number < 10000 }
+    ensures { OnOk result (out.new.items
+        ≡ out.old.items ++ (at_right 4 (decimal number) ++ 32 ∷ [])) }
 {
-    let mut digits = Buffer::new();
-    push_right(out, 4, digits.format(number).as_bytes())
+    let (tens, ones) = (number / 10, digit(number % 10));
+    if tens == 0 {
+        return out.extend_from_slice(&[b' ', b' ', b' ', ones, b' ']);
+    }
+    let (hundreds, second) = (tens / 10, digit(tens % 10));
+    if hundreds == 0 {
+        return out.extend_from_slice(&[b' ', b' ', second, ones, b' ']);
+    }
+    let (thousands, third) = (hundreds / 10, digit(hundreds % 10));
+    if thousands == 0 {
+        return out.extend_from_slice(&[b' ', third, second, ones, b' ']);
+    }
+    out.extend_from_slice(&[digit(thousands), third, second, ones, b' '])
 }
 
-/// Appends a text at the left of so many places.
-fn push_left(out: &mut Vec<u8>, places: usize, text: &[u8]) -> Result<(), AllocError>
-    requires { places ≤ 12 }
-    ensures { OnOk result (out.new.items ≡ out.old.items ++ at_left places text.now) }
+/// Appends a sign and digits, at the left of the field.
+fn push_left(out: &mut Vec<u8>, sign: u8, digits: &[u8]) -> Result<(), AllocError>
+    ensures { OnOk result (out.new.items ≡ out.old.items ++ at_left 12 (sign ∷ digits.now)) }
 {
-    out.extend_from_slice(text)?;
-    push_spaces(out, places.saturating_sub(text.len()))?;
+    out.push(sign)?;
+    out.extend_from_slice(digits)?;
+    out.extend_from_slice(&SPACES[..11usize.saturating_sub(digits.len())])?;
     Ok(())
 }
 
@@ -70,16 +73,10 @@ fn hex_digit(digit: usize) -> u8
     }
 }
 
-/// Appends the last two digits of a number to the base 16.
-fn push_byte(out: &mut Vec<u8>, number: usize) -> Result<(), AllocError>
-    ensures { OnOk result (out.new.items ≡ out.old.items ++ hex_byte number) }
-{
-    out.extend_from_slice(&[hex_digit(number / 16 % 16), hex_digit(number % 16)])
-}
-
-/// Appends the address of a line.
+/// Appends the address of a line, and a space.
 fn push_address(out: &mut Vec<u8>, live: bool, here: usize) -> Result<(), AllocError>
-    ensures { OnOk result (out.new.items ≡ out.old.items ++ address_shown live here) }
+    ensures { OnOk result (out.new.items
+        ≡ out.old.items ++ (address_shown live here ++ 32 ∷ [])) }
 {
     if live {
         return out.extend_from_slice(&[
@@ -87,18 +84,25 @@ fn push_address(out: &mut Vec<u8>, live: bool, here: usize) -> Result<(), AllocE
             hex_digit(here / 256 % 16),
             hex_digit(here / 16 % 16),
             hex_digit(here % 16),
+            b' ',
         ]);
     }
-    out.extend_from_slice(b"----")
+    out.extend_from_slice(b"---- ")
 }
 
-/// Appends so many of the first bytes, with zeros past the last one.
+/// Appends so many of the first bytes, with zeros past the last one, at the left of the field.
 fn push_bytes(out: &mut Vec<u8>, count: usize, bytes: &[u8]) -> Result<(), AllocError>
-    ensures { OnOk result (out.new.items ≡ out.old.items ++ bytes_shown count bytes.now) }
+    requires { count ≤ 6 }
+    ensures { OnOk result (out.new.items
+        ≡ out.old.items ++ at_left 12 (bytes_shown count bytes.now)) }
 {
+    let mut digits = SPACES;
     for index in 0..count {
-        push_byte(out, byte_or_zero(bytes, index) as usize)?;
+        let byte = byte_or_zero(bytes, index) as usize;
+        digits[2 * index] = hex_digit(byte / 16 % 16);
+        digits[2 * index + 1] = hex_digit(byte % 16);
     }
+    out.extend_from_slice(&digits)?;
     Ok(())
 }
 
@@ -129,44 +133,41 @@ fn value_given(line: &Line, value: i32) -> i32
     }
 }
 
-/// Appends the value that a definition gives.
+/// Appends the value that a definition gives, at the left of the field.
 fn push_value(out: &mut Vec<u8>, value: i32) -> Result<(), AllocError>
-    ensures { OnOk result (out.new.items ≡ out.old.items ++ (codes "=" ++ signed_decimal value)) }
+    ensures { OnOk result (out.new.items
+        ≡ out.old.items ++ at_left 12 (codes "=" ++ signed_decimal value)) }
 {
     let mut digits = Buffer::new();
-    out.push(b'=')?;
-    out.extend_from_slice(digits.format(value).as_bytes())
+    push_left(out, b'=', digits.format(value).as_bytes())
 }
 
-/// Appends what stands in the field of a line.
+/// Appends the field of a line.
 fn push_field(
     out: &mut Vec<u8>,
     fault: Option<Fault>,
     placement: &Placement,
-    kept: &BoxedLine,
+    line: &Line,
     bytes: &[u8],
 ) -> Result<(), AllocError>
     ensures { OnOk result (out.new.items
-        ≡ out.old.items ++ field_shown fault placement.now.live
-        (body_of (reading_in kept.now)) placement.now.here placement.now.value placement.now.size
-        bytes.now) }
+        ≡ out.old.items ++ at_left 12 (field_shown fault placement.now.live
+        (body_of (seen_line line.now)) placement.now.here placement.now.value placement.now.size
+        bytes.now)) }
 {
     if let Some(fault) = fault {
         let mut digits = Buffer::new();
-        out.push(b'F')?;
-        return out.extend_from_slice(digits.format(fault.number()).as_bytes());
+        return push_left(out, b'F', digits.format(fault.number()).as_bytes());
     }
     if !placement.live {
-        return Ok(());
+        return out.extend_from_slice(&SPACES);
     }
-    let line = kept.line();
     if is_definition(line) {
         let value = value_given(line, placement.value);
         push_value(out, value)?;
         return Ok(());
     }
-    push_bytes(out, (placement.size as usize).min(6), bytes)?;
-    Ok(())
+    push_bytes(out, (placement.size as usize).min(6), bytes)
 }
 
 /// The sign of a line with more than six bytes.
@@ -184,24 +185,24 @@ fn more_sign(fault: Option<Fault>, size: usize) -> u8
 #[tactic(auto, unfolding(crate::specs::Listing::shown))]
 fn push_line(
     out: &mut Vec<u8>,
+    fault: Option<Fault>,
     placement: &Placement,
-    field: &[u8],
-    more: u8,
-    text: &[u8],
+    kept: &BoxedLine,
+    bytes: &[u8],
 ) -> Result<(), AllocError>
+    requires { placement.now.number < 10000 }
     ensures { OnOk result (out.new.items
         ≡ out.old.items
-        ++ shown placement.now.number placement.now.live placement.now.here field.now more
-        text.now) }
+        ++ shown placement.now.number placement.now.live placement.now.here
+        (field_shown fault placement.now.live (body_of (reading_in kept.now)) placement.now.here
+        placement.now.value placement.now.size bytes.now)
+        (more_shown fault placement.now.size) kept.now.text) }
 {
     push_number(out, placement.number as usize)?;
-    out.push(b' ')?;
     push_address(out, placement.live, placement.here as usize)?;
-    out.push(b' ')?;
-    push_left(out, 12, field)?;
-    out.push(more)?;
-    out.push(b' ')?;
-    out.extend_from_slice(text)?;
+    push_field(out, fault, placement, kept.line(), bytes)?;
+    out.extend_from_slice(&[more_sign(fault, placement.size as usize), b' '])?;
+    out.extend_from_slice(kept.text())?;
     out.push(b'\n')?;
     Ok(())
 }
@@ -228,27 +229,18 @@ pub(crate) fn listing_in(
     layout: &Layout,
     codes: &Codes,
 ) -> Result<Vec<u8>, AllocError>
+    requires few { length lines.now ≤ MOST_LINES }
     requires laid_out { IsLayoutOf layout.now (readings_in lines.now) }
     requires codes { AreCodesOf codes.now (readings_in lines.now) }
     ensures { IfOk result (λ listing. listing.items
         ≡ lines_shown (placed (readings_in lines.now)) (texts_in lines.now)) }
 {
     let mut listing = Vec::with_capacity(alloc, listing_bytes(lines))?;
-    let mut field = Vec::new(alloc);
     for place in 0..lines.len() {
         let placement = layout.placements[place];
-        let kept = &lines[place];
         let fault = codes.faults[place];
-        field.clear();
-        push_field(
-            &mut field,
-            fault,
-            &placement,
-            kept,
-            codes.bytes_at(&placement),
-        )?;
-        let more = more_sign(fault, placement.size as usize);
-        push_line(&mut listing, &placement, &field, more, kept.text())?;
+        let bytes = codes.bytes_at(&placement);
+        push_line(&mut listing, fault, &placement, &lines[place], bytes)?;
     }
     Ok(listing)
 }

@@ -1,21 +1,18 @@
 //! The codes of the lines after an edit: those that it doesn't touch are carried over.
-ghost use Rattle.std.specs.Prelude.{◌≡◌, ℕ, ◌+◌, ◌<◌, ◌≤◌, true, false, IfOk, OnOk, IfSome, None, Some, length, slice_get, slice_index, if◌then◌else◌};
-ghost use Rattle.chip_lang.specs.declared.limits.TheConstants.{IMAGE_BYTES};
+ghost use Rattle.std.specs.Prelude.{◌≡◌, ◌+◌, ◌-◌, ◌<◌, ◌≤◌, true, false, IfOk, OnOk, Some, slice_get, if◌then◌else◌};
 ghost use Rattle.chip_lang.specs.Line.{Reading};
 ghost use Rattle.chip_lang.specs.Code.{coded, own_bytes};
-ghost use Rattle.chip_asm.specs.Program.{fault_in_code, fault_of};
-ghost use Rattle.chip_asm.specs.computed.Walk.{placed};
-ghost use Rattle.chip_asm.specs.Layout.{Placed, body_of};
-ghost use Rattle.chip_asm.specs.Names.{values_of};
 ghost use Rattle.chip_lang.specs.Uses.{agree_on};
+ghost use Rattle.chip_asm.specs.Layout.{body_of};
+ghost use Rattle.chip_asm.specs.Names.{values_of};
+ghost use Rattle.chip_asm.specs.inner.Codes.{AreCodesOf};
 ghost use Rattle.chip_asm.specs.inner.Infos.{IsInfo};
-ghost use Rattle.chip_asm.specs.inner.Codes.{AreCodesOf, IsWritten, covers_byte, right_byte};
-ghost use Rattle.chip_asm.specs.inner.Recoding.{AreWritten, IsAcceptedAt, IsPlacedThen, IsRecoding, IsUncodedAt, again_up_to, code_bytes, code_then, count_then, is_again, is_kept, lines_again, lines_then};
 ghost use Rattle.chip_asm.specs.inner.Recode.{has_code};
-ghost use Rattle.chip_asm.specs.inner.Records.{lines_after, place_before, reading_in};
+ghost use Rattle.chip_asm.specs.inner.Recoding.{AreWritten, IsAnew, IsCarried, IsRecoding, IsRun, again_up_to, count_then, is_again, lines_again, lines_then};
+ghost use Rattle.chip_asm.specs.inner.Records.{place_before, reading_in};
 
-use crate::codes::{Codes, bytes_of, count_faults, fault_in, write_line};
-use crate::edit::{Edit, kept_after, place_before, stretch_from};
+use crate::codes::{Codes, bytes_of, copy_to, fault_in, write_line};
+use crate::edit::{Edit, first_changed, kept_after, place_before};
 use crate::kept_line::BoxedLine;
 use crate::layout::Layout;
 use crate::placement::Placement;
@@ -24,7 +21,7 @@ use crate::table::{Scope, Table};
 use chip_lang::laws::same_code;
 use chip_lang::limits::IMAGE_START;
 use chip_lang::short_bytes::ShortBytes;
-use chip_lang::{Coded, Fault, Meter, encode};
+use chip_lang::{Coded, Meter, encode};
 use std::alloc::{AllocError, Global};
 
 /// An edit of some lines, with the layouts before and after it.
@@ -68,6 +65,14 @@ pub(crate) fn code_of(
     encode(alloc, meter, kept.line(), &scope)
 }
 
+/// How many bytes lines take, from the first one's address to the last one's end.
+fn bytes_to(first: &Placement, last: &Placement) -> usize
+    requires { first.now.here ≤ last.now.here }
+    ensures { first.now.here + result ≡ last.now.here + last.now.size }
+{
+    last.here as usize + last.size as usize - first.here as usize
+}
+
 impl<'a> Recoding<'a> {
     /// Whether the names of a line have the values, or none, that they had before the edit.
     #[inline(always)]
@@ -81,128 +86,107 @@ impl<'a> Recoding<'a> {
         self.same_names || keeps_values(self.names, kept)
     }
 
-    /// Writes the code of the line at a place, as it was before the edit, where the line stands
-    /// now. The line's fault.
+    /// Whether the line at a place has the code and the fault of the one that stood at another place
+    /// before the edit, and stands as far behind the address `to` as that one stood behind `from`.
     #[inline(always)]
-    fn carry(
-        &self,
-        image: &mut [u8],
-        placement: &Placement,
-        place: usize,
-        before: usize,
-    ) -> Option<Fault>
-        requires recoding { IsRecoding self.now }
-        requires placement { IsAcceptedAt self.now place placement.now }
-        requires stood { place_before self.now.edit.now place ≡ Some before }
-        requires kept { (line : Reading) → slice_get (lines_then self.now) place ≡ Some line
-            → is_kept self.now (place, line) ≡ true }
-        requires long { length image.old ≡ IMAGE_BYTES }
-        ensures written { (x : Placed) → IsPlacedThen self.now place x
-            → IsWritten placement.now (code_bytes self.now x) image.old image.new }
-        ensures fault { (x : Placed) → IsPlacedThen self.now place x
-            → result ≡ fault_in_code (code_then self.now x) }
-    {
-        same_code();
-        let stood = self.old.placements[before];
-        let first = stood.here as usize - IMAGE_START;
-        write_line(
-            image,
-            placement,
-            &self.codes.image[first..first + stood.size as usize],
-        );
-        self.codes.faults[before]
-    }
-
-    /// Writes the code of the line at a place, which stood at another one before the edit, unless it
-    /// has to be encoded. The line's fault.
-    #[inline(always)]
-    fn carry_line(&self, image: &mut [u8], place: usize, before: usize) -> Option<Option<Fault>>
+    fn stays(&self, place: usize, before: usize, to: u16, from: u16) -> bool
         requires recoding { IsRecoding self.now }
         requires place { place < count_then self.now }
         requires stood { place_before self.now.edit.now place ≡ Some before }
-        requires long { length image.old ≡ IMAGE_BYTES }
-        ensures right { (q : Placement) (k : ℕ)
-            → slice_get self.now.new.now.placements.items place ≡ Some q → k < IMAGE_BYTES
-            → covers_byte q k ≡ true
-            → (IsUncodedAt (lines_then self.now) place → slice_index image.old k ≡ 0)
-            → IfSome result (λ fault. slice_index image.new k ≡ right_byte (lines_then self.now) k) }
-        ensures others { (q : Placement) (k : ℕ)
+        ensures yes { result ≡ true → IsCarried self.now place before to from }
+        ensures no { (q p : Placement)
             → slice_get self.now.new.now.placements.items place ≡ Some q
-            → covers_byte q k ≡ false
-            → slice_index image.new k ≡ slice_index image.old k }
-        ensures fault { (x : Placed) → IsPlacedThen self.now place x
-            → IfSome result (λ fault. fault ≡ fault_of (placed (lines_then self.now)) x) }
-        ensures again { (line : Reading) → slice_get (lines_then self.now) place ≡ Some line
-            → result ≡ None → is_kept self.now (place, line) ≡ false }
-        ensures same { result ≡ None → image.new ≡ image.old }
+            → slice_get self.now.old.now.placements.items before ≡ Some p
+            → q.here + from ≡ p.here + to → result ≡ false → IsAnew self.now place }
     {
-        let placement = &self.new.placements[place];
-        if placement.size == 0 || !placement.is_accepted() {
-            return Some(placement.fault);
+        same_code();
+        let now = &self.new.placements[place];
+        let was = &self.old.placements[before];
+        if now.here as usize + from as usize != was.here as usize + to as usize {
+            return false;
         }
-        if !self.old.placements[before].is_accepted() {
-            return None;
+        if !was.is_accepted() {
+            return false;
         }
-        if !self.keeps_values(&self.lines[before]) {
-            return None;
+        if !now.is_accepted() {
+            return false;
         }
-        Some(self.carry(image, placement, place, before))
+        self.keeps_values(&self.lines[before])
     }
 
-    /// Encodes the line at a place. The line's fault.
-    #[inline(never)]
+    /// The place behind the lines that stood, one after another, from a place on before the edit,
+    /// keep their codes, and stand so from another place on.
+    fn run_from(&self, place: usize, start: usize) -> usize
+        requires recoding { IsRecoding self.now }
+        requires place { place < count_then self.now }
+        requires stood { place_before self.now.edit.now place ≡ Some start }
+        ensures run { IsRun self.now place start result }
+        ensures none { result ≡ start → IsAnew self.now place }
+    {
+        same_code();
+        let to = self.new.placements[place].here;
+        let from = self.old.placements[start].here;
+        let changed = first_changed(self.edit);
+        let end = if place < changed {
+            changed
+        } else {
+            self.lines.len()
+        };
+        let known = if self.same_names && place < self.first {
+            self.first
+        } else {
+            start
+        };
+        for before in known..end {
+            if !self.stays(place + (before - start), before, to, from) {
+                return before;
+            }
+        }
+        end
+    }
+
+    /// Takes over the codes of the lines that stood from one place up to another one before the
+    /// edit, and stand from a third one on.
+    fn carry(
+        &self,
+        codes: &mut Codes,
+        place: usize,
+        start: usize,
+        end: usize,
+    ) -> Result<(), AllocError>
+        requires recoding { IsRecoding self.now }
+        requires run { IsRun self.now place start end }
+        requires some { start < end }
+        requires written { AreWritten self.now codes.old place }
+        ensures { OnOk result (AreWritten self.now codes.new (place + (end - start))) }
+    {
+        let was = self.old.placements[start];
+        let now = self.new.placements[place];
+        let old_bytes = bytes_to(&was, &self.old.placements[end - 1]);
+        let new_bytes = bytes_to(&now, &self.new.placements[place + (end - start) - 1]);
+        let at = was.here as usize - IMAGE_START;
+        copy_to(
+            &mut codes.image,
+            now.here as usize - IMAGE_START,
+            &self.codes.image[at..at + old_bytes.min(new_bytes)],
+        );
+        codes.copy_faults(self.codes, start, end)?;
+        Ok(())
+    }
+
+    /// Encodes the line at a place, unless it is refused or takes no space.
     fn encode(
         &self,
         alloc: Global,
         meter: &mut Meter,
-        image: &mut [u8],
-        placement: &Placement,
+        codes: &mut Codes,
         place: usize,
-        kept: &BoxedLine,
-    ) -> Result<Option<Fault>, AllocError>
-        requires recoding { IsRecoding self.now }
-        requires line { slice_get (lines_after self.now.lines.now self.now.edit.now) place
-            ≡ Some kept.now }
-        requires placement { IsAcceptedAt self.now place placement.now }
-        requires long { length image.old ≡ IMAGE_BYTES }
-        ensures written { (x : Placed) → IsPlacedThen self.now place x
-            → OnOk result (IsWritten placement.now (code_bytes self.now x) image.old image.new) }
-        ensures fault { (x : Placed) → IsPlacedThen self.now place x
-            → IfOk result (λ fault. fault ≡ fault_in_code (code_then self.now x)) }
-        ensures encoded { meter.new.encoded ≤ meter.old.encoded + 1 }
-        ensures not_lowered { meter.old.encoded ≤ meter.new.encoded }
-        ensures parsed { meter.new.parsed ≡ meter.old.parsed }
-    {
-        let code = code_of(alloc, meter, self.names, kept)?;
-        write_line(image, placement, bytes_of(&code));
-        Ok(fault_in(&code))
-    }
-
-    /// Writes the bytes of the line at a place, whose code isn't kept. The line's fault.
-    #[inline(always)]
-    fn write_anew(
-        &self,
-        alloc: Global,
-        meter: &mut Meter,
-        image: &mut [u8],
-        place: usize,
-    ) -> Result<Option<Fault>, AllocError>
+    ) -> Result<(), AllocError>
         requires recoding { IsRecoding self.now }
         requires place { place < count_then self.now }
-        requires long { length image.old ≡ IMAGE_BYTES }
-        requires again { (line : Reading) → slice_get (lines_then self.now) place ≡ Some line
-            → is_kept self.now (place, line) ≡ false }
-        ensures right { (q : Placement) (k : ℕ)
-            → slice_get self.now.new.now.placements.items place ≡ Some q → k < IMAGE_BYTES
-            → covers_byte q k ≡ true
-            → (IsUncodedAt (lines_then self.now) place → slice_index image.old k ≡ 0)
-            → OnOk result (slice_index image.new k ≡ right_byte (lines_then self.now) k) }
-        ensures others { (q : Placement) (k : ℕ)
-            → slice_get self.now.new.now.placements.items place ≡ Some q
-            → covers_byte q k ≡ false
-            → OnOk result (slice_index image.new k ≡ slice_index image.old k) }
-        ensures fault { (x : Placed) → IsPlacedThen self.now place x
-            → IfOk result (λ fault. fault ≡ fault_of (placed (lines_then self.now)) x) }
+        requires anew { IsAnew self.now place }
+        requires written { AreWritten self.now codes.old place }
+        ensures written { OnOk result (AreWritten self.now codes.new (place + 1)) }
         ensures encoded { (line : Reading) → slice_get (lines_then self.now) place ≡ Some line
             → meter.new.encoded
             ≤ meter.old.encoded + (if is_again self.now (place, line) then 1 else 0) }
@@ -211,92 +195,19 @@ impl<'a> Recoding<'a> {
     {
         let placement = &self.new.placements[place];
         if placement.size == 0 || !placement.is_accepted() {
-            return Ok(placement.fault);
+            codes.push_fault(placement.fault)?;
+            return Ok(());
         }
         let kept = kept_after(self.lines, self.edit, place);
-        if !kept.info().is_coded {
-            return Ok(None);
-        }
-        self.encode(alloc, meter, image, placement, place, kept)
+        let code = code_of(alloc, meter, self.names, kept)?;
+        write_line(&mut codes.image, placement, bytes_of(&code));
+        codes.push_fault(fault_in(&code))?;
+        Ok(())
     }
 
-    /// Writes the bytes of the line at a place, which stood at another one before the edit. The
-    /// line's fault.
-    #[inline(always)]
-    fn write_stood(
-        &self,
-        alloc: Global,
-        meter: &mut Meter,
-        image: &mut [u8],
-        place: usize,
-        before: usize,
-    ) -> Result<Option<Fault>, AllocError>
-        requires recoding { IsRecoding self.now }
-        requires place { place < count_then self.now }
-        requires stood { place_before self.now.edit.now place ≡ Some before }
-        requires long { length image.old ≡ IMAGE_BYTES }
-        ensures right { (q : Placement) (k : ℕ)
-            → slice_get self.now.new.now.placements.items place ≡ Some q → k < IMAGE_BYTES
-            → covers_byte q k ≡ true
-            → (IsUncodedAt (lines_then self.now) place → slice_index image.old k ≡ 0)
-            → OnOk result (slice_index image.new k ≡ right_byte (lines_then self.now) k) }
-        ensures others { (q : Placement) (k : ℕ)
-            → slice_get self.now.new.now.placements.items place ≡ Some q
-            → covers_byte q k ≡ false
-            → OnOk result (slice_index image.new k ≡ slice_index image.old k) }
-        ensures fault { (x : Placed) → IsPlacedThen self.now place x
-            → IfOk result (λ fault. fault ≡ fault_of (placed (lines_then self.now)) x) }
-        ensures encoded { (line : Reading) → slice_get (lines_then self.now) place ≡ Some line
-            → meter.new.encoded
-            ≤ meter.old.encoded + (if is_again self.now (place, line) then 1 else 0) }
-        ensures not_lowered { meter.old.encoded ≤ meter.new.encoded }
-        ensures parsed { meter.new.parsed ≡ meter.old.parsed }
-    {
-        if let Some(fault) = self.carry_line(image, place, before) {
-            return Ok(fault);
-        }
-        self.write_anew(alloc, meter, image, place)
-    }
-
-    /// Writes the bytes of the line at a place. The line's fault.
-    #[inline(never)]
-    fn write(
-        &self,
-        alloc: Global,
-        meter: &mut Meter,
-        image: &mut [u8],
-        place: usize,
-    ) -> Result<Option<Fault>, AllocError>
-        requires recoding { IsRecoding self.now }
-        requires place { place < count_then self.now }
-        requires long { length image.old ≡ IMAGE_BYTES }
-        ensures right { (q : Placement) (k : ℕ)
-            → slice_get self.now.new.now.placements.items place ≡ Some q → k < IMAGE_BYTES
-            → covers_byte q k ≡ true
-            → (IsUncodedAt (lines_then self.now) place → slice_index image.old k ≡ 0)
-            → OnOk result (slice_index image.new k ≡ right_byte (lines_then self.now) k) }
-        ensures others { (q : Placement) (k : ℕ)
-            → slice_get self.now.new.now.placements.items place ≡ Some q
-            → covers_byte q k ≡ false
-            → OnOk result (slice_index image.new k ≡ slice_index image.old k) }
-        ensures fault { (x : Placed) → IsPlacedThen self.now place x
-            → IfOk result (λ fault. fault ≡ fault_of (placed (lines_then self.now)) x) }
-        ensures encoded { (line : Reading) → slice_get (lines_then self.now) place ≡ Some line
-            → meter.new.encoded
-            ≤ meter.old.encoded + (if is_again self.now (place, line) then 1 else 0) }
-        ensures not_lowered { meter.old.encoded ≤ meter.new.encoded }
-        ensures parsed { meter.new.parsed ≡ meter.old.parsed }
-    {
-        match place_before(self.edit, place) {
-            Some(before) => self.write_stood(alloc, meter, image, place, before),
-            None => self.write_anew(alloc, meter, image, place),
-        }
-    }
-
-    /// Writes the codes of the lines that stand, one after another, at a place and behind it and were
-    /// there before the edit. The place behind them.
-    #[inline(never)]
-    fn write_stretch(
+    /// Writes the code of the line at a place, and those of the lines behind it that keep theirs as
+    /// it does. The place behind them.
+    fn write_from(
         &self,
         alloc: Global,
         meter: &mut Meter,
@@ -304,9 +215,9 @@ impl<'a> Recoding<'a> {
         place: usize,
     ) -> Result<usize, AllocError>
         requires recoding { IsRecoding self.now }
-        requires place { place ≤ count_then self.now }
+        requires place { place < count_then self.now }
         requires written { AreWritten self.now codes.old place }
-        ensures onward { IfOk result (λ next. place ≤ next) }
+        ensures onward { IfOk result (λ next. place < next) }
         ensures within { IfOk result (λ next. next ≤ count_then self.now) }
         ensures written { IfOk result (λ next. AreWritten self.now codes.new next) }
         ensures encoded { IfOk result (λ next. meter.new.encoded + again_up_to self.now place
@@ -316,19 +227,18 @@ impl<'a> Recoding<'a> {
         ensures not_lowered { meter.old.encoded ≤ meter.new.encoded }
         ensures parsed { meter.new.parsed ≡ meter.old.parsed }
     {
-        let stretch = stretch_from(self.edit, self.lines.len(), place);
-        let mut next = place;
-        for before in stretch.start..stretch.end {
-            let fault = self.write_stood(alloc, meter, &mut codes.image, next, before)?;
-            codes.faults.push(fault)?;
-            next += 1;
+        if let Some(start) = place_before(self.edit, place) {
+            let end = self.run_from(place, start);
+            if start < end {
+                self.carry(codes, place, start, end)?;
+                return Ok(place + (end - start));
+            }
         }
-        Ok(next)
+        self.encode(alloc, meter, codes, place)?;
+        Ok(place + 1)
     }
 
-    /// The codes of all lines after the edit, in the room of others. The bytes and faults of the
-    /// first lines stay, except where a name has another value.
-    #[inline(never)]
+    /// The codes of all lines after the edit, in the room of others.
     pub(crate) fn codes(
         &self,
         alloc: Global,
@@ -341,30 +251,13 @@ impl<'a> Recoding<'a> {
         ensures not_lowered { meter.old.encoded ≤ meter.new.encoded }
         ensures parsed { meter.new.parsed ≡ meter.old.parsed }
     {
-        same_code();
         let mut codes = spare;
         let count = self.new.placements.len();
-        let bytes = self.old.address_at(self.first) - IMAGE_START;
-        codes.copy_first(
-            &self.codes.image[..bytes],
-            &self.codes.faults[..self.first],
-            count,
-        )?;
-        let changed = if self.same_names { self.first } else { 0 };
-        for place in changed..self.first {
-            if self.keeps_values(&self.lines[place]) {
-                continue;
-            }
-            let fault = self.write(alloc, meter, &mut codes.image, place)?;
-            codes.faults[place] = fault;
-        }
-        let mut next = self.first;
+        codes.clear(count)?;
+        let mut next = 0;
         while next < count {
-            let fault = self.write(alloc, meter, &mut codes.image, next)?;
-            codes.faults.push(fault)?;
-            next = self.write_stretch(alloc, meter, &mut codes, next + 1)?;
+            next = self.write_from(alloc, meter, &mut codes, next)?;
         }
-        codes.count = count_faults(&codes.faults);
         Ok(codes)
     }
 }

@@ -1,5 +1,5 @@
 -- The second pass, as it is kept: the image, and the fault of each line (own).
-use Rattle.std.specs.Prelude.{◌≡◌, ℕ, ◌+◌, ◌-◌, ◌<◌, ◌≤◌, ◌&&◌, Bool, true, List, [], length, map, reverse, Option, Some, None, nat_le, nat_lt, if◌then◌else◌, slice_get, slice_index, vec_len}
+use Rattle.std.specs.Prelude.{◌≡◌, ℕ, ◌+◌, ◌-◌, ◌<◌, ◌≤◌, ◌&&◌, Bool, true, List, [], length, map, reverse, Option, Some, None, nat_le, nat_lt, if◌then◌else◌, slice_get, slice_index, sum_by, vec_len}
 use Rattle.chip_lang.specs.declared.code.Coded.{Coded}
 use Rattle.chip_lang.specs.declared.code.Coded.TheVariants.{Bytes, Faulty}
 use Rattle.chip_lang.specs.declared.fault.Fault.{Fault}
@@ -29,6 +29,10 @@ line_faults lines = map (fault_of (placed lines)) (reverse (placed lines))
 -- the byte at a place of the image
 abbrev pub right_byte : List Reading → ℕ → ℕ
 right_byte lines k = byte_at (placed lines) (IMAGE_START + k)
+
+-- the count is that of the faults
+abbrev pub IsCounted : Codes → Type 0
+IsCounted codes = codes.count ≡ sum_by count_of codes.faults.items
 
 -- each byte is that at its address, also where a line has a fault; past the kept bytes they are
 -- zeros

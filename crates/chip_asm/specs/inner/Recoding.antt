@@ -1,5 +1,5 @@
 -- What is known of an edit when the lines after it get their codes (own).
-use Rattle.std.specs.Prelude.{◌≡◌, ℕ, ◌<◌, ◌≤◌, Bool, true, false, List, length, reverse, Some, Result, slice_get, slice_index, take, vec_len}
+use Rattle.std.specs.Prelude.{◌≡◌, ℕ, ◌+◌, ◌-◌, ◌<◌, ◌≤◌, Bool, true, false, List, length, reverse, Option, None, Some, Result, slice_get, slice_index, slice_index_or, take, vec_len}
 use Rattle.chip_lang.specs.Line.{Reading}
 use Rattle.chip_asm.specs.declared.limits.TheConstants.{MOST_LINES}
 use Rattle.chip_asm.specs.declared.recoding.Recoding.{Recoding}
@@ -7,16 +7,16 @@ use Rattle.chip_lang.specs.declared.fault.Fault.{Fault}
 use Rattle.chip_asm.specs.declared.placement.Placement.{Placement}
 use Rattle.chip_lang.specs.Uses.{has_same_value}
 use Rattle.chip_asm.specs.Names.{Name, values_of}
-use Rattle.chip_asm.specs.Layout.{Placed, body_of}
+use Rattle.chip_asm.specs.Layout.{Placed}
 use Rattle.chip_asm.specs.computed.Walk.{placed}
-use Rattle.chip_asm.specs.Program.{bytes_in_code, code_under, names_of_lines}
+use Rattle.chip_asm.specs.Program.{code_under, names_of_lines}
 use Rattle.chip_asm.specs.inner.Placements.{is_placed}
 use Rattle.chip_asm.specs.declared.codes.Codes.{Codes}
-use Rattle.chip_lang.specs.declared.limits.TheConstants.{IMAGE_BYTES}
-use Rattle.chip_asm.specs.inner.Codes.{AreCodesOf, IsByte, line_faults}
+use Rattle.chip_lang.specs.declared.limits.TheConstants.{IMAGE_BYTES, IMAGE_START}
+use Rattle.chip_asm.specs.inner.Codes.{AreCodesOf, IsByte, IsCounted, covers_byte, line_faults, right_byte}
 use Rattle.chip_asm.specs.inner.Infos.{AreInfos}
 use Rattle.chip_asm.specs.inner.Layouts.{IsLayoutOf}
-use Rattle.chip_asm.specs.inner.Recode.{count_again, count_up_to, has_code, is_encoded_again, keeps_code}
+use Rattle.chip_asm.specs.inner.Recode.{count_again, count_up_to, is_encoded_again, keeps_code}
 use Rattle.chip_asm.specs.inner.Records.{IsPlaceWithin, count_after, lines_after, place_before, readings_in}
 use Rattle.chip_asm.specs.inner.Resume.{AreSteady, first_changed}
 
@@ -61,26 +61,51 @@ again_up_to r place =
 abbrev pub is_kept : Recoding → ℕ × Reading → Bool
 is_kept r at = keeps_code (lines_before r) (lines_then r) (place_before r.edit.now) at
 
--- the line at a place has no bytes of its own
-abbrev pub IsUncodedAt : List Reading → ℕ → Type 0
-IsUncodedAt lines place =
-    (line : Reading) → slice_get lines place ≡ Some line → has_code (body_of line) ≡ false
-
 -- what holds of the line at a place after the edit
 abbrev pub IsPlacedThen : Recoding → ℕ → Placed → Type 0
 IsPlacedThen r place x = slice_get (reverse (placed (lines_then r))) place ≡ Some x
 
--- this is found of the line at a place, which is accepted
-pub record IsAcceptedAt (r : Recoding) (place : ℕ) (q : Placement) : Type 0 where
-  pub there : slice_get r.new.now.placements.items place ≡ Some q
-  pub accepted : is_placed q ≡ true
-
--- the code of a line after the edit, and its bytes
+-- the code of a line after the edit
 abbrev pub code_then : Recoding → Placed → Result (List ℕ) Fault
 code_then r x = code_under (placed (lines_then r)) x
 
-abbrev pub code_bytes : Recoding → Placed → List ℕ
-code_bytes r x = bytes_in_code (code_then r x)
+-- the line at a place doesn't keep its code
+abbrev pub IsAnew : Recoding → ℕ → Type 0
+IsAnew r place =
+    (q : Placement) (line : Reading) → slice_get r.new.now.placements.items place ≡ Some q
+    → slice_get (lines_then r) place ≡ Some line
+    → is_placed q ≡ true → is_kept r (place, line) ≡ false
+
+-- the line at a place has this fault, and these bytes with zeros behind them
+pub record HasCodeAt (lines : List Reading) (placements : List Placement) (place : ℕ) (q : Placement)
+    (bytes : List ℕ) (fault : Option Fault) : Type 0 where
+  pub there : slice_get placements place ≡ Some q
+  pub fits : length bytes ≤ q.size
+  pub byte : (k : ℕ) → covers_byte q k ≡ true
+      → right_byte lines k ≡ slice_index bytes (IMAGE_START + k - q.here)
+  pub faulty : slice_index_or (line_faults lines) place None ≡ fault
+
+-- the line at a place has the code of the one that stood at another place, and stands as far behind
+-- one address as that one stood behind another
+pub record IsCarried (r : Recoding) (place before to from : ℕ) : Type 0 where
+  pub q : Placement
+  pub p : Placement
+  pub bytes : List ℕ
+  pub fault : Option Fault
+  pub now : HasCodeAt (lines_then r) r.new.now.placements.items place q bytes fault
+  pub was : HasCodeAt (lines_before r) r.old.now.placements.items before p bytes fault
+  pub moved : q.here + from ≡ p.here + to
+
+-- the lines that stood from one place up to another one keep their codes, and stand so from a third
+-- one on
+pub record IsRun (r : Recoding) (place start end : ℕ) : Type 0 where
+  pub to : ℕ
+  pub from : ℕ
+  pub ordered : start ≤ end
+  pub inside : end ≤ length r.lines.now
+  pub within : place + end ≤ count_then r + start
+  pub each : (next before : ℕ) → next + start ≡ place + before → start ≤ before → before < end
+      → IsCarried r next before to from
 
 -- the lines before a place have their codes, and those from there on wait
 pub record AreWritten (r : Recoding) (codes : Codes) (place : ℕ) : Type 0 where
@@ -88,3 +113,4 @@ pub record AreWritten (r : Recoding) (codes : Codes) (place : ℕ) : Type 0 wher
   pub bytes : (k : ℕ) → k < IMAGE_BYTES
       → IsByte (lines_then r) r.new.now.placements.items place k (slice_index codes.image.items k)
   pub faults : codes.faults.items ≡ take place (line_faults (lines_then r))
+  pub counted : IsCounted codes

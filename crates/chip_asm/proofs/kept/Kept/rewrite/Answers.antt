@@ -16,7 +16,7 @@ use Rattle.chip_asm.proofs.KeptSwapped.{Rewrote, encoded-kept, exchange-kept, ke
 use Rattle.chip_asm.proofs.Resumed.{length-laid}
 use Rattle.chip_asm.proofs.WholeImage.{length-faults}
 use Rattle.chip_asm.proofs.kept.Kept.rewrite.Goals as goal
-use Rattle.chip_asm.proofs.kept.Kept.rewrite.Goals.{then-is_accepted+in_ok-code+in-Bytes+in-Heap-1, then-is_accepted+in_ok-code+in-Bytes+in-Inline-1, then-is_accepted+in_ok-code+in-Faulty-1, else-is_accepted}
+use Rattle.chip_asm.proofs.kept.Kept.rewrite.Goals.{then-is_accepted+in_ok-code, else-is_accepted}
 
 pub index-requires : goal.index-requires
 index-requires c =
@@ -55,11 +55,7 @@ pub returns-clause-ok : goal.returns-clause-ok
 returns-clause-ok c =
     let lines : c.if-is_accepted.self.lines.items ≡ c.args.self.now.lines.items
     = elim c.if-is_accepted.branch [
-      | then-is_accepted+in_ok-code+in-Bytes+in-Heap-1 w ↦
-          ap (λ (k : Kept). k.lines.items) w.self-is
-      | then-is_accepted+in_ok-code+in-Bytes+in-Inline-1 w ↦
-          ap (λ (k : Kept). k.lines.items) w.self-is
-      | then-is_accepted+in_ok-code+in-Faulty-1 w ↦
+      | then-is_accepted+in_ok-code w ↦
           ap (λ (k : Kept). k.lines.items) w.self-is
       | else-is_accepted w ↦
           ap (λ (k : Kept). k.lines.items) w.self-is
@@ -72,19 +68,7 @@ returns-clause-kept c =
     = exchange-kept c.args.self.now c.args.at c.args.added c.index.result.now c.requires.kept c.requires.inside c.index.ensures c.requires.same in
     let r : Rewrote c.args.self.now c.if-is_accepted.self c.args.at c.args.added
     = elim c.if-is_accepted.branch [
-      | then-is_accepted+in_ok-code+in-Bytes+in-Heap-1 w ↦
-          rewrote-put c.args.self.now c.if-is_accepted.self c.args.at c.args.added c.index.result.now w.in_ok-code.code c.requires.kept e (sym c.is_accepted.ensures ∙ w.if-is_accepted.true) w.in_ok-code.ensures.code
-          (subst (λ (k : Kept). IsWritten c.index.result.now (coded_bytes w.in_ok-code.code) c.args.self.now.codes.image.items k.codes.image.items) (sym w.self-is) w.put.ensures.written)
-          (ap (λ (k : Kept). vec_len k.codes.image) w.self-is ∙ w.put.ensures.long) (ap (λ (k : Kept). k.codes.faults.items) w.self-is ∙ w.put.ensures.faults)
-          (ap (λ (k : Kept). k.codes.count + count_of (get_or c.args.self.now.codes.faults.items c.args.at None)) w.self-is ∙ w.put.ensures.count)
-          (ap (λ (k : Kept). k.lines.items) w.self-is) (ap (λ (k : Kept). k.layout) w.self-is) (ap (λ (k : Kept). k.spare_layout) w.self-is) (ap (λ (k : Kept). k.settled) w.self-is) (ap (λ (k : Kept). k.names) w.self-is)
-      | then-is_accepted+in_ok-code+in-Bytes+in-Inline-1 w ↦
-          rewrote-put c.args.self.now c.if-is_accepted.self c.args.at c.args.added c.index.result.now w.in_ok-code.code c.requires.kept e (sym c.is_accepted.ensures ∙ w.if-is_accepted.true) w.in_ok-code.ensures.code
-          (subst (λ (k : Kept). IsWritten c.index.result.now (coded_bytes w.in_ok-code.code) c.args.self.now.codes.image.items k.codes.image.items) (sym w.self-is) w.put.ensures.written)
-          (ap (λ (k : Kept). vec_len k.codes.image) w.self-is ∙ w.put.ensures.long) (ap (λ (k : Kept). k.codes.faults.items) w.self-is ∙ w.put.ensures.faults)
-          (ap (λ (k : Kept). k.codes.count + count_of (get_or c.args.self.now.codes.faults.items c.args.at None)) w.self-is ∙ w.put.ensures.count)
-          (ap (λ (k : Kept). k.lines.items) w.self-is) (ap (λ (k : Kept). k.layout) w.self-is) (ap (λ (k : Kept). k.spare_layout) w.self-is) (ap (λ (k : Kept). k.settled) w.self-is) (ap (λ (k : Kept). k.names) w.self-is)
-      | then-is_accepted+in_ok-code+in-Faulty-1 w ↦
+      | then-is_accepted+in_ok-code w ↦
           rewrote-put c.args.self.now c.if-is_accepted.self c.args.at c.args.added c.index.result.now w.in_ok-code.code c.requires.kept e (sym c.is_accepted.ensures ∙ w.if-is_accepted.true) w.in_ok-code.ensures.code
           (subst (λ (k : Kept). IsWritten c.index.result.now (coded_bytes w.in_ok-code.code) c.args.self.now.codes.image.items k.codes.image.items) (sym w.self-is) w.put.ensures.written)
           (ap (λ (k : Kept). vec_len k.codes.image) w.self-is ∙ w.put.ensures.long) (ap (λ (k : Kept). k.codes.faults.items) w.self-is ∙ w.put.ensures.faults)
@@ -101,13 +85,7 @@ returns-clause-encoded c =
     let e : Exchange (readings_in c.args.self.now.lines.items) c.args.at (reading_in c.args.added) c.index.result.now
     = exchange-kept c.args.self.now c.args.at c.args.added c.index.result.now c.requires.kept c.requires.inside c.index.ensures c.requires.same in
     elim c.if-is_accepted.branch [
-      | then-is_accepted+in_ok-code+in-Bytes+in-Heap-1 w ↦
-          subst (λ (m : Meter). m.encoded ≤ c.args.meter.now.encoded + needs_count (readings_in c.args.self.now.lines.items) (set (readings_in c.args.self.now.lines.items) c.args.at (reading_in c.args.added)) (before_replace c.args.at)) (sym w.meter-is)
-          (encoded-kept c.args.self.now c.args.at c.args.added c.index.result.now (has_code (body_of (reading_in c.args.added))) c.args.meter.now.encoded w.code_of.new.meter.encoded c.requires.inside e (sym c.is_accepted.ensures ∙ w.if-is_accepted.true) w.code_of.ensures.encoded)
-      | then-is_accepted+in_ok-code+in-Bytes+in-Inline-1 w ↦
-          subst (λ (m : Meter). m.encoded ≤ c.args.meter.now.encoded + needs_count (readings_in c.args.self.now.lines.items) (set (readings_in c.args.self.now.lines.items) c.args.at (reading_in c.args.added)) (before_replace c.args.at)) (sym w.meter-is)
-          (encoded-kept c.args.self.now c.args.at c.args.added c.index.result.now (has_code (body_of (reading_in c.args.added))) c.args.meter.now.encoded w.code_of.new.meter.encoded c.requires.inside e (sym c.is_accepted.ensures ∙ w.if-is_accepted.true) w.code_of.ensures.encoded)
-      | then-is_accepted+in_ok-code+in-Faulty-1 w ↦
+      | then-is_accepted+in_ok-code w ↦
           subst (λ (m : Meter). m.encoded ≤ c.args.meter.now.encoded + needs_count (readings_in c.args.self.now.lines.items) (set (readings_in c.args.self.now.lines.items) c.args.at (reading_in c.args.added)) (before_replace c.args.at)) (sym w.meter-is)
           (encoded-kept c.args.self.now c.args.at c.args.added c.index.result.now (has_code (body_of (reading_in c.args.added))) c.args.meter.now.encoded w.code_of.new.meter.encoded c.requires.inside e (sym c.is_accepted.ensures ∙ w.if-is_accepted.true) w.code_of.ensures.encoded)
       | else-is_accepted w ↦
