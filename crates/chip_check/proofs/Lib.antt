@@ -1,3 +1,4 @@
 pub mod KnownNames
 pub mod OperandSpans
+pub mod Pieces
 pub mod TokenPlaces

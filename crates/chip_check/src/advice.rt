@@ -1,12 +1,12 @@
 //! What may help with a fault.
 
-use crate::forms::{is_reserved, near_heading, stands_alone, takes};
-use crate::hint::{Hint, push_help, push_note, push_sentence};
+use crate::forms::{is_reserved, near_heading, push_forms, stands_alone};
+use crate::hint::{Hint, push_formatted, push_help, push_note, push_sentence};
 use crate::known::Known;
-use crate::operand_advice::{out_of_range, register_advice, wrong_operands};
-use crate::other_assemblers::{other_number, other_word};
+use crate::operand_advice::{REGISTERS, is_like_register, out_of_range, wrong_operands};
+use crate::other_assemblers::{Radix, other_number, other_word};
 use crate::place::read;
-use crate::words::{has_twice, is_one_of, is_register, is_special, is_word, text_of, words_of};
+use crate::words::{has_twice, is_one_of, is_register, is_special, is_word, words_of};
 use chip_lang::limits::{IMAGE_BYTES, IMAGE_START, NAME_BYTES};
 use chip_lang::{Fault, Line};
 use std::alloc::{AllocError, Global};
@@ -21,14 +21,17 @@ pub(crate) fn push_advice(
     fault: Fault,
     place: usize,
 ) -> Result<(), AllocError> {
-    let words = words_of(alloc, line)?;
-    let text = line.get(place..).unwrap_or(&[]);
-    let rest = words_of(alloc, text)?;
+    let upper = line.to_ascii_uppercase(alloc)?;
+    let words = words_of(alloc, &upper)?;
+    let rest = words_of(alloc, upper.get(place..).unwrap_or(&[]))?;
     match fault {
         Fault::UndefinedName => undefined_name(alloc, hints, known, number, &rest),
         Fault::OutOfRange => out_of_range(alloc, hints, known, line),
         Fault::DefinedTwice => defined_twice(alloc, hints, known, &rest),
-        _ => push_line_advice(alloc, hints, fault, line, text, &words, &rest),
+        _ => {
+            let text = line.get(place..).unwrap_or(&[]);
+            push_line_advice(alloc, hints, fault, line, text, &words, &rest)
+        }
     }
 }
 
@@ -40,18 +43,18 @@ fn push_line_advice(
     fault: Fault,
     line: &[u8],
     text: &[u8],
-    words: &[String],
-    rest: &[String],
+    words: &[&[u8]],
+    rest: &[&[u8]],
 ) -> Result<(), AllocError> {
     match fault {
         Fault::BadCharacter | Fault::UnfinishedString | Fault::UnknownWord | Fault::WrongOperands
-            if has_twice("/", words) => push_help(alloc, hints, "a comment begins with `;`"),
+            if has_twice(b"/", words) => push_help(alloc, hints, &[b"a comment begins with `;`"]),
         Fault::BadCharacter => bad_character(alloc, hints, line, text, rest),
         Fault::UnknownWord => unknown_word(alloc, hints, line, text, rest),
         Fault::WrongOperands => wrong_operands(alloc, hints, words, rest),
         Fault::BadName => bad_name(alloc, hints, rest),
         Fault::NotInProfile => not_in_profile(alloc, hints, rest),
-        Fault::PastMemory => push_help(
+        Fault::PastMemory => push_formatted(
             alloc,
             hints,
             format_args!("code and data have {IMAGE_BYTES} bytes, from address {IMAGE_START} on"),
@@ -79,19 +82,16 @@ fn bad_character(
     hints: &mut Vec<Hint>,
     line: &[u8],
     text: &[u8],
-    rest: &[String],
+    rest: &[&[u8]],
 ) -> Result<(), AllocError> {
     let sentence = sentence_for_file(line);
     if sentence.is_some() {
         return push_sentence(alloc, hints, sentence);
     }
-    let Some(first) = text.first() else {
-        return Ok(());
-    };
-    if other_number_help(alloc, hints, rest)? {
-        return Ok(());
+    match other_number(rest) {
+        Some((radix, digits)) => push_other_number(alloc, hints, radix, digits),
+        None => push_sentence(alloc, hints, sentence_for_character(text, rest)),
     }
-    push_sentence(alloc, hints, sentence_for_character(*first, rest))
 }
 
 /// What helps where a line shows that the file is no plain text.
@@ -107,41 +107,37 @@ fn sentence_for_file(line: &[u8]) -> Option<&'static str> {
     None
 }
 
-/// What helps with a byte that begins no token, where `rest` are the words from it on.
-fn sentence_for_character(first: u8, rest: &[String]) -> Option<&'static str> {
-    match (first, rest) {
-        (b'#', _) => {
+/// What helps with a byte that begins no token: `text` is the line from it on, `rest` its words.
+fn sentence_for_character(text: &[u8], rest: &[&[u8]]) -> Option<&'static str> {
+    match (text, rest) {
+        ([b'#', ..], _) => {
             Some("`#` begins a hexadecimal number, as in `#1F`; a comment begins with `;`")
         }
-        (b'$', _) => Some("`$` begins a binary number, as in `$101`"),
-        (b'@', _) => Some("`@` begins an octal number, as in `@17`"),
-        (b'%', _) => Some("a binary number begins with `$`, as in `$101`"),
-        (b'.', [_, word, ..]) if is_word(word) => {
+        ([b'$', ..], _) => Some("`$` begins a binary number, as in `$101`"),
+        ([b'@', ..], _) => Some("`@` begins an octal number, as in `@17`"),
+        ([b'%', ..], _) => Some("a binary number begins with `$`, as in `$101`"),
+        ([b'.', ..], [_, word, ..]) if is_word(word) => {
             Some("no full stop stands before a directive or a label")
         }
-        (b'.', _) => Some("a number is whole"),
-        (b'{' | b'}', _) => Some("there are no blocks in braces; a label and JP make a loop"),
-        (128..=255, _) => Some("outside texts and comments a source has ASCII characters alone"),
+        ([b'.', ..], _) => Some("a number is whole"),
+        ([b'{' | b'}', ..], _) => Some("there are no blocks in braces; a label and JP make a loop"),
+        ([128..=255, ..], _) => {
+            Some("outside texts and comments a source has ASCII characters alone")
+        }
         _ => None,
     }
 }
 
-/// Help with a number that another assembler would write so, and whether the words begin with one.
-fn other_number_help(
+/// Help with a number that another assembler would write with these digits.
+fn push_other_number(
     alloc: Global,
     hints: &mut Vec<Hint>,
-    words: &[String],
-) -> Result<bool, AllocError> {
-    let Some((radix, digits)) = other_number(words) else {
-        return Ok(false);
-    };
-    let (name, sign) = (radix.name(), radix.sign());
-    push_help(
-        alloc,
-        hints,
-        format_args!("{name} number begins with `{sign}`: {sign}{digits}"),
-    )?;
-    Ok(true)
+    radix: &Radix,
+    digits: &[u8],
+) -> Result<(), AllocError> {
+    let Radix { name, sign, .. } = radix;
+    let front = format!(in alloc; "{name} number begins with `{sign}`: {sign}")?;
+    push_help(alloc, hints, &[front.as_bytes(), digits])
 }
 
 /// Help with a word that begins a statement and isn't known: `text` is the line from it on, `rest`
@@ -151,7 +147,7 @@ fn unknown_word(
     hints: &mut Vec<Hint>,
     line: &[u8],
     text: &[u8],
-    rest: &[String],
+    rest: &[&[u8]],
 ) -> Result<(), AllocError> {
     let Some(word) = rest.first() else {
         return Ok(());
@@ -160,16 +156,21 @@ fn unknown_word(
         return push_help(
             alloc,
             hints,
-            format_args!("an instruction stands first, as in LD {word}, 5"),
+            &[b"an instruction stands first, as in LD ", word, b", 5"],
         );
     }
-    let behind = text.get(word.len()..).unwrap_or(&[]);
+    let (written, behind) = text.split_at(word.len().min(text.len()));
     let is_label = reads_as_label(alloc, line, behind)?;
     push_meant(alloc, hints, word, is_label)?;
     if is_label {
-        push_label(alloc, hints, text.get(..word.len()).unwrap_or(&[]))?;
+        push_help(
+            alloc,
+            hints,
+            &[b"a label ends with a colon: ", written, b":"],
+        )
+    } else {
+        Ok(())
     }
-    Ok(())
 }
 
 /// Help with a word that was meant as an instruction or a directive; one that may be a label, only
@@ -177,28 +178,20 @@ fn unknown_word(
 fn push_meant(
     alloc: Global,
     hints: &mut Vec<Hint>,
-    word: &str,
+    word: &[u8],
     is_label: bool,
 ) -> Result<(), AllocError> {
     let other = other_word(word);
     match other.or(near_heading(word)) {
-        Some(meant) if is_label && !stands_alone(meant) => Ok(()),
-        Some(meant) if other.is_some() => {
-            push_help(alloc, hints, format_args!("{word} is written {meant} here"))
-        }
-        Some(meant) => push_help(alloc, hints, format_args!("did you mean {meant}?")),
+        Some(meant) if is_label && !stands_alone(meant.as_bytes()) => Ok(()),
+        Some(meant) if other.is_some() => push_help(
+            alloc,
+            hints,
+            &[word, b" is written ", meant.as_bytes(), b" here"],
+        ),
+        Some(meant) => push_help(alloc, hints, &[b"did you mean ", meant.as_bytes(), b"?"]),
         None => Ok(()),
     }
-}
-
-/// Help with a word that would be a label with a colon.
-fn push_label(alloc: Global, hints: &mut Vec<Hint>, word: &[u8]) -> Result<(), AllocError> {
-    let label = text_of(alloc, word)?;
-    push_help(
-        alloc,
-        hints,
-        format_args!("a label ends with a colon: {label}:"),
-    )
 }
 
 /// Whether a line would read with a colon before its last bytes.
@@ -211,19 +204,24 @@ fn reads_as_label(alloc: Global, line: &[u8], behind: &[u8]) -> Result<bool, All
 }
 
 /// Help with a word that can't be a name; `rest` are the words from it on.
-fn bad_name(alloc: Global, hints: &mut Vec<Hint>, rest: &[String]) -> Result<(), AllocError> {
+fn bad_name(alloc: Global, hints: &mut Vec<Hint>, rest: &[&[u8]]) -> Result<(), AllocError> {
     match rest {
         [word, more @ ..] if is_register(word) && is_assignment(more) => push_help(
             alloc,
             hints,
-            format_args!("{word} is a register; LD gives it a value, as in LD {word}, 5"),
+            &[
+                word,
+                b" is a register; LD gives it a value, as in LD ",
+                word,
+                b", 5",
+            ],
         ),
         [word, ..] if is_reserved(word) => push_help(
             alloc,
             hints,
-            format_args!("{word} has a meaning of its own; choose another name"),
+            &[word, b" has a meaning of its own; choose another name"],
         ),
-        _ => push_help(
+        _ => push_formatted(
             alloc,
             hints,
             format_args!("a name has at most {NAME_BYTES} bytes"),
@@ -232,13 +230,12 @@ fn bad_name(alloc: Global, hints: &mut Vec<Hint>, rest: &[String]) -> Result<(),
 }
 
 /// Whether some words begin with `=`, `:=`, EQU or `: EQU`.
-fn is_assignment(words: &[String]) -> bool {
-    let equ = match words {
-        [colon, equ, ..] if colon.as_str() == ":" => equ,
-        [equ, ..] => equ,
-        [] => return false,
-    };
-    is_one_of(equ, &["=", "EQU"])
+fn is_assignment(words: &[&[u8]]) -> bool {
+    match words {
+        [b":", equ, ..] => is_one_of(equ, &["=", "EQU"]),
+        [equ, ..] => is_one_of(equ, &["=", "EQU"]),
+        [] => false,
+    }
 }
 
 /// Help with a name that has a value already; `rest` are the words from it on.
@@ -246,17 +243,13 @@ fn defined_twice(
     alloc: Global,
     hints: &mut Vec<Hint>,
     known: &Known,
-    rest: &[String],
+    rest: &[&[u8]],
 ) -> Result<(), AllocError> {
     let Some(name) = rest.first() else {
         return Ok(());
     };
     match known.line_of(name) {
-        Some(line) => push_note(
-            alloc,
-            hints,
-            format_args!("{name} is defined on line {line}"),
-        ),
+        Some(line) => push_line_note(alloc, hints, name, " is defined on line ", line, ""),
         None => Ok(()),
     }
 }
@@ -267,77 +260,88 @@ fn undefined_name(
     hints: &mut Vec<Hint>,
     known: &Known,
     number: usize,
-    rest: &[String],
+    rest: &[&[u8]],
 ) -> Result<(), AllocError> {
     let Some(name) = rest.first() else {
         return Ok(());
     };
-    if other_line_note(alloc, hints, known, number, name)?
-        || near_name_help(alloc, hints, known, name)?
-        || register_advice(alloc, hints, name)?
-        || other_number_help(alloc, hints, rest)?
-    {
-        return Ok(());
-    }
-    push_help(
-        alloc,
-        hints,
-        format_args!("no line gives {name} a value, as {name}: or {name} EQU 5 would"),
-    )
-}
-
-/// A note on a name that stands on another line, and whether it does.
-fn other_line_note(
-    alloc: Global,
-    hints: &mut Vec<Hint>,
-    known: &Known,
-    number: usize,
-    name: &str,
-) -> Result<bool, AllocError> {
     match (known.line_of(name), known.lost_line_of(name)) {
-        (Some(line), _) => push_note(
+        (Some(line), _) => push_line_note(
             alloc,
             hints,
-            format_args!("{name} is defined on line {line}; ORG, DS and EQU see earlier lines"),
-        )?,
-        (_, Some(line)) if line != number => push_note(
+            name,
+            " is defined on line ",
+            line,
+            "; ORG, DS and EQU see earlier lines",
+        ),
+        (_, Some(line)) if line != number => push_line_note(
             alloc,
             hints,
-            format_args!("{name} is on line {line}, which has a fault of its own"),
-        )?,
-        _ => return Ok(false),
+            name,
+            " is on line ",
+            line,
+            ", which has a fault of its own",
+        ),
+        _ => unknown_name(alloc, hints, known, name, rest),
     }
-    Ok(true)
 }
 
-/// Help with a name that is near to one with a value, and whether it is.
-fn near_name_help(
+/// Adds a note on the line of a name: the name, what is said of the line, its number and the end.
+fn push_line_note(
+    alloc: Global,
+    hints: &mut Vec<Hint>,
+    name: &[u8],
+    verb: &str,
+    line: usize,
+    end: &str,
+) -> Result<(), AllocError> {
+    let line = format!(in alloc; "{verb}{line}{end}")?;
+    push_note(alloc, hints, &[name, line.as_bytes()])
+}
+
+/// Help with a name that stands on no other line; `rest` are the words from it on.
+fn unknown_name(
     alloc: Global,
     hints: &mut Vec<Hint>,
     known: &Known,
-    name: &str,
-) -> Result<bool, AllocError> {
-    match known.near_name(alloc, name)? {
-        Some(near) => {
-            push_help(alloc, hints, format_args!("did you mean {near}?"))?;
-            Ok(true)
-        }
-        None => Ok(false),
+    name: &[u8],
+    rest: &[&[u8]],
+) -> Result<(), AllocError> {
+    if let Some(near) = known.near_name(name) {
+        push_help(alloc, hints, &[b"did you mean ", near, b"?"])
+    } else if is_like_register(name) {
+        push_help(alloc, hints, &[REGISTERS])
+    } else if let Some((radix, digits)) = other_number(rest) {
+        push_other_number(alloc, hints, radix, digits)
+    } else {
+        push_help(
+            alloc,
+            hints,
+            &[
+                b"no line gives ",
+                name,
+                b" a value, as ",
+                name,
+                b": or ",
+                name,
+                b" EQU 5 would",
+            ],
+        )
     }
 }
 
 /// Help with a directive that this assembler doesn't have.
-fn not_in_profile(alloc: Global, hints: &mut Vec<Hint>, rest: &[String]) -> Result<(), AllocError> {
+fn not_in_profile(alloc: Global, hints: &mut Vec<Hint>, rest: &[&[u8]]) -> Result<(), AllocError> {
     let Some((word, more)) = rest.split_first() else {
         return Ok(());
     };
-    match takes(alloc, word, more)? {
-        Some(sentence) => push_help(alloc, hints, sentence),
-        None if word.as_str() == "INCLUDE" => push_help(
+    if !push_forms(alloc, hints, word, more)? && matches!(*word, b"INCLUDE") {
+        push_help(
             alloc,
             hints,
-            "a source is one file; copy the other one's lines into it",
-        ),
-        None => Ok(()),
+            &[b"a source is one file; copy the other one's lines into it"],
+        )
+    } else {
+        Ok(())
     }
 }

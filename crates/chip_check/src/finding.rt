@@ -8,11 +8,11 @@ ghost use Rattle.chip_check.specs.Json.{unopened_code, unopened_sentence};
 ghost use Rattle.chip_check.specs.Place.{place_in};
 
 use crate::advice::push_advice;
-use crate::hint::{Hint, HintKind};
+use crate::hint::{Hint, push_help};
 use crate::known::Known;
 use crate::place::place_in;
 use chip_asm::{OpenError, Source};
-use chip_lang::{Bytes, Fault, Span, mnemonic_of};
+use chip_lang::{Fault, Span, mnemonic_of};
 use chip_warnings::Warning;
 use std::alloc::{AllocError, Global};
 
@@ -50,8 +50,7 @@ impl Finding {
         let span = place_in(alloc, source, known, number, line, fault)?;
         let mut hints = Vec::new(alloc);
         push_advice(alloc, &mut hints, known, number, line, fault, span.start)?;
-        let mnemonic = mnemonic_of(alloc, line)?;
-        let sentence = sentence_with(alloc, fault, mnemonic)?;
+        let sentence = sentence_in(alloc, fault, line)?;
         let fault_number = fault.number();
         let code = format!(in alloc; "F{fault_number}")?.into_bytes();
         Ok(Finding {
@@ -91,11 +90,7 @@ impl Finding {
     {
         let mut hints = Vec::new(alloc);
         if !warning.help.is_empty() {
-            let sentence = Vec::from_slice(alloc, &warning.help)?;
-            hints.push(Hint {
-                kind: HintKind::Help,
-                sentence,
-            })?;
+            push_help(alloc, &mut hints, &[&warning.help])?;
         }
         let sentence = Vec::from_slice(alloc, &warning.sentence)?;
         let warning_number = warning.code.number();
@@ -109,16 +104,13 @@ impl Finding {
     }
 }
 
-/// The sentence of a fault.
+/// The sentence of a fault of a line.
 #[tactic(auto, unfolding(crate::specs::Check::sentence_with))]
-fn sentence_with(
-    alloc: Global,
-    fault: Fault,
-    mnemonic: Option<Bytes>,
-) -> Result<Vec<u8>, AllocError>
-    ensures { IfOk result (λ sentence. sentence.items ≡ sentence_with fault mnemonic) }
+fn sentence_in(alloc: Global, fault: Fault, line: &[u8]) -> Result<Vec<u8>, AllocError>
+    ensures { IfOk result (λ sentence.
+        sentence.items ≡ sentence_with fault (mnemonic_of line.now)) }
 {
-    match (fault, mnemonic) {
+    match (fault, mnemonic_of(alloc, line)?) {
         (Fault::WrongOperands, Some(mnemonic)) => {
             let mut sentence = Vec::from_slice(alloc, b"the operands fit no form of ")?;
             sentence.extend_from_slice(mnemonic.get())?;

@@ -1,5 +1,6 @@
 //! The forms of instructions and directives, as help shows them.
 
+use crate::hint::{Hint, push_help};
 use crate::near::{is_near, most_edits};
 use crate::words::{is_one_of, is_register, is_special, is_word, split_operand, words_of};
 use std::alloc::{AllocError, Global};
@@ -89,10 +90,10 @@ fn heading(form: &str) -> &str {
     }
 }
 
-/// Whether a word in upper case is an instruction or a directive.
-pub(crate) fn is_heading(word: &str) -> bool {
+/// Whether a word is an instruction or a directive.
+fn is_heading(word: &[u8]) -> bool {
     for form in FORMS {
-        if heading(*form) == word {
+        if heading(*form).as_bytes() == word {
             return true;
         }
     }
@@ -100,17 +101,12 @@ pub(crate) fn is_heading(word: &str) -> bool {
 }
 
 /// Whether an instruction or a directive can stand without operands.
-pub(crate) fn stands_alone(word: &str) -> bool {
-    for form in FORMS {
-        if *form == word {
-            return true;
-        }
-    }
-    false
+pub(crate) fn stands_alone(word: &[u8]) -> bool {
+    is_one_of(word, FORMS)
 }
 
-/// Whether a word in upper case has a meaning of its own, so that it can't be a name.
-pub(crate) fn is_reserved(word: &str) -> bool {
+/// Whether a word has a meaning of its own, so that it can't be a name.
+pub(crate) fn is_reserved(word: &[u8]) -> bool {
     is_register(word)
         || is_special(word)
         || is_heading(word)
@@ -118,12 +114,12 @@ pub(crate) fn is_reserved(word: &str) -> bool {
 }
 
 /// The instruction or the directive that a word comes nearest to, if one is near.
-pub(crate) fn near_heading(word: &str) -> Option<&'static str> {
-    let most = most_edits(word.as_bytes());
+pub(crate) fn near_heading(word: &[u8]) -> Option<&str> {
+    let most = most_edits(word);
     for edits in 1..=most {
         for form in FORMS {
             let heading = heading(*form);
-            if is_near(edits, word.as_bytes(), heading.as_bytes()) {
+            if is_near(edits, word, heading.as_bytes()) {
                 return Some(heading);
             }
         }
@@ -131,17 +127,52 @@ pub(crate) fn near_heading(word: &str) -> Option<&'static str> {
     None
 }
 
+/// Adds what an instruction or a directive takes, by its first forms: nothing for another word.
+/// Answers whether it has a form.
+pub(crate) fn push_forms(
+    alloc: Global,
+    hints: &mut Vec<Hint>,
+    word: &[u8],
+    operands: &[&[u8]],
+) -> Result<bool, AllocError> {
+    let forms = forms_by_nearness(alloc, word, operands)?;
+    if forms.is_empty() {
+        return Ok(false);
+    }
+    if stands_alone(word) && forms.len() == 1 {
+        push_help(alloc, hints, &[word, b" takes no operands"])?;
+        return Ok(true);
+    }
+    let shown = forms
+        .get(..MOST_SHOWN)
+        .unwrap_or(&forms)
+        .join(alloc, " | ")?;
+    let more = if forms.len() > MOST_SHOWN {
+        " | .."
+    } else {
+        ""
+    };
+    push_help(
+        alloc,
+        hints,
+        &[word, b" takes: ", shown.as_bytes(), more.as_bytes()],
+    )?;
+    Ok(true)
+}
+
 /// The forms of an instruction or a directive, those first that are nearest to what was written
 /// after it; none for another word.
-pub(crate) fn forms_by_nearness(
+fn forms_by_nearness(
     alloc: Global,
-    word: &str,
-    operands: &[String],
+    word: &[u8],
+    operands: &[&[u8]],
 ) -> Result<Vec<&'static str>, AllocError> {
     let mut forms = Vec::new(alloc);
     for missing in 0..=NEAREST {
         for form in FORMS {
-            if heading(*form) == word && nearness(alloc, *form, operands)? == NEAREST - missing {
+            if heading(*form).as_bytes() == word
+                && nearness(alloc, *form, operands)? == NEAREST - missing
+            {
                 forms.push(*form)?;
             }
         }
@@ -149,51 +180,20 @@ pub(crate) fn forms_by_nearness(
     Ok(forms)
 }
 
-/// What an instruction or a directive takes, by its first forms; none where it has no form.
-pub(crate) fn takes(
-    alloc: Global,
-    word: &str,
-    operands: &[String],
-) -> Result<Option<String>, AllocError> {
-    let forms = forms_by_nearness(alloc, word, operands)?;
-    takes_one_of(alloc, word, &forms)
-}
-
-/// What an instruction or a directive of these forms takes.
-fn takes_one_of(alloc: Global, word: &str, forms: &[&str]) -> Result<Option<String>, AllocError> {
-    let sentence = match forms {
-        [] => return Ok(None),
-        [form] if *form == word => format!(in alloc; "{word} takes no operands")?,
-        _ => list_of(alloc, word, forms)?,
-    };
-    Ok(Some(sentence))
-}
-
-/// The first forms of a word, as a sentence.
-fn list_of(alloc: Global, word: &str, forms: &[&str]) -> Result<String, AllocError> {
-    let shown = forms.get(..MOST_SHOWN).unwrap_or(forms).join(alloc, " | ")?;
-    let more = if forms.len() > MOST_SHOWN {
-        " | .."
-    } else {
-        ""
-    };
-    format!(in alloc; "{word} takes: {shown}{more}")
-}
-
 /// How many operands are what a form wants in their places; the first counts twice.
-fn nearness(alloc: Global, form: &str, operands: &[String]) -> Result<usize, AllocError> {
+fn nearness(alloc: Global, form: &str, operands: &[&[u8]]) -> Result<usize, AllocError> {
     let words = words_of(alloc, form.as_bytes())?;
     let mut wanted = words.get(1..);
     let mut given = Some(operands);
     let mut near = 0usize;
-    for weight in [2usize, 1, 1] {
+    for weight in &[2usize, 1, 1] {
         let (Some(wants), Some(gives)) = (wanted, given) else {
             break;
         };
         let (want, more_wanted) = split_operand(wants);
         let (give, more_given) = split_operand(gives);
         if fits(want, give) {
-            near = near.saturating_add(weight);
+            near = near.saturating_add(*weight);
         }
         wanted = more_wanted;
         given = more_given;
@@ -202,10 +202,10 @@ fn nearness(alloc: Global, form: &str, operands: &[String]) -> Result<usize, All
 }
 
 /// The words in a form for which an expression stands.
-const VALUES: &[&str] = &["NIBBLE", "BYTE", "ADDR", "VALUE"];
+const VALUES: &[&str] = &["nibble", "byte", "addr", "value"];
 
 /// Whether an operand is what a form wants in its place.
-fn fits(wanted: &[String], given: &[String]) -> bool {
+fn fits(wanted: &[&[u8]], given: &[&[u8]]) -> bool {
     match (wanted, given) {
         ([wants], [gives]) => fits_token(wants, gives),
         ([wants], [_, ..]) => is_one_of(wants, VALUES),
@@ -214,10 +214,10 @@ fn fits(wanted: &[String], given: &[String]) -> bool {
 }
 
 /// Whether an operand of one token is what a form wants in its place.
-fn fits_token(wants: &str, gives: &str) -> bool {
+fn fits_token(wants: &[u8], gives: &[u8]) -> bool {
     match wants {
-        "VX" | "VY" => is_register(gives),
-        "NAME" => is_word(gives) && !is_reserved(gives),
+        b"Vx" | b"Vy" => is_register(gives),
+        b"name" => is_word(gives) && !is_reserved(gives),
         _ if is_one_of(wants, VALUES) => !is_reserved(gives),
         _ => wants == gives,
     }

@@ -19,31 +19,31 @@ pub(crate) struct Hint {
     pub(crate) sentence: Vec<u8>,
 }
 
-/// Adds a line that says what to write.
-pub(crate) fn push_help<S: Display + Drop>(
+/// Adds a line that says what to write, given in parts.
+pub(crate) fn push_help(
     alloc: Global,
     hints: &mut Vec<Hint>,
-    sentence: S,
+    parts: &[&[u8]],
 ) -> Result<(), AllocError> {
-    push(alloc, hints, HintKind::Help, sentence)
+    push(alloc, hints, HintKind::Help, parts)
 }
 
-/// Adds a line that says what else is known.
-pub(crate) fn push_note<S: Display + Drop>(
+/// Adds a line that says what else is known, given in parts.
+pub(crate) fn push_note(
     alloc: Global,
     hints: &mut Vec<Hint>,
-    sentence: S,
+    parts: &[&[u8]],
 ) -> Result<(), AllocError> {
-    push(alloc, hints, HintKind::Note, sentence)
+    push(alloc, hints, HintKind::Note, parts)
 }
 
-fn push<S: Display + Drop>(
+fn push(
     alloc: Global,
     hints: &mut Vec<Hint>,
     kind: HintKind,
-    sentence: S,
+    parts: &[&[u8]],
 ) -> Result<(), AllocError> {
-    let sentence = format!(in alloc; "{sentence}")?.into_bytes();
+    let sentence = parts.concat(alloc)?;
     hints.push(Hint { kind, sentence })?;
     Ok(())
 }
@@ -55,7 +55,17 @@ pub(crate) fn push_sentence(
     sentence: Option<&str>,
 ) -> Result<(), AllocError> {
     match sentence {
-        Some(sentence) => push_help(alloc, hints, sentence),
+        Some(sentence) => push_help(alloc, hints, &[sentence.as_bytes()]),
         None => Ok(()),
     }
+}
+
+/// Adds a line that says what to write, as it is formatted.
+pub(crate) fn push_formatted<S: Display + Drop>(
+    alloc: Global,
+    hints: &mut Vec<Hint>,
+    sentence: S,
+) -> Result<(), AllocError> {
+    let sentence = format!(in alloc; "{sentence}")?;
+    push_help(alloc, hints, &[sentence.as_bytes()])
 }

@@ -4,9 +4,11 @@ ghost use Rattle.std.specs.Prelude.{◌≡◌, ◌≤◌, ◌+◌, ◌++◌, OnO
 ghost use Rattle.std.specs.List.{flat_map};
 ghost use Rattle.chip_lang.specs.Show.{hex_digit};
 ghost use Rattle.chip_check.specs.Json.{escaped, quoted, hint_prefix, hint_string, hint_strings, further_hint, object};
+ghost use Rattle.chip_check.specs.inner.Printing.{object_start};
 
 use crate::finding::Finding;
 use crate::hint::{Hint, HintKind};
+use crate::parts::push_all;
 use std::alloc::{AllocError, Global};
 
 /// Adds the object of a finding in the line of a number.
@@ -24,19 +26,33 @@ pub(crate) fn push_object(
         ++ object name.now number finding.now.span finding.now.code.items
         finding.now.sentence.items finding.now.hints.items) }
 {
-    let (column, end) = (finding.span.start + 1, finding.span.end + 1);
-    let place = format!(in alloc;
-        "{{\"line\":{number},\"column\":{column},\"end\":{end},\"code\":\""
-    )?;
-    text.extend_from_slice(place.as_bytes())?;
-    text.extend_from_slice(&finding.code)?;
-    text.extend_from_slice(b"\",\"message\":")?;
+    push_place(alloc, text, number, finding)?;
     push_quoted(alloc, text, &finding.sentence)?;
     text.extend_from_slice(b",\"help\":[")?;
     push_hint_strings(alloc, text, &finding.hints)?;
     text.extend_from_slice(b"],\"file\":")?;
     push_quoted(alloc, text, name)?;
     text.extend_from_slice(b"}\n")?;
+    Ok(())
+}
+
+/// Adds the members of an object up to the message's string: the place, and the code.
+fn push_place(
+    alloc: Global,
+    text: &mut Vec<u8>,
+    number: usize,
+    finding: &Finding,
+) -> Result<(), AllocError>
+    requires start { finding.now.span.start + 1 ≤ usize.MAX }
+    requires end { finding.now.span.end + 1 ≤ usize.MAX }
+    ensures { OnOk result (text.new.items ≡ text.old.items
+        ++ object_start number finding.now.span finding.now.code.items) }
+{
+    let (column, end) = (finding.span.start + 1, finding.span.end + 1);
+    let place = format!(in alloc;
+        "{{\"line\":{number},\"column\":{column},\"end\":{end},\"code\":\""
+    )?;
+    push_all(text, &[place.as_bytes(), &finding.code, b"\",\"message\":"])?;
     Ok(())
 }
 

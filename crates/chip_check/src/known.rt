@@ -5,7 +5,7 @@ ghost use Rattle.chip_asm.specs.Names.{lookup_name, values_of};
 ghost use Rattle.chip_asm.specs.Program.{symbols_of};
 
 use crate::near::{is_near, most_edits};
-use crate::words::{is_word, text_of, words_of};
+use crate::words::{is_word, words_of};
 use chip_asm::{Source, Symbol};
 use chip_files::first_line;
 use chip_lang::{Bytes, Names};
@@ -14,7 +14,7 @@ use std::alloc::{AllocError, Global};
 /// A name on a line with a fault, which gives it no value.
 #[derive(Drop)]
 pub(crate) struct Lost {
-    name: String,
+    name: Vec<u8>,
     line: usize,
 }
 
@@ -66,17 +66,17 @@ impl Known {
     }
 
     /// The number of the line that gives a name, in upper case, a value.
-    pub(crate) fn line_of(&self, name: &str) -> Option<usize> {
-        match self.find(name.as_bytes()) {
+    pub(crate) fn line_of(&self, name: &[u8]) -> Option<usize> {
+        match self.find(name) {
             Some(symbol) => Some(symbol.line),
             None => None,
         }
     }
 
     /// The number of the first line with a fault that begins with a name.
-    pub(crate) fn lost_line_of(&self, name: &str) -> Option<usize> {
+    pub(crate) fn lost_line_of(&self, name: &[u8]) -> Option<usize> {
         for lost in &self.lost {
-            if lost.name.as_str() == name {
+            if lost.name.as_slice() == name {
                 return Some(lost.line);
             }
         }
@@ -84,23 +84,19 @@ impl Known {
     }
 
     /// The name that a word comes nearest to, if one is near.
-    pub(crate) fn near_name(
-        &self,
-        alloc: Global,
-        word: &str,
-    ) -> Result<Option<String>, AllocError> {
+    pub(crate) fn near_name(&self, word: &[u8]) -> Option<&[u8]> {
         if self.lost.len().saturating_mul(self.symbols.len()) > MOST_PAIRS {
-            return Ok(None);
+            return None;
         }
-        let most = most_edits(word.as_bytes());
+        let most = most_edits(word);
         for edits in 1..=most {
             for (given, _) in &self.symbols {
-                if is_near(edits, word.as_bytes(), given.get()) {
-                    return Ok(Some(text_of(alloc, given.get())?));
+                if is_near(edits, word, given.get()) {
+                    return Some(given.get());
                 }
             }
         }
-        Ok(None)
+        None
     }
 }
 
@@ -115,9 +111,7 @@ fn lost_names(alloc: Global, bytes: &[u8], source: &Source) -> Result<Vec<Lost>,
     while !rest.is_empty() {
         let (line, more) = first_line(rest);
         if source.fault(number).is_some() {
-            if let Some(name) = front_name(alloc, line)? {
-                lost.push(Lost { name, line: number })?;
-            }
+            push_front_name(alloc, &mut lost, number, line)?;
         }
         number = number.saturating_add(1);
         rest = more;
@@ -125,13 +119,21 @@ fn lost_names(alloc: Global, bytes: &[u8], source: &Source) -> Result<Vec<Lost>,
     Ok(lost)
 }
 
-/// The word that begins a line, or the one after DEFINE.
-fn front_name(alloc: Global, line: &[u8]) -> Result<Option<String>, AllocError> {
-    let words = words_of(alloc, line)?;
+/// Adds the word that begins the line of a number, or the one after DEFINE.
+fn push_front_name(
+    alloc: Global,
+    lost: &mut Vec<Lost>,
+    number: usize,
+    line: &[u8],
+) -> Result<(), AllocError> {
+    let upper = line.to_ascii_uppercase(alloc)?;
+    let words = words_of(alloc, &upper)?;
     let name = match words.as_slice() {
-        [define, name, ..] if define.as_str() == "DEFINE" => name,
-        [name, ..] if is_word(name) => name,
-        _ => return Ok(None),
+        [b"DEFINE", name, ..] => *name,
+        [name, ..] if is_word(name) => *name,
+        _ => return Ok(()),
     };
-    Ok(Some(name.clone()?))
+    let name = Vec::from_slice(alloc, name)?;
+    lost.push(Lost { name, line: number })?;
+    Ok(())
 }

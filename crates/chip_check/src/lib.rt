@@ -12,6 +12,7 @@ mod known;
 mod near;
 mod operand_advice;
 mod other_assemblers;
+mod parts;
 mod place;
 mod printing;
 mod quoted;

@@ -1,11 +1,12 @@
 //! What may help with operands.
 
-use crate::forms::{is_reserved, takes};
-use crate::hint::{Hint, push_help, push_sentence};
+use crate::forms::{is_reserved, push_forms};
+use crate::hint::{Hint, push_formatted, push_help, push_sentence};
 use crate::known::Known;
 use crate::place::{out_operand_of, read};
 use crate::words::{
-    has_twice, is_number, is_one_of, is_register, is_special, is_word, split_operand, statement_of,
+    has_twice, is_number, is_one_of, is_register, is_special, is_text, is_word, split_operand,
+    statement_of,
 };
 use chip_lang::{Body, Expr, Line, Operand, Pattern, eval};
 use std::alloc::{AllocError, Global};
@@ -15,8 +16,8 @@ use std::alloc::{AllocError, Global};
 pub(crate) fn wrong_operands(
     alloc: Global,
     hints: &mut Vec<Hint>,
-    words: &[String],
-    rest: &[String],
+    words: &[&[u8]],
+    rest: &[&[u8]],
 ) -> Result<(), AllocError> {
     let statement = statement_of(words);
     if rest.len() == statement.len() {
@@ -25,23 +26,21 @@ pub(crate) fn wrong_operands(
     let (heading, operands) = parts_of(statement);
     let sentence = sentence_for(heading, words, rest);
     push_sentence(alloc, hints, sentence)?;
-    for operand in operands {
-        if register_advice(alloc, hints, operand)? {
-            return Ok(());
-        }
+    if has_like_register(operands) {
+        push_help(alloc, hints, &[REGISTERS])
+    } else if sentence.is_some() && !rest.is_empty() {
+        Ok(())
+    } else {
+        forms_help(alloc, hints, heading, operands)
     }
-    if sentence.is_some() && !rest.is_empty() {
-        return Ok(());
-    }
-    forms_help(alloc, hints, heading, operands)
 }
 
 /// The instruction or the directive of a statement, and the words after it.
-fn parts_of(statement: &[String]) -> (&str, &[String]) {
+fn parts_of<'a, 'b>(statement: &'b [&'a [u8]]) -> (&'a [u8], &'b [&'a [u8]]) {
     match statement {
-        [_, equ, operands @ ..] if is_one_of(equ, &["EQU", "="]) => ("EQU", operands),
-        [heading, operands @ ..] => (heading, operands),
-        [] => ("", statement),
+        [_, b"EQU" | b"=", operands @ ..] => (b"EQU", operands),
+        [heading, operands @ ..] => (*heading, operands),
+        [] => (b"", statement),
     }
 }
 
@@ -49,20 +48,19 @@ fn parts_of(statement: &[String]) -> (&str, &[String]) {
 fn forms_help(
     alloc: Global,
     hints: &mut Vec<Hint>,
-    heading: &str,
-    operands: &[String],
+    heading: &[u8],
+    operands: &[&[u8]],
 ) -> Result<(), AllocError> {
-    if let Some(sentence) = takes(alloc, heading, operands)? {
-        push_help(alloc, hints, sentence)?;
+    push_forms(alloc, hints, heading, operands)?;
+    if matches!(heading, b"SUB") && has_number(operands) {
+        push_help(alloc, hints, &[b"ADD subtracts a number, as in ADD V0, -5"])
+    } else {
+        Ok(())
     }
-    if heading == "SUB" && has_number(operands) {
-        push_help(alloc, hints, "ADD subtracts a number, as in ADD V0, -5")?;
-    }
-    Ok(())
 }
 
 /// Whether a number is among some words.
-fn has_number(words: &[String]) -> bool {
+fn has_number(words: &[&[u8]]) -> bool {
     for word in words {
         if is_number(word) {
             return true;
@@ -72,24 +70,34 @@ fn has_number(words: &[String]) -> bool {
 }
 
 /// Help with a statement whose first word is at fault.
-fn wrong_front(alloc: Global, hints: &mut Vec<Hint>, rest: &[String]) -> Result<(), AllocError> {
-    let first = match rest {
-        [first, ..] => first.as_str(),
-        [] => "",
-    };
-    let sentence = match first {
-        "EQU" => "a name stands before EQU, as in SIZE EQU 5",
-        ":" => "a colon stands after a label and not before it",
-        _ if is_word(first) => {
-            return push_help(
+fn wrong_front(alloc: Global, hints: &mut Vec<Hint>, rest: &[&[u8]]) -> Result<(), AllocError> {
+    match rest {
+        [b"EQU", ..] => push_help(
+            alloc,
+            hints,
+            &[b"a name stands before EQU, as in SIZE EQU 5"],
+        ),
+        [b":", ..] => {
+            push_help(
                 alloc,
                 hints,
-                format_args!("{first} takes no label; put the label on a line of its own"),
-            );
+                &[b"a colon stands after a label and not before it"],
+            )
         }
-        _ => "a line begins with a label, an instruction or a directive",
-    };
-    push_help(alloc, hints, sentence)
+        [first, ..] if is_word(first) => push_help(
+            alloc,
+            hints,
+            &[
+                first,
+                b" takes no label; put the label on a line of its own",
+            ],
+        ),
+        _ => push_help(
+            alloc,
+            hints,
+            &[b"a line begins with a label, an instruction or a directive"],
+        ),
+    }
 }
 
 /// Directives whose operands are no expressions.
@@ -99,13 +107,13 @@ const WITHOUT_EXPRESSION: &[&str] = &["ALIGN", "DA", "IFDEF", "IFUND", "ELSE", "
 const OF_ONE_EXPRESSION: &[&str] = &["ORG", "DS", "EQU"];
 
 /// What helps with the operand at fault, which is the first of `rest`.
-fn sentence_for(heading: &str, words: &[String], rest: &[String]) -> Option<&'static str> {
+fn sentence_for(heading: &[u8], words: &[&[u8]], rest: &[&[u8]]) -> Option<&'static str> {
     let (operand, _) = split_operand(rest);
-    if has_twice("<", words) || has_twice(">", words) {
+    if has_twice(b"<", words) || has_twice(b">", words) {
         Some("a shift is one sign, `<` or `>`")
     } else if operand.is_empty() {
         Some(sentence_for_missing(words, rest))
-    } else if heading == "DEFINE" {
+    } else if matches!(heading, b"DEFINE") {
         Some("DEFINE gives 0; EQU gives another value, as in SIZE EQU 5")
     } else if is_part(operand) || is_one_of(heading, WITHOUT_EXPRESSION) {
         None
@@ -115,51 +123,43 @@ fn sentence_for(heading: &str, words: &[String], rest: &[String]) -> Option<&'st
 }
 
 /// What helps with an operand that is missing.
-fn sentence_for_missing(words: &[String], rest: &[String]) -> &'static str {
+fn sentence_for_missing(words: &[&[u8]], rest: &[&[u8]]) -> &'static str {
     if !rest.is_empty() {
         return "an operand is missing before this comma";
     }
     match words {
-        [.., last] if last.as_str() == "," => "an operand is missing after the last comma",
+        [.., last] if matches!(*last, b",") => "an operand is missing after the last comma",
         _ => "an operand is missing at the end",
     }
 }
 
 /// Whether an operand is a register, another part of the machine or `[I]`.
-fn is_part(operand: &[String]) -> bool {
+fn is_part(operand: &[&[u8]]) -> bool {
     match operand {
         [word] => is_register(word) || is_special(word),
-        [open, index, _] => open.as_str() == "[" && index.as_str() == "I",
+        [b"[", b"I", _] => true,
         _ => false,
     }
 }
 
 /// What helps with an operand by the tokens that it begins with.
-fn sentence_for_front(heading: &str, operand: &[String]) -> Option<&'static str> {
+fn sentence_for_front(heading: &[u8], operand: &[&[u8]]) -> Option<&'static str> {
     match operand {
-        [first, ..] if is_long_text(first) => {
+        [first, ..] if is_text(first) && first.len() != 3 => {
             Some("`DA` takes one text of any length; elsewhere a text has one byte")
         }
-        [first, second, ..] => sentence_for_pair(heading, first, second),
+        [_, b":", ..] => Some("a colon stands only after a name that the line defines"),
+        [first, b"=", ..] if is_register(first) => Some("a comma stands between two operands"),
+        [first, second, ..]
+            if is_atom(first) && is_atom(second) && !is_one_of(heading, OF_ONE_EXPRESSION) => {
+            Some("a comma is missing between two operands")
+        }
         _ => None,
     }
 }
 
-/// What helps with an operand that begins with two tokens.
-fn sentence_for_pair(heading: &str, first: &str, second: &str) -> Option<&'static str> {
-    if second == ":" {
-        Some("a colon stands only after a name that the line defines")
-    } else if second == "=" && is_register(first) {
-        Some("a comma stands between two operands")
-    } else if is_atom(first) && is_atom(second) && !is_one_of(heading, OF_ONE_EXPRESSION) {
-        Some("a comma is missing between two operands")
-    } else {
-        None
-    }
-}
-
 /// What helps with tokens that are no expression.
-fn sentence_for_expression(operand: &[String]) -> Option<&'static str> {
+fn sentence_for_expression(operand: &[&[u8]]) -> Option<&'static str> {
     for word in operand {
         let sentence = sentence_for_word(word);
         if sentence.is_some() {
@@ -170,8 +170,8 @@ fn sentence_for_expression(operand: &[String]) -> Option<&'static str> {
 }
 
 /// What helps with a token that has no place in an expression.
-fn sentence_for_word(word: &str) -> Option<&'static str> {
-    if word == "[" {
+fn sentence_for_word(word: &[u8]) -> Option<&'static str> {
+    if matches!(word, b"[") {
         Some("memory is reached by `[I]` alone; LD I gives the address")
     } else if is_register(word) {
         Some("a register has no place in an expression; ADD and SUB compute with it")
@@ -183,53 +183,41 @@ fn sentence_for_word(word: &str) -> Option<&'static str> {
 }
 
 /// What helps with parentheses that don't match.
-fn sentence_for_parentheses(operand: &[String]) -> Option<&'static str> {
+fn sentence_for_parentheses(operand: &[&[u8]]) -> Option<&'static str> {
     let mut open = 0usize;
     for word in operand {
-        if word.as_str() == "(" {
-            open = open.saturating_add(1);
-        } else if word.as_str() == ")" {
-            if open == 0 {
-                return Some("each `)` needs its `(`");
-            }
-            open -= 1;
+        match *word {
+            b"(" => open = open.saturating_add(1),
+            b")" if open == 0 => return Some("each `)` needs its `(`"),
+            b")" => open -= 1,
+            _ => {}
         }
     }
     (open > 0).then_some("each `(` needs its `)`")
 }
 
-/// Whether a token is a text of another length than one byte.
-fn is_long_text(word: &str) -> bool {
-    is_text(word) && word.chars().count() != 3
-}
-
-/// Whether a token is a text.
-fn is_text(word: &str) -> bool {
-    matches!(word.as_bytes(), [b'\'' | b'"', ..])
-}
-
 /// Whether a token is a word, a number or a text.
-fn is_atom(word: &str) -> bool {
-    is_word(word) || is_number(word) || is_text(word)
+fn is_atom(token: &[u8]) -> bool {
+    is_word(token) || is_number(token) || is_text(token)
 }
 
-/// Help with a name that looks like a register, and whether it does.
-pub(crate) fn register_advice(
-    alloc: Global,
-    hints: &mut Vec<Hint>,
-    name: &str,
-) -> Result<bool, AllocError> {
-    if !is_like_register(name) {
-        return Ok(false);
+/// Help with a name that looks like a register.
+pub(crate) const REGISTERS: &[u8] = b"the registers are V0 to V9 and VA to VF";
+
+/// Whether a word among some looks like a register.
+fn has_like_register(words: &[&[u8]]) -> bool {
+    for word in words {
+        if is_like_register(word) {
+            return true;
+        }
     }
-    push_help(alloc, hints, "the registers are V0 to V9 and VA to VF")?;
-    Ok(true)
+    false
 }
 
 /// Whether a name looks like a register of another machine, or like one too many.
-fn is_like_register(name: &str) -> bool {
+pub(crate) fn is_like_register(name: &[u8]) -> bool {
     matches!(
-        name.as_bytes(),
+        name,
         [b'R', b'0'..=b'9'] | [b'R' | b'V', b'1', b'0'..=b'9'] | [b'V', b'G'..=b'Z']
     )
 }
@@ -287,7 +275,7 @@ fn push_out_of_range(
     };
     let index = out_operand_of(line, known);
     match body {
-        Body::Ds(_) => push_help(alloc, hints, "DS takes 0 or more"),
+        Body::Ds(_) => push_help(alloc, hints, &[b"DS takes 0 or more"]),
         Body::Db(values) => push_bounds(alloc, hints, known, values.get(index), BYTE),
         Body::Dw(values) => push_bounds(alloc, hints, known, values.get(index), WORD),
         Body::Code(form, operands) => {
@@ -321,7 +309,7 @@ fn push_bounds(
         return Ok(());
     };
     let Bounds { low, high } = bounds;
-    push_help(
+    push_formatted(
         alloc,
         hints,
         format_args!("the value is {value}, and has to lie from {low} to {high}"),

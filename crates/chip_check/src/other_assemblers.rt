@@ -3,79 +3,71 @@
 use crate::words::is_one_of;
 
 /// How a number is written.
-#[derive(Clone, Copy)]
-pub(crate) enum Radix {
-    Binary,
-    Octal,
-    Hexadecimal,
+pub(crate) struct Radix {
+    /// Its name, with an article.
+    pub(crate) name: &'static str,
+    /// The sign before its digits.
+    pub(crate) sign: &'static str,
+    digits: &'static [u8],
 }
 
+const BINARY: Radix = Radix {
+    name: "a binary",
+    sign: "$",
+    digits: b"01",
+};
+
+const OCTAL: Radix = Radix {
+    name: "an octal",
+    sign: "@",
+    digits: b"01234567",
+};
+
+const HEXADECIMAL: Radix = Radix {
+    name: "a hexadecimal",
+    sign: "#",
+    digits: b"0123456789ABCDEF",
+};
+
 impl Radix {
-    /// Its name, with an article.
-    pub(crate) fn name(self) -> &'static str {
-        match self {
-            Radix::Binary => "a binary",
-            Radix::Octal => "an octal",
-            Radix::Hexadecimal => "a hexadecimal",
-        }
-    }
-
-    /// The sign before its digits.
-    pub(crate) fn sign(self) -> char {
-        match self {
-            Radix::Binary => '$',
-            Radix::Octal => '@',
-            Radix::Hexadecimal => '#',
-        }
-    }
-
     /// Whether a text is some of its digits, at least one.
-    fn has(self, digits: &str) -> bool {
-        for digit in digits.as_bytes() {
-            let fits = match self {
-                Radix::Binary => matches!(*digit, b'0' | b'1'),
-                Radix::Octal => matches!(*digit, b'0'..=b'7'),
-                Radix::Hexadecimal => matches!(*digit, b'0'..=b'9' | b'A'..=b'F'),
-            };
-            if !fits {
+    fn has(&self, text: &[u8]) -> bool {
+        for digit in text {
+            if !self.digits.contains(digit) {
                 return false;
             }
         }
-        !digits.is_empty()
+        !text.is_empty()
     }
 }
 
 /// How numbers are written elsewhere: what stands before the digits, what after them, and their
 /// radix.
-const NOTATIONS: &[(&str, &str, Radix)] = &[
-    ("0X", "", Radix::Hexadecimal),
-    ("0O", "", Radix::Octal),
-    ("0B", "", Radix::Binary),
-    ("", "B", Radix::Binary),
-    ("", "H", Radix::Hexadecimal),
-    ("$", "", Radix::Hexadecimal),
-    ("", "", Radix::Hexadecimal),
+const NOTATIONS: &[(&str, &str, &Radix)] = &[
+    ("0X", "", &HEXADECIMAL),
+    ("0O", "", &OCTAL),
+    ("0B", "", &BINARY),
+    ("", "B", &BINARY),
+    ("", "H", &HEXADECIMAL),
+    ("$", "", &HEXADECIMAL),
+    ("", "", &HEXADECIMAL),
 ];
 
 /// The number that another assembler would write by the first of some words, in upper case: its
 /// radix and its digits.
-pub(crate) fn other_number(words: &[String]) -> Option<(Radix, &str)> {
+pub(crate) fn other_number<'a>(words: &[&'a [u8]]) -> Option<(&'static Radix, &'a [u8])> {
     match words {
-        [sign, digits, ..] if sign.as_str() == "%" => {
-            Radix::Binary
-                .has(digits)
-                .then_some((Radix::Binary, digits.as_str()))
-        }
+        [b"%", digits, ..] => BINARY.has(digits).then_some((&BINARY, *digits)),
         [word, ..] => other_digits(word),
         [] => None,
     }
 }
 
 /// The number of a word in one of the notations.
-fn other_digits(word: &str) -> Option<(Radix, &str)> {
+fn other_digits(word: &[u8]) -> Option<(&'static Radix, &[u8])> {
     for (front, end, radix) in NOTATIONS {
-        if let Some(rest) = word.strip_prefix(*front) {
-            match rest.strip_suffix(*end) {
+        if let Some(rest) = word.strip_prefix(front.as_bytes()) {
+            match rest.strip_suffix(end.as_bytes()) {
                 Some(digits) if radix.has(digits) => return Some((*radix, digits)),
                 _ => {}
             }
@@ -111,7 +103,7 @@ const OTHER_WORDS: &[(&str, &[&str])] = &[
 ];
 
 /// What this assembler calls the instruction or the directive of another one, in upper case.
-pub(crate) fn other_word(word: &str) -> Option<&'static str> {
+pub(crate) fn other_word(word: &[u8]) -> Option<&str> {
     for (ours, others) in OTHER_WORDS {
         if is_one_of(word, *others) {
             return Some(*ours);

@@ -252,18 +252,12 @@ fn undefined_place(
 fn last_seen(alloc: Global, number: usize, count: usize, line: &[u8]) -> Result<usize, AllocError>
     ensures { IfOk result (λ last. last ≡ last_seen number count (reading_of line.now)) }
 {
-    if sees_earlier(alloc, line)? {
+    let line = read(alloc, line)?;
+    if is_of_value(&*line) {
         Ok(number.saturating_sub(1))
     } else {
         Ok(count)
     }
-}
-
-fn sees_earlier(alloc: Global, line: &[u8]) -> Result<bool, AllocError>
-    ensures { IfOk result (λ answer. answer ≡ sees_earlier (reading_of line.now)) }
-{
-    let line = read(alloc, line)?;
-    Ok(is_of_value(&*line))
 }
 
 /// Whether a line is EQU, ORG or DS.

@@ -10,6 +10,7 @@ ghost use Rattle.chip_check.specs.Quoted.{shown_bytes};
 
 use crate::finding::Finding;
 use crate::hint::{Hint, HintKind};
+use crate::parts::push_all;
 use crate::quoted::{ShownByte, push_shown, shown_bytes};
 use chip_lang::Span;
 use memchr::memchr;
@@ -60,13 +61,9 @@ fn push_head(
 {
     let column = finding.span.start + 1;
     let place = format!(in alloc; ":{number}:{column}: ")?;
-    text.extend_from_slice(name)?;
-    text.extend_from_slice(place.as_bytes())?;
+    push_all(text, &[name, place.as_bytes()])?;
     push_painted(text, is_painted, code_style(&finding.code), &finding.code)?;
-    text.extend_from_slice(b": ")?;
-    text.extend_from_slice(&finding.sentence)?;
-    text.extend_from_slice(b"\n")?;
-    Ok(())
+    push_all(text, &[b": ", &finding.sentence, b"\n"])
 }
 
 /// Adds the marks below a line.
@@ -85,8 +82,7 @@ fn push_marks(
     push_opening(text, is_painted, MARK_STYLE)?;
     push_mark(text, &shown[span.start..span.end])?;
     push_closing(text, is_painted)?;
-    text.extend_from_slice(b"\n")?;
-    Ok(())
+    text.extend_from_slice(b"\n")
 }
 
 /// Adds what stands below some bytes.
@@ -120,7 +116,14 @@ fn push_mark(text: &mut Vec<u8>, shown: &[ShownByte]) -> Result<(), AllocError>
         return Ok(());
     };
     text.extend_from_slice(&tildes_of(*first)[1..])?;
-    for byte in others {
+    push_tildes(text, others)
+}
+
+/// Adds what stands below the bytes of a place.
+fn push_tildes(text: &mut Vec<u8>, shown: &[ShownByte]) -> Result<(), AllocError>
+    ensures { OnOk result (text.new.items ≡ text.old.items ++ flat_map tildes_of shown.now) }
+{
+    for byte in shown {
         text.extend_from_slice(tildes_of(*byte))?;
     }
     Ok(())
@@ -157,10 +160,8 @@ fn push_hint(text: &mut Vec<u8>, is_painted: bool, hint: &Hint) -> Result<(), Al
         hint_style(hint.kind),
         beginning(hint.kind),
     )?;
-    text.extend_from_slice(b" ")?;
-    text.extend_from_slice(&hint.sentence[..line_length(&hint.sentence)])?;
-    text.extend_from_slice(b"\n")?;
-    Ok(())
+    let sentence = &hint.sentence[..line_length(&hint.sentence)];
+    push_all(text, &[b" ", sentence, b"\n"])
 }
 
 /// How many bytes stand before the first newline, or how many there are.
@@ -226,9 +227,7 @@ fn push_opening(text: &mut Vec<u8>, is_painted: bool, style: &[u8]) -> Result<()
     if !is_painted {
         return Ok(());
     }
-    text.extend_from_slice(b"\x1b[")?;
-    text.extend_from_slice(style)?;
-    text.extend_from_slice(b"m")
+    push_all(text, &[b"\x1b[", style, b"m"])
 }
 
 /// Ends it.

@@ -1,5 +1,7 @@
 -- The two ways to print what is found in a source (own).
-use Rattle.std.specs.Prelude.{ℕ, List}
+use Rattle.std.specs.Prelude.{ℕ, ◌+◌, List, ◌++◌, codes}
+use Rattle.std.specs.Fmt.{decimal}
+use Rattle.chip_lang.specs.declared.fault_place.Span.{Span}
 use Rattle.chip_check.specs.declared.printing.Form.{Form}
 use Rattle.chip_check.specs.declared.printing.Form.TheVariants.{Text, Json}
 use Rattle.chip_check.specs.Check.{Print, report}
@@ -9,3 +11,10 @@ use Rattle.chip_check.specs.Json.{as_object}
 abbrev pub print_in : Form → (name : List ℕ) → Print
 print_in (Text is_painted) name = report is_painted name
 print_in Json name = as_object name
+
+-- how an object begins, up to the string of its message
+unfoldable pub object_start : (number : ℕ) → Span → (code : List ℕ) → List ℕ
+object_start number span code =
+    codes "{\"line\":" ++ decimal number ++ codes ",\"column\":" ++ decimal (span.start + 1)
+    ++ codes ",\"end\":" ++ decimal (span.end + 1) ++ codes ",\"code\":\"" ++ code
+    ++ codes "\",\"message\":"
