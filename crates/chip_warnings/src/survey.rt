@@ -6,7 +6,7 @@ use chip_asm::limits::LINE_BYTES;
 use chip_asm::{NameHasher, Source};
 use chip_files::first_line;
 use chip_lang::limits::IMAGE_START;
-use chip_lang::{Body, Line, Meter, read_line, uses};
+use chip_lang::{Body, Line, Meter, read_line, used_names};
 use indexmap::IndexSet;
 use std::alloc::{AllocError, Global};
 
@@ -78,8 +78,9 @@ fn read(alloc: Global, text: &[u8]) -> Result<Box<Line>, AllocError> {
 
 /// Adds the names that a line uses.
 fn note_names(alloc: Global, used: &mut Names, line: &Line) -> Result<(), AllocError> {
-    for place in 0..LINE_BYTES {
-        match uses(line, place) {
+    let mut names = used_names(line);
+    for _ in 0..LINE_BYTES {
+        match names.next() {
             Some(name) => note_name(alloc, used, name)?,
             None => break,
         }
