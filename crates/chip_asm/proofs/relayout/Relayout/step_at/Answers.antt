@@ -13,6 +13,5 @@ returns-in-None-clause-follows c = λ before line at f n.
     let kept = c.kept_after-kept.result.now in
     let info : IsInfo keys c.info-info.result kept.several line
     = rw c.info-info.ensures (info-at keys (lines_after e.lines.now e.edit.now) c.args.place kept line c.requires.relayout.infos c.kept_after-kept.ensures at) in
-    let names = c.args.pass.now.names.symbols in
-    let bare : IsBare names line None c.in-Some.size None = bare-unnamed names keys c.info-info.result.defines line c.in-Some.size None info.defines c.in-None.is (c.in-Some.ensures keys kept.several line names info) in
+    let bare : IsBare line None c.in-Some.size = bare-unnamed keys c.info-info.result.defines line c.in-Some.size info.defines c.in-None.is (c.in-Some.ensures keys kept.several line info) in
     c.step_bare.ensures.follows before line bare f (ap (λ k. k + 1) n)
