@@ -73,7 +73,6 @@ unnamed-numbers keys Several several names none n = rw none (no-numbers keys)
 pub info-extends : (old new : List Name) (info : LineInfo) (several : List NameId) (line : Reading) → Extends old new → IsInfo old info several line → IsInfo new info several line
 info-extends old new info several line e i = record {
   bare = i.bare;
-  equ = i.equ;
   coded = i.coded;
   steady = i.steady;
   defines = number-of-extends old new info.defines _ e i.defines;

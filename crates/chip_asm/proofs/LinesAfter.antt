@@ -242,3 +242,31 @@ stretch-back count (Delete at) place start within inside back e =
       stood = λ next before at_next from to. behind-delete at next before (omega arith) (omega arith);
     }
 stretch-back count (Open all) place start within inside back e = cc
+
+pub no-stretch : (count : ℕ) (edit : Edit) (place : ℕ) → place ≤ count_after count edit → IsStretch count edit place 0 0
+no-stretch count edit place inside = record {
+  ordered = omega arith;
+  within = omega arith;
+  after = omega arith;
+  stood = λ next before at from to. absurd (omega arith);
+}
+
+-- a line of such a stretch
+pub record InStretch (lines : List KeptLine) (edit : Edit) (next before : ℕ) : Type 0 where
+  pub inside : next < count_after (length lines) edit
+  pub was : before < length lines
+  pub origin : place_before edit next ≡ Some before
+  pub line : (d : KeptLine) → slice_get (lines_after lines edit) next ≡ Some (get_or lines before d)
+
+pub in-stretch : (lines : List KeptLine) (edit : Edit) (place start end next before : ℕ) → IsPlaceWithin (length lines) edit → IsStretch (length lines) edit place start end
+    → next + start ≡ place + before → start ≤ before → before < end → InStretch lines edit next before
+in-stretch lines edit place start end next before within s at from to =
+    let inside : next < count_after (length lines) edit = (let a = s.after in omega arith) in
+    let from_there = s.stood next before at from to in
+    let there : Stood lines edit next before = stood lines edit next before within inside from_there in
+    record {
+      inside = inside;
+      was = there.inside;
+      origin = from_there;
+      line = λ d. slice_get-get_or (lines_after lines edit) next d (let n = length-lines_after lines edit within in omega arith) ∙ ap Some (there.line d);
+    }

@@ -1,10 +1,11 @@
 //! A change of one line, seen before it is made.
 ghost use Rattle.std.specs.Prelude.{◌≡◌, ◌<◌, ◌≤◌, length, slice_get, slice_set, Some, vec_len, vec_capacity};
-ghost use Rattle.chip_asm.specs.inner.Records.{IsPlaceWithin, lines_after, count_after, place_before};
+ghost use Rattle.chip_asm.specs.inner.Records.{IsPlaceWithin, IsStretch, lines_after, count_after, place_before};
 ghost use Rattle.chip_asm.specs.inner.Resume.{first_changed};
 
 use crate::kept_line::BoxedLine;
 use crate::limits::MOST_LINES;
+use std::ops::Range;
 
 /// A change of one line; places count from 0.
 #[derive(Drop)]
@@ -95,6 +96,24 @@ pub(crate) fn place_before(edit: &Edit, place: usize) -> Option<usize>
         }
         Edit::Open(_) => None,
     }
+}
+
+/// The places before the edit of the lines that stand, one after another, at a place after it and
+/// behind it. None of them is new.
+pub(crate) fn stretch_from(edit: &Edit, count: usize, place: usize) -> Range<usize>
+    requires few { count_after count edit.now ≤ MOST_LINES }
+    requires within { IsPlaceWithin count edit.now }
+    requires place { place ≤ count_after count edit.now }
+    ensures { IsStretch count edit.now place result.start result.end }
+{
+    let Some(start) = place_before(edit, place) else {
+        return 0..0;
+    };
+    let changed = first_changed(edit);
+    if place < changed {
+        return start..changed;
+    }
+    start..count
 }
 
 /// Makes the edit in a list with room for one line more.

@@ -3,17 +3,15 @@ ghost use Rattle.std.specs.Prelude.{◌≡◌, ◌++◌, List, IfOk, IfSome, Non
 ghost use Rattle.chip_lang.specs.Line.{Reading};
 ghost use Rattle.chip_lang.specs.SeenLine.{seen_line};
 ghost use Rattle.chip_lang.specs.Uses.{name_defined, names_used};
-ghost use Rattle.chip_asm.specs.Layout.{body_of, is_equ_body};
+ghost use Rattle.chip_asm.specs.Layout.{body_of};
 ghost use Rattle.chip_asm.specs.Names.{Name};
 ghost use Rattle.chip_asm.specs.inner.Bare.{IsBare};
-ghost use Rattle.chip_asm.specs.inner.HeldLine.{IsKnownUnder};
 ghost use Rattle.chip_asm.specs.inner.HeldText.{SaysNothing};
-ghost use Rattle.chip_asm.specs.inner.Infos.{AreInfosOf, IsConstant, IsInfo, IsNumberOf, is_bare_line, is_steady, numbers_used};
+ghost use Rattle.chip_asm.specs.inner.Infos.{AreInfosOf, IsInfo, IsNumberOf, is_bare_line, is_steady, numbers_used};
 ghost use Rattle.chip_asm.specs.inner.Records.{readings_in};
 ghost use Rattle.chip_asm.specs.inner.Recode.{has_code};
 ghost use Rattle.chip_asm.specs.inner.Tables.{AreNumbers, Extends};
 ghost use Rattle.chip_asm.specs.declared.table.NameId.{NameId};
-ghost use Rattle.chip_asm.specs.declared.table.Symbol.{Symbol};
 
 use crate::kept_line::BoxedLine;
 use crate::table::{NameId, Table};
@@ -36,8 +34,6 @@ pub(crate) enum Uses {
 pub(crate) struct LineInfo {
     /// Whether it is an instruction or has no statement.
     pub(crate) is_bare: bool,
-    /// Whether it is an EQU.
-    pub(crate) is_equ: bool,
     /// Whether it has bytes of its own.
     pub(crate) is_coded: bool,
     /// Whether it opens no block, ends no source and switches no alignment.
@@ -54,18 +50,6 @@ fn is_bare(line: &Line) -> bool
         line,
         Line::Read {
             body: Body::Empty | Body::Code(_, _),
-            ..
-        }
-    )
-}
-
-fn is_equ(line: &Line) -> bool
-    ensures { result ≡ is_equ_body (body_of (seen_line line.now)) }
-{
-    matches!(
-        line,
-        Line::Read {
-            body: Body::Equ(_),
             ..
         }
     )
@@ -171,7 +155,6 @@ impl LineInfo {
     /// That of a line that is blank or only a comment.
     pub(crate) const NOTHING: LineInfo = LineInfo {
         is_bare: true,
-        is_equ: false,
         is_coded: false,
         is_steady: true,
         defines: None,
@@ -190,7 +173,6 @@ impl LineInfo {
         let (uses, several) = uses_of(alloc, table, line)?;
         let info = LineInfo {
             is_bare: is_bare(line),
-            is_equ: is_equ(line),
             is_coded: has_code(line),
             is_steady: is_steady(line),
             defines,
@@ -218,11 +200,10 @@ impl LineInfo {
     }
 
     /// The size of a line of which the first pass asks nothing else but its name.
-    #[tactic(auto, unfolding(crate::specs::Layout::value_at))]
     pub(crate) fn bare_size(self) -> Option<usize>
         ensures { (keys : List Name) (several : List NameId) (line : Reading)
-            (names : List (Name × Symbol)) → IsInfo keys self several line
-            → IfSome result (λ size. IsBare names line (name_defined line) size None) }
+            → IsInfo keys self several line
+            → IfSome result (λ size. IsBare line (name_defined line) size) }
     {
         if !self.is_bare {
             return None;
@@ -230,17 +211,14 @@ impl LineInfo {
         Some(if self.is_coded { 2 } else { 0 })
     }
 
-    /// The number of the name of an EQU line whose value is known: the first pass asks nothing else.
-    pub(crate) fn constant_name(self, known: Option<i32>) -> Option<NameId>
+    /// The size of a line of which the first pass asks nothing else.
+    pub(crate) fn unnamed_size(self) -> Option<usize>
         ensures { (keys : List Name) (several : List NameId) (line : Reading)
-            (names : List (Name × Symbol)) → IsInfo keys self several line
-            → IsKnownUnder names known line
-            → IfSome result (λ id. IsConstant keys names line id known) }
+            → IsInfo keys self several line → IfSome result (λ size. IsBare line None size) }
     {
-        if self.is_equ && known.is_some() {
-            self.defines
-        } else {
-            None
+        match self.defines {
+            Some(_) => None,
+            None => self.bare_size(),
         }
     }
 }

@@ -1,5 +1,5 @@
 //! The first pass: one line after another.
-ghost use Rattle.std.specs.Prelude.{◌≡◌, reverse, ◌+◌, ◌-◌, ◌≤◌, ◌<◌, ◌^◌, List, [], ◌∷◌, ◌++◌, OnOk, IfOk, IfSome, length, is_some, is_none, unsigned_abs, pos, Option, None, Some, Ok, true, false, not, ◌&&◌, ◌||◌, if◌then◌else◌, option_to_list, unwrap_or};
+ghost use Rattle.std.specs.Prelude.{◌≡◌, reverse, ◌+◌, ◌-◌, ◌≤◌, ◌<◌, ◌^◌, List, [], ◌∷◌, ◌++◌, OnOk, IfOk, IfSome, length, is_some, is_none, unsigned_abs, pos, Option, None, Some, Ok, true, false, not, ◌&&◌, ◌||◌, if◌then◌else◌, option_to_list};
 ghost use Rattle.std.specs.List.{list_all};
 ghost use Rattle.chip_asm.specs.inner.Bare.{IsBare, fault_of_bare};
 ghost use Rattle.chip_asm.specs.declared.block.Block.{Block};
@@ -383,15 +383,13 @@ impl Pass {
         }
     }
 
-    /// What holds of such a line. The value of a constant is known.
-    fn place_bare(&self, number: usize, size: usize, twice: bool, known: Option<i32>) -> Placement
+    /// What holds of such a line.
+    fn place_bare(&self, number: usize, size: usize, twice: bool) -> Placement
         requires { number ≤ MOST_LINES + 1 }
         ensures placed { (lines : List Reading) (line : Reading) (name : Option Name)
-            → IsBare self.now.names.symbols line name size known
-            → twice ≡ is_redefinition self.now.names.symbols name
+            → IsBare line name size → twice ≡ is_redefinition self.now.names.symbols name
             → Follows self.now (placed lines) → number ≡ length lines + 1
             → result ≡ placement_of (place (placed lines) line) }
-        ensures value { result.value ≡ unwrap_or known (pos 0) }
         ensures here { result.here ≡ self.now.here }
         ensures fits { self.now.here + result.size ≤ MEMORY_BYTES }
         ensures new_name { is_placed result ≡ true → twice ≡ false }
@@ -400,7 +398,7 @@ impl Pass {
         let fault = self.fault_of_bare(live, twice, size);
         let taken = size_if(is_passed(live, fault), size);
         Placement {
-            value: known.unwrap_or(0),
+            value: 0,
             number: number as u16,
             here: self.here as u16,
             size: taken as u16,
@@ -413,63 +411,57 @@ impl Pass {
     /// Goes on by such a line without a name.
     pub(crate) fn step_bare(&mut self, number: usize, size: usize) -> Placement
         requires { number ≤ MOST_LINES + 1 }
-        ensures found { (lines : List Reading) (line : Reading)
-            → IsBare self.old.names.symbols line None size None → Follows self.old (placed lines) → number ≡ length lines + 1
+        ensures found { (lines : List Reading) (line : Reading) → IsBare line None size
+            → Follows self.old (placed lines) → number ≡ length lines + 1
             → result ≡ placement_of (place (placed lines) line) }
-        ensures follows { (lines : List Reading) (line : Reading)
-            → IsBare self.old.names.symbols line None size None → Follows self.old (placed lines) → number ≡ length lines + 1
+        ensures follows { (lines : List Reading) (line : Reading) → IsBare line None size
+            → Follows self.old (placed lines) → number ≡ length lines + 1
             → Follows self.new (placed (lines ++ line ∷ [])) }
         ensures keeps { KeepsBefore self.old.names self.new.names }
     {
-        let placement = self.place_bare(number, size, false, None);
+        let placement = self.place_bare(number, size, false);
         self.here += placement.size as usize;
         placement
     }
 
-    /// Goes on by such a line with the name of a number. The value of a constant is known.
+    /// Goes on by such a line with the name of a number.
     pub(crate) fn step_labelled(
         &mut self,
         number: usize,
         size: usize,
         id: NameId,
-        known: Option<i32>,
     ) -> Result<Placement, AllocError>
         requires number { number ≤ MOST_LINES + 1 }
         requires id { id.number < length self.old.names.keys }
         ensures found { (lines : List Reading) (line : Reading) (name : Name)
-            → IsNumber self.old.names.keys id name
-            → IsBare self.old.names.symbols line (Some name) size known
+            → IsNumber self.old.names.keys id name → IsBare line (Some name) size
             → Follows self.old (placed lines) → number ≡ length lines + 1
             → IfOk result (λ placement. placement ≡ placement_of (place (placed lines) line)) }
         ensures follows { (lines : List Reading) (line : Reading) (name : Name)
-            → IsNumber self.old.names.keys id name
-            → IsBare self.old.names.symbols line (Some name) size known
+            → IsNumber self.old.names.keys id name → IsBare line (Some name) size
             → Follows self.old (placed lines) → number ≡ length lines + 1
             → OnOk result (Follows self.new (placed (lines ++ line ∷ []))) }
         ensures keeps { KeepsBefore self.old.names self.new.names }
     {
         let twice = self.names.is_defined(id);
-        let placement = self.place_bare(number, size, twice, known);
-        let value = known.unwrap_or(self.here as i32);
-        self.note_label(placement.is_accepted(), number, id, value)?;
+        let placement = self.place_bare(number, size, twice);
+        self.note_label(placement.is_accepted(), number, id)?;
         self.here += placement.size as usize;
         Ok(placement)
     }
 
-    /// Notes the name of a number with a value, where its line is accepted.
-    fn note_label(
-        &mut self,
-        accepted: bool,
-        number: usize,
-        id: NameId,
-        value: i32,
-    ) -> Result<(), AllocError>
+    /// Notes the name of a number with the address where the pass stands, where its line is
+    /// accepted.
+    fn note_label(&mut self, accepted: bool, number: usize, id: NameId) -> Result<(), AllocError>
         requires id { id.number < length self.old.names.keys }
         requires new { accepted ≡ true → lookup_name self.old.names.symbols
             (key_at self.old.names.keys id.number) ≡ None }
         ensures names { OnOk result (self.new.names.symbols
             ≡ self.old.names.symbols ++ option_to_list (if accepted
-            then Some (key_at self.old.names.keys id.number, record { value = value; line = number })
+            then Some (
+              key_at self.old.names.keys id.number,
+              record { value = pos self.old.here; line = number },
+            )
             else None)) }
         ensures keeps { KeepsBefore self.old.names self.new.names }
         ensures here { self.new.here ≡ self.old.here }
@@ -482,7 +474,7 @@ impl Pass {
             return Ok(());
         }
         let symbol = Symbol {
-            value,
+            value: self.here as i32,
             line: number,
         };
         self.names.define(id, symbol)

@@ -13,7 +13,7 @@ ghost use Rattle.chip_asm.specs.inner.Records.{reading_in};
 ghost use Rattle.chip_asm.specs.inner.Resume.{AreSteady, BeginsAsOld, IsRelayout, IsWalked, count_then, lines_before, lines_then};
 ghost use Rattle.chip_asm.specs.inner.Tables.{KeepsBefore};
 
-use crate::edit::{Edit, count_after, kept_after, place_before};
+use crate::edit::{Edit, count_after, kept_after, place_before, stretch_from};
 use crate::kept_line::BoxedLine;
 use crate::layout::{Layout, mark_unclosed};
 use crate::line_info::Uses;
@@ -72,8 +72,9 @@ pub(crate) fn keeps_values(names: &Table, kept: &BoxedLine) -> bool
 }
 
 impl<'a> Relayout<'a> {
-    /// The value of the expression of the line at a place after the edit, where it is known: the line
-    /// was accepted before and its names keep their values, or it is constant.
+    /// The value of the expression of the line at a place after the edit, where it is known: it is
+    /// constant, or the line was accepted before and its names keep their values.
+    #[inline(never)]
     fn known_value(&self, names: &Table, place: usize) -> Option<i32>
         requires relayout { IsRelayout names.now.keys self.now }
         requires place { place < count_then self.now }
@@ -84,45 +85,20 @@ impl<'a> Relayout<'a> {
         kept_value();
         same_code();
         let kept = kept_after(self.lines, self.edit, place);
-        if let Some(before) = place_before(self.edit, place) {
-            if let Some(placement) = self.old.placements.get(before) {
-                if placement.is_accepted() && keeps_values(names, kept) {
-                    return Some(placement.value);
-                }
-            }
+        if let Some(value) = kept.constant() {
+            return Some(value);
         }
-        kept.constant()
-    }
-
-    /// Goes on by the line at a place, into which it looks.
-    #[inline(never)]
-    fn step_into(&self, pass: &mut Pass, place: usize) -> Result<Placement, AllocError>
-        requires relayout { IsRelayout pass.old.names.keys self.now }
-        requires place { place < count_then self.now }
-        requires before { pass.old.names.before ≡ names_of_lines (lines_before self.now) }
-        ensures found { (before : List Reading) (line : Reading)
-            → slice_get (lines_then self.now) place ≡ Some line
-            → Follows pass.old (placed before) → place ≡ length before
-            → IfOk result (λ placement. placement
-            ≡ placement_of (place_next (placed before) line)) }
-        ensures follows { (before : List Reading) (line : Reading)
-            → slice_get (lines_then self.now) place ≡ Some line
-            → Follows pass.old (placed before) → place ≡ length before
-            → OnOk result (Follows pass.new (placed (before ++ line ∷ []))) }
-        ensures keeps { KeepsBefore pass.old.names pass.new.names }
-    {
-        let kept = kept_after(self.lines, self.edit, place);
-        let info = kept.info();
-        let known = self.known_value(&pass.names, place);
-        match info.constant_name(known) {
-            Some(id) => pass.step_labelled(place + 1, 0, id, known),
-            None => pass.step(place + 1, known, kept.line(), info.defines, kept.numbers()),
+        let before = place_before(self.edit, place)?;
+        let placement = self.old.placements.get(before)?;
+        if placement.is_accepted() && keeps_values(names, kept) {
+            Some(placement.value)
+        } else {
+            None
         }
     }
 
     /// Goes on by the line at a place, which is looked into only where what is kept beside it
     /// doesn't say all.
-    #[inline(always)]
     fn step_at(&self, pass: &mut Pass, place: usize) -> Result<Placement, AllocError>
         requires relayout { IsRelayout pass.old.names.keys self.now }
         requires place { place < count_then self.now }
@@ -141,12 +117,47 @@ impl<'a> Relayout<'a> {
         let kept = kept_after(self.lines, self.edit, place);
         let info = kept.info();
         let Some(size) = info.bare_size() else {
-            return self.step_into(pass, place);
+            let known = self.known_value(&pass.names, place);
+            let placement = pass.step(place + 1, known, kept.line(), info.defines, kept.numbers())?;
+            return Ok(placement);
         };
         match info.defines {
-            Some(id) => pass.step_labelled(place + 1, size, id, None),
+            Some(id) => pass.step_labelled(place + 1, size, id),
             None => Ok(pass.step_bare(place + 1, size)),
         }
+    }
+
+    /// What is found of the lines that stand, one after another, at a place and behind it and were
+    /// there before the edit, up to the first one of which more is asked than its size. The place of
+    /// that one.
+    #[inline(never)]
+    fn walk_bare(
+        &self,
+        placements: &mut Vec<Placement>,
+        pass: &mut Pass,
+        place: usize,
+    ) -> Result<usize, AllocError>
+        requires relayout { IsRelayout pass.old.names.keys self.now }
+        requires place { place ≤ count_then self.now }
+        requires walked { IsWalked placements.old.items pass.old (lines_then self.now) place }
+        ensures onward { IfOk result (λ next. place ≤ next) }
+        ensures within { IfOk result (λ next. next ≤ count_then self.now) }
+        ensures walked { IfOk result (λ next. IsWalked placements.new.items pass.new
+            (lines_then self.now) next) }
+        ensures keeps { KeepsBefore pass.old.names pass.new.names }
+    {
+        let stretch = stretch_from(self.edit, self.lines.len(), place);
+        let mut next = place;
+        for before in stretch.start..stretch.end {
+            let info = self.lines[before].info();
+            let Some(size) = info.unnamed_size() else {
+                return Ok(next);
+            };
+            let placement = pass.step_bare(next + 1, size);
+            placements.push(placement)?;
+            next += 1;
+        }
+        Ok(next)
     }
 
     /// What is found of the lines from a place on, behind what was found of those before it.
@@ -165,9 +176,12 @@ impl<'a> Relayout<'a> {
             (count_then self.now)) }
         ensures keeps { KeepsBefore pass.old.names pass.new.names }
     {
-        for next in place..count_after(self.lines.len(), self.edit) {
+        let count = count_after(self.lines.len(), self.edit);
+        let mut next = place;
+        while next < count {
             let placement = self.step_at(pass, next)?;
             placements.push(placement)?;
+            next = self.walk_bare(placements, pass, next + 1)?;
         }
         Ok(())
     }

@@ -1,30 +1,22 @@
--- Lines of which the first pass asks only their size, their name and a value that is known: an
--- instruction, no statement, or a constant (own).
-use Rattle.std.specs.Prelude.{◌≡◌, ℕ, ◌+◌, ◌≤◌, ℤ, nat_lt, pos, Bool, true, false, ◌||◌, if◌then◌else◌, List, Option, Some, None, is_some, Ok, unwrap_or}
+-- Lines of which the first pass asks only their size and their name: an instruction or no statement
+-- (own).
+use Rattle.std.specs.Prelude.{◌≡◌, ℕ, ◌+◌, ◌≤◌, nat_lt, pos, Bool, true, false, if◌then◌else◌, Option, Some, None}
 use Rattle.chip_lang.specs.declared.limits.TheConstants.{MEMORY_BYTES}
 use Rattle.chip_lang.specs.declared.fault.Fault.{Fault}
 use Rattle.chip_lang.specs.declared.fault.Fault.TheVariants.{DefinedTwice, PastMemory}
 use Rattle.chip_lang.specs.Line.{Body, empty, code, Reading, read}
-use Rattle.chip_asm.specs.Layout.{body_of, is_equ_body, own_size, value_at}
+use Rattle.chip_asm.specs.Layout.{body_of, own_size}
 use Rattle.chip_asm.specs.Names.{Name}
-use Rattle.chip_asm.specs.declared.table.Symbol.{Symbol}
 
 abbrev pub is_bare : Body → Bool
 is_bare empty = true
 is_bare (code form operands) = true
 is_bare _ = false
 
-abbrev pub is_plain : Body → Bool
-is_plain body = is_bare body || is_equ_body body
-
--- a line with such a statement of this size, which gives this name or none; the value of a constant
--- is known under these names
-pub record IsBare (names : List (Name × Symbol)) (line : Reading) (name : Option Name) (size : ℕ)
-    (known : Option ℤ) : Type 0 where
+-- a line with such a statement of this size, which gives this name or none
+pub record IsBare (line : Reading) (name : Option Name) (size : ℕ) : Type 0 where
   pub named : line ≡ read name (body_of line)
-  pub plain : is_plain (body_of line) ≡ true
-  pub constant : is_equ_body (body_of line) ≡ is_some known
-  pub valued : value_at names (body_of line) ≡ Ok (unwrap_or known (pos 0))
+  pub bare : is_bare (body_of line) ≡ true
   pub sized : size ≡ own_size (body_of line) (pos 0)
   pub small : size ≤ 2
 

@@ -1,6 +1,6 @@
 -- What is kept of a line beside its reading, so that steps over all lines needn't look into most of
 -- them (own).
-use Rattle.std.specs.Prelude.{◌≡◌, ℕ, ℤ, length, slice_get, Bool, false, not, ◌&&◌, List, [], ◌∷◌, All, Option, Some, None}
+use Rattle.std.specs.Prelude.{◌≡◌, ℕ, length, slice_get, Bool, false, not, ◌&&◌, List, [], ◌∷◌, All, Option, Some, None}
 use Rattle.chip_lang.specs.Line.{Body, Reading, bad, read}
 use Rattle.chip_lang.specs.Uses.{names_used, name_defined}
 use Rattle.chip_asm.specs.Names.{Name}
@@ -10,12 +10,11 @@ use Rattle.chip_asm.specs.declared.line_info.Numbered.{Numbered}
 use Rattle.chip_asm.specs.declared.line_info.Uses.{Uses}
 use Rattle.chip_asm.specs.declared.line_info.Uses.TheVariants.{Nothing, One, Several}
 use Rattle.chip_asm.specs.declared.table.NameId.{NameId}
-use Rattle.chip_asm.specs.declared.table.Symbol.{Symbol}
-use Rattle.chip_asm.specs.inner.Bare.{IsBare, is_bare}
+use Rattle.chip_asm.specs.inner.Bare.{is_bare}
 use Rattle.chip_asm.specs.inner.Recode.{has_code}
 use Rattle.chip_asm.specs.inner.Records.{reading_in}
 use Rattle.chip_asm.specs.inner.Tables.{AreNumbers, IsNumber}
-use Rattle.chip_asm.specs.Layout.{body_of, is_if_body, is_end_body, is_align_body, is_equ_body}
+use Rattle.chip_asm.specs.Layout.{body_of, is_if_body, is_end_body, is_align_body}
 
 -- it is an instruction or has no statement
 abbrev pub is_bare_line : Reading → Bool
@@ -32,13 +31,6 @@ IsNumberOf keys None name = name ≡ None
 IsNumberOf keys (Some id) None = ⊥
 IsNumberOf keys (Some id) (Some name) = IsNumber keys id name
 
--- the line is a constant of this value, and gives the name of the number
-pub record IsConstant (keys : List Name) (names : List (Name × Symbol)) (line : Reading)
-    (id : NameId) (known : Option ℤ) : Type 0 where
-  pub name : Name
-  pub number : IsNumber keys id name
-  pub bare : IsBare names line (Some name) 0 known
-
 -- the numbers of the names that a line uses, where those of several are kept apart
 abbrev pub numbers_used : Uses → (several : List NameId) → List NameId
 numbers_used Nothing several = []
@@ -52,7 +44,6 @@ numbers_in kept = numbers_used kept.info.uses kept.several
 pub record IsInfo (keys : List Name) (info : LineInfo) (several : List NameId)
     (line : Reading) : Type 0 where
   pub bare : info.is_bare ≡ is_bare_line line
-  pub equ : info.is_equ ≡ is_equ_body (body_of line)
   pub coded : info.is_coded ≡ has_code (body_of line)
   pub steady : info.is_steady ≡ is_steady (body_of line)
   pub defines : IsNumberOf keys info.defines (name_defined line)

@@ -13,13 +13,13 @@ pub returns-then-keeps_values : goal.returns-then-keeps_values
 returns-then-keeps_values c = λ line at.
     let e = c.args.self.now in
     let names = c.args.names.now in
-    let place = c.in-Some.before in
-    let q = c.in-Some-get.placement.now in
+    let place = c.in_ok-before.before in
+    let q = c.in_ok-placement.placement.now in
     let same : to_z w32 (of_z w32 q.value) ≡ q.value = grind (arith, to_z-of_z) in
-    let found = c.in-Some-get.ensures.lookup in
+    let found = c.in_ok-placement.ensures.lookup in
     let is : slice_get e.old.now.placements.items place ≡ Some q
     = ap (λ qs. slice_get qs place) (sym c.deref.ensures.value) ∙ slice_get-get_or c.deref.result.now place q found.3.0 ∙ ap Some (sym found.1) in
-    let before = stood-at e.lines.now e.edit.now c.args.place place line c.requires.relayout.within c.requires.place (sym c.in-Some.ensures) at in
+    let before = stood-at e.lines.now e.edit.now c.args.place place line c.requires.relayout.within c.requires.place (sym c.in_ok-before.ensures) at in
     let read = read-at (lines_after e.lines.now e.edit.now) c.args.place c.kept_after-kept.result.now line c.kept_after-kept.ensures at in
     let agree : agree_on (values_of names.before) (values_of names.symbols) line ≡ true
     = ap (agree_on (values_of names.before) (values_of names.symbols)) (sym read) ∙ sym c.keeps_values.ensures ∙ c.if-keeps_values.true in

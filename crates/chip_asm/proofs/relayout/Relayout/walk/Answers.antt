@@ -8,26 +8,19 @@ use Rattle.chip_asm.proofs.LinesAfter.{length-readings_after}
 use Rattle.chip_asm.proofs.LayoutSteps.{placements-push, take-next}
 use Rattle.chip_asm.proofs.relayout.Relayout.walk.Goals as goal
 
-pub loop-next-preserved : goal.loop-next-preserved
-loop-next-preserved c =
+pub walk_bare-requires-clause-walked : goal.walk_bare-requires-clause-walked
+walk_bare-requires-clause-walked c =
     let e = c.args.self.now in
     let next = c.loop-next.next in
-    let walked = c.loop-next.invariant.walked in
-    let kept = c.loop-next.invariant.keeps in
+    let walked = c.loop-next.invariant.1 in
     let all : List Reading = lines_then e in
-    let inside : next < length all = omega (arith, length-readings_after e.lines.now e.edit.now c.requires.relayout.within, c.count_after-next-end.ensures, c.loop-next-test.true) in
+    let inside : next < length all = omega (arith, length-readings_after e.lines.now e.edit.now c.requires.relayout.within, c.count_after-count.ensures, c.loop-next-test.true) in
     let done : List Reading = take next all in
     let counted_up : next ≡ length done = omega (arith, length-take next all) in
     let line : Reading = get_or all next (bad UnclosedIf) in
     let at : slice_get all next ≡ Some line = slice_get-get_or all next (bad UnclosedIf) inside in
     let more = take-next all next line inside at in
     record {
-      walked = record {
-        placements = rw (more, placements-push) (c.in_ok-push.ensures.items ∙ (rw (walked.placements, c.in_ok-placement.ensures.found done line at walked.follows counted_up) refl));
-        follows = rw more (c.in_ok-placement.ensures.follows done line at walked.follows counted_up);
-      };
-      keeps = record {
-        keys = c.step_at.ensures.keeps.keys ∙ kept.keys;
-        before = c.step_at.ensures.keeps.before ∙ kept.before;
-      };
+      placements = rw (more, placements-push) (c.in_ok-push.ensures.items ∙ (rw (walked.placements, c.in_ok-placement.ensures.found done line at walked.follows counted_up) refl));
+      follows = rw more (c.in_ok-placement.ensures.follows done line at walked.follows counted_up);
     }
