@@ -17,12 +17,12 @@ pub mod Outcomes
 pub mod Scan
 pub mod SaidForm
 pub mod Shown
+pub mod ShownDigits
 pub mod ShownForm
 pub mod ShownText
 pub mod Sound
 pub mod Steps
 pub mod TokenList
-pub mod TopDigit
 pub mod NamesUsed
 pub mod NamesBound
 pub mod FormedLine
@@ -33,3 +33,4 @@ pub mod FaultSpan
 pub mod LongWords
 pub mod LastDigits
 pub mod FewTokens
+pub mod Fields

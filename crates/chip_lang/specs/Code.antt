@@ -1,7 +1,7 @@
 -- The code of a line under a map of names: its own bytes, or its first fault from the left (COSMAC
 -- VIP manual and SUPER-CHIP 1.1 documentation for the words of instructions; Chipper manual for
 -- data).
-use Rattle.std.specs.Prelude.{ℕ, ◌/◌, ◌%◌, List, [], ◌∷◌, ◌++◌, Result, Ok, Err}
+use Rattle.std.specs.Prelude.{ℕ, ◌*◌, ◌/◌, ◌%◌, List, [], ◌∷◌, ◌++◌, length, Option, Some, None, Result, Ok, Err}
 use Rattle.chip_lang.specs.declared.fault.Fault.{Fault}
 use Rattle.chip_lang.specs.declared.code.Coded.{Coded}
 use Rattle.chip_lang.specs.declared.code.Coded.TheVariants.{Bytes, Faulty}
@@ -38,6 +38,14 @@ own_bytes (code form operands) symbols =
     word_of_form form operands symbols >>= λ w. Ok (word_bytes w)
 own_bytes body symbols = Ok []
 
+-- how many bytes a statement has of its own, where it has no fault
+abbrev pub own_length : Body → ℕ
+own_length (db es) = length es
+own_length (dw es) = 2 * length es
+own_length (da bytes) = length bytes
+own_length (code form operands) = 2
+own_length body = 0
+
 abbrev pub coded : Result (List ℕ) Fault → Coded
 coded (Ok bytes) = Bytes bytes
 coded (Err fault) = Faulty fault
@@ -46,3 +54,18 @@ coded (Err fault) = Faulty fault
 abbrev pub code_of : Reading → Symbols → Coded
 code_of (bad fault) symbols = Faulty fault
 code_of (read label body) symbols = coded (own_bytes body symbols)
+
+-- how many bytes of its own a line has, where it has no fault
+abbrev pub code_length : Reading → ℕ
+code_length (bad fault) = 0
+code_length (read label body) = own_length body
+
+-- the bytes of a code, none of a faulty line
+abbrev pub bytes_coded : Coded → List ℕ
+bytes_coded (Bytes bytes) = bytes
+bytes_coded (Faulty fault) = []
+
+-- the fault of a code, if it is one
+abbrev pub fault_coded : Coded → Option Fault
+fault_coded (Bytes bytes) = None
+fault_coded (Faulty fault) = Some fault

@@ -29,9 +29,13 @@ four_hex_digits n = hex_digit (n / 4096 % 16) ∷ three_hex_digits n
 abbrev pub small_decimal : ℕ → List ℕ
 small_decimal n = if nat_lt n 10 then (48 + n) ∷ [] else 49 ∷ (48 + (n - 10)) ∷ []
 
+-- a digit below 16, in upper case
+abbrev pub register_digit : ℕ → ℕ
+register_digit x = if nat_lt x 10 then 48 + x else 55 + x
+
 -- V0 to VF
 abbrev pub register_text : ℕ → List ℕ
-register_text x = 86 ∷ (if nat_lt x 10 then 48 + x else 55 + x) ∷ []
+register_text x = 86 ∷ register_digit x ∷ []
 
 -- ---- the form of a word
 

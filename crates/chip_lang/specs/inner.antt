@@ -9,3 +9,4 @@ pub mod Postfix
 pub mod Scanned
 pub mod Seen
 pub mod SeenShape
+pub mod Written

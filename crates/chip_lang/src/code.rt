@@ -1,14 +1,15 @@
 //! The word of an instruction in source.
 
-ghost use Rattle.std.specs.Prelude.{map, ◌≡◌, ◌<◌, ◌≤◌, ◌^◌, ◌++◌, Ok};
+ghost use Rattle.std.specs.Prelude.{map, ◌≡◌, ◌<◌, ◌≤◌, ◌+◌, ◌*◌, ◌++◌, ℕ, take, drop, length, slice_index};
 ghost use Rattle.chip_lang.specs.Operand.{operand_of};
 ghost use Rattle.chip_lang.specs.Form.{row_of_form};
 ghost use Rattle.std.specs.Prelude.{IfOk};
-ghost use Rattle.chip_lang.specs.Code.{byte_of, word_bytes, datum_of, data_bytes, own_bytes, coded, code_of};
+ghost use Rattle.chip_lang.specs.Code.{byte_of, word_bytes, datum_of, data_bytes, own_bytes, own_length, coded, code_of, code_length, bytes_coded, fault_coded};
 ghost use Rattle.chip_lang.specs.SeenLine.{seen_body, seen_line};
 ghost use Rattle.chip_lang.specs.Tree.{tree_of};
 ghost use Rattle.chip_lang.specs.Meter.{one_more};
-ghost use Rattle.chip_lang.specs.Encoding.{number_below, signed_below, field_of, fields_of, word_of_form};
+ghost use Rattle.chip_lang.specs.Encoding.{number_below, signed_below, field_of, word_of_form};
+ghost use Rattle.chip_lang.specs.inner.Written.{written};
 
 use crate::expr::Expr;
 use crate::fault::Fault;
@@ -43,80 +44,134 @@ pub fn encode<N: Names>(
     ensures not_lowered { meter.old.encoded ≤ meter.new.encoded }
 {
     meter.encoded = meter.encoded.saturating_add(1);
-    match line {
-        Line::Bad(fault) => Ok(Coded::Faulty(*fault)),
-        Line::Read { body, .. } => code_of_body(alloc, body, names),
+    let mut bytes = ShortBytes::zeros(alloc, code_length(line))?;
+    match write_line(line, names, bytes.get_mut()) {
+        Ok(_) => Ok(Coded::Bytes(bytes)),
+        Err(fault) => Ok(Coded::Faulty(fault)),
     }
 }
 
+/// Encodes a line under a table of names in its place: its own bytes, with zeros behind them, or
+/// zeros alone where it has a fault, which is answered. Adds 1 to `encoded`.
+pub fn encode_into<N: Names>(
+    meter: &mut Meter,
+    line: &Line,
+    names: &N,
+    bytes: &mut [u8],
+) -> Option<Fault>
+    requires room { code_length (seen_line line.now) ≤ length bytes.old }
+    ensures bytes { (k : ℕ) → slice_index bytes.new k
+        ≡ slice_index (bytes_coded (code_of (seen_line line.now) (N.symbols names.now))) k }
+    ensures fault { result ≡ fault_coded (code_of (seen_line line.now) (N.symbols names.now)) }
+    ensures counted { meter.new ≡ record meter.old { encoded = one_more meter.old.encoded } }
+    ensures not_lowered { meter.old.encoded ≤ meter.new.encoded }
+{
+    meter.encoded = meter.encoded.saturating_add(1);
+    match write_line(line, names, bytes) {
+        Ok(count) => {
+            bytes[count..].fill(0);
+            None
+        }
+        Err(fault) => {
+            bytes.fill(0);
+            Some(fault)
+        }
+    }
+}
+
+/// How many bytes of its own a line has.
+fn code_length(line: &Line) -> usize
+    ensures { result ≡ code_length (seen_line line.now) }
+{
+    let Line::Read { body, .. } = line else {
+        return 0;
+    };
+    match body {
+        Body::Db(exprs) => exprs.len(),
+        Body::Dw(exprs) => 2 * exprs.len(),
+        Body::Da(text) => text.get().len(),
+        Body::Code(_, _) => 2,
+        _ => 0,
+    }
+}
+
+/// Writes the code of a line, and answers how many bytes that is, or the line's fault. Bytes
+/// behind the code, and all of them where there is a fault, may be left as anything.
+fn write_line<N: Names>(line: &Line, names: &N, bytes: &mut [u8]) -> Result<usize, Fault>
+    requires room { code_length (seen_line line.now) ≤ length bytes.old }
+    ensures code { coded (written bytes.new result)
+        ≡ code_of (seen_line line.now) (N.symbols names.now) }
+    ensures count { IfOk result (λ count. count ≡ code_length (seen_line line.now)) }
+{
+    match line {
+        Line::Bad(fault) => Err(*fault),
+        Line::Read { body, .. } => write_body(body, names, bytes),
+    }
+}
+
+/// Writes the code of a statement, and answers how many bytes that is, or its fault.
 #[tactic(auto, unfolding(crate::specs::Code::own_bytes))]
-fn code_of_body<N: Names>(alloc: Global, body: &Body, names: &N) -> Result<Coded, AllocError>
-    ensures { IfOk result (λ code. code
-        ≡ coded (own_bytes (seen_body body.now) (N.symbols names.now))) }
+fn write_body<N: Names>(body: &Body, names: &N, bytes: &mut [u8]) -> Result<usize, Fault>
+    requires room { own_length (seen_body body.now) ≤ length bytes.old }
+    ensures code { written bytes.new result
+        ≡ own_bytes (seen_body body.now) (N.symbols names.now) }
+    ensures count { IfOk result (λ count. count ≡ own_length (seen_body body.now)) }
 {
     match body {
-        Body::Db(exprs) => code_of_bytes(alloc, exprs, names),
-        Body::Dw(exprs) => code_of_words(alloc, exprs, names),
+        Body::Db(exprs) => write_bytes(exprs, names, bytes),
+        Body::Dw(exprs) => write_words(exprs, names, bytes),
         Body::Da(text) => {
-            let bytes = ShortBytes::from_slice(alloc, text.get())?;
-            Ok(Coded::Bytes(bytes))
+            let text = text.get();
+            bytes[..text.len()].copy_from_slice(text);
+            Ok(text.len())
         }
-        Body::Code(form, operands) => match word_of_form(form, operands, names) {
-            Ok(word) => code_of_word(alloc, word),
-            Err(fault) => Ok(Coded::Faulty(fault)),
-        },
-        _ => Ok(Coded::Bytes(ShortBytes::empty(alloc))),
+        Body::Code(form, operands) => {
+            let word = word_of_form(form, operands, names)?;
+            write_word(word, bytes, 0);
+            Ok(2)
+        }
+        _ => Ok(0),
     }
 }
 
-/// The code of an instruction: its word, the high byte first.
-fn code_of_word(alloc: Global, word: u16) -> Result<Coded, AllocError>
-    ensures { IfOk result (λ code. code ≡ coded (Ok (word_bytes word))) }
+/// Writes a word at a place, the high byte first.
+fn write_word(word: u16, bytes: &mut [u8], place: usize)
+    requires { place + 2 ≤ length bytes.old }
+    ensures { bytes.new ≡ take place bytes.old ++ word_bytes word ++ drop (place + 2) bytes.old }
 {
-    let bytes = ShortBytes::from_slice(alloc, &bytes_of_word(word))?;
-    Ok(Coded::Bytes(bytes))
+    bytes[place] = (word / 256) as u8;
+    bytes[place + 1] = (word % 256) as u8;
 }
 
-/// A word, the high byte first.
-fn bytes_of_word(word: u16) -> [u8; 2]
-    ensures { result ≡ word_bytes word }
-{
-    [(word / 256) as u8, (word % 256) as u8]
-}
-
-/// The code of DB: a byte for each value, or the first fault from the left.
+/// Writes a byte for each value of DB, and answers how many that are, or the first fault from the
+/// left.
 #[tactic(auto, using(crate::proofs::Data::data_steps))]
-fn code_of_bytes<N: Names>(alloc: Global, exprs: &[Expr], names: &N) -> Result<Coded, AllocError>
-    ensures { IfOk result (λ code. code
-        ≡ coded (data_bytes 256 byte_of (map tree_of exprs.now) (N.symbols names.now))) }
+fn write_bytes<N: Names>(exprs: &[Expr], names: &N, bytes: &mut [u8]) -> Result<usize, Fault>
+    requires room { length exprs.now ≤ length bytes.old }
+    ensures code { written bytes.new result
+        ≡ data_bytes 256 byte_of (map tree_of exprs.now) (N.symbols names.now) }
+    ensures count { IfOk result (λ count. count ≡ length exprs.now) }
 {
-    let mut bytes = ShortBytes::empty(alloc);
-    for expr in exprs {
-        match datum(256, expr, names) {
-            Ok(byte) => bytes.push(byte as u8)?,
-            Err(fault) => return Ok(Coded::Faulty(fault)),
-        }
+    for index in 0..exprs.len() {
+        bytes[index] = datum(256, &exprs[index], names)? as u8;
     }
-    Ok(Coded::Bytes(bytes))
+    Ok(exprs.len())
 }
 
-/// The code of DW: a word for each value, or the first fault from the left.
+/// Writes a word for each value of DW, and answers how many bytes that are, or the first fault from
+/// the left.
 #[tactic(auto, using(crate::proofs::Data::data_steps))]
-fn code_of_words<N: Names>(alloc: Global, exprs: &[Expr], names: &N) -> Result<Coded, AllocError>
-    ensures { IfOk result (λ code. code
-        ≡ coded (data_bytes 65536 word_bytes (map tree_of exprs.now) (N.symbols names.now))) }
+fn write_words<N: Names>(exprs: &[Expr], names: &N, bytes: &mut [u8]) -> Result<usize, Fault>
+    requires room { 2 * length exprs.now ≤ length bytes.old }
+    ensures code { written bytes.new result
+        ≡ data_bytes 65536 word_bytes (map tree_of exprs.now) (N.symbols names.now) }
+    ensures count { IfOk result (λ count. count ≡ 2 * length exprs.now) }
 {
-    let mut bytes = ShortBytes::empty(alloc);
-    for expr in exprs {
-        match datum(65536, expr, names) {
-            Ok(word) => {
-                bytes.push((word / 256) as u8)?;
-                bytes.push((word % 256) as u8)?;
-            }
-            Err(fault) => return Ok(Coded::Faulty(fault)),
-        }
+    for index in 0..exprs.len() {
+        let word = datum(65536, &exprs[index], names)?;
+        write_word(word, bytes, 2 * index);
     }
-    Ok(Coded::Bytes(bytes))
+    Ok(2 * exprs.len())
 }
 
 /// A value of DB or DW, a negative one modulo the limit.
@@ -129,30 +184,21 @@ fn datum<N: Names>(limit: u32, expr: &Expr, names: &N) -> Result<u16, Fault>
     signed_below(limit, eval(expr, names)?)
 }
 
-/// The word of a form and its operands, or the first fault from the left.
+/// The word of a form and its operands, or the first fault from the left; an operand too few or too
+/// many is one.
 fn word_of_form<N: Names>(form: &Form, operands: &[Operand], names: &N) -> Result<u16, Fault>
     ensures { result
         ≡ word_of_form (row_of_form form.now) (map operand_of operands.now) (N.symbols names.now) }
 {
-    let fields = fields_of(form.patterns, operands, names)?;
-    Ok(form.base | fields)
-}
-
-fn fields_of<N: Names>(patterns: &[Pattern], operands: &[Operand], names: &N) -> Result<u16, Fault>
-    ensures { result ≡ fields_of patterns.now (map operand_of operands.now) (N.symbols names.now) }
-{
-    let Some((pattern, patterns)) = patterns.split_first() else {
-        if operands.is_empty() {
-            return Ok(0);
-        }
-        return Err(Fault::WrongOperands);
-    };
-    let Some((operand, operands)) = operands.split_first() else {
-        return Err(Fault::WrongOperands);
-    };
-    let field = field_of(*pattern, operand, names)?;
-    let rest = fields_of(patterns, operands, names)?;
-    Ok(field | rest)
+    let mut word = form.base;
+    for (pattern, operand) in form.patterns.iter().zip(operands) {
+        word |= field_of(*pattern, operand, names)?;
+    }
+    if form.patterns.len() == operands.len() {
+        Ok(word)
+    } else {
+        Err(Fault::WrongOperands)
+    }
 }
 
 /// What an operand puts into the word. One that doesn't fit its pattern is a fault.

@@ -2,8 +2,8 @@
 //! of a line, and its code.
 //!
 //! [`read_line`] gives the one reading of a text, and [`encode`] the code of a reading under a
-//! table of [`Names`]. [`word`], [`decode`] and [`show`] go between instructions, words and source
-//! text. What each of them gives is defined in `specs/`.
+//! table of [`Names`], which [`encode_into`] writes in its place. [`word`], [`decode`] and [`show`]
+//! go between instructions, words and source text. What each of them gives is defined in `specs/`.
 #![tactic(auto)]
 
 pub mod bytes;
@@ -35,7 +35,7 @@ pub mod token;
 pub mod value;
 
 pub use crate::bytes::Bytes;
-pub use crate::code::{Coded, encode};
+pub use crate::code::{Coded, encode, encode_into};
 pub use crate::expr::{Expr, Operator, Prefix};
 pub use crate::fault::Fault;
 pub use crate::fault_place::{Span, fault_span, mnemonic_of, name_of_token};
@@ -47,6 +47,6 @@ pub use crate::meter::Meter;
 pub use crate::names::Names;
 pub use crate::number::{Addr, Nibble, Reg};
 pub use crate::postfix::Postfix;
-pub use crate::source_text::{push_shown, show};
+pub use crate::source_text::{byte_digits, push_shown, show, word_digits};
 pub use crate::token::{Kind, Token, tokens};
 pub use crate::value::{constant, eval};

@@ -1,6 +1,9 @@
 //! Few bytes, as those of a word while its line is read, and those of a line's code.
 
-ghost use Rattle.std.specs.Prelude.{◌≡◌, ◌++◌, ◌∷◌, [], IfOk, OnOk, map};
+ghost use Rattle.std.specs.Borrow.{Array, Lends, sem, u8 as byte};
+ghost use Rattle.std.specs.Prelude.{◌≡◌, [], IfOk, length, map, replicate};
+ghost use Rattle.std.specs.List.{refill};
+ghost use Rattle.chip_lang.specs.contracts.short_bytes.ShortBytes.{the_row};
 ghost use Rattle.chip_lang.specs.Line.{upper};
 
 use smallvec::SmallVec;
@@ -68,12 +71,12 @@ impl ShortBytes {
         Ok(ShortBytes { bytes })
     }
 
-    /// Appends a byte.
-    pub fn push(&mut self, byte: u8) -> Result<(), AllocError>
-        ensures { OnOk result (self.new ≡ self.old ++ byte ∷ []) }
+    /// So many zeros.
+    pub fn zeros(alloc: Global, count: usize) -> Result<ShortBytes, AllocError>
+        ensures { IfOk result (λ bytes. bytes ≡ replicate count 0) }
     {
-        self.bytes.push(byte)?;
-        Ok(())
+        let bytes = SmallVec::from_elem(alloc, 0, count)?;
+        Ok(ShortBytes { bytes })
     }
 
     /// The bytes.
@@ -81,5 +84,14 @@ impl ShortBytes {
         ensures { result.now ≡ self.now }
     {
         self.bytes.as_slice()
+    }
+
+    /// The bytes, for writing.
+    pub fn get_mut(&mut self) -> &mut [u8]
+        ensures* writes_back { sem 𝓛 (Lends the_row (Array byte 0) self.entry result
+            (λ bytes. refill (length self.old) self.old bytes)) }
+        ensures value { result.now ≡ self.old }
+    {
+        self.bytes.as_mut_slice()
     }
 }

@@ -1,17 +1,36 @@
 //! The source text of a word.
 
-ghost use Rattle.std.specs.Prelude.{◌≡◌, ◌∷◌, ◌++◌, ◌/◌, ◌==◌, ◌<◌, [], codes, IfOk, OnOk, string_bytes, map};
-ghost use Rattle.std.specs.List.{filter, find};
-ghost use Rattle.chip_lang.specs.Decoding.{field_in, part_in, parts_in, gives};
-ghost use Rattle.chip_lang.specs.Form.{row_of_form, option_row};
-ghost use Rattle.chip_lang.specs.Show.{hex_digit, two_hex_digits, three_hex_digits, four_hex_digits, small_decimal, register_text, form_shown, operand_text, operands_text, show_of};
-ghost use Rattle.chip_lang.specs.Table.{table};
+ghost use Rattle.std.specs.Prelude.{◌≡◌, ◌∷◌, ◌++◌, ◌<◌, ◌/◌, ◌%◌, ◌==◌, [], None, if◌then◌else◌, codes, IfOk, OnOk, string_bytes};
+ghost use Rattle.chip_lang.specs.declared.form.Pattern.TheVariants.{Vx, Vy, Byte, Address};
+ghost use Rattle.chip_lang.specs.Show.{two_hex_digits, four_hex_digits, small_decimal, register_digit, operands_text, form_text, show_of};
+ghost use Rattle.chip_lang.specs.Table.{fields_in};
+ghost use Rattle.chip_lang.specs.inner.ByDigits.{form_with};
 
-use crate::form::{FORMS, Form, Pattern};
 use std::alloc::{AllocError, Global};
 
 // The longest source texts, as `DRW V0, V0, 10`, have so many bytes.
 const LONGEST_TEXT: usize = 14;
+
+// The digit of each register's name.
+const REGISTER_DIGITS: [u8; 16] = *b"0123456789ABCDEF";
+
+// The two hexadecimal digits of each byte, at twice its place.
+const DIGIT_PAIRS: [u8; 512] = *b"000102030405060708090a0b0c0d0e0f\
+    101112131415161718191a1b1c1d1e1f\
+    202122232425262728292a2b2c2d2e2f\
+    303132333435363738393a3b3c3d3e3f\
+    404142434445464748494a4b4c4d4e4f\
+    505152535455565758595a5b5c5d5e5f\
+    606162636465666768696a6b6c6d6e6f\
+    707172737475767778797a7b7c7d7e7f\
+    808182838485868788898a8b8c8d8e8f\
+    909192939495969798999a9b9c9d9e9f\
+    a0a1a2a3a4a5a6a7a8a9aaabacadaeaf\
+    b0b1b2b3b4b5b6b7b8b9babbbcbdbebf\
+    c0c1c2c3c4c5c6c7c8c9cacbcccdcecf\
+    d0d1d2d3d4d5d6d7d8d9dadbdcdddedf\
+    e0e1e2e3e4e5e6e7e8e9eaebecedeeef\
+    f0f1f2f3f4f5f6f7f8f9fafbfcfdfeff";
 
 /// The source text of a word: registers `V0` to `VF`, a byte as `#kk`, an address as `#nnn`, a
 /// nibble in decimal. A word that is not an instruction is `DW #wwww`. Read as a line and encoded,
@@ -19,7 +38,7 @@ const LONGEST_TEXT: usize = 14;
 pub fn show(alloc: Global, word: u16) -> Result<String, AllocError>
     ensures text { IfOk result (λ text. string_bytes text ≡ show_of word) }
 {
-    let mut bytes = Vec::new(alloc);
+    let mut bytes = Vec::with_capacity(alloc, LONGEST_TEXT)?;
     push_shown(&mut bytes, word)?;
     let Ok(text) = String::from_utf8(bytes) else {
         unreachable!();
@@ -29,163 +48,200 @@ pub fn show(alloc: Global, word: u16) -> Result<String, AllocError>
 
 /// Adds the source text of a word, as `show` gives it. Err where memory ran out; a part of the text
 /// may be added then.
-#[tactic(auto, unfolding(crate::specs::Show::show_of))]
 pub fn push_shown(text: &mut Vec<u8>, word: u16) -> Result<(), AllocError>
     ensures text { OnOk result (text.new.items ≡ text.old.items ++ show_of word) }
 {
-    text.reserve(LONGEST_TEXT)?;
-    match form_shown(word) {
-        Some(form) => {
-            text.extend_from_slice(form.name.as_bytes())?;
-            push_operands(text, b" ", form.patterns, word)
+    match word / 4096 {
+        0 => push_system(text, word),
+        1 => push_with_address(text, b"JP", word),
+        2 => push_with_address(text, b"CALL", word),
+        3 => push_with_byte(text, b"SE", word),
+        4 => push_with_byte(text, b"SNE", word),
+        5 => push_comparison(text, b"SE", word),
+        6 => push_with_byte(text, b"LD", word),
+        7 => push_with_byte(text, b"ADD", word),
+        8 => push_arithmetic(text, word),
+        9 => push_comparison(text, b"SNE", word),
+        10 => push_with_address(text, b"LD I,", word),
+        11 => push_with_address(text, b"JP V0,", word),
+        12 => push_with_byte(text, b"RND", word),
+        13 => {
+            push_with_registers(text, b"DRW", word)?;
+            push_small_decimal(text, b", ", word % 16)
         }
-        None => text.extend_from_slice(&data_text(word)),
+        14 => push_key(text, word),
+        15 => push_transfer(text, word),
+        _ => push_data(text, word),
     }
 }
 
-/// The form in which a word is shown: the first but SYS that gives it.
-fn form_shown(word: u16) -> Option<Form>
-    ensures { option_row result ≡ form_shown word }
+/// Adds the text of a word with the first digit 0.
+#[tactic(auto, unfolding(crate::specs::inner::ByDigits::form_with))]
+fn push_system(text: &mut Vec<u8>, word: u16) -> Result<(), AllocError>
+    ensures { OnOk result (text.new.items
+        ≡ text.old.items ++ form_text (form_with 0 (fields_in word)) word) }
 {
-    first_giving(forms_of_digit(word / 4096), word)
-}
-
-/// The forms but SYS with a first digit, in their order.
-fn forms_of_digit(digit: u16) -> &'static [Form]
-    ensures { map row_of_form result.now
-        ≡ filter (λ r. r.base / 4096 == digit) (map (λ e. e.form) table) }
-{
-    match digit {
-        0 => &FORMS[0..8],
-        1 => &FORMS[8..9],
-        2 => &FORMS[9..10],
-        3 => &FORMS[10..11],
-        4 => &FORMS[11..12],
-        5 => &FORMS[12..13],
-        6 => &FORMS[13..14],
-        7 => &FORMS[14..15],
-        8 => &FORMS[15..26],
-        9 => &FORMS[26..27],
-        10 => &FORMS[27..28],
-        11 => &FORMS[28..29],
-        12 => &FORMS[29..30],
-        13 => &FORMS[30..31],
-        14 => &FORMS[31..33],
-        15 => &FORMS[33..45],
-        _ => &[],
+    if word / 256 % 16 != 0 {
+        return push_data(text, word);
+    }
+    if word / 16 % 16 == 12 {
+        return push_small_decimal(text, b"SCD ", word % 16);
+    }
+    match word % 256 {
+        0xE0 => text.extend_from_slice(b"CLS"),
+        0xEE => text.extend_from_slice(b"RET"),
+        0xFB => text.extend_from_slice(b"SCR"),
+        0xFC => text.extend_from_slice(b"SCL"),
+        0xFD => text.extend_from_slice(b"EXIT"),
+        0xFE => text.extend_from_slice(b"LOW"),
+        0xFF => text.extend_from_slice(b"HIGH"),
+        _ => push_data(text, word),
     }
 }
 
-fn first_giving(forms: &[Form], word: u16) -> Option<Form>
-    ensures { option_row result ≡ find (λ r. gives r word) (map row_of_form forms.now) }
+/// Adds the text of a word with the first digit 8.
+#[tactic(auto, unfolding(crate::specs::inner::ByDigits::form_with))]
+fn push_arithmetic(text: &mut Vec<u8>, word: u16) -> Result<(), AllocError>
+    ensures { OnOk result (text.new.items
+        ≡ text.old.items ++ form_text (form_with 8 (fields_in word)) word) }
 {
-    for form in forms {
-        if gives(form, word) {
-            return Some(*form);
-        }
-    }
-    None
-}
-
-/// Whether a form, with the operands that stand in a word, gives that word.
-fn gives(form: &Form, word: u16) -> bool
-    ensures { result ≡ gives (row_of_form form.now) word }
-{
-    form.base | parts_in(form.patterns, word) == word
-}
-
-fn parts_in(patterns: &[Pattern], word: u16) -> u16
-    ensures { result ≡ parts_in patterns.now word }
-{
-    let Some((pattern, patterns)) = patterns.split_first() else {
-        return 0;
-    };
-    part_in(*pattern, word) | parts_in(patterns, word)
-}
-
-/// What stands in a word in an operand's place, with zeros around it.
-fn part_in(pattern: Pattern, word: u16) -> u16
-    ensures { result ≡ part_in pattern word }
-{
-    match pattern {
-        Pattern::Vx => 256 * (word / 256 % 16),
-        Pattern::Vy => 16 * (word / 16 % 16),
-        _ => field_in(pattern, word),
+    match word % 16 {
+        0 => push_with_registers(text, b"LD", word),
+        1 => push_with_registers(text, b"OR", word),
+        2 => push_with_registers(text, b"AND", word),
+        3 => push_with_registers(text, b"XOR", word),
+        4 => push_with_registers(text, b"ADD", word),
+        5 => push_with_registers(text, b"SUB", word),
+        6 => push_shift(text, b"SHR", word),
+        7 => push_with_registers(text, b"SUBN", word),
+        14 => push_shift(text, b"SHL", word),
+        _ => push_data(text, word),
     }
 }
 
-/// What stands in a word in an operand's place.
-fn field_in(pattern: Pattern, word: u16) -> u16
-    ensures { result ≡ field_in pattern word }
+/// Adds the text of a word with the first digit 14.
+#[tactic(auto, unfolding(crate::specs::inner::ByDigits::form_with))]
+fn push_key(text: &mut Vec<u8>, word: u16) -> Result<(), AllocError>
+    ensures { OnOk result (text.new.items
+        ≡ text.old.items ++ form_text (form_with 14 (fields_in word)) word) }
 {
-    match pattern {
-        Pattern::Vx => word / 256 % 16,
-        Pattern::Vy => word / 16 % 16,
-        Pattern::Nibble => word % 16,
-        Pattern::Byte => word % 256,
-        Pattern::Address => word % 4096,
-        _ => 0,
+    match word % 256 {
+        0x9E => push_with_register(text, b"SKP", word, b""),
+        0xA1 => push_with_register(text, b"SKNP", word, b""),
+        _ => push_data(text, word),
     }
 }
 
-fn push_operands(
+/// Adds the text of a word with the first digit 15.
+#[tactic(auto, unfolding(crate::specs::inner::ByDigits::form_with))]
+fn push_transfer(text: &mut Vec<u8>, word: u16) -> Result<(), AllocError>
+    ensures { OnOk result (text.new.items
+        ≡ text.old.items ++ form_text (form_with 15 (fields_in word)) word) }
+{
+    match word % 256 {
+        0x07 => push_with_register(text, b"LD", word, b", DT"),
+        0x0A => push_with_register(text, b"LD", word, b", K"),
+        0x15 => push_with_register(text, b"LD DT,", word, b""),
+        0x18 => push_with_register(text, b"LD ST,", word, b""),
+        0x1E => push_with_register(text, b"ADD I,", word, b""),
+        0x29 => push_with_register(text, b"LD F,", word, b""),
+        0x30 => push_with_register(text, b"LD HF,", word, b""),
+        0x33 => push_with_register(text, b"LD B,", word, b""),
+        0x55 => push_with_register(text, b"LD [I],", word, b""),
+        0x65 => push_with_register(text, b"LD", word, b", [I]"),
+        0x75 => push_with_register(text, b"LD R,", word, b""),
+        0x85 => push_with_register(text, b"LD", word, b", R"),
+        _ => push_data(text, word),
+    }
+}
+
+/// Adds a name and two registers, where the word's last digit is 0.
+#[inline(always)]
+fn push_comparison(text: &mut Vec<u8>, name: &[u8], word: u16) -> Result<(), AllocError>
+    ensures { OnOk result (text.new.items ≡ text.old.items
+        ++ (if word % 16 == 0 then name.now ++ operands_text (codes " ") (Vx ∷ Vy ∷ []) word
+        else form_text None word)) }
+{
+    if word % 16 == 0 {
+        push_with_registers(text, name, word)
+    } else {
+        push_data(text, word)
+    }
+}
+
+/// Adds a name and one register, where the other is V0, or both.
+#[inline(always)]
+fn push_shift(text: &mut Vec<u8>, name: &[u8], word: u16) -> Result<(), AllocError>
+    ensures { OnOk result (text.new.items ≡ text.old.items
+        ++ (name.now
+        ++ operands_text (codes " ") (if word / 16 % 16 == 0 then Vx ∷ [] else Vx ∷ Vy ∷ []) word)) }
+{
+    if word / 16 % 16 == 0 {
+        push_with_register(text, name, word, b"")
+    } else {
+        push_with_registers(text, name, word)
+    }
+}
+
+/// Adds what stands before the register X of a word, the register, and what stands after it.
+#[inline(always)]
+fn push_with_register(
     text: &mut Vec<u8>,
     before: &[u8],
-    patterns: &[Pattern],
     word: u16,
+    after: &[u8],
 ) -> Result<(), AllocError>
-    ensures { OnOk result (text.new.items
-        ≡ text.old.items ++ operands_text before.now patterns.now word) }
+    ensures { OnOk result (text.new.items ≡ text.old.items
+        ++ (before.now ++ operands_text (codes " ") (Vx ∷ []) word ++ after.now)) }
 {
-    let Some((pattern, patterns)) = patterns.split_first() else {
-        return Ok(());
-    };
     text.extend_from_slice(before)?;
-    push_operand(text, *pattern, word)?;
-    push_operands(text, b", ", patterns, word)
+    text.extend_from_slice(&[b' ', b'V', register_digit(word / 256 % 16)])?;
+    text.extend_from_slice(after)
 }
 
-fn push_operand(text: &mut Vec<u8>, pattern: Pattern, word: u16) -> Result<(), AllocError>
-    ensures { OnOk result (text.new.items ≡ text.old.items ++ operand_text pattern word) }
+/// Adds a name and the registers X and Y of a word.
+#[inline(always)]
+fn push_with_registers(text: &mut Vec<u8>, name: &[u8], word: u16) -> Result<(), AllocError>
+    ensures { OnOk result (text.new.items
+        ≡ text.old.items ++ (name.now ++ operands_text (codes " ") (Vx ∷ Vy ∷ []) word)) }
 {
-    match pattern {
-        Pattern::Vx | Pattern::Vy => {
-            text.extend_from_slice(&register_text(field_in(pattern, word)))
-        }
-        Pattern::V0 => text.extend_from_slice(b"V0"),
-        Pattern::Index => text.extend_from_slice(b"I"),
-        Pattern::DelayTimer => text.extend_from_slice(b"DT"),
-        Pattern::SoundTimer => text.extend_from_slice(b"ST"),
-        Pattern::Key => text.extend_from_slice(b"K"),
-        Pattern::SmallDigit => text.extend_from_slice(b"F"),
-        Pattern::BigDigit => text.extend_from_slice(b"HF"),
-        Pattern::Decimal => text.extend_from_slice(b"B"),
-        Pattern::Flags => text.extend_from_slice(b"R"),
-        Pattern::AtIndex => text.extend_from_slice(b"[I]"),
-        Pattern::Nibble => push_small_decimal(text, word % 16),
-        Pattern::Byte => text.extend_from_slice(&byte_text(word % 256)),
-        Pattern::Address => text.extend_from_slice(&address_text(word % 4096)),
-    }
+    let x = register_digit(word / 256 % 16);
+    let y = register_digit(word / 16 % 16);
+    text.extend_from_slice(name)?;
+    text.extend_from_slice(&[b' ', b'V', x, b',', b' ', b'V', y])
 }
 
-/// `V0` to `VF`.
-fn register_text(register: u16) -> [u8; 2]
-    requires { register < 16 }
-    ensures { result ≡ register_text register }
+/// Adds a name, and the register X and the byte of a word.
+#[inline(always)]
+fn push_with_byte(text: &mut Vec<u8>, name: &[u8], word: u16) -> Result<(), AllocError>
+    ensures { OnOk result (text.new.items
+        ≡ text.old.items ++ (name.now ++ operands_text (codes " ") (Vx ∷ Byte ∷ []) word)) }
 {
-    let digit = if register < 10 {
-        b'0' + register as u8
-    } else {
-        55 + register as u8
-    };
-    [b'V', digit]
+    let x = register_digit(word / 256 % 16);
+    let [high, low] = byte_digits((word % 256) as u8);
+    text.extend_from_slice(name)?;
+    text.extend_from_slice(&[b' ', b'V', x, b',', b' ', b'#', high, low])
 }
 
-/// A number below 16, in decimal.
-fn push_small_decimal(text: &mut Vec<u8>, number: u16) -> Result<(), AllocError>
+/// Adds what stands before the address of a word, and the address.
+#[inline(always)]
+fn push_with_address(text: &mut Vec<u8>, before: &[u8], word: u16) -> Result<(), AllocError>
+    ensures { OnOk result (text.new.items
+        ≡ text.old.items ++ (before.now ++ operands_text (codes " ") (Address ∷ []) word)) }
+{
+    let [_, a, b, c] = word_digits(word % 4096);
+    text.extend_from_slice(before)?;
+    text.extend_from_slice(&[b' ', b'#', a, b, c])
+}
+
+/// Adds what stands before a number below 16, and the number in decimal.
+#[inline(always)]
+fn push_small_decimal(text: &mut Vec<u8>, before: &[u8], number: u16) -> Result<(), AllocError>
     requires { number < 16 }
-    ensures { OnOk result (text.new.items ≡ text.old.items ++ small_decimal number) }
+    ensures { OnOk result (text.new.items
+        ≡ text.old.items ++ (before.now ++ small_decimal number)) }
 {
+    text.extend_from_slice(before)?;
     if number < 10 {
         text.extend_from_slice(&[b'0' + number as u8])
     } else {
@@ -193,37 +249,38 @@ fn push_small_decimal(text: &mut Vec<u8>, number: u16) -> Result<(), AllocError>
     }
 }
 
-/// A digit below 16, in lower case.
-fn hex_digit(digit: u16) -> u8
+/// Adds `DW #wwww`.
+fn push_data(text: &mut Vec<u8>, word: u16) -> Result<(), AllocError>
+    ensures { OnOk result (text.new.items ≡ text.old.items ++ form_text None word) }
+{
+    let [a, b, c, d] = word_digits(word);
+    text.extend_from_slice(&[b'D', b'W', b' ', b'#', a, b, c, d])
+}
+
+/// A digit below 16 of a register's name, in upper case.
+#[tactic(auto, using(crate::proofs::ShownDigits::register_digit_is))]
+fn register_digit(digit: u16) -> u8
     requires { digit < 16 }
-    ensures { result ≡ hex_digit digit }
+    ensures { result ≡ register_digit digit }
 {
-    if digit < 10 {
-        b'0' + digit as u8
-    } else {
-        87 + digit as u8
-    }
+    REGISTER_DIGITS[usize::from(digit)]
 }
 
-/// `#kk`.
-fn byte_text(byte: u16) -> [u8; 3]
-    ensures { result ≡ codes "#" ++ two_hex_digits byte }
+/// A byte in two hexadecimal digits, in lower case.
+#[inline(always)]
+pub fn byte_digits(byte: u8) -> [u8; 2]
+    ensures { result ≡ two_hex_digits byte }
 {
-    [b'#', hex_digit(byte / 16 % 16), hex_digit(byte % 16)]
+    let pair = 2 * usize::from(byte);
+    [DIGIT_PAIRS[pair], DIGIT_PAIRS[pair + 1]]
 }
 
-/// `#nnn`.
-fn address_text(address: u16) -> [u8; 4]
-    ensures { result ≡ codes "#" ++ three_hex_digits address }
+/// A number of 16 bits in four hexadecimal digits, in lower case.
+#[inline(always)]
+pub fn word_digits(word: u16) -> [u8; 4]
+    ensures { result ≡ four_hex_digits word }
 {
-    let [_, y, n] = byte_text(address);
-    [b'#', hex_digit(address / 256 % 16), y, n]
-}
-
-/// `DW #wwww`.
-fn data_text(word: u16) -> [u8; 8]
-    ensures { result ≡ codes "DW #" ++ four_hex_digits word }
-{
-    let [_, x, y, n] = address_text(word);
-    [b'D', b'W', b' ', b'#', hex_digit(word / 4096 % 16), x, y, n]
+    let [a, b] = byte_digits((word / 256) as u8);
+    let [c, d] = byte_digits((word % 256) as u8);
+    [a, b, c, d]
 }

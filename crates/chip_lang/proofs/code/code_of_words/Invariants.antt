@@ -1,9 +1,0 @@
-use Rattle.std.proofs.Common.{◌≡◌, map}
-use Rattle.chip_lang.specs.Tree.{tree_of}
-use Rattle.chip_lang.specs.Code.{data_bytes, word_bytes}
-use Rattle.chip_lang.proofs.Data.{after, data_from}
-use Rattle.chip_lang.proofs.code.code_of_words.Given as goal
-
-abbrev pub invariant-loop-expr : goal.invariant-loop-expr
-invariant-loop-expr g l =
-    after l.bytes (data_from 65536 word_bytes l.exprs (g.N.Names.symbols l.names) l.expr-index) ≡ data_bytes 65536 word_bytes (map tree_of l.exprs) (g.N.Names.symbols l.names)
