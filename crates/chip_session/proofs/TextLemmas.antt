@@ -1,5 +1,5 @@
 -- Digits of text.
-use Rattle.std.proofs.Common.{◌≡◌, ℕ, zero, suc, ◌+◌, ◌*◌, ◌/◌, ◌%◌, ◌<◌, ◌≤◌, ◌==◌, ◌&&◌, Bool, true, inl, inr, List, [], ◌∷◌, ◌++◌, length, take, drop, slice_index, slice_set, refl, ◌∙◌, arith}
+use Rattle.std.proofs.Common.{◌≡◌, ℕ, zero, suc, ◌+◌, ◌*◌, ◌/◌, ◌%◌, ◌<◌, ◌≤◌, ◌==◌, ◌&&◌, Bool, true, inl, inr, List, [], ◌∷◌, ◌++◌, length, take, drop, slice_index, slice_set, refl, ap, ◌∙◌, arith}
 use Rattle.std.specs.Prelude.{nat_lt, if◌then◌else◌}
 use Rattle.std.proofs.lemmas.Bool.{and_parts, cases_lt, eqb-true}
 use Rattle.std.proofs.lemmas.List.{append_assoc, append-nil, drop_all, drop_more, length-set, take_all, take_more_set}
@@ -7,7 +7,6 @@ use Rattle.hex.specs.Hex.{encode_with, lower_digits}
 use Rattle.hex.proofs.Pairs.{take-two_writes}
 use Rattle.chip_trace.specs.Digits.{hex_byte}
 use Rattle.chip_session.specs.Text.{spaced}
-use Rattle.chip_session.specs.declared.text.TheConstants.{DIGIT_PAIRS}
 
 -- the digit of a number, by arithmetic
 abbrev digit_of : ℕ → ℕ
@@ -32,25 +31,10 @@ digits_below (suc n) k h lt =
 pub hex_digit_is : (n : ℕ) → n < 16 → n + 48 + (if nat_lt 9 n then 39 else 0) ≡ slice_index lower_digits n
 hex_digit_is n lt = digits_below 16 n refl lt
 
--- whether the first n bytes have their digits in the table of pairs, which computes
-abbrev all_pairs : ℕ → Bool
-all_pairs zero = true
-all_pairs (suc n) = (slice_index DIGIT_PAIRS (2 * n) == slice_index lower_digits (n / 16)) && ((slice_index DIGIT_PAIRS (2 * n + 1) == slice_index lower_digits (n % 16)) && all_pairs n)
-
-pairs_below : (n k : ℕ) → all_pairs n ≡ true → k < n → (slice_index DIGIT_PAIRS (2 * k) ≡ slice_index lower_digits (k / 16)) × (slice_index DIGIT_PAIRS (2 * k + 1) ≡ slice_index lower_digits (k % 16))
-pairs_below zero k h lt = absurd (omega arith)
-pairs_below (suc n) k h lt =
-    let first = and_parts (slice_index DIGIT_PAIRS (2 * n) == slice_index lower_digits (n / 16)) _ h in
-    let second = and_parts (slice_index DIGIT_PAIRS (2 * n + 1) == slice_index lower_digits (n % 16)) _ first.1 in
-    elim (cases_lt k n) [
-      | inl below ↦ pairs_below n k second.1 below
-      | inr top ↦
-          let e : k ≡ n = omega arith in
-          rw e (eqb-true _ _ first.0, eqb-true _ _ second.0)
-    ]
-
-pub digit_pairs_are : (byte : ℕ) → byte < 256 → (slice_index DIGIT_PAIRS (2 * byte) ≡ slice_index lower_digits (byte / 16)) × (slice_index DIGIT_PAIRS (2 * byte + 1) ≡ slice_index lower_digits (byte % 16))
-digit_pairs_are byte lt = pairs_below 256 byte refl lt
+-- the digits of a byte, one by one
+pub pair_is : (digits : List ℕ) (byte : ℕ) → digits ≡ hex_byte byte → (slice_index digits 0 ≡ slice_index lower_digits (byte / 16)) × (slice_index digits 1 ≡ slice_index lower_digits (byte % 16))
+unfolding encode_with
+pair_is digits byte h = (ap (λ l. slice_index l 0) h, ap (λ l. slice_index l 1) h)
 
 -- three writes in a row, seen from the front
 take-three_writes : (xs : List ℕ) (o x y z : ℕ) → o + 2 < length xs

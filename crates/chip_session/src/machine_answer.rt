@@ -6,13 +6,11 @@ ghost use Rattle.chip_session.specs.Answers.{asks_past_end, picture_by, state_an
 ghost use Rattle.chip_session.specs.MachineAnswers.{size_name, state_name, register_line, place_part, timer_part, condition_part, state_line, flag_line, registers_of, bytes_at, memory_line, word_line, disassembly_of, stored_row, has_lit, row_line, row_lines, two_digits, screen_of};
 
 use crate::question::{PictureForm, StateQuestion};
-use crate::text::{
-    byte_digits, push_decimal, push_hex, push_hex_word, push_spaced_bytes, push_spaced_words,
-    word_digits,
-};
+use crate::text::{push_decimal, push_hex, push_spaced_bytes, push_spaced_words};
 use chip_lang::push_shown;
 use chip_machine::limits::{LAST_WORD, MEMORY_BYTES};
 use chip_machine::{Machine, Stop};
+use chip_trace::{byte_digits, word_digits};
 use chip_views::{screen_pbm, screen_png, screen_text};
 use std::alloc::{AllocError, Global};
 
@@ -192,10 +190,9 @@ fn push_word_line(answer: &mut Vec<u8>, machine: &Machine, at: u16) -> Result<()
     ensures { OnOk result (answer.new.items ≡ answer.old.items ++ word_line machine.now at) }
 {
     let word = word_at(machine, at);
-    push_hex_word(answer, at)?;
-    answer.push(b' ')?;
-    push_hex_word(answer, word)?;
-    answer.push(b' ')?;
+    let [a, b, c, d] = word_digits(at);
+    let [e, f, g, h] = word_digits(word);
+    answer.extend_from_slice(&[a, b, c, d, b' ', e, f, g, h, b' '])?;
     push_shown(answer, word)?;
     answer.push(b'\n')?;
     Ok(())

@@ -6,6 +6,7 @@ ghost use Rattle.hex.specs.Hex.{encode_lower, lower_digits};
 ghost use Rattle.chip_trace.specs.Digits.{hex_byte, hex_word};
 ghost use Rattle.chip_session.specs.Text.{spaced};
 
+use chip_trace::{byte_digits, word_digits};
 use itoa::Buffer;
 use std::alloc::AllocError;
 
@@ -37,25 +38,6 @@ fn write_hex(bytes: &[u8], digits: &mut [u8])
     }
 }
 
-/// The two hexadecimal digits of each byte, at twice its place, for where one is made after
-/// another.
-const DIGIT_PAIRS: [u8; 512] = *b"000102030405060708090a0b0c0d0e0f\
-    101112131415161718191a1b1c1d1e1f\
-    202122232425262728292a2b2c2d2e2f\
-    303132333435363738393a3b3c3d3e3f\
-    404142434445464748494a4b4c4d4e4f\
-    505152535455565758595a5b5c5d5e5f\
-    606162636465666768696a6b6c6d6e6f\
-    707172737475767778797a7b7c7d7e7f\
-    808182838485868788898a8b8c8d8e8f\
-    909192939495969798999a9b9c9d9e9f\
-    a0a1a2a3a4a5a6a7a8a9aaabacadaeaf\
-    b0b1b2b3b4b5b6b7b8b9babbbcbdbebf\
-    c0c1c2c3c4c5c6c7c8c9cacbcccdcecf\
-    d0d1d2d3d4d5d6d7d8d9dadbdcdddedf\
-    e0e1e2e3e4e5e6e7e8e9eaebecedeeef\
-    f0f1f2f3f4f5f6f7f8f9fafbfcfdfeff";
-
 /// The hexadecimal digit of a number below 16, by arithmetic alone, so that many are made at once.
 #[inline(always)]
 #[tactic(auto, using(crate::proofs::TextLemmas::hex_digit_is))]
@@ -64,37 +46,6 @@ fn hex_digit(value: u8) -> u8
     ensures { result ≡ slice_index lower_digits value }
 {
     value + b'0' + if value > 9 { 39 } else { 0 }
-}
-
-/// A byte in two hexadecimal digits.
-#[inline(always)]
-pub(crate) fn byte_digits(byte: u8) -> [u8; 2]
-    ensures { result ≡ hex_byte byte }
-{
-    [hex_digit(byte / 16), hex_digit(byte % 16)]
-}
-
-/// A number of 16 bits in four hexadecimal digits.
-#[inline(always)]
-pub(crate) fn word_digits(word: u16) -> [u8; 4]
-    ensures { result ≡ hex_word word }
-{
-    let high = (word / 256) as u8;
-    let low = (word % 256) as u8;
-    [
-        hex_digit(high / 16),
-        hex_digit(high % 16),
-        hex_digit(low / 16),
-        hex_digit(low % 16),
-    ]
-}
-
-/// Adds a number of 16 bits in four hexadecimal digits.
-#[inline(always)]
-pub(crate) fn push_hex_word(out: &mut Vec<u8>, word: u16) -> Result<(), AllocError>
-    ensures { OnOk result (out.new.items ≡ out.old.items ++ hex_word word) }
-{
-    out.extend_from_slice(&word_digits(word))
 }
 
 /// Adds a number in decimal.
@@ -139,10 +90,10 @@ fn write_spaced(bytes: &[u8], text: &mut [u8])
     ensures { text.new ≡ spaced hex_byte bytes.now }
 {
     'bytes: for i in 0..bytes.len() {
-        let pair = 2 * bytes[i] as usize;
+        let [high, low] = byte_digits(bytes[i]);
         text[3 * i] = b' ';
-        text[3 * i + 1] = DIGIT_PAIRS[pair];
-        text[3 * i + 2] = DIGIT_PAIRS[pair + 1];
+        text[3 * i + 1] = high;
+        text[3 * i + 2] = low;
     }
 }
 
@@ -151,8 +102,8 @@ pub(crate) fn push_spaced_words(out: &mut Vec<u8>, words: &[u16]) -> Result<(), 
     ensures { OnOk result (out.new.items ≡ out.old.items ++ spaced hex_word words.now) }
 {
     for word in words {
-        out.push(b' ')?;
-        push_hex_word(out, *word)?;
+        let [a, b, c, d] = word_digits(*word);
+        out.extend_from_slice(&[b' ', a, b, c, d])?;
     }
     Ok(())
 }

@@ -1,12 +1,13 @@
 -- The digits of numbers, by arithmetic.
-use Rattle.std.proofs.Common.{◌≡◌, ℕ, zero, suc, ◌+◌, ◌*◌, ◌/◌, ◌%◌, ◌<◌, ◌≤◌, ◌==◌, ◌&&◌, Bool, true, cond, inl, inr, ◌∷◌, [], Ok, Err, Result, OnOk, is_ok, refl, slice_index, arith}
+use Rattle.std.proofs.Common.{◌≡◌, ℕ, zero, suc, ◌+◌, ◌/◌, ◌%◌, ◌<◌, ◌≤◌, ◌==◌, ◌&&◌, Bool, true, cond, inl, inr, ◌∷◌, [], Ok, Err, Result, OnOk, is_ok, refl, slice_index, arith}
 use Rattle.std.specs.Fmt.{decimal}
 use Rattle.std.specs.Prelude.{nat_lt, if◌then◌else◌}
 use Rattle.itoa.proofs.Decimal.{decimal_pair}
 use Rattle.std.proofs.lemmas.Fmt.{decimal_digit}
 use Rattle.std.proofs.lemmas.Bool.{and_parts, cases_lt, eqb-true}
-use Rattle.hex.specs.Hex.{lower_digits}
-use Rattle.chip_trace.specs.declared.digits.TheConstants.{DIGIT_PAIRS}
+use Rattle.hex.specs.Hex.{encode_with, lower_digits}
+use Rattle.chip_lang.specs.Show.{hex_digit, two_hex_digits}
+use Rattle.chip_trace.specs.Digits.{hex_byte}
 
 -- the digit of a number, by arithmetic
 abbrev digit_of : ℕ → ℕ
@@ -31,25 +32,27 @@ digits_below (suc n) k h lt =
 pub hex_digit_is : (n : ℕ) → n < 16 → n + 48 + (if nat_lt 9 n then 39 else 0) ≡ slice_index lower_digits n
 hex_digit_is n lt = digits_below 16 n refl lt
 
--- whether the first n bytes have their digits in the table of pairs, which computes
-abbrev all_pairs : ℕ → Bool
-all_pairs zero = true
-all_pairs (suc n) = (slice_index DIGIT_PAIRS (2 * n) == slice_index lower_digits (n / 16)) && ((slice_index DIGIT_PAIRS (2 * n + 1) == slice_index lower_digits (n % 16)) && all_pairs n)
+-- the same digit, by cases
+abbrev all_shown : ℕ → Bool
+all_shown zero = true
+all_shown (suc n) = (hex_digit n == slice_index lower_digits n) && all_shown n
 
-pairs_below : (n k : ℕ) → all_pairs n ≡ true → k < n → (slice_index DIGIT_PAIRS (2 * k) ≡ slice_index lower_digits (k / 16)) × (slice_index DIGIT_PAIRS (2 * k + 1) ≡ slice_index lower_digits (k % 16))
-pairs_below zero k h lt = absurd (omega arith)
-pairs_below (suc n) k h lt =
-    let first = and_parts (slice_index DIGIT_PAIRS (2 * n) == slice_index lower_digits (n / 16)) _ h in
-    let second = and_parts (slice_index DIGIT_PAIRS (2 * n + 1) == slice_index lower_digits (n % 16)) _ first.1 in
+shown_below : (n k : ℕ) → all_shown n ≡ true → k < n → hex_digit k ≡ slice_index lower_digits k
+shown_below zero k h lt = absurd (omega arith)
+shown_below (suc n) k h lt =
+    let parts = and_parts (hex_digit n == slice_index lower_digits n) (all_shown n) h in
     elim (cases_lt k n) [
-      | inl below ↦ pairs_below n k second.1 below
+      | inl below ↦ shown_below n k parts.1 below
       | inr top ↦
           let e : k ≡ n = omega arith in
-          rw e (eqb-true _ _ first.0, eqb-true _ _ second.0)
+          rw e (eqb-true (hex_digit n) (slice_index lower_digits n) parts.0)
     ]
 
-pub digit_pairs_are : (byte : ℕ) → byte < 256 → (slice_index DIGIT_PAIRS (2 * byte) ≡ slice_index lower_digits (byte / 16)) × (slice_index DIGIT_PAIRS (2 * byte + 1) ≡ slice_index lower_digits (byte % 16))
-digit_pairs_are byte lt = pairs_below 256 byte refl lt
+pub two_digits_are : (byte : ℕ) → byte < 256 → two_hex_digits byte ≡ hex_byte byte
+unfolding encode_with
+two_digits_are byte lt =
+    let high : byte / 16 % 16 ≡ byte / 16 = omega arith in
+    rw (high, shown_below 16 (byte / 16) refl (omega arith), shown_below 16 (byte % 16) refl (omega arith)) refl
 
 -- the one clause of an append, where it succeeds
 pub taken_where_ok : {T E X : Type 0} (r : Result T E) (x a b : X) → x ≡ cond (is_ok r) a b → OnOk r (x ≡ a)

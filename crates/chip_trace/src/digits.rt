@@ -18,36 +18,17 @@ pub(crate) fn hex_digit(value: u8) -> u8
     value + b'0' + if value > 9 { 39 } else { 0 }
 }
 
-/// The two hexadecimal digits of each byte, at twice its place.
-const DIGIT_PAIRS: [u8; 512] = *b"000102030405060708090a0b0c0d0e0f\
-    101112131415161718191a1b1c1d1e1f\
-    202122232425262728292a2b2c2d2e2f\
-    303132333435363738393a3b3c3d3e3f\
-    404142434445464748494a4b4c4d4e4f\
-    505152535455565758595a5b5c5d5e5f\
-    606162636465666768696a6b6c6d6e6f\
-    707172737475767778797a7b7c7d7e7f\
-    808182838485868788898a8b8c8d8e8f\
-    909192939495969798999a9b9c9d9e9f\
-    a0a1a2a3a4a5a6a7a8a9aaabacadaeaf\
-    b0b1b2b3b4b5b6b7b8b9babbbcbdbebf\
-    c0c1c2c3c4c5c6c7c8c9cacbcccdcecf\
-    d0d1d2d3d4d5d6d7d8d9dadbdcdddedf\
-    e0e1e2e3e4e5e6e7e8e9eaebecedeeef\
-    f0f1f2f3f4f5f6f7f8f9fafbfcfdfeff";
-
 /// A byte in two hexadecimal digits.
 #[inline(always)]
-pub(crate) fn byte_digits(byte: u8) -> [u8; 2]
+pub fn byte_digits(byte: u8) -> [u8; 2]
     ensures { result ≡ hex_byte byte }
 {
-    let pair = 2 * usize::from(byte);
-    [DIGIT_PAIRS[pair], DIGIT_PAIRS[pair + 1]]
+    chip_lang::byte_digits(byte)
 }
 
 /// A number of 16 bits in four hexadecimal digits.
 #[inline(always)]
-pub(crate) fn word_digits(word: u16) -> [u8; 4]
+pub fn word_digits(word: u16) -> [u8; 4]
     ensures { result ≡ hex_word word }
 {
     let [a, b] = byte_digits((word / 256) as u8);

@@ -1,7 +1,0 @@
-use Rattle.std.proofs.Common.{refl}
-use Rattle.hex.specs.Hex.{encode_with}
-use Rattle.chip_session.proofs.text.byte_digits.Goals as goal
-
-pub returns : goal.returns
-unfolding encode_with
-returns c = rw (c.hex_digit.ensures, c.hex_digit-2.ensures) refl
