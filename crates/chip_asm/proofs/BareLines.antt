@@ -1,14 +1,13 @@
 -- What the first pass finds of a line of which it asks only the size.
-use Rattle.std.proofs.Common.{◌≡◌, ℕ, ◌+◌, ℤ, pos, Bool, true, false, cond, ◌&&◌, ◌||◌, is_none, subst, if◌then◌else◌, List, [], ◌∷◌, ◌++◌, refl, ap, sym, ◌∙◌, Option, None, Some, nat_lt, option_to_list, length, unsigned_abs}
+use Rattle.std.proofs.Common.{◌≡◌, ℕ, ◌+◌, ℤ, pos, Bool, true, false, cond, ◌&&◌, ◌||◌, is_none, if◌then◌else◌, List, [], ◌∷◌, ◌++◌, refl, ap, sym, ◌∙◌, Option, None, Some, nat_lt, option_map, option_to_list, OnOk, IfSome, is_some, not, ◌<◌, Ok, Err, Result, length, unsigned_abs, arith}
 use Rattle.chip_lang.specs.declared.fault.Fault.TheVariants.{DefinedTwice, PastMemory}
 use Rattle.chip_lang.specs.declared.fault.Fault.{Fault}
 use Rattle.chip_lang.specs.declared.limits.TheConstants.{MEMORY_BYTES}
-use Rattle.chip_lang.specs.Uses.{name_defined}
 use Rattle.chip_lang.specs.Line.{Body, empty, code, Reading, read}
 use Rattle.chip_asm.specs.declared.pass.Pass.{Pass}
 use Rattle.chip_asm.specs.declared.placement.Placement.{Placement}
 use Rattle.chip_asm.specs.declared.table.Symbol.{Symbol}
-use Rattle.chip_asm.specs.Names.{Name}
+use Rattle.chip_asm.specs.Names.{Name, lookup_name}
 use Rattle.chip_asm.specs.inner.Bare.{is_bare, IsBare, fault_of_bare}
 use Rattle.chip_asm.specs.Layout.{Placed, body_of, full_size, own_size, value_at, value_or_zero, is_if_body, is_redefinition, symbol_given, value_given}
 use Rattle.chip_asm.specs.computed.Walk.{place, placed, is_live, first_fault, fault_of_value, symbols, is_aligning, address}
@@ -17,11 +16,12 @@ use Rattle.chip_asm.specs.inner.Placements.{is_placed}
 use Rattle.chip_asm.specs.inner.Infos.{IsNumberOf}
 use Rattle.chip_asm.specs.declared.table.NameId.{NameId}
 use Rattle.chip_asm.proofs.Placing.{length-placed}
-use Rattle.chip_asm.proofs.NextLine.{placement-at, follows-push, Advances}
-
--- what is kept beside a line says whether it has a name
-pub bare-unnamed : (keys : List Name) (defines : Option NameId) (line : Reading) (size : ℕ) → IsNumberOf keys defines (name_defined line) → defines ≡ None → IsBare line (name_defined line) size → IsBare line None size
-bare-unnamed keys defines line size n e b = subst (λ name. IsBare line name size) (subst (λ (d : Option NameId). IsNumberOf keys d (name_defined line)) e n) b
+use Rattle.std.proofs.lemmas.Bool.{and_parts}
+use Rattle.chip_asm.specs.inner.Layouts.{HasPassed}
+use Rattle.chip_asm.specs.inner.Tables.{key_at}
+use Rattle.chip_asm.proofs.BlockSteps.{live_here}
+use Rattle.chip_asm.proofs.LayoutSteps.{one-more}
+use Rattle.chip_asm.proofs.NextLine.{placement-at, follows-push, none_from, Advances}
 
 -- such a line isn't padded
 pub bare-size : (aligning : Bool) (here : ℕ) (body : Body) → is_bare body ≡ true → full_size aligning here body (pos 0) ≡ own_size body (pos 0)
@@ -103,23 +103,18 @@ none-appended : {X : Type 0} (xs : List X) → xs ++ [] ≡ xs
 none-appended [] = refl
 none-appended (x ∷ xs) = ap (λ l. x ∷ l) (none-appended xs)
 
-pub none-given : (names : List (Name × Symbol)) (a : Bool) (number here : ℕ) (value : ℤ) (line : Reading) → line ≡ read None (body_of line)
-    → names ≡ names ++ option_to_list (if a then symbol_given number here value line else None)
-none-given names a number here value line e = sym (none-appended names) ∙ ap (λ given. names ++ option_to_list given) (none a)
-  where
-    none : (a : Bool) → None ≡ (if a then symbol_given number here value line else None)
-    none true = rw e refl
-    none false = refl
-
 bare-value : (here : ℕ) (value : ℤ) (body : Body) → is_bare body ≡ true → pos here ≡ value_given here value body
 bare-value here value empty b = refl
 bare-value here value (code form operands) b = refl
 bare-value here value _ b = cc
 
-pub label-given : (a : Bool) (number here size : ℕ) (value : ℤ) (line : Reading) (name : Name) → IsBare line (Some name) size
-    → (if a then Some (name, record { value = pos here; line = number }) else None) ≡ (if a then symbol_given number here value line else None)
-label-given false number here size value line name b = refl
-label-given true number here size value line name b = rw b.named (ap (λ v. Some (name, record { value = v; line = number })) (bare-value here value (body_of line) b.bare))
+-- what such a line gives: its name, if it has one, with its address
+abbrev pub label_given : ℕ → ℕ → Option Name → Option (Name × Symbol)
+label_given number here name = option_map (λ n. (n, record { value = pos here; line = number })) name
+
+label-given : (number here size : ℕ) (value : ℤ) (line : Reading) (name : Option Name) → IsBare line name size → label_given number here name ≡ symbol_given number here value line
+label-given number here size value line None b = rw b.named refl
+label-given number here size value line (Some name) b = rw b.named (ap (λ v. Some (name, record { value = v; line = number })) (bare-value here value (body_of line) b.bare))
 
 -- the state after such a line: only the address and the names go on
 pub bare-next : (pass next : Pass) (lines : List Reading) (line : Reading) (name : Option Name) (number size : ℕ) (q : Placement) → IsBare line name size → number ≡ length lines + 1
@@ -156,3 +151,108 @@ bare-next pass next lines line name number size q b n f e here aligning ended bl
       live = λ nearest same nested. (live ∙ f.live ∙ (rw (ended, blocks) refl));
     }
     advances _ h is = cc
+
+pub on-ok : {X E : Type 0} (r : Result X E) (P Q : Type 0) → (P → Q) → OnOk r P → OnOk r Q
+on-ok (Ok x) P Q f p = f p
+on-ok (Err e) P Q f p = tt
+
+-- the number of a name, if there is one, tells whether the line has one
+pub named-so : (keys : List Name) (defines : Option NameId) (name : Option Name) → IsNumberOf keys defines name → name ≡ option_map (λ id. key_at keys id.number) defines
+named-so keys None name n = n
+named-so keys (Some id) None n = absurd n
+named-so keys (Some id) (Some name) n = ap Some (sym n.named)
+
+pub number-within : (keys : List Name) (defines : Option NameId) (name : Option Name) → IsNumberOf keys defines name → IfSome defines (λ id. id.number < length keys)
+number-within keys None name n = tt
+number-within keys (Some id) None n = absurd n
+number-within keys (Some id) (Some name) n = n.within
+
+-- a line that isn't live isn't accepted
+taken : (live twice : Bool) (here size : ℕ) → (live && is_none (fault_of_bare live twice here size)) ≡ (live && is_none (fault_of_bare true twice here size))
+taken true twice here size = refl
+taken false twice here size = refl
+
+-- such a line is passed that isn't accepted
+pub passed-refused : (found now : List Placement) (pass : Pass) (lines : List Reading) (line : Reading) (name : Option Name) (number size : ℕ) → IsBare line name size → HasPassed found pass lines
+    → number ≡ length lines + 1 → false ≡ (pass.live && is_none (fault_of_bare true (is_redefinition pass.names.symbols name) pass.here size))
+    → (let q : Placement
+    = record {
+      value = pos 0;
+      number = number;
+      here = pass.here;
+      size = 0;
+      fault = fault_of_bare pass.live (is_redefinition pass.names.symbols name) pass.here size;
+      live = pass.live;
+      is_if = false;
+    } in now ≡ found ++ q ∷ []) → HasPassed now pass (lines ++ line ∷ [])
+passed-refused found now pass lines line name number size b h n refused is = record {
+  placements = one-more found now lines line q h.placements is e;
+  follows = bare-next pass pass lines line name number size q b n h.follows e (omega arith) refl refl refl (none-more (is_placed q) not_taken) refl;
+}
+  where
+    twice : Bool
+    twice = is_redefinition pass.names.symbols name
+
+    q : Placement
+    q = record {
+      value = pos 0;
+      number = number;
+      here = pass.here;
+      size = 0;
+      fault = fault_of_bare pass.live twice pass.here size;
+      live = pass.live;
+      is_if = false;
+    }
+
+    not_taken : is_placed q ≡ false
+    not_taken = taken pass.live twice pass.here size ∙ sym refused
+
+    e : q ≡ placement_of (place (placed lines) line)
+    e = ap (λ (s : ℕ). let made : Placement = record { value = pos 0; number = number; here = pass.here; size = s; fault = fault_of_bare pass.live twice pass.here size; live = pass.live; is_if = false } in made)
+        (ap (λ a. cond a size 0) (sym not_taken))
+        ∙ bare-placed pass lines line name number size pass.live twice b n h.follows (live_here pass (placed lines) empty refl h.follows) refl
+
+    none-more : (a : Bool) → a ≡ false → pass.names.symbols ≡ pass.names.symbols ++ option_to_list (if a then symbol_given number pass.here q.value line else None)
+    none-more true h = cc
+    none-more false h = sym (none-appended pass.names.symbols)
+
+-- such a line is passed that is accepted
+pub passed-accepted : (found now : List Placement) (pass next : Pass) (lines : List Reading) (line : Reading) (name : Option Name) (number size : ℕ) → IsBare line name size → HasPassed found pass lines
+    → number ≡ length lines + 1 → true ≡ (pass.live && is_none (fault_of_bare true (is_redefinition pass.names.symbols name) pass.here size))
+    → (let q : Placement = record { value = pos 0; number = number; here = pass.here; size = size; fault = None; live = true; is_if = false } in now ≡ found ++ q ∷ [])
+    → next.here ≡ pass.here + size → next.aligning ≡ pass.aligning → next.ended ≡ pass.ended → next.blocks ≡ pass.blocks → next.live ≡ pass.live
+    → next.names.symbols ≡ pass.names.symbols ++ option_to_list (label_given number pass.here name) → HasPassed now next (lines ++ line ∷ [])
+passed-accepted found now pass next lines line name number size b h n accepted is here aligning ended blocks live names = record {
+  placements = one-more found now lines line q h.placements is e;
+  follows = bare-next pass next lines line name number size q b n h.follows e here aligning ended blocks
+      (names ∙ ap (λ given. pass.names.symbols ++ option_to_list given) (label-given number pass.here size (pos 0) line name b)) live;
+}
+  where
+    twice : Bool
+    twice = is_redefinition pass.names.symbols name
+
+    q : Placement
+    q = record { value = pos 0; number = number; here = pass.here; size = size; fault = None; live = true; is_if = false }
+
+    both : (pass.live ≡ true) × (is_none (fault_of_bare true twice pass.here size) ≡ true)
+    both = and_parts _ _ (sym accepted)
+
+    e : q ≡ placement_of (place (placed lines) line)
+    e = ap (λ (f : Option Fault). let made : Placement = record { value = pos 0; number = number; here = pass.here; size = cond (is_none f) size 0; fault = f; live = true; is_if = false } in made)
+        (sym (none_from (fault_of_bare true twice pass.here size) both.1))
+        ∙ bare-placed pass lines line name number size true twice b n h.follows (sym both.0 ∙ live_here pass (placed lines) empty refl h.follows) refl
+
+-- a name that isn't given again has no symbol
+pub new-name : (keys : List Name) (symbols_now : List (Name × Symbol)) (defines : Option NameId) (twice : Bool) → IfSome defines (λ id. id.number < length keys)
+    → ((name : Option Name) → IsNumberOf keys defines name → twice ≡ is_redefinition symbols_now name) → not twice ≡ true
+    → IfSome defines (λ id. lookup_name symbols_now (key_at keys id.number) ≡ None)
+new-name keys symbols_now None twice within is once = tt
+new-name keys symbols_now (Some id) twice within is once = none (lookup_name symbols_now (key_at keys id.number)) (by twice once (is (Some (key_at keys id.number)) (record { within = within; named = refl })))
+  where
+    by : (b : Bool) → not b ≡ true → b ≡ is_some (lookup_name symbols_now (key_at keys id.number)) → is_some (lookup_name symbols_now (key_at keys id.number)) ≡ false
+    by true h e = cc
+    by false h e = sym e
+
+    none : (o : Option Symbol) → is_some o ≡ false → o ≡ None
+    none None h = refl
+    none (Some s) h = cc

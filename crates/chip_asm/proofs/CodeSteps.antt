@@ -1,9 +1,9 @@
 -- The codes of lines that are written one after another: each byte, the faults and their number,
 -- and how many lines are encoded.
-use Rattle.std.proofs.Common.{◌≡◌, ℕ, suc, zero, ◌+◌, ◌-◌, ◌<◌, ◌≤◌, Bool, true, false, cond, eqb, List, [], ◌∷◌, ◌++◌, map, reverse, length, take, drop, get_or, slice_get, count_by, filter_map, refl, ap, sym, ◌∙◌, arith, Option, Some, None, option_map, sum_by}
+use Rattle.std.proofs.Common.{◌≡◌, ℕ, suc, zero, ◌+◌, ◌<◌, ◌≤◌, Bool, true, false, cond, eqb, List, [], ◌∷◌, ◌++◌, map, reverse, length, take, drop, get_or, slice_get, count_by, filter_map, refl, ap, sym, subst, ◌∙◌, arith, Option, Some, None, option_map, sum_by}
 use Rattle.std.specs.List.{enumerate_from, cons_option}
 use Rattle.std.proofs.lemmas.Bool.{eqb-true, eqb-false, false_from_ne_true}
-use Rattle.std.proofs.lemmas.List.{take_more, take_all, take-append-le, get_or-map, length-map}
+use Rattle.std.proofs.lemmas.List.{take_all, take-append-le, get_or-map, length-map}
 use Rattle.std.proofs.lemmas.List.Sums.{sum_by-cons, sum_by-take-drop, sum_by-take-le, count_by_more_yes, count_by_more_no}
 use Rattle.std.proofs.lemmas.List.FromFn.{length-enumerate_from, get_or-enumerate_from}
 use Rattle.std.proofs.lemmas.Option.{get_or_from_slice_get, slice_get_within, same_Some}
@@ -13,12 +13,16 @@ use Rattle.chip_lang.specs.Line.{Reading}
 use Rattle.chip_asm.specs.declared.codes.Codes.{Codes}
 use Rattle.chip_asm.specs.declared.layout.Layout.{Layout}
 use Rattle.chip_asm.specs.declared.placement.Placement.{Placement}
+use Rattle.chip_asm.specs.declared.table.Table.{Table}
 use Rattle.chip_asm.specs.Layout.{Placed}
 use Rattle.chip_asm.specs.computed.Walk.{placed}
-use Rattle.chip_asm.specs.inner.Codes.{AreCodesOf, IsByte, Waits, count_of, covers_byte, line_faults, right_byte}
+use Rattle.chip_asm.specs.inner.Codes.{AreCodesOf, IsByte, Waits, code_kept, count_of, covers_byte, kept_bytes, kept_fault, line_faults, right_byte}
+use Rattle.chip_asm.specs.inner.KeptLine.{KeptLine}
 use Rattle.chip_asm.specs.inner.Layouts.{IsLayoutOf}
-use Rattle.chip_asm.specs.Program.{bytes_in_code, code_under, fault_of, faults_of_lines, numbered_fault}
-use Rattle.chip_asm.proofs.LinesByPlace.{AtPlace, byte-line, byte-nowhere, covered-once}
+use Rattle.chip_asm.specs.inner.Placements.{is_placed}
+use Rattle.chip_asm.specs.inner.Recoding.{HasCodeAt}
+use Rattle.chip_asm.specs.Program.{bytes_in_code, code_under, fault_in_code, fault_of, faults_of_lines, numbered_fault}
+use Rattle.chip_asm.proofs.LinesByPlace.{AtPlace, accepted-fault, byte-line, byte-nowhere, bytes-fit, covered-once, refused-byte, refused-fault}
 use Rattle.chip_asm.proofs.Placing.{length-numbered}
 
 -- at first each byte is zero
@@ -63,31 +67,41 @@ pub byte-done : (lines : List Reading) (placements : List Placement) (place k by
 byte-done lines placements place k byte h is =
     is.done (λ w. (let inside : w.place < length placements = slice_get_within placements w.place w.q w.there in let l = w.low in omega arith))
 
--- a line has its bytes at each address that it covers
-pub byte-written : (lines : List Reading) (place : ℕ) (q : Placement) (a : AtPlace lines place q) (k new old : ℕ) → covers_byte q k ≡ true
-    → new ≡ cond (covers_byte q k) (get_or (bytes_in_code (code_under (placed lines) a.x)) (IMAGE_START + k - q.here) 0) old → new ≡ right_byte lines k
-byte-written lines place q a k new old c is =
-    is ∙ ap (λ b. cond b (get_or (bytes_in_code (code_under (placed lines) a.x)) (IMAGE_START + k - q.here) 0) old) c ∙ sym (byte-line lines place q a (IMAGE_START + k) c)
-
-pub byte-stays : (q : Placement) (k new written old : ℕ) → covers_byte q k ≡ false → new ≡ cond (covers_byte q k) written old → new ≡ old
-byte-stays q k new written old c is = is ∙ ap (λ b. cond b written old) c
-
 -- faults
-
--- one line more
-pub faults-more : (lines : List Reading) (n : ℕ) (x : Placed) (fault : Option Fault) → slice_get (reverse (placed lines)) n ≡ Some x → fault ≡ fault_of (placed lines) x
-    → take (n + 1) (line_faults lines) ≡ take n (line_faults lines) ++ fault ∷ []
-unfolding line_faults
-faults-more lines n x fault at is =
-    let there : n < length (reverse (placed lines)) = slice_get_within (reverse (placed lines)) n x at in
-    let here : get_or (line_faults lines) n None ≡ fault
-    = get_or-map (fault_of (placed lines)) (reverse (placed lines)) n x None there ∙ ap (fault_of (placed lines)) (get_or_from_slice_get (reverse (placed lines)) n x x at) ∙ sym is in
-    take_more (line_faults lines) n None (omega (arith, length-map (reverse (placed lines)) (fault_of (placed lines)))) ∙ ap (λ f. take n (line_faults lines) ++ f ∷ []) here
 
 pub fault-at : (lines : List Reading) (n : ℕ) (x : Placed) (d : Option Fault) → slice_get (reverse (placed lines)) n ≡ Some x → get_or (line_faults lines) n d ≡ fault_of (placed lines) x
 unfolding line_faults
 fault-at lines n x d at =
     get_or-map (fault_of (placed lines)) (reverse (placed lines)) n x d (slice_get_within (reverse (placed lines)) n x at) ∙ ap (fault_of (placed lines)) (get_or_from_slice_get (reverse (placed lines)) n x x at)
+
+-- the code of a line that is accepted, and of one that isn't
+pub accepted-has : (lines : List Reading) (layout : Layout) (n : ℕ) (q : Placement) → slice_get layout.placements.items n ≡ Some q → (a : AtPlace lines n q) → is_placed q ≡ true
+    → HasCodeAt lines layout.placements.items n q (bytes_in_code (code_under (placed lines) a.x)) (fault_in_code (code_under (placed lines) a.x))
+accepted-has lines layout n q there a accepted = record {
+  there = there;
+  fits = bytes-fit lines n q a accepted;
+  byte = λ k c. byte-line lines n q a (IMAGE_START + k) c;
+  faulty = fault-at lines n a.x None a.at ∙ accepted-fault lines n q a accepted;
+}
+
+pub refused-has : (lines : List Reading) (layout : Layout) (n : ℕ) (q : Placement) → slice_get layout.placements.items n ≡ Some q → (a : AtPlace lines n q) → is_placed q ≡ false
+    → HasCodeAt lines layout.placements.items n q [] q.fault
+refused-has lines layout n q there a refused = record {
+  there = there;
+  fits = omega arith;
+  byte = λ k c. refused-byte lines n q a (IMAGE_START + k) c refused;
+  faulty = fault-at lines n a.x None a.at ∙ sym (refused-fault lines n q a refused);
+}
+
+-- that of what is kept of it
+pub kept-has : (lines : List Reading) (layout : Layout) (n : ℕ) (q : Placement) → slice_get layout.placements.items n ≡ Some q → (a : AtPlace lines n q) → (names : Table) (kept : KeptLine)
+    → code_kept names kept ≡ code_under (placed lines) a.x → HasCodeAt lines layout.placements.items n q (kept_bytes names kept q) (kept_fault names kept q)
+kept-has lines layout n q there a names kept same = by (is_placed q) refl
+  where
+    by : (b : Bool) → is_placed q ≡ b → HasCodeAt lines layout.placements.items n q (cond b (bytes_in_code (code_kept names kept)) []) (cond b (fault_in_code (code_kept names kept)) q.fault)
+    by true accepted =
+        subst (λ code. HasCodeAt lines layout.placements.items n q (bytes_in_code code) (fault_in_code code)) (sym same) (accepted-has lines layout n q there a accepted)
+    by false refused = refused-has lines layout n q there a refused
 
 pub length-faults : (lines : List Reading) → length (line_faults lines) ≡ length lines
 unfolding line_faults
@@ -97,10 +111,6 @@ length-faults lines = length-map (reverse (placed lines)) (fault_of (placed line
 abbrev pub count_faults : List (Option Fault) → ℕ
 count_faults = sum_by count_of
 
-pub count-push : (fs : List (Option Fault)) (f : Option Fault) → count_faults (fs ++ f ∷ []) ≡ count_faults fs + count_of f
-count-push [] f = refl
-count-push (g ∷ fs) f = omega (arith, sum_by-cons count_of g (fs ++ f ∷ []), sum_by-cons count_of g fs, count-push fs f)
-
 pub one-fault : (f : Option Fault) → count_of f ≤ 1
 one-fault None = omega arith
 one-fault (Some f) = omega arith
@@ -108,6 +118,10 @@ one-fault (Some f) = omega arith
 pub count-few : (fs : List (Option Fault)) → count_faults fs ≤ length fs
 count-few [] = omega arith
 count-few (f ∷ fs) = omega (arith, sum_by-cons count_of f fs, one-fault f, count-few fs)
+
+-- a part of lines without faults has none
+pub part-faultless : (fs : List (Option Fault)) (start n : ℕ) → count_faults fs ≡ 0 → count_faults (take n (drop start fs)) ≡ 0
+part-faultless fs start n none = omega (arith, none, sum_by-take-drop count_of fs start, sum_by-take-le count_of (drop start fs) n)
 
 count-numbered-faults : (all xs : List Placed) → length (filter_map (numbered_fault all) xs) ≡ count_faults (map (fault_of all) xs)
 count-numbered-faults all [] = refl
@@ -124,10 +138,6 @@ faults-counted lines = sym (count-numbered-faults (placed lines) (reverse (place
 -- the kept faults are counted
 pub codes-counted : (codes : Codes) (lines : List Reading) → AreCodesOf codes lines → codes.count ≡ count_faults codes.faults.items
 codes-counted codes lines k = k.counted ∙ sym (faults-counted lines) ∙ ap count_faults (sym k.faulty)
-
--- there is no fault in a part where there is none
-pub part-faultless : (fs : List (Option Fault)) (start n : ℕ) → count_faults fs ≡ 0 → count_faults (take n (drop start fs)) ≡ 0
-part-faultless fs start n none = omega (arith, none, sum_by-take-drop count_of fs start, sum_by-take-le count_of (drop start fs) n)
 
 -- the number of lines that are encoded
 

@@ -1,69 +1,90 @@
--- A line that is written into an image, byte by byte; and the code of a line.
-use Rattle.std.proofs.Common.{◌≡◌, ℕ, ◌+◌, ◌-◌, ◌*◌, ◌<◌, ◌≤◌, Bool, true, false, cond, ◌&&◌, eqb, ltb, leb, List, [], ◌∷◌, ◌++◌, length, set, get_or, refl, ap, ◌∙◌, arith, Result, Ok, Err, ℤ, length-append}
-use Rattle.std.proofs.lemmas.Bool.{eqb-true, eqb-false}
+-- A line that is written into an image; and the code of a line.
+use Rattle.std.proofs.Common.{◌≡◌, ℕ, ◌+◌, ◌-◌, ◌*◌, ◌<◌, ◌≤◌, ◌⊎◌, inl, inr, Bool, true, false, cond, ◌&&◌, ltb, leb, List, [], ◌∷◌, ◌++◌, length, take, drop, get_or, refl, replicate, ap, sym, ◌∙◌, arith, Result, Ok, Err, ℤ, length-append}
+use Rattle.std.proofs.lemmas.Bool.{and_parts, cases_lt, leb-true, ltb-true}
 use Rattle.std.proofs.lemmas.Bool.Decides.{nat_tests}
-use Rattle.std.proofs.lemmas.List.{get_or-set_same, get_or-set_other}
+use Rattle.std.proofs.lemmas.List.{drop-drop, get_or-append_right, get_or_append_left, get_or-drop, get_or-replicate, get_or-take, length-replicate, length-take-le}
+use borrow.Rule.Slice.PartMut.{put_mid}
 use Rattle.chip_lang.specs.declared.limits.TheConstants.{IMAGE_START}
 use Rattle.chip_lang.specs.declared.fault.Fault.{Fault}
 use Rattle.chip_lang.specs.Line.{Body, db, dw, da, code, ifdef, ifund, Reading, bad, read}
 use Rattle.chip_lang.specs.Tree.{Tree}
 use Rattle.chip_lang.specs.Value.{◌>>=◌, Symbols}
 use Rattle.chip_lang.specs.Encoding.{word_of_form}
-use Rattle.chip_lang.specs.Code.{own_bytes, coded, code_of, data_bytes, datum_of, byte_of, word_bytes}
+use Rattle.chip_lang.specs.Code.{own_bytes, bytes_coded, coded, code_length, code_of, data_bytes, datum_of, byte_of, own_length, word_bytes}
 use Rattle.chip_asm.specs.Layout.{body_of, is_if_body, own_size}
-use Rattle.chip_asm.specs.Program.{fault_in_code, bytes_in_code}
+use Rattle.chip_asm.specs.Program.{bytes_in_code}
+use Rattle.chip_asm.specs.declared.placement.Placement.{Placement}
 use Rattle.chip_asm.specs.inner.Recode.{has_code}
-use Rattle.chip_asm.specs.inner.Codes.{coded_fault, coded_bytes}
+use Rattle.chip_asm.specs.inner.Codes.{IsWritten, covers_byte}
 
--- writing a line, byte by byte
+-- items in the middle of others
 
-abbrev pub after_bytes : (here index : ℕ) (bytes old : List ℕ) → ℕ → ℕ
-after_bytes here index bytes old k = cond (leb here (IMAGE_START + k) && ltb (IMAGE_START + k) (here + index)) (get_or bytes (IMAGE_START + k - here) 0) (get_or old k 0)
+pub inserted : {X : Type 0} (old items : List X) (d : X) (at k : ℕ) → at + length items ≤ length old → at ≤ k → k < at + length items → get_or (take at old ++ (items ++ drop (at + length items) old)) k d ≡ get_or items (k - at) d
+inserted old items d at k room low high =
+    get_or-append_right (take at old) (items ++ drop (at + length items) old) at k d (length-take-le at old (omega arith)) low
+    ∙ get_or_append_left items (drop (at + length items) old) d (k - at) (omega arith)
 
-same_test : (here index k : ℕ) → IMAGE_START ≤ here → (k ≡ here - IMAGE_START + index → ⊥) → (leb here (IMAGE_START + k) && ltb (IMAGE_START + k) (here + index)) ≡ (leb here (IMAGE_START + k) && ltb (IMAGE_START + k) (here + (index + 1)))
-same_test here index k low n = grind (arith, nat_tests)
+pub around : {X : Type 0} (old items : List X) (d : X) (at k : ℕ) → at + length items ≤ length old → (k < at) ⊎ (at + length items ≤ k) → get_or (take at old ++ (items ++ drop (at + length items) old)) k d ≡ get_or old k d
+around old items d at k room (inl before) =
+    get_or_append_left (take at old) (items ++ drop (at + length items) old) d k (omega (arith, length-take-le at old (omega arith))) ∙ get_or-take at old k d before
+around old items d at k room (inr behind) =
+    let back : at + length items + (k - at - length items) ≡ k = omega arith in
+    get_or-append_right (take at old) (items ++ drop (at + length items) old) at k d (length-take-le at old (omega arith)) (omega arith)
+    ∙ get_or-append_right items (drop (at + length items) old) (length items) (k - at) d refl (omega arith)
+    ∙ get_or-drop (at + length items) old (k - at - length items) d
+    ∙ ap (λ n. get_or old n d) back
 
-at_test : (here index k : ℕ) → IMAGE_START ≤ here → k ≡ here - IMAGE_START + index → (leb here (IMAGE_START + k) && ltb (IMAGE_START + k) (here + (index + 1))) ≡ true
-at_test here index k low e = grind (arith, nat_tests)
+covered : (here size k : ℕ) (b : Bool) → (leb here (IMAGE_START + k) && ltb (IMAGE_START + k) (here + size)) ≡ b → IMAGE_START ≤ here → cond b ((here - IMAGE_START ≤ k) × (k < here - IMAGE_START + size)) ((k < here - IMAGE_START) ⊎ (here - IMAGE_START + size ≤ k))
+covered here size k true e low =
+    let both = and_parts _ _ e in
+    let from = leb-true here (IMAGE_START + k) both.0 in
+    let to = ltb-true (IMAGE_START + k) (here + size) both.1 in
+    (omega arith, omega arith)
+covered here size k false e low = by (cases_lt k (here - IMAGE_START)) (cases_lt k (here - IMAGE_START + size))
+  where
+    by : (k < here - IMAGE_START) ⊎ (here - IMAGE_START ≤ k) → (k < here - IMAGE_START + size) ⊎ (here - IMAGE_START + size ≤ k) → (k < here - IMAGE_START) ⊎ (here - IMAGE_START + size ≤ k)
+    by (inl before) other = inl before
+    by (inr from) (inr behind) = inr behind
+    by (inr from) (inl to) = absurd (let bad : true ≡ false = sym (yes here (IMAGE_START + k) size (omega arith) (omega arith)) ∙ e in cc)
+      where
+        yes : (here at size : ℕ) → here ≤ at → at < here + size → (leb here at && ltb at (here + size)) ≡ true
+        yes here at size low high = grind (arith, nat_tests)
 
-write-by : (image bytes old : List ℕ) (here index byte k : ℕ) (here_now : Bool) → eqb k (here - IMAGE_START + index) ≡ here_now → IMAGE_START ≤ here → here - IMAGE_START + index < length image → byte ≡ get_or bytes index 0
-    → get_or image k 0 ≡ after_bytes here index bytes old k
-    → get_or (set image (here - IMAGE_START + index) byte) k 0 ≡ after_bytes here (index + 1) bytes old k
-write-by image bytes old here index byte k true e low inside is h =
-    let at : k ≡ here - IMAGE_START + index = eqb-true k (here - IMAGE_START + index) e in
-    let place : IMAGE_START + k - here ≡ index = omega arith in
-    rw (at_test here index k low at, place) (ap (λ n. get_or (set image (here - IMAGE_START + index) byte) n 0) at ∙ get_or-set_same image (here - IMAGE_START + index) byte 0 inside ∙ is)
-write-by image bytes old here index byte k false e low inside is h =
-    let other = eqb-false k (here - IMAGE_START + index) e in
-    get_or-set_other image (here - IMAGE_START + index) k byte 0 other ∙ h ∙ ap (λ b. cond b (get_or bytes (IMAGE_START + k - here) 0) (get_or old k 0)) (same_test here index k low other)
+-- a line whose bytes are put in their place is written
+pub put : (q : Placement) (bytes part old : List ℕ) (n : ℕ) → n ≡ q.size → IMAGE_START ≤ q.here → q.here + q.size ≤ length old + IMAGE_START → length part ≡ q.size
+    → ((k : ℕ) → k < q.size → get_or part k 0 ≡ get_or bytes k 0) → IsWritten q bytes old (put_mid (q.here - IMAGE_START) n old part)
+put q bytes part old n size low high long same k =
+    ap (λ rest. get_or (take (q.here - IMAGE_START) old ++ (part ++ rest)) k 0) there ∙ by (covers_byte q k) refl
+  where
+    there : drop n (drop (q.here - IMAGE_START) old) ≡ drop (q.here - IMAGE_START + length part) old
+    there = drop-drop n (q.here - IMAGE_START) old ∙ ap (λ m. drop m old) (let m : q.here - IMAGE_START + n ≡ q.here - IMAGE_START + length part = omega arith in m)
 
-pub write-more : (image bytes old : List ℕ) (here index byte : ℕ) → IMAGE_START ≤ here → here - IMAGE_START + index < length image → byte ≡ get_or bytes index 0
-    → ((k : ℕ) → get_or image k 0 ≡ after_bytes here index bytes old k)
-    → (k : ℕ) → get_or (set image (here - IMAGE_START + index) byte) k 0 ≡ after_bytes here (index + 1) bytes old k
-write-more image bytes old here index byte low inside is h k = write-by image bytes old here index byte k (eqb k (here - IMAGE_START + index)) refl low inside is (h k)
+    room : q.here - IMAGE_START + length part ≤ length old
+    room = omega arith
 
-no_bytes : (here k : ℕ) → (leb here (IMAGE_START + k) && ltb (IMAGE_START + k) (here + 0)) ≡ false
-no_bytes here k = grind (arith, nat_tests)
+    by : (b : Bool) → covers_byte q k ≡ b → get_or (take (q.here - IMAGE_START) old ++ (part ++ drop (q.here - IMAGE_START + length part) old)) k 0 ≡ cond b (get_or bytes (IMAGE_START + k - q.here) 0) (get_or old k 0)
+    by true e =
+        let in_part : (q.here - IMAGE_START ≤ k) × (k < q.here - IMAGE_START + q.size) = covered q.here q.size k true e low in
+        let index : k - (q.here - IMAGE_START) ≡ IMAGE_START + k - q.here = omega (arith, in_part.0) in
+        inserted old part 0 (q.here - IMAGE_START) k room in_part.0 (omega (arith, in_part.1)) ∙ same (k - (q.here - IMAGE_START)) (omega (arith, in_part.0, in_part.1)) ∙ ap (λ n. get_or bytes n 0) index
+    by false e = around old part 0 (q.here - IMAGE_START) k room (out (covered q.here q.size k false e low))
+      where
+        out : (k < q.here - IMAGE_START) ⊎ (q.here - IMAGE_START + q.size ≤ k) → (k < q.here - IMAGE_START) ⊎ (q.here - IMAGE_START + length part ≤ k)
+        out (inl h) = inl h
+        out (inr h) = inr (omega arith)
 
-pub write-none : (image bytes : List ℕ) (here : ℕ) (k : ℕ) → get_or image k 0 ≡ after_bytes here 0 bytes image k
-write-none image bytes here k = rw (no_bytes here k) refl
+-- and one without code, whose bytes are zeros
+pub zeroed : (q : Placement) (bytes part old : List ℕ) (n : ℕ) → n ≡ q.size → IMAGE_START ≤ q.here → q.here + q.size ≤ length old + IMAGE_START → part ≡ replicate n 0 → bytes ≡ []
+    → IsWritten q bytes old (put_mid (q.here - IMAGE_START) n old part)
+zeroed q bytes part old n size low high zeros none =
+    put q bytes part old n size low high (ap length zeros ∙ length-replicate n 0 ∙ size)
+    (λ k h. ap (λ l. get_or l k 0) zeros ∙ get_or-replicate n k 0 0 (omega arith) ∙ ap (λ l. get_or l k 0) (sym none))
 
 -- codes
 
 pub code-read : (line : Reading) (names : Symbols) → has_code (body_of line) ≡ true → code_of line names ≡ coded (own_bytes (body_of line) names)
 code-read (bad f) names h = cc
 code-read (read label body) names h = refl
-
-pub empty-code : (b : Body) (names : Symbols) (value : ℤ) → own_size b value ≤ 0 → own_bytes b names ≡ Ok []
-unfolding own_bytes
-empty-code (db []) names value h = refl
-empty-code (db (e ∷ es)) names value h = absurd (omega (arith, h))
-empty-code (dw []) names value h = refl
-empty-code (dw (e ∷ es)) names value h = absurd (omega (arith, h))
-empty-code (da []) names value h = refl
-empty-code (da (x ∷ xs)) names value h = absurd (omega (arith, h))
-empty-code (code f os) names value h = absurd (omega (arith, h))
-empty-code _ names value h = refl
 
 pub no-code : (b : Body) (names : Symbols) → has_code b ≡ false → own_bytes b names ≡ Ok []
 unfolding own_bytes
@@ -78,11 +99,7 @@ code-no_if (ifdef n) h = cc
 code-no_if (ifund n) h = cc
 code-no_if _ h = refl
 
-pub fault-coded : (r : Result (List ℕ) Fault) → coded_fault (coded r) ≡ fault_in_code r
-fault-coded (Ok bytes) = refl
-fault-coded (Err f) = refl
-
-pub bytes-coded : (r : Result (List ℕ) Fault) → coded_bytes (coded r) ≡ bytes_in_code r
+pub bytes-coded : (r : Result (List ℕ) Fault) → bytes_coded (coded r) ≡ bytes_in_code r
 bytes-coded (Ok bytes) = refl
 bytes-coded (Err f) = refl
 
@@ -128,3 +145,15 @@ own-short (dw es) S v = words-short es S
 own-short (da bytes) S v = omega arith
 own-short (code form operands) S v = word-short (word_of_form form operands S)
 own-short _ S v = omega arith
+
+-- nor a line more than it has room for
+length-short : (b : Body) (v : ℤ) → own_length b ≤ own_size b v
+length-short (db es) v = omega arith
+length-short (dw es) v = omega arith
+length-short (da bytes) v = omega arith
+length-short (code form operands) v = omega arith
+length-short _ v = omega arith
+
+pub code-short : (line : Reading) (v : ℤ) → code_length line ≤ own_size (body_of line) v
+code-short (bad f) v = omega arith
+code-short (read label body) v = length-short body v

@@ -1,10 +1,8 @@
 -- What is kept stays right where a line is put in the place of one with the same effect.
-use Rattle.std.proofs.Common.{◌≡◌, ℕ, List, ◌+◌, ◌<◌, ◌≤◌, Bool, true, false, cond, set, get_or, ap, sym, subst, ◌∙◌, arith, None, length-set, vec_len}
+use Rattle.std.proofs.Common.{◌≡◌, ℕ, List, ◌+◌, ◌<◌, ◌≤◌, Bool, true, false, ◌&&◌, cond, set, get_or, ap, sym, ◌∙◌, arith, refl, length-set, vec_len}
 use Rattle.std.proofs.lemmas.List.{get_or-set_other, length-map}
-use Rattle.chip_lang.specs.declared.code.Coded.{Coded}
-use Rattle.chip_lang.specs.declared.limits.TheConstants.{IMAGE_BYTES}
-use Rattle.chip_lang.specs.Code.{coded, own_bytes}
-use Rattle.chip_lang.specs.Line.{reading_of}
+use Rattle.chip_lang.specs.Code.{own_bytes}
+use Rattle.chip_lang.specs.Line.{Reading, reading_of}
 use Rattle.chip_asm.specs.Edits.{before_replace}
 use Rattle.chip_asm.specs.Layout.{body_of}
 use Rattle.chip_asm.specs.Names.{values_of}
@@ -13,21 +11,24 @@ use Rattle.chip_asm.specs.Work.{needs_count}
 use Rattle.chip_asm.specs.declared.kept.Kept.{Kept}
 use Rattle.chip_asm.specs.declared.layout.Layout.{Layout}
 use Rattle.chip_asm.specs.declared.placement.Placement.{Placement}
-use Rattle.chip_asm.specs.inner.Codes.{AreCodesOf, IsWritten, coded_bytes, coded_fault, count_of}
+use Rattle.chip_asm.specs.inner.Codes.{AreCodesOf, is_coded, kept_bytes, kept_fault}
 use Rattle.chip_asm.specs.inner.Effect.{HasSameEffectAt}
 use Rattle.chip_asm.specs.inner.Infos.{IsInfo}
 use Rattle.chip_asm.specs.inner.Kept.{IsKept, IsSettled}
 use Rattle.chip_asm.specs.inner.KeptLine.{KeptLine}
 use Rattle.chip_asm.specs.inner.Placements.{is_placed}
+use Rattle.chip_asm.specs.inner.Recode.{has_code}
+use Rattle.chip_asm.specs.inner.Recoding.{HasCodeAt}
 use Rattle.chip_asm.specs.inner.Records.{reading_in, readings_in}
-use Rattle.chip_asm.proofs.CodesSwapped.{Exchange, codes-stay, codes-swapped, exchange, layout-swapped, swap-needed}
+use Rattle.chip_asm.proofs.CodeSteps.{kept-has}
+use Rattle.chip_asm.proofs.CodesSwapped.{Exchange, exchange, layout-swapped, line-new, swap-needed}
 use Rattle.chip_asm.proofs.EditTexts.{infos-set, read-set, readings-set}
 use Rattle.chip_asm.proofs.KeptSteps.{kept-by}
 use Rattle.chip_asm.proofs.LinesAfter.{shorter}
 use Rattle.chip_asm.proofs.SwappedFacts.{names-swapped}
 
 pub exchange-kept : (kept : Kept) (at : ℕ) (added : KeptLine) (q : Placement) → IsKept kept → at < vec_len kept.lines → q ≡ get_or kept.layout.placements.items at q
-    → HasSameEffectAt (readings_in kept.lines.items) at (reading_in added) → Exchange (readings_in kept.lines.items) at (reading_in added) q
+    → HasSameEffectAt (readings_in kept.lines.items) at (reading_in added) → Exchange (readings_in kept.lines.items) at (reading_in added) kept.layout q
 exchange-kept kept at added q k inside is same =
     exchange kept.layout (readings_in kept.lines.items) at (reading_in added) q k.laid_out (omega (arith, inside, kept.lines.ok.0, length-map kept.lines.items reading_in)) is same
 
@@ -41,7 +42,7 @@ settled-swapped lines spare layout old new at added fewer before s = record {
 -- all is right again
 pub kept-swapped : (old new : Kept) (at : ℕ) (added : KeptLine) (q : Placement) → IsKept old → new.lines.items ≡ set old.lines.items at added → new.layout ≡ old.layout
     → new.spare_layout ≡ old.spare_layout → new.settled ≤ old.settled → new.settled ≤ at → new.names ≡ old.names
-    → reading_in added ≡ reading_of added.text → IsInfo old.names.keys added.info added.several (reading_in added) → Exchange (readings_in old.lines.items) at (reading_in added) q
+    → reading_in added ≡ reading_of added.text → IsInfo old.names.keys added.info added.several (reading_in added) → Exchange (readings_in old.lines.items) at (reading_in added) old.layout q
     → AreCodesOf new.codes (set (readings_in old.lines.items) at (reading_in added)) → IsKept new
 kept-swapped old new at added q k lines layout spare fewer before names read info e codes =
     let made : readings_in (set old.lines.items at added) ≡ set (readings_in old.lines.items) at (reading_in added) = readings-set old.lines.items at added in
@@ -52,47 +53,21 @@ kept-swapped old new at added q k lines layout spare fewer before names read inf
     (rw made codes)
     (rw (layout, spare) (settled-swapped old.lines.items old.spare_layout old.layout old.settled new.settled at added fewer before k.settled))
 
--- what is kept before the line itself comes
-pub record Rewrote (old mid : Kept) (at : ℕ) (added : KeptLine) : Type 0 where
-  pub lines : mid.lines.items ≡ old.lines.items
-  pub layout : mid.layout ≡ old.layout
-  pub spare : mid.spare_layout ≡ old.spare_layout
-  pub settled : mid.settled ≡ old.settled
-  pub names : mid.names ≡ old.names
-  pub codes : AreCodesOf mid.codes (set (readings_in old.lines.items) at (reading_in added))
-
-pub rewrote-put : (old mid : Kept) (at : ℕ) (added : KeptLine) (q : Placement) (code : Coded) → IsKept old → Exchange (readings_in old.lines.items) at (reading_in added) q → is_placed q ≡ true
-    → code ≡ coded (own_bytes (body_of (reading_in added)) (values_of old.names.symbols))
-    → IsWritten q (coded_bytes code) old.codes.image.items mid.codes.image.items → vec_len mid.codes.image ≡ IMAGE_BYTES → mid.codes.faults.items ≡ set old.codes.faults.items at (coded_fault code)
-    → mid.codes.count + count_of (get_or old.codes.faults.items at None) ≡ old.codes.count + count_of (coded_fault code)
-    → mid.lines.items ≡ old.lines.items → mid.layout ≡ old.layout → mid.spare_layout ≡ old.spare_layout → mid.settled ≡ old.settled → mid.names ≡ old.names → Rewrote old mid at added
-rewrote-put old mid at added q code k e accepted is written long faults count lines layout spare settled names = record {
-  lines = lines;
-  layout = layout;
-  spare = spare;
-  settled = settled;
-  names = names;
-  codes = codes-swapped old.codes mid.codes (readings_in old.lines.items) at (reading_in added) q code e k.codes accepted
-      (is ∙ ap (λ ns. coded (own_bytes (body_of (reading_in added)) (values_of ns))) k.symbols) written long faults count;
-}
-
-pub rewrote-none : (old mid : Kept) (at : ℕ) (added : KeptLine) (q : Placement) → IsKept old → Exchange (readings_in old.lines.items) at (reading_in added) q → is_placed q ≡ false → mid ≡ old → Rewrote old mid at added
-rewrote-none old mid at added q k e refused same = record {
-  lines = ap (λ (kept : Kept). kept.lines.items) same;
-  layout = ap (λ (kept : Kept). kept.layout) same;
-  spare = ap (λ (kept : Kept). kept.spare_layout) same;
-  settled = ap (λ (kept : Kept). kept.settled) same;
-  names = ap (λ (kept : Kept). kept.names) same;
-  codes = subst (λ (kept : Kept). AreCodesOf kept.codes (set (readings_in old.lines.items) at (reading_in added))) (sym same) (codes-stay old.codes (readings_in old.lines.items) at (reading_in added) q e k.codes refused);
-}
-
-one-most : (b : Bool) → cond b 1 0 ≤ 1
-one-most true = omega arith
-one-most false = omega arith
+-- it has the code of what is kept of it
+pub code-swapped : (kept : Kept) (at : ℕ) (added : KeptLine) (q : Placement) → IsKept kept → (e : Exchange (readings_in kept.lines.items) at (reading_in added) kept.layout q)
+    → HasCodeAt (set (readings_in kept.lines.items) at (reading_in added)) kept.layout.placements.items at q (kept_bytes kept.names added q) (kept_fault kept.names added q)
+code-swapped kept at added q k e =
+    let lines : List Reading = readings_in kept.lines.items in
+    kept-has (set lines at (reading_in added)) kept.layout at q e.there e.now kept.names added
+    (ap (λ line. own_bytes (body_of line) (values_of kept.names.symbols)) (sym (line-new lines at (reading_in added) kept.layout q e))
+    ∙ ap (λ names. own_bytes (body_of e.now.x.line) (values_of names)) (k.symbols ∙ sym (names-swapped lines at (reading_in added) e.swap)))
 
 -- one line that is encoded is needed
-pub encoded-kept : (kept : Kept) (at : ℕ) (added : KeptLine) (q : Placement) (b : Bool) (old new : ℕ) → at < vec_len kept.lines → Exchange (readings_in kept.lines.items) at (reading_in added) q → is_placed q ≡ true
-    → new ≤ old + cond b 1 0 → new ≤ old + needs_count (readings_in kept.lines.items) (set (readings_in kept.lines.items) at (reading_in added)) (before_replace at)
-encoded-kept kept at added q b old new inside e accepted h =
-    let needed = swap-needed (readings_in kept.lines.items) at (reading_in added) q e (omega (arith, inside, kept.lines.ok.0, length-map kept.lines.items reading_in)) accepted in
-    omega (arith, needed, h, one-most b)
+pub encoded-kept : (kept : Kept) (at : ℕ) (added : KeptLine) (q : Placement) (old new : ℕ) → Exchange (readings_in kept.lines.items) at (reading_in added) kept.layout q
+    → new ≤ old + cond (is_coded added q) 1 0 → new ≤ old + needs_count (readings_in kept.lines.items) (set (readings_in kept.lines.items) at (reading_in added)) (before_replace at)
+encoded-kept kept at added q old new e h = by (is_placed q) (has_code (body_of (reading_in added))) refl h
+  where
+    by : (p b : Bool) → is_placed q ≡ p → new ≤ old + cond (p && b) 1 0 → new ≤ old + needs_count (readings_in kept.lines.items) (set (readings_in kept.lines.items) at (reading_in added)) (before_replace at)
+    by true true accepted h = omega (arith, swap-needed (readings_in kept.lines.items) at (reading_in added) kept.layout q e accepted)
+    by true false accepted h = omega arith
+    by false b accepted h = omega arith

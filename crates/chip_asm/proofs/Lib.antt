@@ -6,8 +6,8 @@ pub mod Placing
 pub mod NestedBlocks
 pub mod NextLine
 pub mod LinesApart
-pub mod BareLines
 pub mod LayoutSteps
+pub mod BareLines
 pub mod MarkSteps
 pub mod Bounds
 pub mod LinesAfter

@@ -9,6 +9,7 @@ use Rattle.std.proofs.lemmas.Option.{get_or_from_slice_get, slice_get-get_or, sl
 use Rattle.chip_lang.specs.declared.fault.Fault.{Fault}
 use Rattle.chip_lang.specs.declared.fault.Fault.TheVariants.{UnclosedIf}
 use Rattle.chip_lang.specs.declared.limits.TheConstants.{IMAGE_START, MEMORY_BYTES}
+use Rattle.chip_lang.specs.Code.{code_length}
 use Rattle.chip_lang.specs.Line.{Reading, bad}
 use Rattle.chip_asm.specs.Names.{values_of}
 use Rattle.chip_asm.specs.declared.layout.Layout.{Layout}
@@ -20,7 +21,7 @@ use Rattle.chip_asm.specs.inner.Placements.{is_placed}
 use Rattle.chip_asm.specs.inner.Recode.{has_code}
 use Rattle.chip_asm.specs.Program.{code_under, bytes_in_code, fault_in_code, covers, byte_at, fault_of, first_pass_fault, is_unclosed}
 use Rattle.chip_asm.proofs.Bounds.{IsWithinMemory, no_fault, passes, stands-here, within-memory}
-use Rattle.chip_asm.proofs.ImageSteps.{empty-code, no-code, code-no_if, own-short}
+use Rattle.chip_asm.proofs.ImageSteps.{code-no_if, code-short, no-code, own-short}
 use Rattle.chip_asm.proofs.LinesApart.{one-covers}
 use Rattle.chip_asm.proofs.NextLine.{none_from}
 use Rattle.chip_asm.proofs.Placing.{onto, length-numbered}
@@ -301,19 +302,8 @@ bytes-fit lines n q a accepted =
     let short = own-short (body_of a.x.line) (values_of (symbols (placed lines))) (place (placed (take n lines)) a.x.line).value in
     omega arith
 
--- the fault of a line that takes no space is that of the first pass
-
-no-fault : (live : Bool) (fault : Option Fault) → (live && is_none fault) ≡ true → fault ≡ None
-no-fault false fault h = cc
-no-fault true None h = refl
-no-fault true (Some f) h = cc
-
-pub small-fault : (lines : List Reading) (n : ℕ) (q : Placement) (a : AtPlace lines n q) → q.size ≡ 0 → q.fault ≡ fault_of (placed lines) a.x
-small-fault lines n q a none = by (is_placed q) refl
-  where
-    by : (b : Bool) → is_placed q ≡ b → q.fault ≡ fault_of (placed lines) a.x
-    by true accepted =
-        no-fault q.live q.fault accepted
-        ∙ sym (accepted-fault lines n q a accepted
-        ∙ ap fault_in_code (empty-code (body_of a.x.line) (values_of (symbols (placed lines))) (place (placed (take n lines)) a.x.line).value (omega (arith, own-room lines n q a accepted, none))))
-    by false refused = refused-fault lines n q a refused
+pub code-fits : (lines : List Reading) (n : ℕ) (q : Placement) (a : AtPlace lines n q) → is_placed q ≡ true → code_length a.x.line ≤ q.size
+code-fits lines n q a accepted =
+    let room = own-room lines n q a accepted in
+    let short = code-short a.x.line (place (placed (take n lines)) a.x.line).value in
+    omega arith

@@ -1,37 +1,32 @@
 -- What is known of the line at a place after an edit, when it gets its code.
-use Rattle.std.proofs.Common.{◌≡◌, ℕ, zero, suc, cond, is_some, [], ◌∷◌, ◌++◌, ◌+◌, ◌<◌, ◌≤◌, Bool, true, false, ◌&&◌, List, length, get_or, slice_get, reverse, refl, ap, sym, subst, ◌∙◌, arith, Option, Some, None, vec_len}
+use Rattle.std.proofs.Common.{◌≡◌, ℕ, cond, [], ◌∷◌, ◌++◌, ◌+◌, ◌-◌, ◌<◌, ◌≤◌, length-set, set, take, Bool, true, false, ◌&&◌, List, length, get_or, slice_get, refl, ap, sym, ◌∙◌, arith, Option, Some, None, sum_by, vec_len}
+use Rattle.std.proofs.lemmas.List.Sums.{sum_by_push}
 use Rattle.std.specs.List.{enumerate_from}
 use Rattle.std.specs.Option.{option_map_or}
-use Rattle.std.proofs.lemmas.Bool.{and_parts}
-use Rattle.std.proofs.lemmas.List.{length-map}
-use Rattle.std.proofs.lemmas.Option.{same_Some, slice_get_within, slice_get_read, slice_get-get_or}
-use Rattle.chip_lang.specs.Code.{code_of, own_bytes}
-use Rattle.chip_lang.specs.declared.limits.TheConstants.{IMAGE_BYTES}
-use Rattle.chip_lang.specs.Line.{Reading, bad}
+use Rattle.std.proofs.lemmas.List.{length-map, take-take, take_more, take_more_set}
+use Rattle.std.proofs.lemmas.Option.{slice_get_within, slice_get_read, slice_get-get_or}
+use Rattle.chip_lang.specs.Code.{own_bytes}
+use Rattle.chip_lang.specs.declared.limits.TheConstants.{IMAGE_START}
+use Rattle.chip_lang.specs.Line.{Reading}
 use Rattle.chip_lang.specs.declared.fault.Fault.{Fault}
-use Rattle.chip_lang.specs.declared.fault.Fault.TheVariants.{UnclosedIf}
 use Rattle.chip_lang.specs.Uses.{agree_on}
-use Rattle.chip_lang.specs.Value.{Symbols}
-use Rattle.chip_asm.specs.Layout.{Placed, body_of}
+use Rattle.chip_asm.specs.Layout.{body_of}
 use Rattle.chip_asm.specs.Names.{values_of}
-use Rattle.chip_asm.specs.Program.{code_under, fault_of, names_of_lines}
-use Rattle.chip_asm.specs.computed.Walk.{placed}
+use Rattle.chip_asm.specs.Program.{names_of_lines}
 use Rattle.chip_asm.specs.declared.codes.Codes.{Codes}
 use Rattle.chip_asm.specs.declared.placement.Placement.{Placement}
 use Rattle.chip_asm.specs.declared.recoding.Recoding.{Recoding}
-use Rattle.chip_asm.specs.inner.Codes.{IsByte, IsCounted, covers_byte, right_byte}
+use Rattle.chip_asm.specs.inner.Codes.{IsWritten, code_kept, count_of, is_coded, line_faults}
 use Rattle.chip_asm.specs.inner.Infos.{IsInfo}
 use Rattle.chip_asm.specs.inner.KeptLine.{KeptLine}
 use Rattle.chip_asm.specs.inner.Layouts.{placements_of}
 use Rattle.chip_asm.specs.inner.Placements.{is_placed}
-use Rattle.chip_asm.specs.inner.Recode.{count_up_to, has_code, is_encoded_again, is_placed_at}
-use Rattle.chip_asm.specs.inner.Recoding.{AreWritten, IsAnew, IsRecoding, IsPlacedThen, code_then, count_then, is_again, is_kept, lines_again, lines_before, lines_then}
+use Rattle.chip_asm.specs.inner.Recode.{has_code, is_encoded_again, is_placed_at}
+use Rattle.chip_asm.specs.inner.Recoding.{AreWritten, HasCodeAt, IsAnew, IsRecoding, again_up_to, code_then, count_then, is_again, is_kept, lines_before, lines_then}
 use Rattle.chip_asm.specs.inner.Records.{lines_after, place_before, reading_in}
-use Rattle.chip_asm.proofs.CodeSteps.{byte-more, count-numbered, count_by-take, faults-more}
-use Rattle.chip_asm.proofs.ImageSteps.{same-bytes}
-use Rattle.chip_asm.proofs.LinesAfter.{Stood, info-at, length-lines_after, length-readings_after, line-at, read-at, stood, stood-at}
+use Rattle.chip_asm.proofs.CodeSteps.{byte-more, count-numbered, count_by-take, length-faults}
+use Rattle.chip_asm.proofs.LinesAfter.{Stood, info-at, length-lines_after, length-readings_after, line-at, read-at, stood}
 use Rattle.chip_asm.proofs.LinesByPlace.{AtPlace, at-place}
-use Rattle.chip_asm.proofs.Placing.{length-numbered}
 use Rattle.chip_asm.proofs.Resumed.{length-laid}
 
 -- where the line stood there was one
@@ -54,10 +49,6 @@ placed-then r k place q there = at-place (lines_then r) r.new.now k.new place q 
 pub placed-before : (r : Recoding) → IsRecoding r → (before : ℕ) (p : Placement) → slice_get r.old.now.placements.items before ≡ Some p → AtPlace (lines_before r) before p
 placed-before r k before p there = at-place (lines_before r) r.old.now k.old before p there
 
--- there is one line at a place
-pub same-placed : (lines : List Reading) (place : ℕ) (q : Placement) (a : AtPlace lines place q) (x : Placed) → slice_get (reverse (placed lines)) place ≡ Some x → a.x ≡ x
-same-placed lines place q a x at = same_Some a.x x (sym a.at ∙ at)
-
 -- what the line kept there says
 pub kept-line : (r : Recoding) (place : ℕ) (q : Placement) (a : AtPlace (lines_then r) place q) (kept : KeptLine) → slice_get (lines_after r.lines.now r.edit.now) place ≡ Some kept → reading_in kept ≡ a.x.line
 kept-line r place q a kept there = read-at (lines_after r.lines.now r.edit.now) place kept a.x.line there a.line
@@ -67,9 +58,9 @@ kept-info r k place kept there =
     info-at r.names.now.keys (lines_after r.lines.now r.edit.now) place kept (reading_in kept) k.infos there (line-at (lines_after r.lines.now r.edit.now) place kept there)
 
 -- the code of the line there is that of what is kept
-pub code-kept : (r : Recoding) → IsRecoding r → (place : ℕ) (q : Placement) (a : AtPlace (lines_then r) place q) (kept : KeptLine) → slice_get (lines_after r.lines.now r.edit.now) place ≡ Some kept
-    → own_bytes (body_of (reading_in kept)) (values_of r.names.now.symbols) ≡ code_then r a.x
-code-kept r k place q a kept there =
+pub code-then : (r : Recoding) → IsRecoding r → (place : ℕ) (q : Placement) (a : AtPlace (lines_then r) place q) (kept : KeptLine) → slice_get (lines_after r.lines.now r.edit.now) place ≡ Some kept
+    → code_kept r.names.now kept ≡ code_then r a.x
+code-then r k place q a kept there =
     ap (λ line. own_bytes (body_of line) (values_of r.names.now.symbols)) (kept-line r place q a kept there)
     ∙ ap (λ names. own_bytes (body_of a.x.line) (values_of names)) k.symbols
 
@@ -92,44 +83,8 @@ agree-kept r k line =
     ap (λ names. agree_on (values_of names) (values_of r.names.now.symbols) line) k.before
     ∙ ap (λ names. agree_on (values_of (names_of_lines (lines_before r))) (values_of names) line) k.symbols
 
-abbrev pub SameCode : Type 0
-SameCode = (line : Reading) (S T : Symbols) → agree_on S T line ≡ true → code_of line S ≡ code_of line T
-
--- a line that keeps its code was accepted, with the same code
-pub record Carried (r : Recoding) (place before : ℕ) (p : Placement) : Type 0 where
-  pub was : slice_get r.old.now.placements.items before ≡ Some p
-  pub b : AtPlace (lines_before r) before p
-  pub accepted : is_placed p ≡ true
-  pub code : (x : Placed) → IsPlacedThen r place x → code_under (placed (lines_before r)) b.x ≡ code_then r x
-  pub long : vec_len r.codes.now.image ≡ IMAGE_BYTES
-
-pub was-at : (r : Recoding) → IsRecoding r → (place before : ℕ) (p : Placement) → place < count_then r → place_before r.edit.now place ≡ Some before → p ≡ get_or r.old.now.placements.items before p
-    → slice_get r.old.now.placements.items before ≡ Some p
-was-at r k place before p inside origin is =
-    slice_get_read r.old.now.placements.items _ before p refl (let h = before-at r k place before inside origin in let n = long-before r k in omega arith) is
-
-pub carried : SameCode → (r : Recoding) → IsRecoding r → (place before : ℕ) (q p : Placement) → slice_get r.new.now.placements.items place ≡ Some q → place_before r.edit.now place ≡ Some before
-    → p ≡ get_or r.old.now.placements.items before p → ((line : Reading) → slice_get (lines_then r) place ≡ Some line → is_kept r (place, line) ≡ true) → Carried r place before p
-carried law r k place before q p now origin is kept =
-    let inside : place < count_then r = inside-then r k place q now in
-    let was : slice_get r.old.now.placements.items before ≡ Some p = was-at r k place before p inside origin is in
-    let a : AtPlace (lines_then r) place q = placed-then r k place q now in
-    let b : AtPlace (lines_before r) before p = placed-before r k before p was in
-    let both : (is_placed p ≡ true) × (agree_on (values_of (names_of_lines (lines_before r))) (values_of (names_of_lines (lines_then r))) a.x.line ≡ true)
-    = and_parts _ _ (sym (kept-is r k place before p a.x.line origin was) ∙ kept a.x.line a.line) in
-    let stood_there : slice_get (lines_before r) before ≡ Some a.x.line = stood-at r.lines.now r.edit.now place before a.x.line k.within inside origin a.line in
-    let line : b.x.line ≡ a.x.line = same_Some b.x.line a.x.line (sym b.line ∙ stood_there) in
-    record {
-      was = was;
-      b = b;
-      accepted = both.0;
-      code = λ x at.
-          ap (λ line. own_bytes (body_of line) (values_of (names_of_lines (lines_before r)))) line
-          ∙ same-bytes a.x.line (values_of (names_of_lines (lines_before r))) (values_of (names_of_lines (lines_then r)))
-          (law a.x.line (values_of (names_of_lines (lines_before r))) (values_of (names_of_lines (lines_then r))) both.1)
-          ∙ ap (code_then r) (same-placed (lines_then r) place q a x at);
-      long = k.codes.long (let h = before-at r k place before inside origin in omega (arith, length-map r.lines.now reading_in));
-    }
+pub was-at : (r : Recoding) → IsRecoding r → (before : ℕ) (p : Placement) → before < length r.lines.now → p ≡ get_or r.old.now.placements.items before p → slice_get r.old.now.placements.items before ≡ Some p
+was-at r k before p inside is = slice_get_read r.old.now.placements.items _ before p refl (let n = long-before r k in omega arith) is
 
 -- what is kept of a line that stood somewhere
 pub stood-kept : (r : Recoding) → IsRecoding r → (place before : ℕ) (d : KeptLine) → place < count_then r → place_before r.edit.now place ≡ Some before
@@ -156,82 +111,50 @@ again-is r k place q line there coded accepted kept =
     = ap (λ ps. option_map_or is_placed (slice_get ps place) false) (sym k.new.placements) ∙ ap (λ o. option_map_or is_placed o false) there ∙ accepted in
     rw (coded, placed_there, kept) refl
 
--- what is found of a line that was read
-
 pub now-at : (r : Recoding) → IsRecoding r → (place : ℕ) (q : Placement) → place < count_then r → q ≡ get_or r.new.now.placements.items place q → slice_get r.new.now.placements.items place ≡ Some q
 now-at r k place q inside is = slice_get_read r.new.now.placements.items _ place q refl (let n = long-then r k in omega arith) is
 
--- one line more is written
+-- no fewer lines are encoded up to a later place
+pub again-later : (r : Recoding) (place stop : ℕ) → place ≤ stop → again_up_to r place ≤ again_up_to r stop
+again-later r place stop h =
+    let few = count_by-take (is_again r) (take stop (enumerate_from 0 (lines_then r))) place in
+    let same : again_up_to r place ≤ again_up_to r stop = rw (take-take place stop (enumerate_from 0 (lines_then r)) h) at few in
+    same
 
-some-within : {X : Type 0} (xs : List X) (n : ℕ) → n < length xs → is_some (slice_get xs n) ≡ true
-some-within [] n h = absurd (omega arith)
-some-within (x ∷ xs) zero h = refl
-some-within (x ∷ xs) (suc n) h = some-within xs n (omega arith)
-
--- there is a line at a place
-pub record LineThen (r : Recoding) (place : ℕ) : Type 0 where
-  pub x : Placed
-  pub at : IsPlacedThen r place x
-
-pub line-then : (r : Recoding) → IsRecoding r → (place : ℕ) → place < count_then r → LineThen r place
-line-then r known place inside = by (slice_get (reverse (placed (lines_then r))) place) refl
+-- a line that doesn't keep its code is encoded again, if it has one and is accepted
+pub again-more : (r : Recoding) → IsRecoding r → (place : ℕ) (q : Placement) (kept : KeptLine) → slice_get r.new.now.placements.items place ≡ Some q
+    → slice_get (lines_after r.lines.now r.edit.now) place ≡ Some kept → IsAnew r place → (before now : ℕ) → now ≤ before + cond (is_coded kept q) 1 0 → now + again_up_to r place ≤ before + again_up_to r (place + 1)
+again-more r known place q kept there here anew before now few = by (is_placed q) (has_code (body_of (reading_in kept))) refl refl few
   where
-    by : (o : Option Placed) → slice_get (reverse (placed (lines_then r))) place ≡ o → LineThen r place
-    by None e =
-        absurd (let bad : false ≡ true = ap is_some (sym e) ∙ some-within (reverse (placed (lines_then r))) place
-        (let n = length-readings_after r.lines.now r.edit.now known.within in omega (arith, length-numbered (lines_then r))) in cc)
-    by (Some x) e = record { x = x; at = e }
+    at : slice_get (lines_then r) place ≡ Some (reading_in kept)
+    at = line-at (lines_after r.lines.now r.edit.now) place kept here
 
-pub bytes-more : (r : Recoding) → IsRecoding r → (place : ℕ) → place < count_then r → (old new : List ℕ) → ((k : ℕ) → k < IMAGE_BYTES → IsByte (lines_then r) r.new.now.placements.items place k (get_or old k 0))
-    → ((q : Placement) (k : ℕ) → slice_get r.new.now.placements.items place ≡ Some q → covers_byte q k ≡ true → get_or old k 0 ≡ 0 → get_or new k 0 ≡ right_byte (lines_then r) k)
-    → ((q : Placement) (k : ℕ) → slice_get r.new.now.placements.items place ≡ Some q → covers_byte q k ≡ false → get_or new k 0 ≡ get_or old k 0)
-    → (k : ℕ) → k < IMAGE_BYTES → IsByte (lines_then r) r.new.now.placements.items (place + 1) k (get_or new k 0)
-bytes-more r known place inside old new so_far right others k h = by (slice_get r.new.now.placements.items place) refl
-  where
-    by : (o : Option Placement) → slice_get r.new.now.placements.items place ≡ o → IsByte (lines_then r) r.new.now.placements.items (place + 1) k (get_or new k 0)
-    by None e = absurd (let bad : false ≡ true = ap is_some (sym e) ∙ some-within r.new.now.placements.items place (let n = long-then r known in omega arith) in cc)
-    by (Some q) e =
-        byte-more (lines_then r) r.new.now known.new place q k (get_or old k 0) (get_or new k 0) e (so_far k h) (λ covered zero_now. right q k e covered zero_now) (λ apart. others q k e apart)
+    by : (p b : Bool) → is_placed q ≡ p → has_code (body_of (reading_in kept)) ≡ b → now ≤ before + cond (p && b) 1 0 → now + again_up_to r place ≤ before + again_up_to r (place + 1)
+    by true true accepted coded h =
+        let again : is_again r (place, reading_in kept) ≡ true
+        = again-is r known place q (reading_in kept) there coded accepted (anew q (reading_in kept) there at accepted) in
+        let next : again_up_to r (place + 1) ≡ again_up_to r place + 1
+        = count-numbered (is_again r) (lines_then r) place (reading_in kept) at ∙ ap (λ b. again_up_to r place + cond b 1 0) again in
+        omega arith
+    by true false accepted coded h = omega (arith, again-later r place (place + 1) (omega arith))
+    by false b accepted coded h = omega (arith, again-later r place (place + 1) (omega arith))
 
 -- the codes after one line more
-pub written-more : (r : Recoding) → IsRecoding r → (place : ℕ) → place < count_then r → (old new : Codes) (fault : Option Fault) (image : List ℕ) → AreWritten r old place → vec_len new.image ≡ IMAGE_BYTES
-    → new.image.items ≡ image → new.faults.items ≡ old.faults.items ++ fault ∷ [] → IsCounted new → ((x : Placed) → IsPlacedThen r place x → fault ≡ fault_of (placed (lines_then r)) x)
-    → ((q : Placement) (k : ℕ) → slice_get r.new.now.placements.items place ≡ Some q → covers_byte q k ≡ true → get_or old.image.items k 0 ≡ 0 → get_or image k 0 ≡ right_byte (lines_then r) k)
-    → ((q : Placement) (k : ℕ) → slice_get r.new.now.placements.items place ≡ Some q → covers_byte q k ≡ false → get_or image k 0 ≡ get_or old.image.items k 0) → AreWritten r new (place + 1)
-written-more r known place inside old new fault image so_far long written pushed counts is right others =
-    let line : LineThen r place = line-then r known place inside in
+pub written-more : (r : Recoding) → IsRecoding r → (place : ℕ) (q : Placement) (bytes : List ℕ) (fault : Option Fault) → HasCodeAt (lines_then r) r.new.now.placements.items place q bytes fault
+    → (old new : Codes) → AreWritten r old place → IsWritten q bytes old.image.items new.image.items → vec_len new.image ≡ vec_len old.image → new.faults.items ≡ set old.faults.items place fault → new.count ≡ old.count + count_of fault → AreWritten r new (place + 1)
+written-more r known place q bytes fault has old new so_far written long faults count =
+    let inside : place < count_then r = inside-then r known place q has.there in
+    let many = length-faults (lines_then r) in
+    let lines = length-readings_after r.lines.now r.edit.now known.within in
+    let old_many = so_far.many in
+    let taken : take (place + 1) new.faults.items ≡ take place old.faults.items ++ fault ∷ [] = ap (take (place + 1)) faults ∙ take_more_set old.faults.items place fault (omega (arith, old.faults.ok.0)) in
     record {
-      long = long;
-      bytes = λ k h. subst (λ bytes. IsByte (lines_then r) r.new.now.placements.items (place + 1) k (get_or bytes k 0)) (sym written) (bytes-more r known place inside old.image.items image so_far.bytes right others k h);
-      faults = pushed ∙ ap (λ fs. fs ++ fault ∷ []) so_far.faults ∙ sym (faults-more (lines_then r) place line.x fault line.at (is line.x line.at));
-      counted = counts;
+      long = long ∙ so_far.long;
+      bytes = λ k h. byte-more (lines_then r) r.new.now known.new place q k _ _ has.there (so_far.bytes k h)
+          (λ c zero_now. written k ∙ ap (λ b. cond b (get_or bytes (IMAGE_START + k - q.here) 0) (get_or old.image.items k 0)) c ∙ sym (has.byte k c))
+          (λ c. written k ∙ ap (λ b. cond b (get_or bytes (IMAGE_START + k - q.here) 0) (get_or old.image.items k 0)) c);
+      many = (omega (arith, ap length faults, length-set old.faults.items place fault, new.faults.ok.0, old.faults.ok.0));
+      faults = taken ∙ ap (λ fs. fs ++ fault ∷ []) so_far.faults
+          ∙ ap (λ f. take place (line_faults (lines_then r)) ++ f ∷ []) (sym has.faulty) ∙ sym (take_more (line_faults (lines_then r)) place None (omega arith));
+      counted = count ∙ ap (λ n. n + count_of fault) so_far.counted ∙ sym (sum_by_push count_of (take place old.faults.items) fault) ∙ ap (sum_by count_of) (sym taken);
     }
-
--- how many lines are encoded up to the next place
-pub counted : (r : Recoding) → IsRecoding r → (place : ℕ) → place < count_then r → (start before now : ℕ) → before ≤ start + count_up_to (lines_before r) (lines_then r) (place_before r.edit.now) place
-    → ((line : Reading) → slice_get (lines_then r) place ≡ Some line → now ≤ before + cond (is_again r (place, line)) 1 0)
-    → (now ≤ start + count_up_to (lines_before r) (lines_then r) (place_before r.edit.now) (place + 1)) × (now ≤ start + lines_again r)
-counted r known place inside start before now so_far more =
-    let line : Reading = get_or (lines_then r) place (bad UnclosedIf) in
-    let at : slice_get (lines_then r) place ≡ Some line
-    = slice_get-get_or (lines_then r) place (bad UnclosedIf) (let n = length-readings_after r.lines.now r.edit.now known.within in omega arith) in
-    let step : now ≤ before + cond (is_encoded_again (lines_before r) (lines_then r) (place_before r.edit.now) (place, line)) 1 0 = more line at in
-    let next = count-numbered (is_encoded_again (lines_before r) (lines_then r) (place_before r.edit.now)) (lines_then r) place line at in
-    let whole = count_by-take (is_encoded_again (lines_before r) (lines_then r) (place_before r.edit.now)) (enumerate_from 0 (lines_then r)) (place + 1) in
-    (omega arith, omega arith)
-
--- a line that is accepted and doesn't keep its code is encoded again, if it has one
-pub encoded-anew : (r : Recoding) → IsRecoding r → (place : ℕ) (q : Placement) (kept : KeptLine) (line : Reading) → slice_get r.new.now.placements.items place ≡ Some q
-    → slice_get (lines_after r.lines.now r.edit.now) place ≡ Some kept → slice_get (lines_then r) place ≡ Some line → is_placed q ≡ true → IsAnew r place
-    → (before now : ℕ) → now ≤ before + cond (has_code (body_of (reading_in kept))) 1 0 → now ≤ before + cond (is_again r (place, line)) 1 0
-encoded-anew r known place q kept line there here at accepted anew before now few = by (has_code (body_of (reading_in kept))) refl few
-  where
-    read : reading_in kept ≡ line
-    read = read-at (lines_after r.lines.now r.edit.now) place kept line here at
-
-    by : (b : Bool) → has_code (body_of (reading_in kept)) ≡ b → now ≤ before + cond b 1 0 → now ≤ before + cond (is_again r (place, line)) 1 0
-    by true e h =
-        let again : is_again r (place, line) ≡ true
-        = again-is r known place q line there (ap (λ (l : Reading). has_code (body_of l)) (sym read) ∙ e) accepted (anew q line there at accepted) in
-        rw again h
-    by false e h = omega arith

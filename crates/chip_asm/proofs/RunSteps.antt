@@ -1,17 +1,20 @@
 -- Lines that keep their codes and stand as they stood, one after another: their bytes are copied
 -- together, and so are their faults.
-use Rattle.std.proofs.Common.{◌≡◌, ℕ, suc, zero, ◌+◌, ◌-◌, ◌<◌, ◌≤◌, Bool, true, false, eqb, leb, ltb, ◌&&◌, List, [], ◌++◌, length, take, drop, get_or, slice_get, refl, ap, sym, subst, ◌∙◌, arith, ◌⊎◌, inl, inr, Some, None, Option, vec_len}
+use Rattle.std.proofs.Common.{◌≡◌, ℕ, append_assoc, suc, zero, ◌+◌, ◌-◌, ◌%◌, ◌<◌, ◌≤◌, Bool, true, false, eqb, leb, ltb, ◌&&◌, List, [], ◌++◌, length, take, drop, get_or, slice_get, refl, ap, sym, subst, ◌∙◌, arith, ◌⊎◌, inl, inr, Some, None, Option, vec_len, nat_eq, eq-eqb, pos}
+use Rattle.std.proofs.lemmas.List.Sums.{sum_by-append}
 use Rattle.std.proofs.Math.Seq.{take-add}
-use Rattle.std.proofs.lemmas.Bool.{and_from, cases_lt, eqb-false, eqb-true, false_from_ne_true}
+use Rattle.std.proofs.lemmas.Bool.{and_parts, cases_lt, eqb-false, eqb-true, false_from_ne_true}
 use Rattle.std.proofs.lemmas.Bool.Decides.{nat_tests}
-use Rattle.std.proofs.lemmas.List.{ext_get_or, get_or-append_right, get_or_append_left, get_or-drop, get_or-take, get_or_past, length-drop, length-map, length-take-le, take-take}
+use Rattle.std.proofs.lemmas.List.{ext_get_or, get_or-drop, get_or-take, get_or_past, length-append, length-drop, length-map, length-take-le, take_at}
 use Rattle.std.proofs.lemmas.Option.{get_or_from_slice_get, same_Some, slice_get-get_or}
 use Rattle.std.specs.Prelude.{min}
-use Rattle.std.specs.List.{enumerate_from}
 use Rattle.chip_lang.specs.declared.fault.Fault.{Fault}
 use Rattle.chip_lang.specs.declared.limits.TheConstants.{IMAGE_BYTES, IMAGE_START, MEMORY_BYTES}
 use Rattle.chip_lang.specs.Line.{Reading}
+use Rattle.chip_lang.specs.Code.{code_of, own_bytes}
 use Rattle.chip_lang.specs.Uses.{agree_on}
+use Rattle.chip_lang.specs.Value.{Symbols}
+use Rattle.chip_asm.specs.Layout.{body_of}
 use Rattle.chip_asm.specs.Names.{values_of}
 use Rattle.chip_asm.specs.Program.{bytes_in_code, code_under, fault_in_code, names_of_lines}
 use Rattle.chip_asm.specs.computed.Walk.{placed}
@@ -19,39 +22,23 @@ use Rattle.chip_asm.specs.declared.codes.Codes.{Codes}
 use Rattle.chip_asm.specs.declared.layout.Layout.{Layout}
 use Rattle.chip_asm.specs.declared.placement.Placement.{Placement}
 use Rattle.chip_asm.specs.declared.recoding.Recoding.{Recoding}
-use Rattle.chip_asm.specs.inner.Codes.{IsByte, IsCounted, Waits, covers_byte, line_faults, right_byte}
+use Rattle.chip_asm.specs.inner.Codes.{IsByte, Waits, count_of, covers_byte, line_faults, right_byte}
 use Rattle.chip_asm.specs.inner.Layouts.{IsLayoutOf}
 use Rattle.chip_asm.specs.inner.Placements.{is_placed}
-use Rattle.chip_asm.specs.inner.Recode.{count_up_to, is_encoded_again}
-use Rattle.chip_asm.specs.inner.Recoding.{AreWritten, HasCodeAt, IsCarried, IsRecoding, IsRun, again_up_to, count_then, lines_before, lines_then}
+use Rattle.chip_asm.specs.inner.KeptLine.{KeptLine}
+use Rattle.chip_asm.specs.inner.Recoding.{AreWritten, HasCodeAt, IsAnew, IsCarried, IsRecoding, IsRun, count_then, lines_before, lines_then, shift_of}
 use Rattle.chip_asm.specs.inner.Records.{IsStretch, place_before, reading_in}
 use Rattle.chip_asm.specs.inner.Resume.{first_changed}
-use Rattle.chip_asm.proofs.CodeSteps.{count_by-take, fault-at, length-faults}
-use Rattle.chip_asm.proofs.LinesAfter.{length-readings_after, origin, stretch-back, stretch-front}
+use Rattle.chip_asm.proofs.CodeSteps.{accepted-has, count_faults, length-faults, refused-has}
+use Rattle.chip_asm.proofs.ImageSteps.{around, inserted, same-bytes}
+use Rattle.chip_asm.proofs.LinesAfter.{length-readings_after, origin, stood-at, stretch-back, stretch-front}
 use Rattle.chip_asm.proofs.NameValues.{all-agree}
-use Rattle.chip_asm.proofs.LinesByPlace.{AtPlace, accepted-fault, byte-line, byte-nowhere, bytes-fit, covered-parts, high, lines-ordered, low, refused-byte, refused-fault}
-use Rattle.chip_asm.proofs.RecodingSteps.{Carried, SameCode, agree-kept, before-at, carried, kept-is, long-before, long-then, now-at, placed-before, placed-then}
+use Rattle.chip_asm.proofs.LinesByPlace.{AtPlace, byte-nowhere, covered-parts, high, lines-ordered, low}
+use Rattle.chip_asm.proofs.RecodingSteps.{agree-kept, agree-stood, before-at, inside-then, kept-is, long-before, long-then, placed-before, placed-then}
 use Rattle.chip_asm.proofs.RelayoutSteps.{Begun, begun, begun-alike}
 
--- the code of a line
-
-accepted-has : (lines : List Reading) (layout : Layout) (n : ℕ) (q : Placement) → slice_get layout.placements.items n ≡ Some q → (a : AtPlace lines n q) → is_placed q ≡ true
-    → HasCodeAt lines layout.placements.items n q (bytes_in_code (code_under (placed lines) a.x)) (fault_in_code (code_under (placed lines) a.x))
-accepted-has lines layout n q there a accepted = record {
-  there = there;
-  fits = bytes-fit lines n q a accepted;
-  byte = λ k c. byte-line lines n q a (IMAGE_START + k) c;
-  faulty = fault-at lines n a.x None a.at ∙ accepted-fault lines n q a accepted;
-}
-
-refused-has : (lines : List Reading) (layout : Layout) (n : ℕ) (q : Placement) → slice_get layout.placements.items n ≡ Some q → (a : AtPlace lines n q) → is_placed q ≡ false
-    → HasCodeAt lines layout.placements.items n q [] q.fault
-refused-has lines layout n q there a refused = record {
-  there = there;
-  fits = omega arith;
-  byte = λ k c. refused-byte lines n q a (IMAGE_START + k) c refused;
-  faulty = fault-at lines n a.x None a.at ∙ sym (refused-fault lines n q a refused);
-}
+abbrev pub SameCode : Type 0
+SameCode = (line : Reading) (S T : Symbols) → agree_on S T line ≡ true → code_of line S ≡ code_of line T
 
 -- an accepted line whose names keep their values keeps its code
 pub keeps : SameCode → (r : Recoding) → IsRecoding r → (place before : ℕ) (q p : Placement) → slice_get r.new.now.placements.items place ≡ Some q → slice_get r.old.now.placements.items before ≡ Some p
@@ -60,17 +47,20 @@ pub keeps : SameCode → (r : Recoding) → IsRecoding r → (place before : ℕ
     → (to from : ℕ) → q.here + from ≡ p.here + to → IsCarried r place before to from
 keeps law r known place before q p now was origin taken taken_then agree to from moved =
     let a : AtPlace (lines_then r) place q = placed-then r known place q now in
-    let t : Carried r place before p
-    = carried law r known place before q p now origin (sym (get_or_from_slice_get r.old.now.placements.items before p p was))
-    (λ line at. kept-is r known place before p line origin was ∙ and_from _ _ taken_then (agree line at)) in
+    let b : AtPlace (lines_before r) before p = placed-before r known before p was in
+    let S : Symbols = values_of (names_of_lines (lines_before r)) in
+    let T : Symbols = values_of (names_of_lines (lines_then r)) in
+    let line : b.x.line ≡ a.x.line = same_Some b.x.line a.x.line (sym b.line ∙ stood-at r.lines.now r.edit.now place before a.x.line known.within (inside-then r known place q now) origin a.line) in
+    let code : code_under (placed (lines_before r)) b.x ≡ code_under (placed (lines_then r)) a.x
+    = ap (λ line. own_bytes (body_of line) S) line ∙ same-bytes a.x.line S T (law a.x.line S T (agree a.x.line a.line)) in
     record {
       q = q;
       p = p;
       bytes = bytes_in_code (code_under (placed (lines_then r)) a.x);
       fault = fault_in_code (code_under (placed (lines_then r)) a.x);
       now = accepted-has (lines_then r) r.new.now place q now a taken;
-      was = subst (λ code. HasCodeAt (lines_before r) r.old.now.placements.items before p (bytes_in_code code) (fault_in_code code)) (t.code a.x a.at)
-          (accepted-has (lines_before r) r.old.now before p was t.b t.accepted);
+      was = subst (λ code. HasCodeAt (lines_before r) r.old.now.placements.items before p (bytes_in_code code) (fault_in_code code)) code
+          (accepted-has (lines_before r) r.old.now before p was b taken_then);
       moved = moved;
     }
 
@@ -332,34 +322,6 @@ block-byte r known place start end b k old new is inside outside = record {
         low_start : IMAGE_START ≤ b.first.p.here
         low_start = low (lines_before r) start b.first.p (placed-before r known start b.first.p b.first.was.there)
 
--- the first and the last line of a run, as they are read
-pub record Ends (r : Recoding) (place start end : ℕ) (run : IsRun r place start end) (now was last_now last_was : Placement) : Type 0 where
-  pub first : IsCarried r place start run.to run.from
-  pub last : IsCarried r (place + (end - start) - 1) (end - 1) run.to run.from
-  pub first_now : first.q ≡ now
-  pub first_was : first.p ≡ was
-  pub ends_now : last.q ≡ last_now
-  pub ends_was : last.p ≡ last_was
-
-read-is : (placements : List Placement) (n : ℕ) (q now : Placement) → slice_get placements n ≡ Some q → now ≡ get_or placements n now → q ≡ now
-read-is placements n q now there is = sym (is ∙ get_or_from_slice_get placements n q now there)
-
-pub ends : (r : Recoding) (place start end : ℕ) (run : IsRun r place start end) → start < end → (now was last_now last_was : Placement)
-    → now ≡ get_or r.new.now.placements.items place now → was ≡ get_or r.old.now.placements.items start was
-    → last_now ≡ get_or r.new.now.placements.items (place + (end - start) - 1) last_now → last_was ≡ get_or r.old.now.placements.items (end - 1) last_was
-    → Ends r place start end run now was last_now last_was
-ends r place start end run some now was last_now last_was a b c d =
-    let first : IsCarried r place start run.to run.from = run.each place start (omega arith) (omega arith) some in
-    let last : IsCarried r (place + (end - start) - 1) (end - 1) run.to run.from = run.each (place + (end - start) - 1) (end - 1) (omega arith) (omega arith) (omega arith) in
-    record {
-      first = first;
-      last = last;
-      first_now = read-is r.new.now.placements.items place first.q now first.now.there a;
-      first_was = read-is r.old.now.placements.items start first.p was first.was.there b;
-      ends_now = read-is r.new.now.placements.items (place + (end - start) - 1) last.q last_now last.now.there c;
-      ends_was = read-is r.old.now.placements.items (end - 1) last.p last_was last.was.there d;
-    }
-
 -- what is copied of it: no more than the lines took before, and than they take now
 pub record Copied (r : Recoding) (place start end : ℕ) (now was : Placement) (count : ℕ) : Type 0 where
   pub b : Block r place start end
@@ -373,15 +335,16 @@ pub record Copied (r : Recoding) (place start end : ℕ) (now was : Placement) (
   pub high_was : was.here + count ≤ MEMORY_BYTES
   pub long : vec_len r.codes.now.image ≡ IMAGE_BYTES
 
-pub copied : (r : Recoding) → IsRecoding r → (place start end : ℕ) (run : IsRun r place start end) → start < end → (now was last_now last_was : Placement) → Ends r place start end run now was last_now last_was
+pub copied : (r : Recoding) → IsRecoding r → (place start end : ℕ) (run : IsRun r place start end) → start < end → (now was last_now last_was : Placement) → now ≡ get_or r.new.now.placements.items place now
+    → was ≡ get_or r.old.now.placements.items start was → last_now ≡ get_or r.new.now.placements.items (place + (end - start) - 1) last_now → last_was ≡ get_or r.old.now.placements.items (end - 1) last_was
     → (old_bytes new_bytes count : ℕ) → was.here + old_bytes ≡ last_was.here + last_was.size → now.here + new_bytes ≡ last_now.here + last_now.size → count ≡ min old_bytes new_bytes → Copied r place start end now was count
-copied r known place start end run some now was last_now last_was t old_bytes new_bytes count old new least =
-    let here : t.first.q.here ≡ now.here = ap (λ (x : Placement). x.here) t.first_now in
-    let stood : t.first.p.here ≡ was.here = ap (λ (x : Placement). x.here) t.first_was in
-    let end_now : t.last.q.here + t.last.q.size ≡ last_now.here + last_now.size = ap (λ (x : Placement). x.here + x.size) t.ends_now in
-    let end_was : t.last.p.here + t.last.p.size ≡ last_was.here + last_was.size = ap (λ (x : Placement). x.here + x.size) t.ends_was in
-    let top_now = high (lines_then r) (place + (end - start) - 1) t.last.q (placed-then r known (place + (end - start) - 1) t.last.q t.last.now.there) in
-    let top_was = high (lines_before r) (end - 1) t.last.p (placed-before r known (end - 1) t.last.p t.last.was.there) in
+copied r known place start end run some now was last_now last_was a b c d old_bytes new_bytes count old new least =
+    let here : first.q.here ≡ now.here = ap (λ (x : Placement). x.here) first_now in
+    let stood : first.p.here ≡ was.here = ap (λ (x : Placement). x.here) first_was in
+    let end_now : last.q.here + last.q.size ≡ last_now.here + last_now.size = ap (λ (x : Placement). x.here + x.size) ends_now in
+    let end_was : last.p.here + last.p.size ≡ last_was.here + last_was.size = ap (λ (x : Placement). x.here + x.size) ends_was in
+    let top_now = high (lines_then r) (place + (end - start) - 1) last.q (placed-then r known (place + (end - start) - 1) last.q last.now.there) in
+    let top_was = high (lines_before r) (end - 1) last.p (placed-before r known (end - 1) last.p last.was.there) in
     record {
       b = record {
         run = run;
@@ -392,27 +355,48 @@ copied r known place start end run some now was last_now last_was t old_bytes ne
         stops = omega arith;
         ends_now = omega arith;
         ends_was = omega arith;
-        first = t.first;
-        last = t.last;
+        first = first;
+        last = last;
         count = count;
         within_now = omega arith;
         within_was = omega arith;
         whole = either (cases_lt old_bytes new_bytes) here stood end_now end_was;
       };
       stop = refl;
-      first_now = t.first_now;
-      first_was = t.first_was;
+      first_now = first_now;
+      first_was = first_was;
       counts = refl;
-      low_now = (let bottom = low (lines_then r) place t.first.q (placed-then r known place t.first.q t.first.now.there) in omega (arith, bottom, here));
+      low_now = (let bottom = low (lines_then r) place first.q (placed-then r known place first.q first.now.there) in omega (arith, bottom, here));
       high_now = omega arith;
-      low_was = (let bottom = low (lines_before r) start t.first.p (placed-before r known start t.first.p t.first.was.there) in omega (arith, bottom, stood));
+      low_was = (let bottom = low (lines_before r) start first.p (placed-before r known start first.p first.was.there) in omega (arith, bottom, stood));
       high_was = omega arith;
       long = known.codes.long (omega (arith, some, run.inside, length-map r.lines.now reading_in));
     }
   where
-    either : (old_bytes < new_bytes) ⊎ (new_bytes ≤ old_bytes) → t.first.q.here ≡ now.here → t.first.p.here ≡ was.here → t.last.q.here + t.last.q.size ≡ last_now.here + last_now.size
-        → t.last.p.here + t.last.p.size ≡ last_was.here + last_was.size
-        → (t.first.q.here + count ≡ t.last.q.here + t.last.q.size) ⊎ (t.first.p.here + count ≡ t.last.p.here + t.last.p.size)
+    read-is : (placements : List Placement) (n : ℕ) (q now : Placement) → slice_get placements n ≡ Some q → now ≡ get_or placements n now → q ≡ now
+    read-is placements n q now there is = sym (is ∙ get_or_from_slice_get placements n q now there)
+
+    first : IsCarried r place start run.to run.from
+    first = run.each place start (omega arith) (omega arith) some
+
+    last : IsCarried r (place + (end - start) - 1) (end - 1) run.to run.from
+    last = run.each (place + (end - start) - 1) (end - 1) (omega arith) (omega arith) (omega arith)
+
+    first_now : first.q ≡ now
+    first_now = read-is r.new.now.placements.items place first.q now first.now.there a
+
+    first_was : first.p ≡ was
+    first_was = read-is r.old.now.placements.items start first.p was first.was.there b
+
+    ends_now : last.q ≡ last_now
+    ends_now = read-is r.new.now.placements.items (place + (end - start) - 1) last.q last_now last.now.there c
+
+    ends_was : last.p ≡ last_was
+    ends_was = read-is r.old.now.placements.items (end - 1) last.p last_was last.was.there d
+
+    either : (old_bytes < new_bytes) ⊎ (new_bytes ≤ old_bytes) → first.q.here ≡ now.here → first.p.here ≡ was.here → last.q.here + last.q.size ≡ last_now.here + last_now.size
+        → last.p.here + last.p.size ≡ last_was.here + last_was.size
+        → (first.q.here + count ≡ last.q.here + last.q.size) ⊎ (first.p.here + count ≡ last.p.here + last.p.size)
     either (inl h) here stood end_now end_was = inr (omega arith)
     either (inr h) here stood end_now end_was = inl (omega arith)
 
@@ -421,22 +405,71 @@ pub rises : (lines : List Reading) (layout : Layout) → IsLayoutOf layout lines
 rises lines layout laid i j p q h inside first second =
     (in-order lines layout laid i j p q h (slice_get-get_or layout.placements.items i p (omega arith) ∙ ap Some (sym first)) (slice_get-get_or layout.placements.items j q inside ∙ ap Some (sym second))).0
 
--- bytes in the middle of others
+-- lines that stay
 
-inserted : (old bytes : List ℕ) (at k : ℕ) → at + length bytes ≤ length old → (at ≤ k) → k < at + length bytes → get_or (take at old ++ (bytes ++ drop (at + length bytes) old)) k 0 ≡ get_or bytes (k - at) 0
-inserted old bytes at k room low high =
-    get_or-append_right (take at old) (bytes ++ drop (at + length bytes) old) at k 0 (length-take-le at old (omega arith)) low
-    ∙ get_or_append_left bytes (drop (at + length bytes) old) 0 (k - at) (omega arith)
+abbrev pub blank : Placement
+blank = record { value = pos 0; number = 0; here = 0; size = 0; fault = None; live = false; is_if = false }
 
-around : (old bytes : List ℕ) (at k : ℕ) → at + length bytes ≤ length old → (k < at) ⊎ (at + length bytes ≤ k) → get_or (take at old ++ (bytes ++ drop (at + length bytes) old)) k 0 ≡ get_or old k 0
-around old bytes at k room (inl before) =
-    get_or_append_left (take at old) (bytes ++ drop (at + length bytes) old) 0 k (omega (arith, length-take-le at old (omega arith))) ∙ get_or-take at old k 0 before
-around old bytes at k room (inr behind) =
-    let back : at + length bytes + (k - at - length bytes) ≡ k = omega arith in
-    get_or-append_right (take at old) (bytes ++ drop (at + length bytes) old) at k 0 (length-take-le at old (omega arith)) (omega arith)
-    ∙ get_or-append_right bytes (drop (at + length bytes) old) (length bytes) (k - at) 0 refl (omega arith)
-    ∙ get_or-drop (at + length bytes) old (k - at - length bytes) 0
-    ∙ ap (λ n. get_or old n 0) back
+-- a line in a part of those that are laid out
+pub part-at : (placements whole : List Placement) (place count index next : ℕ) → whole ≡ placements → next ≡ place + index → index < count → next < length placements
+    → slice_get placements next ≡ Some (get_or (take count (drop place whole)) index blank)
+part-at placements whole place count index next is at below inside =
+    slice_get-get_or placements next blank inside
+    ∙ ap Some (ap (λ n. get_or placements n blank) at ∙ ap (λ l. get_or l (place + index) blank) (sym is) ∙ sym (get_or-take count (drop place whole) index blank below ∙ get_or-drop place whole index blank))
+
+pub part-line : (lines : List KeptLine) (start count index : ℕ) (kept : KeptLine) → kept ≡ get_or (take count (drop start lines)) index kept → index < count → kept ≡ get_or lines (start + index) kept
+part-line lines start count index kept is below = is ∙ get_or-take count (drop start lines) index kept below ∙ get_or-drop start lines index kept
+
+moved-alike : (here stood to from : ℕ) → here ≤ MEMORY_BYTES → stood ≤ MEMORY_BYTES → to ≤ MEMORY_BYTES → from ≤ MEMORY_BYTES
+    → (here + (65536 - stood)) % 65536 ≡ (to + (65536 - from)) % 65536 → here + from ≡ stood + to
+moved-alike here stood to from a b c d e = omega arith
+
+pub top-then : (r : Recoding) → IsRecoding r → (place : ℕ) (q : Placement) → slice_get r.new.now.placements.items place ≡ Some q → q.here ≤ MEMORY_BYTES
+top-then r k place q there = omega (arith, high (lines_then r) place q (placed-then r k place q there))
+
+pub top-before : (r : Recoding) → IsRecoding r → (before : ℕ) (p : Placement) → slice_get r.old.now.placements.items before ≡ Some p → p.here ≤ MEMORY_BYTES
+top-before r k before p there = omega (arith, high (lines_before r) before p (placed-before r k before p there))
+
+-- what is tested of a line
+abbrev pub is_same : Recoding → KeptLine → (was now : Placement) → ℕ → Bool
+is_same r kept was now shift = nat_eq (shift_of was now) shift && is_placed was && is_placed now && agree_on (values_of r.names.now.before) (values_of r.names.now.symbols) (reading_in kept)
+
+pub stays-carried : SameCode → (r : Recoding) → IsRecoding r → (place start : ℕ) (first began : Placement) → slice_get r.new.now.placements.items place ≡ Some first → slice_get r.old.now.placements.items start ≡ Some began
+    → (next before : ℕ) (now was : Placement) (d : KeptLine) → slice_get r.new.now.placements.items next ≡ Some now → slice_get r.old.now.placements.items before ≡ Some was → next < count_then r
+    → place_before r.edit.now next ≡ Some before → is_same r (get_or r.lines.now before d) was now (shift_of began first) ≡ true → IsCarried r next before first.here began.here
+stays-carried law r k place start first began there stood next before now was d now_at was_at inside origin_is same =
+    let all = and_parts _ _ same in
+    let some = and_parts _ _ all.0 in
+    let two = and_parts _ _ some.0 in
+    let moved : now.here + began.here ≡ was.here + first.here
+    = moved-alike now.here was.here first.here began.here (top-then r k next now now_at) (top-before r k before was was_at) (top-then r k place first there) (top-before r k start began stood)
+    (eqb-true (shift_of was now) (shift_of began first) two.0) in
+    keeps law r k next before now was now_at was_at origin_is some.1 two.1 (λ line at. agree-stood r k next before d line true inside origin_is at all.1) first.here began.here moved
+
+without : (a p n b : Bool) → a ≡ true → n ≡ true → (a && p && n && b) ≡ false → (p && b) ≡ false
+without true true true b e f h = h
+without true false true b e f h = refl
+without false p n b e f h = cc
+without a p false b e f h = cc
+
+pub stays-anew : (r : Recoding) → IsRecoding r → (place start : ℕ) (first began : Placement) (d : KeptLine) → slice_get r.new.now.placements.items place ≡ Some first → slice_get r.old.now.placements.items start ≡ Some began
+    → place < count_then r → place_before r.edit.now place ≡ Some start → is_same r (get_or r.lines.now start d) began first (shift_of began first) ≡ false → IsAnew r place
+stays-anew r k place start first began d there stood inside origin_is same q line here at taken =
+    kept-is r k place start began line origin_is stood
+    ∙ ap (λ b. is_placed began && b) (agree-stood r k place start d line _ inside origin_is at refl)
+    ∙ without (nat_eq (shift_of began first) (shift_of began first)) (is_placed began) (is_placed first) _ (eq-eqb (shift_of began first) (shift_of began first) refl) (ap is_placed (same_Some first q (sym there ∙ here)) ∙ taken) same
+
+-- one line more
+pub one-more : (r : Recoding) (place start index to from : ℕ) → ((next before : ℕ) → next + start ≡ place + before → start ≤ before → before < start + index → IsCarried r next before to from)
+    → IsCarried r (place + index) (start + index) to from → (next before : ℕ) → next + start ≡ place + before → start ≤ before → before < start + (index + 1) → IsCarried r next before to from
+one-more r place start index to from each line next before shift low high = by (cases_lt before (start + index))
+  where
+    by : (before < start + index) ⊎ (start + index ≤ before) → IsCarried r next before to from
+    by (inl less) = each next before shift low less
+    by (inr more) =
+        let was : start + index ≡ before = omega arith in
+        let now : place + index ≡ next = omega arith in
+        subst (λ n. IsCarried r n before to from) now (subst (λ b. IsCarried r (place + index) b to from) was line)
 
 -- where a run can begin, and how far it can reach
 
@@ -454,13 +487,11 @@ along r known place start end changed inside origin_is is (inr back) =
 
 -- the first lines stand as they stood
 pub front-run : SameCode → (r : Recoding) → IsRecoding r → r.same_names ≡ true → (place start : ℕ) (q p : Placement) → place < r.first → place_before r.edit.now place ≡ Some start
-    → q ≡ get_or r.new.now.placements.items place q → p ≡ get_or r.old.now.placements.items start p
+    → slice_get r.new.now.placements.items place ≡ Some q → slice_get r.old.now.placements.items start ≡ Some p
     → (start ≡ place) × ((next before : ℕ) → next + start ≡ place + before → before < r.first → IsCarried r next before q.here p.here)
-front-run law r known same place start q p first origin_is now was =
+front-run law r known same place start q p first origin_is there was =
     let here : start ≡ place = (let e : Some start ≡ Some place = sym origin_is ∙ origin r.edit.now place (let m = known.stays in omega arith) in same_Some start place e) in
-    let b : Begun r.lines.now r.edit.now r.first = begun-recoding r known in
-    let there : slice_get r.new.now.placements.items place ≡ Some q = now-at r known place q (omega (arith, first, b.within)) now in
-    let stood : p ≡ q = was ∙ ap (λ n. get_or r.old.now.placements.items n p) here ∙ get_or_from_slice_get r.old.now.placements.items place q p (front-same r known place q first there) in (
+    let stood : p ≡ q = same_Some p q (sym was ∙ ap (slice_get r.old.now.placements.items) here ∙ front-same r known place q first there) in (
       here,
       λ next before shift below.
           (let at : next ≡ before = omega (arith, shift, here) in
@@ -494,30 +525,43 @@ block-faults r known place start end b =
         get_or-take (end - start) (drop start (line_faults (lines_before r))) i None below ∙ get_or-drop start (line_faults (lines_before r)) i None ∙ line.was.faulty
         ∙ sym (get_or-take (end - start) (drop place (line_faults (lines_then r))) i None below ∙ get_or-drop place (line_faults (lines_then r)) i None ∙ line.now.faulty)))
 
--- no fewer lines are encoded up to a later place
-pub again-later : (r : Recoding) (place stop : ℕ) → place ≤ stop → again_up_to r place ≤ again_up_to r stop
-again-later r place stop h =
-    let all = enumerate_from 0 (lines_then r) in
-    let few = count_by-take (is_encoded_again (lines_before r) (lines_then r) (place_before r.edit.now)) (take stop (enumerate_from 0 (lines_then r))) place in
-    let same : count_up_to (lines_before r) (lines_then r) (place_before r.edit.now) place ≤ count_up_to (lines_before r) (lines_then r) (place_before r.edit.now) stop = rw (take-take place stop (enumerate_from 0 (lines_then r)) h) at few in
-    same
-
 -- the codes after a run
 pub run-written : (r : Recoding) → IsRecoding r → (place start end : ℕ) (now was : Placement) (count : ℕ) (t : Copied r place start end now was count) → (old new : Codes) (bytes from to : List ℕ) → AreWritten r old place
     → from ≡ r.codes.now.image.items → bytes ≡ take (was.here - IMAGE_START + count - (was.here - IMAGE_START)) (drop (was.here - IMAGE_START) from)
     → to ≡ old.image.items → new.image.items ≡ take (now.here - IMAGE_START) to ++ (bytes ++ drop (now.here - IMAGE_START + length bytes) to) → vec_len new.image ≡ IMAGE_BYTES
-    → new.faults.items ≡ old.faults.items ++ take (end - start) (drop start r.codes.now.faults.items) → IsCounted new → AreWritten r new (place + (end - start))
-run-written r known place start end now was count t old new bytes from to so_far copied_from part copied_to written long faults counts = subst (AreWritten r new) t.stop (record {
+    → (part : List (Option Fault)) → part ≡ take (end - start) (drop start r.codes.now.faults.items) → new.faults.items ≡ take place old.faults.items ++ (part ++ drop (place + length part) old.faults.items)
+    → vec_len new.faults ≡ vec_len old.faults → new.count ≡ old.count + count_faults part → AreWritten r new (place + (end - start))
+run-written r known place start end now was count t old new bytes from to so_far copied_from part copied_to written long faults faults_part faults_written same_many counts = subst (AreWritten r new) t.stop (record {
   long = long;
   bytes = λ k h.
       block-byte r known place start end t.b k (get_or old.image.items k 0) (get_or new.image.items k 0) (so_far.bytes k h)
       (λ old_k from to shift. read k old_k (omega (arith, from, here)) (omega (arith, to, here, t.counts)) (omega (arith, shift, here, stood, t.low_now, t.low_was)))
-      (λ out. ap (λ l. get_or l k 0) image ∙ around old.image.items bytes (now.here - IMAGE_START) k room (apart k out));
-  faults = faults ∙ ap (λ fs. fs ++ take (end - start) (drop start r.codes.now.faults.items)) so_far.faults
-      ∙ ap (λ fs. take place (line_faults (lines_then r)) ++ take (end - start) (drop start fs)) known.codes.faulty ∙ block-faults r known place start end t.b;
-  counted = counts;
+      (λ out. ap (λ l. get_or l k 0) image ∙ around old.image.items bytes 0 (now.here - IMAGE_START) k room (apart k out));
+  many = same_many ∙ so_far.many;
+  counted = counts ∙ ap (λ n. n + count_faults faults) so_far.counted ∙ sym (sum_by-append count_of (take place old.faults.items) faults) ∙ ap count_faults (sym taken);
+  faults = taken ∙ ap (λ fs. fs ++ faults) so_far.faults ∙ ap (λ fs. take place (line_faults (lines_then r)) ++ fs) faults_is ∙ block-faults r known place start end t.b;
 })
   where
+    faults_is : faults ≡ take (end - start) (drop start (line_faults (lines_before r)))
+    faults_is = faults_part ∙ ap (λ fs. take (end - start) (drop start fs)) known.codes.faulty
+
+    long_faults : length (take place old.faults.items ++ faults) ≡ place + (end - start)
+    long_faults =
+        let stops = t.stop in
+        let count_old = so_far.many in
+        let some = t.b.run.within in
+        let ordered = t.b.run.ordered in
+        let inside = t.b.run.inside in
+        let many_old = old.faults.ok.0 in
+        let first : length (take place old.faults.items) ≡ place = length-take-le place old.faults.items (omega arith) in
+        let next : length (take (end - start) (drop start (line_faults (lines_before r)))) ≡ end - start
+        = length-take-le (end - start) (drop start (line_faults (lines_before r))) (omega (arith, length-drop start (line_faults (lines_before r)), length-faults (lines_before r), length-map r.lines.now reading_in)) in
+        length-append (take place old.faults.items) faults ∙ omega (arith, first, ap length faults_is, next)
+
+    taken : take t.b.stop new.faults.items ≡ take place old.faults.items ++ faults
+    taken = ap (λ n. take n new.faults.items) t.stop ∙ ap (take (place + (end - start))) (faults_written ∙ sym (append_assoc (take place old.faults.items) faults (drop (place + length faults) old.faults.items)))
+        ∙ take_at (take place old.faults.items ++ faults) (drop (place + length faults) old.faults.items) (place + (end - start)) long_faults
+
     here : t.b.first.q.here ≡ now.here
     here = ap (λ (x : Placement). x.here) t.first_now
 
@@ -544,7 +588,7 @@ run-written r known place start end now was count t old new bytes from to so_far
     read k old_k from to shift =
         let at : ℕ = now.here - IMAGE_START in
         let there : was.here - IMAGE_START + (k - (now.here - IMAGE_START)) ≡ old_k = omega (arith, t.low_now, t.low_was) in
-        ap (λ l. get_or l k 0) image ∙ inserted old.image.items bytes (now.here - IMAGE_START) k room (omega arith) (omega (arith, many, t.low_now)) ∙ ap (λ l. get_or l (k - (now.here - IMAGE_START)) 0) is
+        ap (λ l. get_or l k 0) image ∙ inserted old.image.items bytes 0 (now.here - IMAGE_START) k room (omega arith) (omega (arith, many, t.low_now)) ∙ ap (λ l. get_or l (k - (now.here - IMAGE_START)) 0) is
         ∙ get_or-take count (drop (was.here - IMAGE_START) r.codes.now.image.items) (k - (now.here - IMAGE_START)) 0 (omega (arith, t.low_now))
         ∙ get_or-drop (was.here - IMAGE_START) r.codes.now.image.items (k - (now.here - IMAGE_START)) 0 ∙ ap (λ n. get_or r.codes.now.image.items n 0) there
         ∙ known.codes.imaged old_k (omega (arith, t.low_now, t.low_was, t.high_was))

@@ -1,13 +1,15 @@
 -- The lines of a source, where one of them is put in the place of one with the same effect.
-use Rattle.std.proofs.Common.{◌≡◌, ℕ, zero, suc, ◌+◌, ◌<◌, ◌≤◌, List, [], ◌∷◌, ◌++◌, reverse, length, take, drop, set, get_or, slice_get, fold, refl, ap, sym, ◌∙◌, arith, Some, append_assoc, length-append}
-use Rattle.std.proofs.lemmas.List.{length-take}
+use Rattle.std.proofs.Common.{◌≡◌, ℕ, zero, suc, ◌+◌, ◌<◌, ◌≤◌, List, [], ◌∷◌, ◌++◌, reverse, length, take, drop, set, get_or, slice_get, fold, refl, ap, sym, ◌∙◌, arith, Some, append_assoc}
+use Rattle.std.proofs.lemmas.List.{length-reverse, length-take, reverse-append}
+use Rattle.std.proofs.lemmas.Option.{slice_get-get_or}
+use Rattle.std.proofs.Math.Seq.{get_or-append_seam}
 use Rattle.chip_lang.specs.Line.{Reading}
 use Rattle.chip_asm.specs.inner.Effect.{HasSameEffect, HasSameEffectAt}
 use Rattle.chip_asm.specs.Layout.{Placed}
 use Rattle.chip_asm.specs.computed.Walk.{place, placed, address}
 use Rattle.chip_asm.proofs.BlockSteps.{reverse-cons}
 use Rattle.chip_asm.proofs.Bounds.{passes, stands-here}
-use Rattle.chip_asm.proofs.Placing.{onto, fold-append, length-placed}
+use Rattle.chip_asm.proofs.Placing.{onto, fold-append, length-numbered, length-placed}
 use Rattle.chip_asm.proofs.QuietLines.{Same, with_line, place-swapped, place-same, same-cons, same-refl, same-swapped}
 
 -- each of these stands at an address or past it
@@ -68,25 +70,14 @@ pub record Swapped (lines : List Reading) (at : ℕ) (new : Reading) : Type 0 wh
   pub above : AreAbove (x.here + x.size) later
   pub effect : HasSameEffect x.live x.line new
 
-pub reverse-at : (later before : List Placed) (x : Placed) (at : ℕ) → length before ≡ at → slice_get (reverse (later ++ x ∷ before)) at ≡ Some x
-reverse-at [] before x at e = ap (λ ps. slice_get ps at) (reverse-cons x before) ∙ past (reverse before) x at (length-reversed before ∙ e)
-  where
-    past : (ps : List Placed) (x : Placed) (at : ℕ) → length ps ≡ at → slice_get (ps ++ x ∷ []) at ≡ Some x
-    past [] x zero e = refl
-    past [] x (suc at) e = absurd (omega arith)
-    past (p ∷ ps) x zero e = absurd (omega arith)
-    past (p ∷ ps) x (suc at) e = past ps x at (omega arith)
+pub reverse-middle : (later before : List Placed) (x : Placed) → reverse (later ++ x ∷ before) ≡ reverse before ++ x ∷ reverse later
+reverse-middle later before x =
+    reverse-append later (x ∷ before) ∙ ap (λ l. l ++ reverse later) (reverse-cons x before) ∙ append_assoc (reverse before) (x ∷ []) (reverse later)
 
-    length-reversed : (ps : List Placed) → length (reverse ps) ≡ length ps
-    length-reversed [] = refl
-    length-reversed (p ∷ ps) = ap length (reverse-cons p ps) ∙ (omega (arith, length-append (reverse ps) (p ∷ []), length-reversed ps))
-reverse-at (p ∷ later) before x at e =
-    ap (λ ps. slice_get ps at) (reverse-cons p (later ++ x ∷ before)) ∙ within (reverse (later ++ x ∷ before)) p x at (reverse-at later before x at e)
-  where
-    within : (ps : List Placed) (p x : Placed) (at : ℕ) → slice_get ps at ≡ Some x → slice_get (ps ++ p ∷ []) at ≡ Some x
-    within [] p x at e = cc
-    within (q ∷ ps) p x zero e = e
-    within (q ∷ ps) p x (suc at) e = within ps p x at e
+pub at-middle : (later before : List Placed) (x d : Placed) (at : ℕ) → length before ≡ at → get_or (reverse (later ++ x ∷ before)) at d ≡ x
+at-middle later before x d at e =
+    let count : length (reverse before) ≡ at = length-reverse before ∙ e in
+    ap (λ l. get_or l at d) (reverse-middle later before x) ∙ ap (λ n. get_or (reverse before ++ x ∷ reverse later) n d) (sym count) ∙ get_or-append_seam (reverse before) x (reverse later) d
 
 pub swapped : (lines : List Reading) (at : ℕ) (old new : Reading) → at < length lines → get_or lines at old ≡ old → HasSameEffectAt lines at new → Swapped lines at new
 swapped lines at old new inside is_old effect =
@@ -98,7 +89,8 @@ swapped lines at old new inside is_old effect =
     let count : length before ≡ at = omega (arith, length-placed (take at lines), length-take at lines) in
     let past : x.here + x.size ≤ address (x ∷ before) = passes before old in
     let alone : Later (x ∷ before) (x ∷ before) back (x.here + x.size) = later (x ∷ before) (x ∷ before) back (x.here + x.size) (same-refl (x ∷ before)) past in
-    let there : slice_get (reverse (placed lines)) at ≡ Some x = ap (λ ps. slice_get (reverse ps) at) (was ∙ alone.of_first) ∙ reverse-at alone.later before x at count in
+    let is_there : get_or (reverse (placed lines)) at x ≡ x = ap (λ ps. get_or (reverse ps) at x) (was ∙ alone.of_first) ∙ at-middle alone.later before x x at count in
+    let there : slice_get (reverse (placed lines)) at ≡ Some x = slice_get-get_or (reverse (placed lines)) at x (omega (arith, inside, length-numbered lines)) ∙ ap Some is_there in
     let e : HasSameEffect x.live x.line new = effect.each x there in
     let r : Later (x ∷ before) (with_line x new ∷ before) back (x.here + x.size) = later (x ∷ before) (with_line x new ∷ before) back (x.here + x.size) (same-swapped x new before e) past in
     record {

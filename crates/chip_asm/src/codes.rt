@@ -1,10 +1,16 @@
 //! The second pass, as it is kept: the image, and the fault of each line.
-ghost use Rattle.std.specs.Prelude.{◌≡◌, ℕ, ◌+◌, ◌-◌, ◌<◌, ◌≤◌, ◌++◌, ◌∷◌, [], OnOk, None, drop, length, slice_index, slice_index_or, slice_set, sum_by, take, vec_len};
-ghost use Rattle.chip_asm.specs.inner.Codes.{AreCodesOf, IsCounted, IsWritten, coded_bytes, coded_fault, count_of};
+ghost use Rattle.std.specs.Prelude.{◌≡◌, ℕ, true, ◌+◌, ◌-◌, ◌<◌, ◌≤◌, ◌++◌, [], OnOk, drop, if◌then◌else◌, length, slice_index, slice_set, sum_by, take, vec_len};
+ghost use Rattle.chip_lang.specs.Code.{code_length};
+ghost use Rattle.chip_asm.specs.inner.Codes.{AreCodesOf, IsCounted, IsWritten, count_of, is_coded, kept_bytes, kept_fault};
+ghost use Rattle.chip_asm.specs.inner.Infos.{IsInfo};
+ghost use Rattle.chip_asm.specs.inner.Placements.{is_placed};
+ghost use Rattle.chip_asm.specs.inner.Records.{reading_in};
 
+use crate::kept_line::BoxedLine;
 use crate::placement::Placement;
+use crate::table::{Scope, Table};
 use chip_lang::limits::{IMAGE_BYTES, IMAGE_START, MEMORY_BYTES};
-use chip_lang::{Coded, Fault};
+use chip_lang::{Fault, Meter, encode_into};
 use std::alloc::{AllocError, Global};
 
 /// The image, with the fault of each line.
@@ -31,76 +37,27 @@ impl Codes {
         }
     }
 
-    /// Makes all bytes zeros, and takes the faults out: there is room for those of so many lines.
+    /// Makes all bytes zeros, and gives the faults room for those of so many lines.
     pub(crate) fn clear(&mut self, lines: usize) -> Result<(), AllocError>
         ensures image { OnOk result (vec_len self.new.image ≡ IMAGE_BYTES) }
         ensures zeros { OnOk result ((k : ℕ) → slice_index self.new.image.items k ≡ 0) }
-        ensures faults { OnOk result (self.new.faults.items ≡ []) }
+        ensures faults { OnOk result (vec_len self.new.faults ≡ lines) }
         ensures count { OnOk result (self.new.count ≡ 0) }
     {
         self.image.clear();
         self.image.resize(IMAGE_BYTES, 0)?;
-        self.faults.clear();
         self.count = 0;
-        self.faults.reserve(lines)
+        self.faults.resize(lines, None)
     }
 
-    /// Adds the fault of one line more.
-    pub(crate) fn push_fault(&mut self, fault: Option<Fault>) -> Result<(), AllocError>
-        requires { IsCounted self.old }
-        ensures image { self.new.image ≡ self.old.image }
-        ensures faults { OnOk result (self.new.faults.items ≡ self.old.faults.items ++ fault ∷ []) }
-        ensures counted { OnOk result (IsCounted self.new) }
-    {
-        self.faults.push(fault)?;
-        self.count += count_of(fault);
-        Ok(())
-    }
-
-    /// Adds the faults of others from one place up to another one.
-    pub(crate) fn copy_faults(
-        &mut self,
-        others: &Codes,
-        start: usize,
-        end: usize,
-    ) -> Result<(), AllocError>
-        requires counted { IsCounted self.old }
-        requires others { IsCounted others.now }
-        requires ordered { start ≤ end }
-        requires within { end ≤ vec_len others.now.faults }
-        ensures image { self.new.image ≡ self.old.image }
-        ensures faults { OnOk result (self.new.faults.items
-            ≡ self.old.faults.items ++ take (end - start) (drop start others.now.faults.items)) }
-        ensures counted { OnOk result (IsCounted self.new) }
-    {
-        let faults = &others.faults[start..end];
-        self.faults.extend_from_slice(faults)?;
-        if others.count > 0 {
-            self.count += count_faults(faults);
-        }
-        Ok(())
-    }
-}
-
-impl Codes {
-    /// Puts the code of a line at a place in the stead of the one that it had.
-    pub(crate) fn put(&mut self, at: usize, placement: &Placement, code: Coded)
-        requires low { IMAGE_START ≤ placement.now.here }
-        requires high { placement.now.here + placement.now.size ≤ MEMORY_BYTES }
-        requires long { vec_len self.old.image ≡ IMAGE_BYTES }
+    /// Puts a fault, or none, in the place of the one that a line had.
+    pub(crate) fn set_fault(&mut self, at: usize, fault: Option<Fault>)
         requires there { at < vec_len self.old.faults }
-        requires counted { count_of (slice_index_or self.old.faults.items at None) ≤ self.old.count }
-        requires few { self.old.count ≤ vec_len self.old.faults }
-        ensures written { IsWritten placement.now (coded_bytes code) self.old.image.items
-            self.new.image.items }
-        ensures long { vec_len self.new.image ≡ IMAGE_BYTES }
-        ensures faults { self.new.faults.items
-            ≡ slice_set self.old.faults.items at (coded_fault code) }
-        ensures count { self.new.count + count_of (slice_index_or self.old.faults.items at None)
-            ≡ self.old.count + count_of (coded_fault code) }
+        requires counted { IsCounted self.old }
+        ensures image { self.new.image ≡ self.old.image }
+        ensures faults { self.new.faults.items ≡ slice_set self.old.faults.items at fault }
+        ensures counted { IsCounted self.new }
     {
-        write_line(&mut self.image, placement, bytes_of(&code));
-        let fault = fault_in(&code);
         self.count = self.count + count_of(fault) - count_of(self.faults[at]);
         self.faults[at] = fault;
     }
@@ -149,44 +106,44 @@ pub(crate) fn byte_or_zero(bytes: &[u8], index: usize) -> u8
     }
 }
 
-/// Writes the bytes of a line at its address, and zeros up to its size.
-pub(crate) fn write_line(image: &mut [u8], placement: &Placement, bytes: &[u8])
+/// Encodes a line in its place in an image, or puts zeros there where it isn't accepted or has no
+/// code. Its fault, if it has one.
+pub(crate) fn write_line(
+    meter: &mut Meter,
+    names: &Table,
+    kept: &BoxedLine,
+    placement: &Placement,
+    image: &mut [u8],
+) -> Option<Fault>
+    requires info { IsInfo names.now.keys kept.now.info kept.now.several (reading_in kept.now) }
     requires low { IMAGE_START ≤ placement.now.here }
     requires high { placement.now.here + placement.now.size ≤ length image.old + IMAGE_START }
-    requires memory { length image.old + IMAGE_START ≤ MEMORY_BYTES }
-    ensures { IsWritten placement.now bytes.now image.old image.new }
+    requires room { is_placed placement.now ≡ true
+        → code_length (reading_in kept.now) ≤ placement.now.size }
+    ensures written { IsWritten placement.now (kept_bytes names.now kept.now placement.now)
+        image.old image.new }
+    ensures fault { result ≡ kept_fault names.now kept.now placement.now }
+    ensures encoded { meter.new.encoded
+        ≤ meter.old.encoded + (if is_coded kept.now placement.now then 1 else 0) }
+    ensures not_lowered { meter.old.encoded ≤ meter.new.encoded }
+    ensures parsed { meter.new.parsed ≡ meter.old.parsed }
 {
     let first = placement.here as usize - IMAGE_START;
-    for index in 0..placement.size as usize {
-        image[first + index] = byte_or_zero(bytes, index);
+    let end = first + placement.size as usize;
+    let bytes = &mut image[first..end];
+    if placement.is_accepted() && kept.info().is_coded {
+        let scope = Scope::new(names, kept.numbers());
+        encode_into(meter, kept.line(), &scope, bytes)
+    } else {
+        bytes.fill(0);
+        placement.fault
     }
 }
 
-/// Writes bytes at a place of the image.
-pub(crate) fn copy_to(image: &mut [u8], at: usize, bytes: &[u8])
-    requires { at + length bytes.now ≤ length image.old }
-    ensures { image.new
-        ≡ take at image.old ++ (bytes.now ++ drop (at + length bytes.now) image.old) }
+/// Puts some items in the stead of those from a place on.
+pub(crate) fn copy_to<T: Copy>(all: &mut [T], at: usize, items: &[T])
+    requires { at + length items.now ≤ length all.old }
+    ensures { all.new ≡ take at all.old ++ (items.now ++ drop (at + length items.now) all.old) }
 {
-    image[at..at + bytes.len()].copy_from_slice(bytes);
-}
-
-/// The bytes of a code; none of a fault.
-pub(crate) fn bytes_of(code: &Coded) -> &[u8]
-    ensures { result.now ≡ coded_bytes code.now }
-{
-    match code {
-        Coded::Bytes(bytes) => bytes.get(),
-        Coded::Faulty(_) => &[],
-    }
-}
-
-/// The fault of a code, if it has one.
-pub(crate) fn fault_in(code: &Coded) -> Option<Fault>
-    ensures { result ≡ coded_fault code.now }
-{
-    match code {
-        Coded::Bytes(_) => None,
-        Coded::Faulty(fault) => Some(*fault),
-    }
+    all[at..at + items.len()].copy_from_slice(items);
 }

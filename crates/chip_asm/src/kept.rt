@@ -14,13 +14,13 @@ ghost use Rattle.chip_asm.specs.inner.Infos.{AreInfos, AreInfosOf, IsInfo};
 ghost use Rattle.chip_asm.specs.inner.Kept.{IsKept, MayEdit, lines_kept, needed_by, texts_kept};
 ghost use Rattle.chip_asm.specs.inner.Records.{lines_after, reading_in, readings_in, texts_in};
 
-use crate::codes::Codes;
+use crate::codes::{Codes, write_line};
 use crate::edit::{Edit, first_changed, make_edit, replace_line};
 use crate::effect::has_same_effect;
 use crate::kept_line::BoxedLine;
 use crate::layout::Layout;
 use crate::line_info::{LineInfo, Numbered};
-use crate::recoding::{Recoding, code_of};
+use crate::recoding::Recoding;
 use crate::relayout::{Relayout, steady_lines};
 use crate::table::Table;
 use chip_lang::limits::{IMAGE_BYTES, IMAGE_START};
@@ -206,7 +206,8 @@ impl Kept {
         match edit {
             Edit::Replace(at, added) => {
                 if self.has_same_effect(at, added.line()) {
-                    self.rewrite(alloc, meter, at, added)
+                    self.rewrite(meter, at, added);
+                    Ok(())
                 } else {
                     self.remake(alloc, meter, Edit::Replace(at, added))
                 }
@@ -227,22 +228,14 @@ impl Kept {
     }
 
     /// Puts a line in the place of one with the same effect: its bytes, and whether it has a fault,
-    /// are all that changes. It is encoded first.
-    fn rewrite(
-        &mut self,
-        alloc: Global,
-        meter: &mut Meter,
-        at: usize,
-        added: BoxedLine,
-    ) -> Result<(), AllocError>
+    /// are all that changes.
+    fn rewrite(&mut self, meter: &mut Meter, at: usize, added: BoxedLine)
         requires kept { IsKept self.old }
         requires inside { at < vec_len self.old.lines }
         requires is_read { reading_in added ≡ reading_of added.text }
         requires info { IsInfo self.old.names.keys added.info added.several (reading_in added) }
         requires same { HasSameEffectAt (lines_kept self.old) at (reading_in added) }
-        ensures ok { OnOk result (texts_kept self.new
-            ≡ slice_set (texts_kept self.old) at added.text) }
-        ensures err { OnErr result (texts_kept self.new ≡ texts_kept self.old) }
+        ensures texts { texts_kept self.new ≡ slice_set (texts_kept self.old) at added.text }
         ensures kept { IsKept self.new }
         ensures encoded { meter.new.encoded ≤ meter.old.encoded
             + needs_count (lines_kept self.old)
@@ -251,13 +244,11 @@ impl Kept {
         ensures parsed { meter.new.parsed ≡ meter.old.parsed }
     {
         let placement = self.layout.placements[at];
-        if placement.is_accepted() {
-            let code = code_of(alloc, meter, &self.names, &added)?;
-            self.codes.put(at, &placement, code);
-        }
+        let image = &mut self.codes.image;
+        let fault = write_line(meter, &self.names, &added, &placement, image);
+        self.codes.set_fault(at, fault);
         self.settled = self.settled.min(at);
         replace_line(&mut self.lines, at, added);
-        Ok(())
     }
 
     /// Makes an edit by the layout and the codes made anew. Each growth comes before the first
@@ -296,7 +287,7 @@ impl Kept {
             same_names: self.names.keeps_all_values(),
             codes: &self.codes,
         };
-        match recoding.codes(alloc, meter, spare_codes) {
+        match recoding.codes(meter, spare_codes) {
             Ok(codes) => {
                 make_edit(&mut self.lines, edit);
                 self.spare_layout = mem::replace(&mut self.layout, layout);

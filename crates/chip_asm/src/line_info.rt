@@ -210,15 +210,4 @@ impl LineInfo {
         }
         Some(if self.is_coded { 2 } else { 0 })
     }
-
-    /// The size of a line of which the first pass asks nothing else.
-    pub(crate) fn unnamed_size(self) -> Option<usize>
-        ensures { (keys : List Name) (several : List NameId) (line : Reading)
-            → IsInfo keys self several line → IfSome result (λ size. IsBare line None size) }
-    {
-        match self.defines {
-            Some(_) => None,
-            None => self.bare_size(),
-        }
-    }
 }

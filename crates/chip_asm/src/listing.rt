@@ -2,7 +2,6 @@
 ghost use Rattle.std.specs.Prelude.{◌≡◌, ◌+◌, ◌<◌, ◌≤◌, ◌++◌, ◌∷◌, [], ℕ, true, OnOk, IfOk, codes, length};
 ghost use Rattle.chip_lang.specs.SeenLine.{seen_line};
 ghost use Rattle.std.specs.Fmt.{decimal, signed_decimal};
-ghost use Rattle.chip_lang.specs.Show.{hex_digit};
 ghost use Rattle.chip_asm.specs.Layout.{value_given, body_of};
 ghost use Rattle.chip_asm.specs.computed.Walk.{placed};
 ghost use Rattle.chip_asm.specs.inner.Layouts.{IsLayoutOf};
@@ -15,7 +14,7 @@ use crate::kept_line::BoxedLine;
 use crate::layout::Layout;
 use crate::limits::MOST_LINES;
 use crate::placement::Placement;
-use chip_lang::{Body, Fault, Line};
+use chip_lang::{Body, Fault, Line, byte_digits, word_digits};
 use itoa::Buffer;
 use std::alloc::{AllocError, Global};
 
@@ -30,79 +29,74 @@ fn digit(value: usize) -> u8
     b'0' + value as u8
 }
 
-/// Appends a number below 10,000 in decimal, at the right of four places, and a space.
-fn push_number(out: &mut Vec<u8>, number: usize) -> Result<(), AllocError>
+/// A number below 10,000 in decimal, at the right of four places.
+fn number_text(number: usize) -> [u8; 4]
     requires { number < 10000 }
-    ensures { OnOk result (out.new.items
-        ≡ out.old.items ++ (at_right 4 (decimal number) ++ 32 ∷ [])) }
+    ensures text { result ≡ at_right 4 (decimal number) }
+    ensures places { length result ≡ 4 }
 {
     let (tens, ones) = (number / 10, digit(number % 10));
     if tens == 0 {
-        return out.extend_from_slice(&[b' ', b' ', b' ', ones, b' ']);
+        return [b' ', b' ', b' ', ones];
     }
     let (hundreds, second) = (tens / 10, digit(tens % 10));
     if hundreds == 0 {
-        return out.extend_from_slice(&[b' ', b' ', second, ones, b' ']);
+        return [b' ', b' ', second, ones];
     }
     let (thousands, third) = (hundreds / 10, digit(hundreds % 10));
     if thousands == 0 {
-        return out.extend_from_slice(&[b' ', third, second, ones, b' ']);
+        return [b' ', third, second, ones];
     }
-    out.extend_from_slice(&[digit(thousands), third, second, ones, b' '])
+    [digit(thousands), third, second, ones]
 }
 
-/// Appends a sign and digits, at the left of the field.
-fn push_left(out: &mut Vec<u8>, sign: u8, digits: &[u8]) -> Result<(), AllocError>
-    ensures { OnOk result (out.new.items ≡ out.old.items ++ at_left 12 (sign ∷ digits.now)) }
+/// The address of a line.
+fn address_text(live: bool, here: u16) -> [u8; 4]
+    ensures text { result ≡ address_shown live here }
+    ensures places { length result ≡ 4 }
+{
+    if live { word_digits(here) } else { *b"----" }
+}
+
+/// Appends a sign and digits, at the left of the field, the sign after it, and a space.
+fn push_left(out: &mut Vec<u8>, sign: u8, digits: &[u8], more: u8) -> Result<(), AllocError>
+    ensures { OnOk result (out.new.items
+        ≡ out.old.items ++ (at_left 12 (sign ∷ digits.now) ++ more ∷ 32 ∷ [])) }
 {
     out.push(sign)?;
     out.extend_from_slice(digits)?;
     out.extend_from_slice(&SPACES[..11usize.saturating_sub(digits.len())])?;
+    out.extend_from_slice(&[more, b' '])?;
     Ok(())
 }
 
-/// A digit below 16, in lower case.
-fn hex_digit(digit: usize) -> u8
-    requires { digit ≤ 15 }
-    ensures { result ≡ hex_digit digit }
-{
-    if digit < 10 {
-        b'0' + digit as u8
-    } else {
-        b'a' - 10 + digit as u8
-    }
-}
-
-/// Appends the address of a line, and a space.
-fn push_address(out: &mut Vec<u8>, live: bool, here: usize) -> Result<(), AllocError>
-    ensures { OnOk result (out.new.items
-        ≡ out.old.items ++ (address_shown live here ++ 32 ∷ [])) }
-{
-    if live {
-        return out.extend_from_slice(&[
-            hex_digit(here / 4096 % 16),
-            hex_digit(here / 256 % 16),
-            hex_digit(here / 16 % 16),
-            hex_digit(here % 16),
-            b' ',
-        ]);
-    }
-    out.extend_from_slice(b"---- ")
-}
-
-/// Appends so many of the first bytes, with zeros past the last one, at the left of the field.
-fn push_bytes(out: &mut Vec<u8>, count: usize, bytes: &[u8]) -> Result<(), AllocError>
+/// Appends so many of the first bytes, with zeros past the last one, at the left of the field, the
+/// sign after it, and a space. Most lines have no byte, or the two of an instruction.
+fn push_bytes(out: &mut Vec<u8>, count: usize, bytes: &[u8], more: u8) -> Result<(), AllocError>
     requires { count ≤ 6 }
     ensures { OnOk result (out.new.items
-        ≡ out.old.items ++ at_left 12 (bytes_shown count bytes.now)) }
+        ≡ out.old.items ++ (at_left 12 (bytes_shown count bytes.now) ++ more ∷ 32 ∷ [])) }
 {
+    if count == 0 {
+        return out.extend_from_slice(&[
+            b' ', b' ', b' ', b' ', b' ', b' ', b' ', b' ', b' ', b' ', b' ', b' ', more, b' ',
+        ]);
+    }
+    if count == 2 {
+        let [a, b] = byte_digits(byte_or_zero(bytes, 0));
+        let [c, d] = byte_digits(byte_or_zero(bytes, 1));
+        return out.extend_from_slice(&[
+            a, b, c, d, b' ', b' ', b' ', b' ', b' ', b' ', b' ', b' ', more, b' ',
+        ]);
+    }
     let mut digits = SPACES;
     for index in 0..count {
-        let byte = byte_or_zero(bytes, index) as usize;
-        digits[2 * index] = hex_digit(byte / 16 % 16);
-        digits[2 * index + 1] = hex_digit(byte % 16);
+        let [high, low] = byte_digits(byte_or_zero(bytes, index));
+        digits[2 * index] = high;
+        digits[2 * index + 1] = low;
     }
     out.extend_from_slice(&digits)?;
+    out.extend_from_slice(&[more, b' '])?;
     Ok(())
 }
 
@@ -133,16 +127,17 @@ fn value_given(line: &Line, value: i32) -> i32
     }
 }
 
-/// Appends the value that a definition gives, at the left of the field.
-fn push_value(out: &mut Vec<u8>, value: i32) -> Result<(), AllocError>
+/// Appends the value that a definition gives, at the left of the field, the sign after it, and a
+/// space.
+fn push_value(out: &mut Vec<u8>, value: i32, more: u8) -> Result<(), AllocError>
     ensures { OnOk result (out.new.items
-        ≡ out.old.items ++ at_left 12 (codes "=" ++ signed_decimal value)) }
+        ≡ out.old.items ++ (at_left 12 (codes "=" ++ signed_decimal value) ++ more ∷ 32 ∷ [])) }
 {
     let mut digits = Buffer::new();
-    push_left(out, b'=', digits.format(value).as_bytes())
+    push_left(out, b'=', digits.format(value).as_bytes(), more)
 }
 
-/// Appends the field of a line.
+/// Appends the field of a line, the sign after it, and a space.
 fn push_field(
     out: &mut Vec<u8>,
     fault: Option<Fault>,
@@ -151,23 +146,24 @@ fn push_field(
     bytes: &[u8],
 ) -> Result<(), AllocError>
     ensures { OnOk result (out.new.items
-        ≡ out.old.items ++ at_left 12 (field_shown fault placement.now.live
+        ≡ out.old.items ++ (at_left 12 (field_shown fault placement.now.live
         (body_of (seen_line line.now)) placement.now.here placement.now.value placement.now.size
-        bytes.now)) }
+        bytes.now) ++ more_shown fault placement.now.size ∷ 32 ∷ [])) }
 {
+    let more = more_sign(fault, placement.size as usize);
     if let Some(fault) = fault {
         let mut digits = Buffer::new();
-        return push_left(out, b'F', digits.format(fault.number()).as_bytes());
+        return push_left(out, b'F', digits.format(fault.number()).as_bytes(), more);
     }
     if !placement.live {
-        return out.extend_from_slice(&SPACES);
+        return push_bytes(out, 0, bytes, more);
     }
     if is_definition(line) {
         let value = value_given(line, placement.value);
-        push_value(out, value)?;
+        push_value(out, value, more)?;
         return Ok(());
     }
-    push_bytes(out, (placement.size as usize).min(6), bytes)
+    push_bytes(out, (placement.size as usize).min(6), bytes, more)
 }
 
 /// The sign of a line with more than six bytes.
@@ -198,10 +194,10 @@ fn push_line(
         placement.now.value placement.now.size bytes.now)
         (more_shown fault placement.now.size) kept.now.text) }
 {
-    push_number(out, placement.number as usize)?;
-    push_address(out, placement.live, placement.here as usize)?;
+    let [a, b, c, d] = number_text(placement.number as usize);
+    let [e, f, g, h] = address_text(placement.live, placement.here);
+    out.extend_from_slice(&[a, b, c, d, b' ', e, f, g, h, b' '])?;
     push_field(out, fault, placement, kept.line(), bytes)?;
-    out.extend_from_slice(&[more_sign(fault, placement.size as usize), b' '])?;
     out.extend_from_slice(kept.text())?;
     out.push(b'\n')?;
     Ok(())
@@ -213,11 +209,9 @@ const BESIDE_TEXT: usize = 25;
 
 /// How many bytes the listing of some lines has, at least.
 fn listing_bytes(lines: &[BoxedLine]) -> usize {
-    let mut bytes = 0usize;
+    let mut bytes = lines.len().saturating_mul(BESIDE_TEXT);
     for kept in lines {
-        bytes = bytes
-            .saturating_add(kept.text().len())
-            .saturating_add(BESIDE_TEXT);
+        bytes = bytes.saturating_add(kept.text().len());
     }
     bytes
 }

@@ -56,13 +56,6 @@ fn or_zero(value: Result<i32, Fault>) -> i32
     }
 }
 
-/// The bytes that a line of this size takes: none where it isn't accepted.
-fn size_if(accepted: bool, size: usize) -> usize
-    ensures { result ≡ (if accepted then size else 0) }
-{
-    if accepted { size } else { 0 }
-}
-
 /// The bytes of a line itself.
 pub(crate) fn size_of_body(body: &Body, value: i32) -> usize
     ensures size { result ≡ own_size (seen_body body.now) value }
@@ -96,6 +89,7 @@ impl Pass {
     ghost use Rattle.chip_asm.specs.inner.Infos.{IsNumberOf};
     ghost use Rattle.chip_asm.specs.inner.Placements.{is_placed};
     ghost use Rattle.chip_asm.specs.inner.Follows.{Follows, placement_of, next_address, next_aligning};
+    ghost use Rattle.chip_asm.specs.inner.Layouts.{HasPassed};
 
     /// At an address, after lines that give these names, where no block is open.
     pub(crate) fn resume(alloc: Global, here: usize, names: Table) -> Self
@@ -304,33 +298,32 @@ impl Pass {
         }
     }
 
-    /// Goes on by one line, and says what holds of it. The value of its expression may be known; it is
+    /// Goes on by one line, and notes what holds of it. The value of its expression may be known; it is
     /// found fastest where the numbers are those of the names that the line uses.
     #[inline(never)]
     pub(crate) fn step(
         &mut self,
+        placements: &mut Vec<Placement>,
         number: usize,
         known: Option<i32>,
         line: &Line,
         defines: Option<NameId>,
         numbers: &[NameId],
-    ) -> Result<Placement, AllocError>
+    ) -> Result<(), AllocError>
         requires number { number ≤ MOST_LINES + 1 }
         requires known { IsKnownUnder self.old.names.symbols known (seen_line line.now) }
         requires defines { IsNumberOf self.old.names.keys defines
             (name_defined (seen_line line.now)) }
         ensures keeps { KeepsBefore self.old.names self.new.names }
-        ensures found { (lines : List Reading) → Follows self.old (placed lines)
+        ensures passed { (lines : List Reading) → HasPassed placements.old.items self.old lines
             → number ≡ length lines + 1
-            → IfOk result (λ placement. placement
-            ≡ placement_of (place (placed lines) (seen_line line.now))) }
-        ensures follows { (lines : List Reading) → Follows self.old (placed lines)
-            → number ≡ length lines + 1
-            → OnOk result (Follows self.new (placed (lines ++ seen_line line.now ∷ []))) }
+            → OnOk result (HasPassed placements.new.items self.new
+            (lines ++ seen_line line.now ∷ [])) }
     {
         let empty = Body::Empty;
         let body = body_or(line, &empty);
         let placement = self.place(number, known, line, defines, numbers);
+        placements.push(placement)?;
         let accepted = placement.is_accepted();
         let opened = Block {
             number,
@@ -348,7 +341,7 @@ impl Pass {
             placement.size as usize,
         );
         self.note_live();
-        Ok(placement)
+        Ok(())
     }
 
     /// Notes whether a line other than ELSE or ENDIF is live here.
@@ -365,14 +358,88 @@ impl Pass {
         self.live = !self.ended && all_hold(&self.blocks);
     }
 
-    /// The fault of a line of this size of which nothing else is asked but its name, which is there
-    /// already or not.
-    fn fault_of_bare(&self, live: bool, twice: bool, size: usize) -> Option<Fault>
-        ensures fault { result ≡ fault_of_bare live twice self.now.here size }
-        ensures fits { live ≡ true → result ≡ None → self.now.here + size ≤ MEMORY_BYTES }
-        ensures new_name { live ≡ true → result ≡ None → twice ≡ false }
+    /// Whether a line of this size, of which nothing else is asked but its name, is accepted.
+    #[inline(always)]
+    fn accepts_bare(&self, size: usize, defines: Option<NameId>) -> bool
+        requires { IfSome defines (λ id. id.number < length self.now.names.keys) }
+        ensures accepted { (name : Option Name) → IsNumberOf self.now.names.keys defines name
+            → result ≡ (self.now.live && is_none (fault_of_bare true
+            (is_redefinition self.now.names.symbols name) self.now.here size)) }
+        ensures live { result ≡ true → self.now.live ≡ true }
+        ensures fits { result ≡ true → self.now.here + size ≤ MEMORY_BYTES }
+        ensures new_name { result ≡ true → IfSome defines (λ id.
+            lookup_name self.now.names.symbols (key_at self.now.names.keys id.number) ≡ None) }
     {
-        if !live {
+        self.live && size <= MEMORY_BYTES - self.here && !self.is_redefinition(defines)
+    }
+
+    /// Goes on by such a line, and notes what holds of it.
+    #[inline(always)]
+    pub(crate) fn step_bare(
+        &mut self,
+        placements: &mut Vec<Placement>,
+        number: usize,
+        size: usize,
+        defines: Option<NameId>,
+    ) -> Result<(), AllocError>
+        requires number { number ≤ MOST_LINES + 1 }
+        requires defines { IfSome defines (λ id. id.number < length self.old.names.keys) }
+        ensures keeps { KeepsBefore self.old.names self.new.names }
+        ensures passed { (lines : List Reading) (line : Reading) (name : Option Name)
+            → IsNumberOf self.old.names.keys defines name → IsBare line name size
+            → HasPassed placements.old.items self.old lines → number ≡ length lines + 1
+            → OnOk result (HasPassed placements.new.items self.new (lines ++ line ∷ [])) }
+    {
+        if !self.accepts_bare(size, defines) {
+            return self.refuse_bare(placements, number, size, defines);
+        }
+        let here = self.here;
+        placements.push(Placement {
+            value: 0,
+            number: number as u16,
+            here: here as u16,
+            size: size as u16,
+            fault: None,
+            live: true,
+            is_if: false,
+        })?;
+        self.here = here + size;
+        let Some(id) = defines else {
+            return Ok(());
+        };
+        let value = here as i32;
+        let symbol = Symbol {
+            value,
+            line: number,
+        };
+        self.names.define(id, symbol)
+    }
+
+    /// Notes what holds of such a line that isn't accepted.
+    #[inline(never)]
+    fn refuse_bare(
+        &self,
+        placements: &mut Vec<Placement>,
+        number: usize,
+        size: usize,
+        defines: Option<NameId>,
+    ) -> Result<(), AllocError>
+        requires number { number ≤ MOST_LINES + 1 }
+        requires defines { IfSome defines (λ id. id.number < length self.now.names.keys) }
+        ensures { (name : Option Name) → IsNumberOf self.now.names.keys defines name
+            → OnOk result (placements.new.items ≡ placements.old.items ++ record {
+              value = pos 0;
+              number = number;
+              here = self.now.here;
+              size = 0;
+              fault = fault_of_bare self.now.live (is_redefinition self.now.names.symbols name)
+                  self.now.here size;
+              live = self.now.live;
+              is_if = false;
+            } ∷ []) }
+    {
+        let twice = self.is_redefinition(defines);
+        let fault = if !self.live {
             None
         } else if twice {
             Some(Fault::DefinedTwice)
@@ -380,104 +447,17 @@ impl Pass {
             Some(Fault::PastMemory)
         } else {
             None
-        }
-    }
-
-    /// What holds of such a line.
-    fn place_bare(&self, number: usize, size: usize, twice: bool) -> Placement
-        requires { number ≤ MOST_LINES + 1 }
-        ensures placed { (lines : List Reading) (line : Reading) (name : Option Name)
-            → IsBare line name size → twice ≡ is_redefinition self.now.names.symbols name
-            → Follows self.now (placed lines) → number ≡ length lines + 1
-            → result ≡ placement_of (place (placed lines) line) }
-        ensures here { result.here ≡ self.now.here }
-        ensures fits { self.now.here + result.size ≤ MEMORY_BYTES }
-        ensures new_name { is_placed result ≡ true → twice ≡ false }
-    {
-        let live = self.live;
-        let fault = self.fault_of_bare(live, twice, size);
-        let taken = size_if(is_passed(live, fault), size);
-        Placement {
+        };
+        placements.push(Placement {
             value: 0,
             number: number as u16,
             here: self.here as u16,
-            size: taken as u16,
+            size: 0,
             fault,
-            live,
+            live: self.live,
             is_if: false,
-        }
-    }
-
-    /// Goes on by such a line without a name.
-    pub(crate) fn step_bare(&mut self, number: usize, size: usize) -> Placement
-        requires { number ≤ MOST_LINES + 1 }
-        ensures found { (lines : List Reading) (line : Reading) → IsBare line None size
-            → Follows self.old (placed lines) → number ≡ length lines + 1
-            → result ≡ placement_of (place (placed lines) line) }
-        ensures follows { (lines : List Reading) (line : Reading) → IsBare line None size
-            → Follows self.old (placed lines) → number ≡ length lines + 1
-            → Follows self.new (placed (lines ++ line ∷ [])) }
-        ensures keeps { KeepsBefore self.old.names self.new.names }
-    {
-        let placement = self.place_bare(number, size, false);
-        self.here += placement.size as usize;
-        placement
-    }
-
-    /// Goes on by such a line with the name of a number.
-    pub(crate) fn step_labelled(
-        &mut self,
-        number: usize,
-        size: usize,
-        id: NameId,
-    ) -> Result<Placement, AllocError>
-        requires number { number ≤ MOST_LINES + 1 }
-        requires id { id.number < length self.old.names.keys }
-        ensures found { (lines : List Reading) (line : Reading) (name : Name)
-            → IsNumber self.old.names.keys id name → IsBare line (Some name) size
-            → Follows self.old (placed lines) → number ≡ length lines + 1
-            → IfOk result (λ placement. placement ≡ placement_of (place (placed lines) line)) }
-        ensures follows { (lines : List Reading) (line : Reading) (name : Name)
-            → IsNumber self.old.names.keys id name → IsBare line (Some name) size
-            → Follows self.old (placed lines) → number ≡ length lines + 1
-            → OnOk result (Follows self.new (placed (lines ++ line ∷ []))) }
-        ensures keeps { KeepsBefore self.old.names self.new.names }
-    {
-        let twice = self.names.is_defined(id);
-        let placement = self.place_bare(number, size, twice);
-        self.note_label(placement.is_accepted(), number, id)?;
-        self.here += placement.size as usize;
-        Ok(placement)
-    }
-
-    /// Notes the name of a number with the address where the pass stands, where its line is
-    /// accepted.
-    fn note_label(&mut self, accepted: bool, number: usize, id: NameId) -> Result<(), AllocError>
-        requires id { id.number < length self.old.names.keys }
-        requires new { accepted ≡ true → lookup_name self.old.names.symbols
-            (key_at self.old.names.keys id.number) ≡ None }
-        ensures names { OnOk result (self.new.names.symbols
-            ≡ self.old.names.symbols ++ option_to_list (if accepted
-            then Some (
-              key_at self.old.names.keys id.number,
-              record { value = pos self.old.here; line = number },
-            )
-            else None)) }
-        ensures keeps { KeepsBefore self.old.names self.new.names }
-        ensures here { self.new.here ≡ self.old.here }
-        ensures aligning { self.new.aligning ≡ self.old.aligning }
-        ensures ended { self.new.ended ≡ self.old.ended }
-        ensures live { self.new.live ≡ self.old.live }
-        ensures blocks { self.new.blocks ≡ self.old.blocks }
-    {
-        if !accepted {
-            return Ok(());
-        }
-        let symbol = Symbol {
-            value: self.here as i32,
-            line: number,
-        };
-        self.names.define(id, symbol)
+        })?;
+        Ok(())
     }
 
     /// Whether the condition of an IF line holds.

@@ -99,37 +99,41 @@ impl<'a> Relayout<'a> {
 
     /// Goes on by the line at a place, which is looked into only where what is kept beside it
     /// doesn't say all.
-    fn step_at(&self, pass: &mut Pass, place: usize) -> Result<Placement, AllocError>
+    fn step_at(
+        &self,
+        placements: &mut Vec<Placement>,
+        pass: &mut Pass,
+        place: usize,
+    ) -> Result<(), AllocError>
         requires relayout { IsRelayout pass.old.names.keys self.now }
         requires place { place < count_then self.now }
         requires before { pass.old.names.before ≡ names_of_lines (lines_before self.now) }
-        ensures found { (before : List Reading) (line : Reading)
-            → slice_get (lines_then self.now) place ≡ Some line
-            → Follows pass.old (placed before) → place ≡ length before
-            → IfOk result (λ placement. placement
-            ≡ placement_of (place_next (placed before) line)) }
-        ensures follows { (before : List Reading) (line : Reading)
-            → slice_get (lines_then self.now) place ≡ Some line
-            → Follows pass.old (placed before) → place ≡ length before
-            → OnOk result (Follows pass.new (placed (before ++ line ∷ []))) }
+        ensures walked { IsWalked placements.old.items pass.old (lines_then self.now) place
+            → OnOk result (IsWalked placements.new.items pass.new (lines_then self.now) (place + 1)) }
         ensures keeps { KeepsBefore pass.old.names pass.new.names }
     {
         let kept = kept_after(self.lines, self.edit, place);
         let info = kept.info();
-        let Some(size) = info.bare_size() else {
-            let known = self.known_value(&pass.names, place);
-            let placement = pass.step(place + 1, known, kept.line(), info.defines, kept.numbers())?;
-            return Ok(placement);
-        };
-        match info.defines {
-            Some(id) => pass.step_labelled(place + 1, size, id),
-            None => Ok(pass.step_bare(place + 1, size)),
+        match info.bare_size() {
+            Some(size) => pass.step_bare(placements, place + 1, size, info.defines),
+            None => {
+                let known = self.known_value(&pass.names, place);
+                let numbers = kept.numbers();
+                pass.step(
+                    placements,
+                    place + 1,
+                    known,
+                    kept.line(),
+                    info.defines,
+                    numbers,
+                )
+            }
         }
     }
 
-    /// What is found of the lines that stand, one after another, at a place and behind it and were
-    /// there before the edit, up to the first one of which more is asked than its size. The place of
-    /// that one.
+    /// Goes on by the lines that stand, one after another, at a place and behind it and were there
+    /// before the edit, up to the first one of which more is asked than its size and its name. The
+    /// place of that one.
     #[inline(never)]
     fn walk_bare(
         &self,
@@ -150,11 +154,10 @@ impl<'a> Relayout<'a> {
         let mut next = place;
         for before in stretch.start..stretch.end {
             let info = self.lines[before].info();
-            let Some(size) = info.unnamed_size() else {
+            let Some(size) = info.bare_size() else {
                 return Ok(next);
             };
-            let placement = pass.step_bare(next + 1, size);
-            placements.push(placement)?;
+            pass.step_bare(placements, next + 1, size, info.defines)?;
             next += 1;
         }
         Ok(next)
@@ -179,8 +182,7 @@ impl<'a> Relayout<'a> {
         let count = count_after(self.lines.len(), self.edit);
         let mut next = place;
         while next < count {
-            let placement = self.step_at(pass, next)?;
-            placements.push(placement)?;
+            self.step_at(placements, pass, next)?;
             next = self.walk_bare(placements, pass, next + 1)?;
         }
         Ok(())

@@ -358,6 +358,7 @@ impl Table {
     }
 
     /// Adds the symbol of a name that has none.
+    #[inline(never)]
     pub(crate) fn define(&mut self, id: NameId, symbol: Symbol) -> Result<(), AllocError>
         requires within { id.number < length self.old.keys }
         requires new { lookup_name self.old.symbols (key_at self.old.keys id.number) ≡ None }

@@ -1,26 +1,38 @@
 -- The second pass, as it is kept: the image, and the fault of each line (own).
-use Rattle.std.specs.Prelude.{◌≡◌, ℕ, ◌+◌, ◌-◌, ◌<◌, ◌≤◌, ◌&&◌, Bool, true, List, [], length, map, reverse, Option, Some, None, nat_le, nat_lt, if◌then◌else◌, slice_get, slice_index, sum_by, vec_len}
-use Rattle.chip_lang.specs.declared.code.Coded.{Coded}
-use Rattle.chip_lang.specs.declared.code.Coded.TheVariants.{Bytes, Faulty}
+use Rattle.std.specs.Prelude.{◌≡◌, ℕ, ◌+◌, ◌-◌, ◌<◌, ◌≤◌, ◌&&◌, Bool, true, List, [], length, map, reverse, Option, Some, None, Result, nat_le, nat_lt, if◌then◌else◌, slice_get, slice_index, sum_by, vec_len}
 use Rattle.chip_lang.specs.declared.fault.Fault.{Fault}
 use Rattle.chip_lang.specs.declared.limits.TheConstants.{IMAGE_BYTES, IMAGE_START}
+use Rattle.chip_lang.specs.Code.{own_bytes}
 use Rattle.chip_lang.specs.Line.{Reading}
 use Rattle.chip_asm.specs.declared.codes.Codes.{Codes}
 use Rattle.chip_asm.specs.declared.placement.Placement.{Placement}
+use Rattle.chip_asm.specs.declared.table.Table.{Table}
+use Rattle.chip_asm.specs.Layout.{body_of}
+use Rattle.chip_asm.specs.Names.{values_of}
+use Rattle.chip_asm.specs.inner.KeptLine.{KeptLine}
+use Rattle.chip_asm.specs.inner.Placements.{is_placed}
+use Rattle.chip_asm.specs.inner.Recode.{has_code}
+use Rattle.chip_asm.specs.inner.Records.{reading_in}
 use Rattle.chip_asm.specs.computed.Walk.{placed}
-use Rattle.chip_asm.specs.Program.{byte_at, fault_of, faults_of_lines}
+use Rattle.chip_asm.specs.Program.{byte_at, bytes_in_code, fault_in_code, fault_of, faults_of_lines}
 
 abbrev pub count_of : Option Fault → ℕ
 count_of None = 0
 count_of (Some fault) = 1
 
-abbrev pub coded_fault : Coded → Option Fault
-coded_fault (Bytes bytes) = None
-coded_fault (Faulty fault) = Some fault
+-- the code of a kept line under a table
+abbrev pub code_kept : Table → KeptLine → Result (List ℕ) Fault
+code_kept names kept = own_bytes (body_of (reading_in kept)) (values_of names.symbols)
 
-abbrev pub coded_bytes : Coded → List ℕ
-coded_bytes (Bytes bytes) = bytes
-coded_bytes (Faulty fault) = []
+-- its bytes, its fault, and whether it is encoded, where this is found of it
+abbrev pub kept_bytes : Table → KeptLine → Placement → List ℕ
+kept_bytes names kept q = if is_placed q then bytes_in_code (code_kept names kept) else []
+
+abbrev pub kept_fault : Table → KeptLine → Placement → Option Fault
+kept_fault names kept q = if is_placed q then fault_in_code (code_kept names kept) else q.fault
+
+abbrev pub is_coded : KeptLine → Placement → Bool
+is_coded kept q = is_placed q && has_code (body_of (reading_in kept))
 
 -- the fault of each line, in line order
 unfoldable pub line_faults : List Reading → List (Option Fault)

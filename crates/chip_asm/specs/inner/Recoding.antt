@@ -1,5 +1,5 @@
 -- What is known of an edit when the lines after it get their codes (own).
-use Rattle.std.specs.Prelude.{◌≡◌, ℕ, ◌+◌, ◌-◌, ◌<◌, ◌≤◌, Bool, true, false, List, length, reverse, Option, None, Some, Result, slice_get, slice_index, slice_index_or, take, vec_len}
+use Rattle.std.specs.Prelude.{◌≡◌, ℕ, ◌+◌, ◌-◌, ◌%◌, ◌<◌, ◌≤◌, Bool, true, false, List, length, Option, None, Some, Result, slice_get, slice_index, slice_index_or, sum_by, take, vec_len}
 use Rattle.chip_lang.specs.Line.{Reading}
 use Rattle.chip_asm.specs.declared.limits.TheConstants.{MOST_LINES}
 use Rattle.chip_asm.specs.declared.recoding.Recoding.{Recoding}
@@ -13,7 +13,7 @@ use Rattle.chip_asm.specs.Program.{code_under, names_of_lines}
 use Rattle.chip_asm.specs.inner.Placements.{is_placed}
 use Rattle.chip_asm.specs.declared.codes.Codes.{Codes}
 use Rattle.chip_lang.specs.declared.limits.TheConstants.{IMAGE_BYTES, IMAGE_START}
-use Rattle.chip_asm.specs.inner.Codes.{AreCodesOf, IsByte, IsCounted, covers_byte, line_faults, right_byte}
+use Rattle.chip_asm.specs.inner.Codes.{AreCodesOf, IsByte, count_of, covers_byte, line_faults, right_byte}
 use Rattle.chip_asm.specs.inner.Infos.{AreInfos}
 use Rattle.chip_asm.specs.inner.Layouts.{IsLayoutOf}
 use Rattle.chip_asm.specs.inner.Recode.{count_again, count_up_to, is_encoded_again, keeps_code}
@@ -61,13 +61,13 @@ again_up_to r place =
 abbrev pub is_kept : Recoding → ℕ × Reading → Bool
 is_kept r at = keeps_code (lines_before r) (lines_then r) (place_before r.edit.now) at
 
--- what holds of the line at a place after the edit
-abbrev pub IsPlacedThen : Recoding → ℕ → Placed → Type 0
-IsPlacedThen r place x = slice_get (reverse (placed (lines_then r))) place ≡ Some x
-
 -- the code of a line after the edit
 abbrev pub code_then : Recoding → Placed → Result (List ℕ) Fault
 code_then r x = code_under (placed (lines_then r)) x
+
+-- how much higher a line stands than another one, modulo 2 ^ 16
+abbrev pub shift_of : Placement → Placement → ℕ
+shift_of was now = (now.here + (65536 - was.here)) % 65536
 
 -- the line at a place doesn't keep its code
 abbrev pub IsAnew : Recoding → ℕ → Type 0
@@ -112,5 +112,6 @@ pub record AreWritten (r : Recoding) (codes : Codes) (place : ℕ) : Type 0 wher
   pub long : vec_len codes.image ≡ IMAGE_BYTES
   pub bytes : (k : ℕ) → k < IMAGE_BYTES
       → IsByte (lines_then r) r.new.now.placements.items place k (slice_index codes.image.items k)
-  pub faults : codes.faults.items ≡ take place (line_faults (lines_then r))
-  pub counted : IsCounted codes
+  pub many : vec_len codes.faults ≡ count_then r
+  pub faults : take place codes.faults.items ≡ take place (line_faults (lines_then r))
+  pub counted : codes.count ≡ sum_by count_of (take place codes.faults.items)

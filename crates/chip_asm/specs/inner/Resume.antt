@@ -10,10 +10,8 @@ use Rattle.chip_asm.specs.declared.placement.Placement.{Placement}
 use Rattle.chip_asm.specs.declared.relayout.Relayout.{Relayout}
 use Rattle.chip_asm.specs.inner.KeptLine.{KeptLine}
 use Rattle.chip_asm.specs.Names.{Name}
-use Rattle.chip_asm.specs.computed.Walk.{placed}
-use Rattle.chip_asm.specs.inner.Follows.{Follows}
 use Rattle.chip_asm.specs.inner.Infos.{AreInfos}
-use Rattle.chip_asm.specs.inner.Layouts.{IsLayoutOf, first_placements}
+use Rattle.chip_asm.specs.inner.Layouts.{HasPassed, IsLayoutOf}
 use Rattle.chip_asm.specs.inner.Records.{IsPlaceWithin, count_after, lines_after, readings_in}
 
 -- the lines before this place stay as they are
@@ -57,7 +55,5 @@ BeginsAsOld spare r =
     take r.settled spare.placements.items ≡ take r.settled r.old.now.placements.items
 
 -- the pass stands after the first of some lines, with what it found of them
-pub record IsWalked (found : List Placement) (pass : Pass) (lines : List Reading)
-    (place : ℕ) : Type 0 where
-  pub placements : found ≡ first_placements (take place lines)
-  pub follows : Follows pass (placed (take place lines))
+abbrev pub IsWalked : List Placement → Pass → List Reading → (place : ℕ) → Type 0
+IsWalked found pass lines place = HasPassed found pass (take place lines)

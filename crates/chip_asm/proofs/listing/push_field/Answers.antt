@@ -1,4 +1,4 @@
-use Rattle.std.proofs.Common.{◌≡◌, ◌∙◌, ◌++◌, ◌∷◌, ap, sym, arith, true, w32, to_z, of_z}
+use Rattle.std.proofs.Common.{◌≡◌, ◌∙◌, ◌++◌, ◌∷◌, [], ap, sym, arith, true, w32, to_z, of_z}
 use Rattle.std.proofs.lemmas.Int.{to_z-of_z}
 use Rattle.std.specs.Fmt.{signed_decimal}
 use Rattle.chip_lang.specs.SeenLine.{seen_line}
@@ -12,8 +12,9 @@ returns-then-is_definition c =
     let given = c.value_given-value.ensures c.args.placement.now.here in
     let same : to_z w32 (of_z w32 c.value_given-value.result) ≡ c.value_given-value.result = grind (arith, to_z-of_z) in
     let passed : to_z w32 (of_z w32 c.args.placement.now.value) ≡ c.args.placement.now.value = grind (arith, to_z-of_z) in
+    let more = rw c.in_default.is at c.more_sign-more.ensures in
     rw (c.in_default.is, c.if-not-placement.false, defines)
     (c.in_ok-push_value.ensures
-    ∙ ap (λ v. c.args.out.now.items ++ at_left 12 (61 ∷ signed_decimal v)) same
-    ∙ ap (λ v. c.args.out.now.items ++ at_left 12 (61 ∷ signed_decimal v)) given
-    ∙ ap (λ v. c.args.out.now.items ++ at_left 12 (61 ∷ signed_decimal (value_given c.args.placement.now.here v (body_of (seen_line c.args.line.now))))) passed)
+    ∙ ap (λ v. c.args.out.now.items ++ (at_left 12 (61 ∷ signed_decimal v) ++ c.more_sign-more.result ∷ 32 ∷ [])) (same ∙ given)
+    ∙ ap (λ v. c.args.out.now.items ++ (at_left 12 (61 ∷ signed_decimal (value_given c.args.placement.now.here v (body_of (seen_line c.args.line.now)))) ++ c.more_sign-more.result ∷ 32 ∷ [])) passed
+    ∙ ap (λ m. c.args.out.now.items ++ (at_left 12 (61 ∷ signed_decimal (value_given c.args.placement.now.here c.args.placement.now.value (body_of (seen_line c.args.line.now)))) ++ m ∷ 32 ∷ [])) more)

@@ -18,5 +18,5 @@ zeros image n long each k = by (cases_lt k n)
 pub returns-clause-zeros : goal.returns-clause-zeros
 returns-clause-zeros c =
     let filled = c.in_ok-resize.ensures in
-    on-ok c.reserve.result
+    on-ok c.resize-2.result
     (zeros c.resize.new.self.items IMAGE_BYTES (omega (arith, filled.len, c.resize.new.self.ok.0)) (λ k h. filled.by_index.1 k 0 refl (omega (arith, c.clear.ensures.len)) h))

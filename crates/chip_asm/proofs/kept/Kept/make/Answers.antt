@@ -14,7 +14,7 @@ rewrite-requires-clause-info c =
 
 pub returns-then-has_same_effect-clause-ok : goal.returns-then-has_same_effect-clause-ok
 returns-then-has_same_effect-clause-ok c =
-    rw (c.in-Replace.is, texts-set c.args.self.now.lines.items c.in-Replace.at c.in-Replace.added) c.rewrite.ensures.ok
+    rw (c.in-Replace.is, texts-set c.args.self.now.lines.items c.in-Replace.at c.in-Replace.added) c.rewrite.ensures.texts
 
 pub returns-then-has_same_effect-clause-encoded : goal.returns-then-has_same_effect-clause-encoded
 returns-then-has_same_effect-clause-encoded c =

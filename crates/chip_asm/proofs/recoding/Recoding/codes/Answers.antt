@@ -1,4 +1,4 @@
-use Rattle.std.proofs.Common.{◌≡◌, ◌∙◌, ◌≤◌, ap, refl, sym, arith}
+use Rattle.std.proofs.Common.{◌≡◌, ◌∙◌, ◌≤◌, ap, refl, sym, take, arith}
 use Rattle.std.specs.List.{enumerate_from}
 use Rattle.std.proofs.lemmas.List.{take_all}
 use Rattle.chip_asm.specs.inner.Codes.{line_faults}
@@ -17,8 +17,9 @@ loop-next-init c =
       record {
         long = clear.image;
         bytes = λ k h. byte-zero (lines_then r) r.new.now c.requires.new k _ (clear.zeros k);
-        faults = clear.faults;
-        counted = clear.count ∙ sym (ap count_faults clear.faults);
+        many = clear.faults ∙ (omega (arith, c.len-count.ensures, long-then r c.requires, r.new.now.placements.ok.0));
+        faults = refl;
+        counted = clear.count;
       },
       omega arith,
       omega arith,
@@ -31,14 +32,16 @@ returns-clause-codes c =
     let r = c.args.self.now in
     let known : AreWritten r c.loop-next.codes c.loop-next.next = c.loop-next.invariant.0 in
     let all : count_then r ≤ c.loop-next.next = omega (arith, c.loop-next-test.false, c.len-count.ensures, long-then r c.requires, r.new.now.placements.ok.0) in
-    let faults : c.loop-next.codes.faults.items ≡ line_faults (lines_then r)
+    let whole : take c.loop-next.next c.loop-next.codes.faults.items ≡ line_faults (lines_then r)
     = known.faults ∙ take_all c.loop-next.next (line_faults (lines_then r)) (omega (arith, all, length-faults (lines_then r), length-readings_after r.lines.now r.edit.now c.requires.within)) in
+    let faults : c.loop-next.codes.faults.items ≡ line_faults (lines_then r)
+    = sym (take_all c.loop-next.next c.loop-next.codes.faults.items (omega (arith, all, known.many, c.loop-next.codes.faults.ok.0))) ∙ whole in
     record {
       imaged = λ k h. byte-done (lines_then r) r.new.now.placements.items c.loop-next.next k _ (omega (arith, all, long-then r c.requires)) (known.bytes k h);
       short = omega (arith, known.long);
       long = λ some. known.long;
       faulty = faults;
-      counted = known.counted ∙ ap count_faults faults ∙ faults-counted (lines_then r);
+      counted = known.counted ∙ ap count_faults whole ∙ faults-counted (lines_then r);
     }
 
 pub returns-clause-encoded : goal.returns-clause-encoded
@@ -46,7 +49,7 @@ returns-clause-encoded c =
     let r = c.args.self.now in
     omega (arith, c.loop-next.invariant.2, count_by-take (is_encoded_again (lines_before r) (lines_then r) (place_before r.edit.now)) (enumerate_from 0 (lines_then r)) c.loop-next.next)
 
-pub write_from-requires-clause-place : goal.write_from-requires-clause-place
-write_from-requires-clause-place c =
+pub write_from-next-requires-clause-place : goal.write_from-next-requires-clause-place
+write_from-next-requires-clause-place c =
     let r = c.args.self.now in
     omega (arith, c.loop-next-test.true, c.len-count.ensures, long-then r c.requires, r.new.now.placements.ok.0)

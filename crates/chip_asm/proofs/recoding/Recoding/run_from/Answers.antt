@@ -1,78 +1,115 @@
-use Rattle.std.proofs.Common.{◌≡◌, ◌∙◌, ◌+◌, ◌-◌, ◌<◌, inl, inr, length, slice_get, ap, subst, arith}
-use Rattle.chip_asm.specs.inner.Recoding.{IsAnew}
-use Rattle.chip_asm.specs.inner.Records.{IsStretch}
-use Rattle.chip_asm.proofs.RecodingSteps.{before-at, long-before, long-then, now-at, was-at}
-use Rattle.chip_asm.proofs.RunSteps.{along, front-run}
+use Rattle.std.proofs.Common.{◌≡◌, ◌∙◌, ◌+◌, ◌-◌, ◌<◌, List, Some, ap, arith, drop, get_or, length, refl, subst, sym, take, ℕ}
+use Rattle.chip_asm.specs.declared.placement.Placement.{Placement}
+use Rattle.chip_asm.specs.inner.Infos.{IsInfo}
+use Rattle.chip_asm.specs.inner.KeptLine.{KeptLine}
+use Rattle.chip_asm.specs.inner.Recoding.{count_then, shift_of}
+use Rattle.chip_asm.specs.inner.Records.{place_before, reading_in}
+use Rattle.chip_asm.proofs.RecodingSteps.{kept-info, long-before, long-then, stood-kept}
+use Rattle.chip_asm.proofs.RunSteps.{blank, front-run, is_same, one-more, part-at, part-line, stays-anew, stays-carried}
 use Rattle.chip_asm.proofs.recoding.Recoding.run_from.Goals as goal
-use Rattle.chip_asm.proofs.recoding.Recoding.run_from.Goals.{then-place-changed, else-place-changed, then-self+then-place-self, else-self}
+use Rattle.chip_asm.proofs.recoding.Recoding.run_from.Goals.{then-self+then-place-self, else-self}
 
-pub index-requires : goal.index-requires
-index-requires c = omega (arith, c.requires.place, long-then c.args.self.now c.requires.recoding, c.args.self.now.new.now.placements.ok.0)
+pub slice_bounds-old-end : goal.slice_bounds-old-end
+slice_bounds-old-end c =
+    let s = c.end_from-end.ensures.stretch c.args.start c.requires.stood in
+    omega (arith, s.within, long-before c.args.self.now c.requires.recoding, ap length c.deref.ensures.value)
 
-pub index-requires-2 : goal.index-requires-2
-index-requires-2 c =
+pub slice_bounds-new-end : goal.slice_bounds-new-end
+slice_bounds-new-end c =
+    let s = c.end_from-end.ensures.stretch c.args.start c.requires.stood in
+    omega (arith, s.after, s.ordered, long-then c.args.self.now c.requires.recoding, ap length c.deref-2.ensures.value)
+
+pub loop-index-init : goal.loop-index-init
+loop-index-init c = λ next before shift from to.
     let r = c.args.self.now in
-    omega (arith, before-at r c.requires.recoding c.args.place c.args.start c.requires.place c.requires.stood, long-before r c.requires.recoding, r.old.now.placements.ok.0)
-
-pub loop-before-init : goal.loop-before-init
-loop-before-init c =
-    let r = c.args.self.now in
+    let s = c.end_from-end.ensures.stretch c.args.start c.requires.stood in
+    let some = c.end_from-end.ensures.some c.args.start c.requires.stood in
     elim c.if-self.branch [
       | then-self+then-place-self w ↦
-          let front = front-run c.same_code.ensures.code r c.requires.recoding w.if-self.true c.args.place c.args.start c.index.result.now c.index-2.result.now w.if-place-self.true c.requires.stood c.index.ensures c.index-2.ensures in
-          (omega (arith, w.known-is, front.0, w.if-place-self.true), λ next before shift from to. front.1 next before shift (omega (arith, to, w.known-is)))
+          let front = front-run c.same_code.ensures.code r c.requires.recoding w.if-self.true c.args.place c.args.start _ _ w.if-place-self.true c.requires.stood
+          (part-at r.new.now.placements.items c.deref-2.result.now c.args.place (c.args.place + (c.end_from-end.result - c.args.start) - c.args.place) 0 c.args.place c.deref-2.ensures.value (omega arith) (omega (arith, some)) (omega (arith, c.requires.place, long-then r c.requires.recoding)))
+          (part-at r.old.now.placements.items c.deref.result.now c.args.start (c.end_from-end.result - c.args.start) 0 c.args.start c.deref.ensures.value (omega arith) (omega (arith, some)) (omega (arith, some, s.within, long-before r c.requires.recoding))) in
+          front.1 next before shift (omega (arith, to, w.known-is, front.0, w.if-place-self.true))
       | else-self w ↦
-          (omega (arith, w.known-is), λ next before shift from to. absurd (omega (arith, from, to, w.known-is)))
+          absurd (omega (arith, from, to, w.known-is))
     ]
+
+pub stays-requires-clause-info : goal.stays-requires-clause-info
+stays-requires-clause-info c =
+    let r = c.args.self.now in
+    let next : ℕ = c.args.place + c.loop-index.index in
+    let before : ℕ = c.args.start + c.loop-index.index in
+    let s = c.end_from-end.ensures.stretch c.args.start c.requires.stood in
+    let inside : next < count_then r = omega (arith, s.after, c.loop-index-test.true) in
+    let stood : place_before r.edit.now next ≡ Some before = s.stood next before (omega arith) (omega arith) (omega (arith, c.loop-index-test.true)) in
+    let kept : KeptLine = c.index-lines-index.result in
+    let is : kept ≡ get_or r.lines.now before kept = part-line r.lines.now c.args.start (c.end_from-end.result - c.args.start) c.loop-index.index kept c.index-lines-index.is (omega (arith, c.loop-index-test.true)) in
+    subst (λ (k : KeptLine). IsInfo r.names.now.keys k.info k.several (reading_in k)) (sym is) (kept-info r c.requires.recoding next (get_or r.lines.now before kept) (stood-kept r c.requires.recoding next before kept inside stood))
 
 pub returns-then-not-stays-clause-run : goal.returns-then-not-stays-clause-run
 returns-then-not-stays-clause-run c =
-    let r = c.args.self.now in
-    let s : IsStretch (length r.lines.now) r.edit.now c.args.place c.args.start c.if-place-changed.end × (c.args.start < c.if-place-changed.end)
-    = along r c.requires.recoding c.args.place c.args.start c.if-place-changed.end c.first_changed-changed.result c.requires.place c.requires.stood c.first_changed-changed.ensures (elim c.if-place-changed.branch [
-      | then-place-changed w ↦ inl (w.if-place-changed.true, w.end-is)
-      | else-place-changed w ↦ inr (w.if-place-changed.false, w.end-is)
-    ]) in
+    let s = c.end_from-end.ensures.stretch c.args.start c.requires.stood in
     record {
-      to = c.index.result.now.here;
-      from = c.index-2.result.now.here;
-      ordered = c.loop-before.invariant.0;
-      inside = omega (arith, c.loop-before-test.true, s.0.within);
-      within = omega (arith, c.loop-before-test.true, s.0.after);
-      each = c.loop-before.invariant.1;
+      to = _;
+      from = _;
+      ordered = omega arith;
+      inside = omega (arith, c.loop-index-test.true, s.within);
+      within = omega (arith, c.loop-index-test.true, s.after);
+      each = c.loop-index.invariant;
     }
 
 pub returns-then-not-stays-clause-none : goal.returns-then-not-stays-clause-none
 returns-then-not-stays-clause-none c = λ is.
     let r = c.args.self.now in
-    let here : c.args.place + (c.loop-before.before - c.args.start) ≡ c.args.place = omega (arith, is) in
-    subst (IsAnew r) here
-    (c.stays.ensures.no c.index.result.now c.index-2.result.now (ap (slice_get r.new.now.placements.items) here ∙ now-at r c.requires.recoding c.args.place c.index.result.now c.requires.place c.index.ensures)
-    (ap (slice_get r.old.now.placements.items) is ∙ was-at r c.requires.recoding c.args.place c.args.start c.index-2.result.now c.requires.place c.requires.stood c.index-2.ensures) (omega arith) c.if-not-stays.true)
+    let s = c.end_from-end.ensures.stretch c.args.start c.requires.stood in
+    let some = c.end_from-end.ensures.some c.args.start c.requires.stood in
+    let new : List Placement = take (c.args.place + (c.end_from-end.result - c.args.start) - c.args.place) (drop c.args.place c.deref-2.result.now) in
+    let old : List Placement = take (c.end_from-end.result - c.args.start) (drop c.args.start c.deref.result.now) in
+    let zero_now : c.loop-index.index ≡ 0 = omega (arith, is) in
+    let kept : KeptLine = c.index-lines-index.result in
+    let line : kept ≡ get_or r.lines.now (c.args.start + c.loop-index.index) kept = part-line r.lines.now c.args.start (c.end_from-end.result - c.args.start) c.loop-index.index kept c.index-lines-index.is (omega (arith, c.loop-index-test.true)) in
+    stays-anew r c.requires.recoding c.args.place c.args.start (get_or new 0 blank) (get_or old 0 blank) kept
+    (part-at r.new.now.placements.items c.deref-2.result.now c.args.place (c.args.place + (c.end_from-end.result - c.args.start) - c.args.place) 0 c.args.place c.deref-2.ensures.value (omega arith) (omega (arith, some)) (omega (arith, c.requires.place, long-then r c.requires.recoding)))
+    (part-at r.old.now.placements.items c.deref.result.now c.args.start (c.end_from-end.result - c.args.start) 0 c.args.start c.deref.ensures.value (omega arith) (omega (arith, some)) (omega (arith, some, s.within, long-before r c.requires.recoding)))
+    c.requires.place c.requires.stood
+    (sym (ap (λ i. is_same r (get_or r.lines.now c.args.start kept) (get_or old i blank) (get_or new i blank) (shift_of (get_or old 0 blank) (get_or new 0 blank))) zero_now)
+    ∙ sym (ap (λ b. is_same r (get_or r.lines.now b kept) (get_or old c.loop-index.index blank) (get_or new c.loop-index.index blank) (shift_of (get_or old 0 blank) (get_or new 0 blank))) is)
+    ∙ sym (ap (λ k. is_same r k (get_or old c.loop-index.index blank) (get_or new c.loop-index.index blank) (shift_of (get_or old 0 blank) (get_or new 0 blank))) line)
+    ∙ sym c.stays.ensures ∙ c.if-not-stays.true)
+
+pub loop-index-preserved : goal.loop-index-preserved
+loop-index-preserved c =
+    let r = c.args.self.now in
+    let next : ℕ = c.args.place + c.loop-index.index in
+    let before : ℕ = c.args.start + c.loop-index.index in
+    let s = c.end_from-end.ensures.stretch c.args.start c.requires.stood in
+    let some = c.end_from-end.ensures.some c.args.start c.requires.stood in
+    let count : ℕ = c.end_from-end.result - c.args.start in
+    let inside : next < count_then r = omega (arith, s.after, c.loop-index-test.true) in
+    let stood : place_before r.edit.now next ≡ Some before = s.stood next before (omega arith) (omega arith) (omega (arith, c.loop-index-test.true)) in
+    let kept : KeptLine = c.index-lines-index.result in
+    let line : kept ≡ get_or r.lines.now before kept = part-line r.lines.now c.args.start count c.loop-index.index kept c.index-lines-index.is (omega (arith, c.loop-index-test.true)) in
+    let new : List Placement = take (c.args.place + count - c.args.place) (drop c.args.place c.deref-2.result.now) in
+    let old : List Placement = take count (drop c.args.start c.deref.result.now) in
+    let new_long = long-then r c.requires.recoding in
+    let old_long = long-before r c.requires.recoding in
+    one-more r c.args.place c.args.start c.loop-index.index _ _ c.loop-index.invariant
+    (stays-carried c.same_code.ensures.code r c.requires.recoding c.args.place c.args.start _ _
+    (part-at r.new.now.placements.items c.deref-2.result.now c.args.place (c.args.place + count - c.args.place) 0 c.args.place c.deref-2.ensures.value (omega arith) (omega (arith, some)) (omega (arith, c.requires.place, new_long)))
+    (part-at r.old.now.placements.items c.deref.result.now c.args.start count 0 c.args.start c.deref.ensures.value (omega arith) (omega (arith, some)) (omega (arith, some, s.within, old_long)))
+    next before _ _ kept
+    (part-at r.new.now.placements.items c.deref-2.result.now c.args.place (c.args.place + count - c.args.place) c.loop-index.index next c.deref-2.ensures.value refl (omega (arith, c.loop-index-test.true)) (omega (arith, inside, new_long)))
+    (part-at r.old.now.placements.items c.deref.result.now c.args.start count c.loop-index.index before c.deref.ensures.value refl (omega (arith, c.loop-index-test.true)) (omega (arith, s.within, c.loop-index-test.true, old_long)))
+    inside stood (sym (ap (λ k. is_same r k (get_or old c.loop-index.index blank) (get_or new c.loop-index.index blank) (shift_of (get_or old 0 blank) (get_or new 0 blank))) line) ∙ sym c.stays.ensures ∙ c.if-not-stays.false))
 
 pub returns-clause-run : goal.returns-clause-run
 returns-clause-run c =
-    let r = c.args.self.now in
-    let s : IsStretch (length r.lines.now) r.edit.now c.args.place c.args.start c.if-place-changed.end × (c.args.start < c.if-place-changed.end)
-    = along r c.requires.recoding c.args.place c.args.start c.if-place-changed.end c.first_changed-changed.result c.requires.place c.requires.stood c.first_changed-changed.ensures (elim c.if-place-changed.branch [
-      | then-place-changed w ↦ inl (w.if-place-changed.true, w.end-is)
-      | else-place-changed w ↦ inr (w.if-place-changed.false, w.end-is)
-    ]) in
+    let s = c.end_from-end.ensures.stretch c.args.start c.requires.stood in
     record {
-      to = c.index.result.now.here;
-      from = c.index-2.result.now.here;
-      ordered = omega (arith, s.1);
-      inside = s.0.within;
-      within = s.0.after;
-      each = λ next before shift from to. c.loop-before.invariant.1 next before shift from (omega (arith, to, c.loop-before-test.false));
+      to = _;
+      from = _;
+      ordered = s.ordered;
+      inside = s.within;
+      within = s.after;
+      each = λ next before shift from to. c.loop-index.invariant next before shift from (omega (arith, to, c.loop-index-test.false));
     }
-
-pub returns-clause-none : goal.returns-clause-none
-returns-clause-none c = λ is.
-    let r = c.args.self.now in
-    let s : IsStretch (length r.lines.now) r.edit.now c.args.place c.args.start c.if-place-changed.end × (c.args.start < c.if-place-changed.end)
-    = along r c.requires.recoding c.args.place c.args.start c.if-place-changed.end c.first_changed-changed.result c.requires.place c.requires.stood c.first_changed-changed.ensures (elim c.if-place-changed.branch [
-      | then-place-changed w ↦ inl (w.if-place-changed.true, w.end-is)
-      | else-place-changed w ↦ inr (w.if-place-changed.false, w.end-is)
-    ]) in
-    absurd (omega (arith, is, s.1))

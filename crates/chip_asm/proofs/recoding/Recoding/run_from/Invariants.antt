@@ -2,7 +2,5 @@ use Rattle.std.proofs.Common.{◌≡◌, ◌≤◌, ◌<◌, ◌+◌, ℕ}
 use Rattle.chip_asm.specs.inner.Recoding.{IsCarried}
 use Rattle.chip_asm.proofs.recoding.Recoding.run_from.Given as goal
 
-abbrev pub invariant-loop-before : goal.invariant-loop-before
-invariant-loop-before l =
-    (l.start ≤ l.before)
-    × ((next before : ℕ) → next + l.start ≡ l.place + before → l.start ≤ before → before < l.before → IsCarried l.self next before l.to l.from)
+abbrev pub invariant-loop-index : goal.invariant-loop-index
+invariant-loop-index l = (next before : ℕ) → next + l.start ≡ l.place + before → l.start ≤ before → before < l.start + l.index → IsCarried l.self next before l.to l.from
