@@ -13,3 +13,4 @@ pub mod RunLemmas
 pub mod KeyLemmas
 pub mod RowLemmas
 pub mod RowBytes
+mod SameParts

@@ -1,5 +1,5 @@
 //! The run of the last image that the lines had: its settings, its replay, and the image.
-ghost use Rattle.std.specs.Prelude.{◌≡◌, ◌≤◌, length, vec_capacity, IfSome, IfOk, OnOk, OnErr, MatchOption, IsOkUnless, Err, Ok, None, [], false};
+ghost use Rattle.std.specs.Prelude.{◌≡◌, ◌≤◌, ◌<◌, ℕ, slice_index, length, vec_capacity, IfSome, IfOk, OnOk, OnErr, MatchOption, IsOkUnless, Err, Ok, None, [], false};
 ghost use Rattle.std.specs.FinMap as finmap;
 ghost use Rattle.std.specs.Option.{option_copied};
 ghost use Rattle.chip_replay.specs.Image.{AgreeOutside};
@@ -49,6 +49,41 @@ impl Model for ImageRun {
         (vec_capacity r.last_image) };
 }
 
+/// How many bytes of two images are compared at once.
+const BLOCK: usize = 128;
+
+/// How many bytes at the front are known to be the same in both, in whole blocks.
+fn same_in_front(old: &[u8], new: &[u8]) -> usize
+    ensures within { result ≤ length old.now }
+    ensures same { (i : ℕ) → i < result → slice_index old.now i ≡ slice_index new.now i }
+{
+    let shorter = old.len().min(new.len());
+    for block in 0..shorter / BLOCK {
+        let (start, end) = (BLOCK * block, BLOCK * block + BLOCK);
+        if old[start..end] != new[start..end] {
+            return start;
+        }
+    }
+    shorter / BLOCK * BLOCK
+}
+
+/// Where the whole blocks at the back begin that are known to be the same in both.
+fn same_from(old: &[u8], new: &[u8]) -> usize
+    ensures { (i : ℕ) → result ≤ i → slice_index old.now i ≡ slice_index new.now i }
+{
+    let longer = old.len().max(new.len());
+    if old.len() != new.len() {
+        return longer;
+    }
+    for block in 0..longer / BLOCK {
+        let end = longer - BLOCK * block;
+        if old[end - BLOCK..end] != new[end - BLOCK..end] {
+            return end;
+        }
+    }
+    longer % BLOCK
+}
+
 impl ImageRun {
     /// The run of the empty image, without key events.
     pub(crate) fn new(alloc: Global, settings: Settings) -> Result<Self, AllocError>
@@ -83,7 +118,10 @@ impl ImageRun {
     {
         if let Some(image) = image {
             image_at_the_start();
-            self.replay.image_changed(&self.last_image, image);
+            let first = same_in_front(&self.last_image, image);
+            let end = same_from(&self.last_image, image);
+            self.replay
+                .image_changed_within(first..end, &self.last_image, image);
             self.last_image.clear();
             // The room is there since the start.
             let _ = self.last_image.extend_from_slice(image);

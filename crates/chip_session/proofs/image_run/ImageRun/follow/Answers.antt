@@ -7,6 +7,6 @@ pub invariant_of-self : goal.invariant_of-self
 invariant_of-self c =
     let fits : length c.in-Some.image.now ≤ IMAGE_BYTES = search rules in
     let law = c.image_at_the_start.ensures in
-    let changed = c.image_changed.ensures in
-    let next = replays_next c.self.inside.settings c.self.inside.last_image.items c.in-Some.image.now c.self.inside.replay c.image_changed.new.self c.self.invariant.replays law.from_512 law.below fits changed.start changed.rate changed.spacing in
+    let changed = c.image_changed_within.ensures in
+    let next = replays_next c.self.inside.settings c.self.inside.last_image.items c.in-Some.image.now c.self.inside.replay c.image_changed_within.new.self c.self.invariant.replays law.from_512 law.below fits changed.start changed.rate changed.spacing in
     search rules
