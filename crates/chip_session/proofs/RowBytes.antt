@@ -1,14 +1,11 @@
 -- The points of a row, eight to a byte, as the bits of a number.
-use Rattle.std.proofs.Common.{◌≡◌, ℕ, ◌+◌, ◌*◌, ◌-◌, ◌/◌, ◌%◌, ◌^◌, ◌<◌, ◌==◌, List, [], ◌∷◌, ◌++◌, length, map, take, slice_set, sym, ap, ap₂, ◌∙◌, zero-add, arith}
-use Rattle.std.specs.Int.{bit_at}
-use Rattle.std.specs.List.{range_with_len}
+use Rattle.std.proofs.Common.{◌≡◌, ℕ, ◌+◌, ◌*◌, ◌-◌, ◌/◌, ◌%◌, ◌^◌, ◌<◌, ◌==◌, [], ◌∷◌, sym, ap, ◌∙◌, arith}
+use Rattle.std.specs.Int.{bit_at, to_be_bytes, w128}
 use Rattle.std.proofs.lemmas.Nat.Bits.{bit_at-lt}
 use Rattle.std.proofs.lemmas.Nat.{shr-shr}
-use Rattle.std.proofs.lemmas.List.{take_more_set}
-use Rattle.std.proofs.lemmas.List.FromFn.{map-range_with_len_more}
 use Rattle.chip_machine.specs.Points.{Points, is_lit, lights}
 use Rattle.chip_views.specs.Bitmap.{bit}
-use Rattle.chip_session.specs.MachineAnswers.{stored_byte}
+use Rattle.chip_session.specs.MachineAnswers.{stored_byte, stored_row}
 
 -- a bit, by whether it is 1
 as_bit : (n : ℕ) → n < 2 → bit (n == 1) ≡ n
@@ -16,12 +13,6 @@ as_bit n small = grind arith
 
 by_bits : (n : ℕ) → n % 256 ≡ 128 * (n / 128 % 2) + 64 * (n / 64 % 2) + 32 * (n / 32 % 2) + 16 * (n / 16 % 2) + 8 * (n / 8 % 2) + 4 * (n / 4 % 2) + 2 * (n / 2 % 2) + n % 2
 by_bits n = omega arith
-
--- one place more is filled
-pub filled_more : (f : ℕ → ℕ) (xs : List ℕ) (place b : ℕ) → place < length xs → b ≡ f place → take place xs ≡ map f (range_with_len 0 place) →
-    take (place + 1) (slice_set xs place b) ≡ map f (range_with_len 0 (place + 1))
-filled_more f xs place b lt is made =
-    take_more_set xs place b lt ∙ ap₂ (λ front last. front ++ last ∷ []) made is ∙ sym (map-range_with_len_more f 0 place place (zero-add place))
 
 module _ (lit : Points) (row bits : ℕ) (points : (column : ℕ) → column < 128 → lights bits column ≡ is_lit lit column row) where
   point_is : (column : ℕ) → column < 128 → bit_at bits (127 - column) ≡ bit (is_lit lit column row)
@@ -45,3 +36,11 @@ module _ (lit : Points) (row bits : ℕ) (points : (column : ℕ) → column < 1
       let b₁ : n / 2 % 2 ≡ bit (is_lit lit (8 * place + 6) row) = shifted place (8 * place + 6) 1 lt (omega arith) (omega arith) in
       let b₀ : n / 1 % 2 ≡ bit (is_lit lit (8 * place + 7) row) = shifted place (8 * place + 7) 0 lt (omega arith) (omega arith) in
       omega (arith, by_bits n)
+
+  lowest : bits % 256 ≡ stored_byte lit row 15
+  lowest = (let byte : bits / 1 % 256 ≡ stored_byte lit row 15 = row_byte_is 15 (omega arith) in omega (arith, byte))
+
+  -- all bytes of the row
+  pub row_bytes_are : to_be_bytes w128 bits ≡ stored_row lit row
+  unfolding stored_row
+  row_bytes_are = λ i. row_byte_is 0 (omega arith) i ∷ row_byte_is 1 (omega arith) i ∷ row_byte_is 2 (omega arith) i ∷ row_byte_is 3 (omega arith) i ∷ row_byte_is 4 (omega arith) i ∷ row_byte_is 5 (omega arith) i ∷ row_byte_is 6 (omega arith) i ∷ row_byte_is 7 (omega arith) i ∷ row_byte_is 8 (omega arith) i ∷ row_byte_is 9 (omega arith) i ∷ row_byte_is 10 (omega arith) i ∷ row_byte_is 11 (omega arith) i ∷ row_byte_is 12 (omega arith) i ∷ row_byte_is 13 (omega arith) i ∷ row_byte_is 14 (omega arith) i ∷ lowest i ∷ []

@@ -261,14 +261,8 @@ fn has_lit(machine: &Machine, row: usize) -> bool
 }
 
 /// The points of a row, eight to a byte.
-#[tactic(auto, unfolding(crate::specs::MachineAnswers::stored_row))]
 fn row_bytes(machine: &Machine, row: usize) -> [u8; 16]
     ensures { result ≡ stored_row machine.now.core.lit row }
 {
-    let points = machine.row(row);
-    let mut bytes = [0; 16];
-    for place in 0..16usize {
-        bytes[place] = ((points >> (120 - 8 * place)) % 256) as u8;
-    }
-    bytes
+    machine.row(row).to_be_bytes()
 }
