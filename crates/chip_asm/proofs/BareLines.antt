@@ -9,13 +9,12 @@ use Rattle.chip_asm.specs.declared.placement.Placement.{Placement}
 use Rattle.chip_asm.specs.declared.table.Symbol.{Symbol}
 use Rattle.chip_asm.specs.Names.{Name, lookup_name}
 use Rattle.chip_asm.specs.inner.Bare.{is_bare, IsBare, fault_of_bare}
-use Rattle.chip_asm.specs.Layout.{Placed, body_of, full_size, own_size, value_at, value_or_zero, is_if_body, is_redefinition, symbol_given, value_given}
+use Rattle.chip_asm.specs.Layout.{Placed, body_of, full_size, own_size, value_at, value_or_zero, is_redefinition, symbol_given, value_given}
 use Rattle.chip_asm.specs.computed.Walk.{place, placed, is_live, first_fault, fault_of_value, symbols, is_aligning, address}
 use Rattle.chip_asm.specs.inner.Follows.{Follows, placement_of}
 use Rattle.chip_asm.specs.inner.Placements.{is_placed}
 use Rattle.chip_asm.specs.inner.Infos.{IsNumberOf}
 use Rattle.chip_asm.specs.declared.table.NameId.{NameId}
-use Rattle.chip_asm.proofs.Placing.{length-placed}
 use Rattle.std.proofs.lemmas.Bool.{and_parts}
 use Rattle.chip_asm.specs.inner.Layouts.{HasPassed}
 use Rattle.chip_asm.specs.inner.Tables.{key_at}
@@ -50,11 +49,6 @@ no-value before empty b = refl
 no-value before (code form operands) b = refl
 no-value before _ b = cc
 
-pub no-if : (body : Body) → is_bare body ≡ true → false ≡ is_if_body body
-no-if empty b = refl
-no-if (code form operands) b = refl
-no-if _ b = cc
-
 pub live-elsewhere : (before : List Placed) (body : Body) → is_bare body ≡ true → is_live before empty ≡ is_live before body
 unfolding is_live
 live-elsewhere before empty b = refl
@@ -62,21 +56,19 @@ live-elsewhere before (code form operands) b = refl
 live-elsewhere before _ b = cc
 
 -- the placement of such a line
-pub bare-placed : (pass : Pass) (lines : List Reading) (line : Reading) (name : Option Name) (number size : ℕ) (live twice : Bool) → IsBare line name size → number ≡ length lines + 1
+pub bare-placed : (pass : Pass) (lines : List Reading) (line : Reading) (name : Option Name) (size : ℕ) (live twice : Bool) → IsBare line name size
     → Follows pass (placed lines) → live ≡ is_live (placed lines) empty → twice ≡ is_redefinition pass.names.symbols name
     → (let made : Placement
     = record {
-      number = number;
-      is_if = false;
       live = live;
       here = pass.here;
       fault = fault_of_bare live twice pass.here size;
       value = pos 0;
       size = if live && is_none (fault_of_bare live twice pass.here size) then size else 0;
     } in made ≡ placement_of (place (placed lines) line))
-bare-placed pass lines line name number size live twice b n f l t =
-    placement-at before line number false live pass.here (fault_of_bare live twice pass.here size) (pos 0) (if live && is_none (fault_of_bare live twice pass.here size) then size else 0)
-    (n ∙ ap (λ k. k + 1) (sym (length-placed lines))) (no-if (body_of line) b.bare) (l ∙ live-elsewhere before (body_of line) b.bare) f.at_address (no-value before (body_of line) b.bare)
+bare-placed pass lines line name size live twice b f l t =
+    placement-at before line live pass.here (fault_of_bare live twice pass.here size) (pos 0) (if live && is_none (fault_of_bare live twice pass.here size) then size else 0)
+    (l ∙ live-elsewhere before (body_of line) b.bare) f.at_address (no-value before (body_of line) b.bare)
     (faults live) (sizes live (fault_of_bare live twice pass.here size))
   where
     before : List Placed
@@ -178,12 +170,10 @@ pub passed-refused : (found now : List Placement) (pass : Pass) (lines : List Re
     → (let q : Placement
     = record {
       value = pos 0;
-      number = number;
       here = pass.here;
       size = 0;
       fault = fault_of_bare pass.live (is_redefinition pass.names.symbols name) pass.here size;
       live = pass.live;
-      is_if = false;
     } in now ≡ found ++ q ∷ []) → HasPassed now pass (lines ++ line ∷ [])
 passed-refused found now pass lines line name number size b h n refused is = record {
   placements = one-more found now lines line q h.placements is e;
@@ -196,21 +186,19 @@ passed-refused found now pass lines line name number size b h n refused is = rec
     q : Placement
     q = record {
       value = pos 0;
-      number = number;
       here = pass.here;
       size = 0;
       fault = fault_of_bare pass.live twice pass.here size;
       live = pass.live;
-      is_if = false;
     }
 
     not_taken : is_placed q ≡ false
     not_taken = taken pass.live twice pass.here size ∙ sym refused
 
     e : q ≡ placement_of (place (placed lines) line)
-    e = ap (λ (s : ℕ). let made : Placement = record { value = pos 0; number = number; here = pass.here; size = s; fault = fault_of_bare pass.live twice pass.here size; live = pass.live; is_if = false } in made)
+    e = ap (λ (s : ℕ). let made : Placement = record { value = pos 0; here = pass.here; size = s; fault = fault_of_bare pass.live twice pass.here size; live = pass.live } in made)
         (ap (λ a. cond a size 0) (sym not_taken))
-        ∙ bare-placed pass lines line name number size pass.live twice b n h.follows (live_here pass (placed lines) empty refl h.follows) refl
+        ∙ bare-placed pass lines line name size pass.live twice b h.follows (live_here pass (placed lines) empty refl h.follows) refl
 
     none-more : (a : Bool) → a ≡ false → pass.names.symbols ≡ pass.names.symbols ++ option_to_list (if a then symbol_given number pass.here q.value line else None)
     none-more true h = cc
@@ -219,7 +207,7 @@ passed-refused found now pass lines line name number size b h n refused is = rec
 -- such a line is passed that is accepted
 pub passed-accepted : (found now : List Placement) (pass next : Pass) (lines : List Reading) (line : Reading) (name : Option Name) (number size : ℕ) → IsBare line name size → HasPassed found pass lines
     → number ≡ length lines + 1 → true ≡ (pass.live && is_none (fault_of_bare true (is_redefinition pass.names.symbols name) pass.here size))
-    → (let q : Placement = record { value = pos 0; number = number; here = pass.here; size = size; fault = None; live = true; is_if = false } in now ≡ found ++ q ∷ [])
+    → (let q : Placement = record { value = pos 0; here = pass.here; size = size; fault = None; live = true } in now ≡ found ++ q ∷ [])
     → next.here ≡ pass.here + size → next.aligning ≡ pass.aligning → next.ended ≡ pass.ended → next.blocks ≡ pass.blocks → next.live ≡ pass.live
     → next.names.symbols ≡ pass.names.symbols ++ option_to_list (label_given number pass.here name) → HasPassed now next (lines ++ line ∷ [])
 passed-accepted found now pass next lines line name number size b h n accepted is here aligning ended blocks live names = record {
@@ -232,15 +220,15 @@ passed-accepted found now pass next lines line name number size b h n accepted i
     twice = is_redefinition pass.names.symbols name
 
     q : Placement
-    q = record { value = pos 0; number = number; here = pass.here; size = size; fault = None; live = true; is_if = false }
+    q = record { value = pos 0; here = pass.here; size = size; fault = None; live = true }
 
     both : (pass.live ≡ true) × (is_none (fault_of_bare true twice pass.here size) ≡ true)
     both = and_parts _ _ (sym accepted)
 
     e : q ≡ placement_of (place (placed lines) line)
-    e = ap (λ (f : Option Fault). let made : Placement = record { value = pos 0; number = number; here = pass.here; size = cond (is_none f) size 0; fault = f; live = true; is_if = false } in made)
+    e = ap (λ (f : Option Fault). let made : Placement = record { value = pos 0; here = pass.here; size = cond (is_none f) size 0; fault = f; live = true } in made)
         (sym (none_from (fault_of_bare true twice pass.here size) both.1))
-        ∙ bare-placed pass lines line name number size true twice b n h.follows (sym both.0 ∙ live_here pass (placed lines) empty refl h.follows) refl
+        ∙ bare-placed pass lines line name size true twice b h.follows (sym both.0 ∙ live_here pass (placed lines) empty refl h.follows) refl
 
 -- a name that isn't given again has no symbol
 pub new-name : (keys : List Name) (symbols_now : List (Name × Symbol)) (defines : Option NameId) (twice : Bool) → IfSome defines (λ id. id.number < length keys)

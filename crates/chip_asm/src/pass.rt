@@ -7,7 +7,7 @@ ghost use Rattle.chip_asm.specs.inner.Turns.{AreNested};
 ghost use Rattle.chip_asm.specs.inner.HeldLine.{IsKnownUnder};
 ghost use Rattle.chip_asm.specs.inner.Tables.{IsNumber, KeepsBefore, key_at};
 ghost use Rattle.chip_asm.specs.Names.{Name, lookup_name};
-ghost use Rattle.chip_asm.specs.Layout.{value_at, own_size, is_padded, full_size, is_backwards, is_past_end, is_redefinition, is_if_body, body_of, value_or_zero, condition_of, is_end_body, symbol_given};
+ghost use Rattle.chip_asm.specs.Layout.{value_at, own_size, is_padded, full_size, is_backwards, is_past_end, is_redefinition, body_of, value_or_zero, condition_of, is_end_body, symbol_given};
 ghost use Rattle.chip_asm.specs.computed.Walk.{fault_of_value};
 ghost use Rattle.chip_lang.specs.SeenLine.{seen_line, seen_body};
 ghost use Rattle.chip_lang.specs.Line.{Reading, empty as empty_body};
@@ -69,12 +69,6 @@ pub(crate) fn size_of_body(body: &Body, value: i32) -> usize
         Body::Ds(_) => value.unsigned_abs() as usize,
         _ => 0,
     }
-}
-
-fn is_if(body: &Body) -> bool
-    ensures { result ≡ is_if_body (seen_body body.now) }
-{
-    matches!(body, Body::Ifdef(_) | Body::Ifund(_))
 }
 
 pub(crate) fn is_data(body: &Body) -> bool
@@ -256,18 +250,15 @@ impl Pass {
     /// What holds of the next line. The value of its expression may be known.
     fn place(
         &self,
-        number: usize,
         known: Option<i32>,
         line: &Line,
         defines: Option<NameId>,
         numbers: &[NameId],
     ) -> Placement
-        requires number { number ≤ MOST_LINES + 1 }
         requires known { IsKnownUnder self.now.names.symbols known (seen_line line.now) }
         requires defines { IsNumberOf self.now.names.keys defines
             (name_defined (seen_line line.now)) }
         ensures placed { (before : List Placed) → Follows self.now before
-            → number ≡ length before + 1
             → result ≡ placement_of (place before (seen_line line.now)) }
         ensures new_name { is_placed result ≡ true
             → is_redefinition self.now.names.symbols (name_defined (seen_line line.now)) ≡ false }
@@ -289,12 +280,10 @@ impl Pass {
         let size = self.size_of(is_passed(live, fault), body, value);
         Placement {
             value,
-            number: number as u16,
             here: self.here as u16,
             size: size as u16,
             fault,
             live,
-            is_if: is_if(body),
         }
     }
 
@@ -322,7 +311,7 @@ impl Pass {
     {
         let empty = Body::Empty;
         let body = body_or(line, &empty);
-        let placement = self.place(number, known, line, defines, numbers);
+        let placement = self.place(known, line, defines, numbers);
         placements.push(placement)?;
         let accepted = placement.is_accepted();
         let opened = Block {
@@ -391,17 +380,15 @@ impl Pass {
             → OnOk result (HasPassed placements.new.items self.new (lines ++ line ∷ [])) }
     {
         if !self.accepts_bare(size, defines) {
-            return self.refuse_bare(placements, number, size, defines);
+            return self.refuse_bare(placements, size, defines);
         }
         let here = self.here;
         placements.push(Placement {
             value: 0,
-            number: number as u16,
             here: here as u16,
             size: size as u16,
             fault: None,
             live: true,
-            is_if: false,
         })?;
         self.here = here + size;
         let Some(id) = defines else {
@@ -420,22 +407,18 @@ impl Pass {
     fn refuse_bare(
         &self,
         placements: &mut Vec<Placement>,
-        number: usize,
         size: usize,
         defines: Option<NameId>,
     ) -> Result<(), AllocError>
-        requires number { number ≤ MOST_LINES + 1 }
         requires defines { IfSome defines (λ id. id.number < length self.now.names.keys) }
         ensures { (name : Option Name) → IsNumberOf self.now.names.keys defines name
             → OnOk result (placements.new.items ≡ placements.old.items ++ record {
               value = pos 0;
-              number = number;
               here = self.now.here;
               size = 0;
               fault = fault_of_bare self.now.live (is_redefinition self.now.names.symbols name)
                   self.now.here size;
               live = self.now.live;
-              is_if = false;
             } ∷ []) }
     {
         let twice = self.is_redefinition(defines);
@@ -450,12 +433,10 @@ impl Pass {
         };
         placements.push(Placement {
             value: 0,
-            number: number as u16,
             here: self.here as u16,
             size: 0,
             fault,
             live: self.live,
-            is_if: false,
         })?;
         Ok(())
     }

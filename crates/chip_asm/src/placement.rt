@@ -3,16 +3,14 @@ ghost use Rattle.std.specs.Prelude.{◌≡◌, is_none, ◌&&◌};
 
 use chip_lang::Fault;
 
-/// What the first pass finds of a line. All lines have one each, so it is small: 16 bytes.
+/// What the first pass finds of a line. All lines have one each, so it is small: 12 bytes.
 #[derive(Clone, Copy)]
 pub(crate) struct Placement {
     pub(crate) value: i32,
-    pub(crate) number: u16,
     pub(crate) here: u16,
     pub(crate) size: u16,
     pub(crate) fault: Option<Fault>,
     pub(crate) live: bool,
-    pub(crate) is_if: bool,
 }
 
 /// Whether a line is accepted.

@@ -1,8 +1,9 @@
-use Rattle.std.proofs.Common.{◌∙◌, ◌++◌, ap, arith, length, slice_range, take}
+use Rattle.std.proofs.Common.{◌∙◌, ◌++◌, ap, arith, length, slice_range, subst, take}
 use Rattle.std.proofs.lemmas.List.{length-map, with_items_is}
+use Rattle.chip_asm.specs.inner.Marks.{AreMarked}
 use Rattle.chip_asm.specs.inner.Records.{reading_in}
 use Rattle.chip_asm.specs.inner.Resume.{lines_before, lines_then}
-use Rattle.chip_asm.proofs.MarkSteps.{marked-placements, numbered-placements, all-among, length-first-placements}
+use Rattle.chip_asm.proofs.MarkSteps.{marked-placements, all-among, length-first-placements}
 use Rattle.chip_asm.proofs.RelayoutSteps.{Begun, Walked, begun-placements, begun-relayout, spare-more, walked}
 use Rattle.chip_asm.proofs.Resumed.{length-laid}
 use Rattle.chip_asm.proofs.relayout.Relayout.walk_from.Goals as goal
@@ -33,20 +34,14 @@ returns-clause-layout c =
     let w : Walked c.walk.new.placements.items pass e = walked c.args.pass.now.names.keys e c.walk.new.placements.items pass c.requires.relayout c.in_ok-walk.ensures.walked in
     record {
       placements = with_items_is c.walk.new.placements c.mark_unclosed.new.placements (omega (arith, c.mark_unclosed.auto.placements, ap length c.deref_mut.ensures.value, c.walk.new.placements.ok.0))
-          ∙ c.mark_unclosed.ensures
-          ∙ (rw (c.deref_mut.ensures.value, c.deref-2.ensures.value, w.placements) (marked-placements (lines_then e) pass.ended pass.blocks.items w.follows.ended w.follows.open_blocks));
+          ∙ marked-placements (lines_then e) pass.ended pass.blocks.items c.mark_unclosed.new.placements w.follows.ended w.follows.open_blocks
+          (omega (arith, c.mark_unclosed.auto.placements, ap length c.deref_mut.ensures.value, ap length w.placements, length-first-placements (lines_then e)))
+          (subst (λ qs. AreMarked pass.ended pass.blocks.items qs c.mark_unclosed.new.placements) (c.deref_mut.ensures.value ∙ w.placements) (subst (λ bs. AreMarked pass.ended bs c.deref_mut.result.now c.mark_unclosed.new.placements) c.deref-2.ensures.value c.mark_unclosed.ensures));
       end_address = w.follows.at_address;
     }
 
-pub mark_unclosed-requires-clause-numbered : goal.mark_unclosed-requires-clause-numbered
-mark_unclosed-requires-clause-numbered c =
-    let e = c.args.self.now in
-    let pass = c.walk.new.pass in
-    let w : Walked c.walk.new.placements.items pass e = walked c.args.pass.now.names.keys e c.walk.new.placements.items pass c.requires.relayout c.in_ok-walk.ensures.walked in
-    rw (c.deref_mut.ensures.value, w.placements) (numbered-placements (lines_then e))
-
-pub mark_unclosed-requires-clause-among : goal.mark_unclosed-requires-clause-among
-mark_unclosed-requires-clause-among c =
+pub mark_unclosed-requires : goal.mark_unclosed-requires
+mark_unclosed-requires c =
     let e = c.args.self.now in
     let pass = c.walk.new.pass in
     let w : Walked c.walk.new.placements.items pass e = walked c.args.pass.now.names.keys e c.walk.new.placements.items pass c.requires.relayout c.in_ok-walk.ensures.walked in
