@@ -23,6 +23,15 @@ pub(crate) fn is_passed(live: bool, fault: Option<Fault>) -> bool
 impl Placement {
     ghost use Rattle.chip_asm.specs.inner.Placements.{is_placed};
 
+    /// Stands where nothing is found yet.
+    pub(crate) const NOTHING: Placement = Placement {
+        value: 0,
+        here: 0,
+        size: 0,
+        fault: None,
+        live: false,
+    };
+
     /// The address at which the line stands.
     pub(crate) fn address(&self) -> usize
         ensures { result ≡ self.now.here }

@@ -1,4 +1,4 @@
-use Rattle.std.proofs.Common.{◌≡◌, ◌∙◌, ap, refl, arith, w32, to_z, of_z}
+use Rattle.std.proofs.Common.{◌≡◌, ◌∙◌, ◌+◌, ap, refl, arith, w32, to_z, of_z}
 use Rattle.std.proofs.lemmas.Int.{to_z-of_z}
 use Rattle.chip_lang.specs.SeenLine.{seen_line}
 use Rattle.chip_asm.specs.Layout.{condition_of, body_of}
@@ -16,8 +16,8 @@ returns-clause-passed c = λ lines h n.
     let same : to_z w32 (of_z w32 c.place-placement.result.value) ≡ c.place-placement.result.value = grind (arith, to_z-of_z) in
     let holds : c.condition.result ≡ condition_of c.args.self.now.names.symbols (body_of (seen_line c.args.line.now)) = c.condition.ensures ∙ ap (condition_of c.args.self.now.names.symbols) c.body_or-body.ensures in
     record {
-      placements = one-more c.args.placements.now.items c.push.new.self.items lines (seen_line c.args.line.now) q h.placements c.in_ok-push.ensures.items found;
-      follows = follows-push c.args.self.now c.note_live.new.self lines (seen_line c.args.line.now) c.args.number q n f found
+      placements = one-more c.args.placements.now lines (seen_line c.args.line.now) c.args.place q h.placements n c.requires.place found;
+      follows = follows-push c.args.self.now c.note_live.new.self lines (seen_line c.args.line.now) (c.args.place + 1) q (ap (λ k. k + 1) n) f found
           (record {
             at_address = c.note_live.ensures.here ∙ c.advance.ensures.here ∙ (rw (same, c.is_accepted-accepted.ensures, c.define.ensures.here, c.body_or-body.ensures) refl);
             aligning = c.note_live.ensures.aligning ∙ c.advance.ensures.aligning ∙ (rw (c.is_accepted-accepted.ensures, c.define.ensures.aligning, c.body_or-body.ensures) refl);
