@@ -77,7 +77,3 @@ pub all-among : (lines : List Reading) (blocks : List Block) → blocks ≡ reve
 all-among lines blocks e =
     ap (list_all (is_among (length lines))) e ∙ list_all-reverse (is_among (length lines)) (map (block_of (placed lines)) (enclosing (placed lines)))
     ∙ list_all-map (is_among (length lines)) (block_of (placed lines)) (enclosing (placed lines)) ∙ enclosing-all (λ o. is_among (length lines) (block_of (placed lines) o)) (placed lines) (among-here lines)
-
-pub length-first-placements : (lines : List Reading) → length (first_placements lines) ≡ length lines
-unfolding first_placements
-length-first-placements lines = length-map (reverse (placed lines)) placement_of ∙ length-numbered lines
