@@ -1,6 +1,5 @@
 -- What is kept of lines stays right when names are added.
 use Rattle.std.proofs.Common.{◌≡◌, ℕ, ◌+◌, ◌<◌, ◌≤◌, All, List, [], ◌∷◌, ◌++◌, ◌∙◌, ap, sym, subst, refl, arith, get_or, length, length-append, set, slice_get, take, Option, Some, None, ◌⊎◌, inl, inr}
-use Rattle.std.specs.List.{list_all}
 use Rattle.std.specs.Option.{option_map}
 use Rattle.std.proofs.Math.Seq.{map-set_same}
 use Rattle.std.proofs.lemmas.Bool.{cases_eq}
@@ -10,12 +9,8 @@ use Rattle.std.proofs.lemmas.List.Elements.{All-head, All-nil, All-push, All-tai
 use Rattle.std.proofs.lemmas.Option.{slice_get-get_or, slice_get-map, slice_get_within}
 use Rattle.chip_lang.specs.Line.{Reading}
 use Rattle.chip_lang.specs.SeenLine.{seen_line}
-use Rattle.chip_lang.specs.Uses.{agree_on, has_same_value, names_used}
-use Rattle.chip_lang.specs.Value.{Symbols}
 use Rattle.chip_asm.specs.declared.line_info.LineInfo.{LineInfo}
 use Rattle.chip_asm.specs.declared.line_info.Numbered.{Numbered}
-use Rattle.chip_asm.specs.declared.line_info.Uses.{Uses}
-use Rattle.chip_asm.specs.declared.line_info.Uses.TheVariants.{Nothing, One, Several}
 use Rattle.chip_asm.specs.declared.table.NameId.{NameId}
 use Rattle.chip_asm.specs.Names.{Name}
 use Rattle.chip_asm.specs.inner.Infos.{AreInfos, AreInfosOf, IsInfo, IsNumberOf, numbers_used}
@@ -63,12 +58,6 @@ numbers-push old new numbers names id name e n one =
 
 pub no-numbers : (keys : List Name) → AreNumbers keys [] []
 no-numbers keys = record { within = All-nil (λ (i : NameId). i.number < length keys); named = refl }
-
--- a line without names has no numbers
-pub unnamed-numbers : (keys : List Name) (uses : Uses) (several : List NameId) (names : List Name) → names ≡ [] → AreNumbers keys (numbers_used uses several) names → AreNumbers keys (numbers_used uses []) names
-unnamed-numbers keys Nothing several names none n = n
-unnamed-numbers keys (One id) several names none n = n
-unnamed-numbers keys Several several names none n = rw none (no-numbers keys)
 
 pub info-extends : (old new : List Name) (info : LineInfo) (several : List NameId) (line : Reading) → Extends old new → IsInfo old info several line → IsInfo new info several line
 info-extends old new info several line e i = record {
@@ -145,7 +134,3 @@ put-more lines before infos was k d made old later a inside old_at text line is 
 
 pub put-all : (keys : List Name) (lines before : List KeptLine) (infos was : List Numbered) (k : ℕ) → ArePut lines before infos was k → length lines ≤ k → AreInfosOf keys was (readings_in before) → AreInfos keys lines
 put-all keys lines before infos was k a past are i d lt = a.put keys are i d (omega (arith, lt, past))
-
--- whether the names of a line keep their values, by their numbers
-pub agree-by : (keys : List Name) (numbers : List NameId) (old new : Symbols) (line : Reading) → AreNumbers keys numbers (names_used line) → list_all (has_same_value old new) (names_at keys numbers) ≡ agree_on old new line
-agree-by keys numbers old new line n = ap (list_all (has_same_value old new)) n.named

@@ -5,14 +5,13 @@ use Rattle.chip_asm.specs.declared.edit.Edit.{Edit}
 use Rattle.chip_asm.specs.declared.kept.Kept.{Kept}
 use Rattle.chip_asm.specs.declared.layout.Layout.{Layout}
 use Rattle.chip_asm.specs.declared.limits.TheConstants.{MOST_LINES}
-use Rattle.chip_asm.specs.declared.relayout.Relayout.{Relayout}
 use Rattle.chip_asm.specs.inner.Codes.{AreCodesOf}
 use Rattle.chip_asm.specs.inner.Kept.{IsKept, MayEdit, needed_by}
 use Rattle.chip_asm.specs.inner.KeptLine.{KeptLine}
 use Rattle.chip_asm.specs.inner.Layouts.{IsLayoutOf}
 use Rattle.chip_asm.specs.inner.Recode.{count_again}
 use Rattle.chip_asm.specs.inner.Records.{IsPlaceWithin, count_after, lines_after, place_before, readings_in}
-use Rattle.chip_asm.specs.inner.Resume.{AreSteady, IsRelayout, first_changed}
+use Rattle.chip_asm.specs.inner.Resume.{AreSteady, first_changed}
 use Rattle.chip_asm.proofs.KeptSteps.{kept-by}
 use Rattle.chip_asm.proofs.LinesAfter.{length-lines_after, shorter}
 use Rattle.chip_asm.proofs.NeedsSteps.{count-needed}
@@ -23,18 +22,6 @@ within-lines kept edit m = subst (λ n. IsPlaceWithin n edit) kept.lines.ok.0 m.
 
 few-after : (kept : Kept) (edit : Edit) → MayEdit kept edit → count_after (length kept.lines.items) edit ≤ MOST_LINES
 few-after kept edit m = omega (arith, m.few, length-lines_after kept.lines.items edit (within-lines kept edit m))
-
-pub may-relayout : (r : Relayout) (kept : Kept) → MayEdit kept r.edit.now → r.lines.now ≡ kept.lines.items → r.old.now ≡ kept.layout → r.settled ≤ r.first → r.first ≤ first_changed r.edit.now → AreSteady kept.lines.items r.first → IsRelayout kept.names.keys r
-may-relayout r kept m lines layout settled stays steady = record {
-  within = rw lines (within-lines kept r.edit.now m);
-  few = rw lines (few-after kept r.edit.now m);
-  were_few = rw lines m.kept.few;
-  infos = rw lines m.infos;
-  laid_out = rw (lines, layout) m.kept.laid_out;
-  settled = settled;
-  stays = stays;
-  steady = rw lines steady;
-}
 
 -- the spare layout begins with what holds of fewer lines too
 pub fewer-begin : (kept : Kept) (spare : Layout) (count : ℕ) → IsKept kept → spare ≡ kept.spare_layout → count ≤ kept.settled → take count spare.placements.items ≡ take count kept.layout.placements.items

@@ -1,6 +1,6 @@
 -- The layout of a list of lines, one line after another.
-use Rattle.std.proofs.Common.{◌≡◌, ℕ, ◌+◌, ◌<◌, List, [], ◌∷◌, ◌++◌, length, take, slice_get, refl, ap, sym, ◌∙◌, Some}
-use Rattle.std.proofs.lemmas.List.{map-append, take_more}
+use Rattle.std.proofs.Common.{◌≡◌, ℕ, ◌+◌, ◌<◌, List, [], ◌∷◌, ◌++◌, length, length-append, set, take, slice_get, refl, ap, sym, ◌∙◌, Some}
+use Rattle.std.proofs.lemmas.List.{map-append, take_more, take_more_set}
 use Rattle.std.proofs.lemmas.Option.{get_or_from_slice_get}
 use Rattle.chip_lang.specs.Line.{Reading}
 use Rattle.chip_asm.specs.computed.Walk.{placed, place}
@@ -16,10 +16,11 @@ placements-push lines line =
     rw (placed-push, reverse-cons, map-append) refl
 
 -- what is found of one line more
-pub one-more : (found now : List Placement) (lines : List Reading) (line : Reading) (q : Placement) → found ≡ first_placements lines → now ≡ found ++ q ∷ [] → q ≡ placement_of (place (placed lines) line)
-    → now ≡ first_placements (lines ++ line ∷ [])
-one-more found now lines line q so_far is e =
-    is ∙ ap (λ qs. qs ++ q ∷ []) so_far ∙ ap (λ p. first_placements lines ++ p ∷ []) e ∙ sym (placements-push lines line)
+pub one-more : (found : List Placement) (lines : List Reading) (line : Reading) (at : ℕ) (q : Placement) → take (length lines) found ≡ first_placements lines → at ≡ length lines → at < length found
+    → q ≡ placement_of (place (placed lines) line) → take (length (lines ++ line ∷ [])) (set found at q) ≡ first_placements (lines ++ line ∷ [])
+one-more found lines line at q so_far here inside e =
+    ap (λ n. take n (set found at q)) (length-append lines (line ∷ []) ∙ ap (λ n. n + 1) (sym here)) ∙ take_more_set found at q inside
+    ∙ ap (λ qs. qs ++ q ∷ []) (ap (λ n. take n found) here ∙ so_far) ∙ ap (λ p. first_placements lines ++ p ∷ []) e ∙ sym (placements-push lines line)
 
 pub take-next : (xs : List Reading) (i : ℕ) (x : Reading) → i < length xs → slice_get xs i ≡ Some x → take (i + 1) xs ≡ take i xs ++ x ∷ []
 take-next xs i x h e = take_more xs i x h ∙ ap (λ y. take i xs ++ y ∷ []) (get_or_from_slice_get xs i x x e)

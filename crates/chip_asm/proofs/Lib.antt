@@ -7,7 +7,6 @@ pub mod NestedBlocks
 pub mod NextLine
 pub mod LinesApart
 pub mod LayoutSteps
-pub mod BareLines
 pub mod MarkSteps
 pub mod Bounds
 pub mod LinesAfter
@@ -25,6 +24,7 @@ pub mod SameValues
 pub mod TakenBack
 pub mod InfoSteps
 pub mod QuietLines
+pub mod BareLines
 pub mod SwappedLine
 pub mod SwappedFacts
 pub mod NeedsSteps

@@ -1,10 +1,10 @@
 -- The lines after an edit, place by place: those that stood before, and the first ones, which stay.
-use Rattle.std.proofs.Common.{◌≡◌, ℕ, suc, ◌+◌, ◌-◌, ◌<◌, ◌≤◌, Bool, true, false, cond, nat_lt, nat_eq, List, ◌∷◌, ◌++◌, length, take, drop, get_or, slice_get, refl, ap, sym, subst, ◌∙◌, arith, Option, None, Some, option_map, length-append, length-drop, length-set}
-use Rattle.std.proofs.Math.Seq.{take-append_seam}
+use Rattle.std.proofs.Common.{◌≡◌, ℕ, suc, ◌+◌, ◌-◌, ◌<◌, ◌≤◌, Bool, true, false, cond, nat_lt, nat_eq, slice_range, List, ◌∷◌, ◌++◌, length, take, drop, get_or, slice_get, refl, ap, sym, subst, ◌∙◌, arith, Option, None, Some, option_map, length-append, length-drop, length-set}
+use Rattle.std.proofs.Math.Seq.{take-add, take-append_seam}
 use Rattle.std.proofs.lemmas.Bool.{ltb-true, ltb-false, eqb-false}
 use Rattle.std.proofs.lemmas.Bool.Decides.{nat_tests}
-use Rattle.std.proofs.lemmas.List.{length-take, length-take-le, length-map, take-map, take-set, take-take, get_or-set_other}
-use Rattle.std.proofs.lemmas.List.Elements.{All-get_or}
+use Rattle.std.proofs.lemmas.List.{drop-map, get_or-drop, get_or-set_other, get_or-take, length-map, length-take, length-take-le, same_lists, take-map, take-set, take-take}
+use Rattle.std.proofs.lemmas.List.Elements.{All-drop, All-get_or, All-take}
 use Rattle.std.proofs.lemmas.List.Edits.{get_or-insert_below, get_or-insert_above, get_or-remove_below, get_or-remove_above}
 use Rattle.std.proofs.lemmas.Option.{slice_get-get_or, slice_get-map, get_or_from_slice_get, slice_get_within}
 use Rattle.chip_lang.specs.Line.{Reading}
@@ -270,3 +270,40 @@ in-stretch lines edit place start end next before within s at from to =
       origin = from_there;
       line = λ d. slice_get-get_or (lines_after lines edit) next d (let n = length-lines_after lines edit within in omega arith) ∙ ap Some (there.line d);
     }
+
+pub length-stretch : (lines : List KeptLine) (edit : Edit) (place start end : ℕ) → IsStretch (length lines) edit place start end → length (slice_range lines start end) ≡ end - start
+length-stretch lines edit place start end s = (let w = s.within in length-take-le (end - start) (drop start lines) (omega (arith, w, length-drop start lines)))
+
+pub stretch-lines : (lines : List KeptLine) (edit : Edit) (place start end : ℕ) → IsPlaceWithin (length lines) edit → IsStretch (length lines) edit place start end
+    → slice_range lines start end ≡ take (end - start) (drop place (lines_after lines edit))
+stretch-lines lines edit place start end within s =
+    same_lists (slice_range lines start end) (take (end - start) (drop place (lines_after lines edit))) (was ∙ sym now)
+    (λ i other lt. (let below : i < end - start = omega (arith, lt, was) in
+    let there : InStretch lines edit (place + i) (start + i) = in-stretch lines edit place start end (place + i) (start + i) within s (omega arith) (omega arith) (omega arith) in
+    get_or-take (end - start) (drop start lines) i other below ∙ get_or-drop start lines i other
+    ∙ sym (get_or_from_slice_get (lines_after lines edit) (place + i) (get_or lines (start + i) other) other (there.line other))
+    ∙ sym (get_or-take (end - start) (drop place (lines_after lines edit)) i other below ∙ get_or-drop place (lines_after lines edit) i other)))
+  where
+    was : length (slice_range lines start end) ≡ end - start
+    was = length-stretch lines edit place start end s
+
+    now : length (take (end - start) (drop place (lines_after lines edit))) ≡ end - start
+    now = (let a = s.after in length-take-le (end - start) (drop place (lines_after lines edit)) (omega (arith, a, length-drop place (lines_after lines edit), length-lines_after lines edit within)))
+
+-- what is kept beside them
+pub stretch-infos : (keys : List Name) (lines : List KeptLine) (edit : Edit) (place start end : ℕ) → IsPlaceWithin (length lines) edit → IsStretch (length lines) edit place start end
+    → AreInfos keys (lines_after lines edit) → AreInfos keys (slice_range lines start end)
+stretch-infos keys lines edit place start end within s infos =
+    let P : KeptLine → Type 0 = λ k. IsInfo keys k.info k.several (reading_in k) in
+    subst (AreInfos keys) (sym (stretch-lines lines edit place start end within s)) (All-take P (end - start) (drop place (lines_after lines edit)) (All-drop P place (lines_after lines edit) infos))
+
+-- the first ones of them follow those before the place
+pub stretch-readings : (lines : List KeptLine) (edit : Edit) (place start end count : ℕ) → IsPlaceWithin (length lines) edit → IsStretch (length lines) edit place start end → count ≤ end - start
+    → take (place + count) (readings_in (lines_after lines edit)) ≡ take place (readings_in (lines_after lines edit)) ++ take count (readings_in (slice_range lines start end))
+stretch-readings lines edit place start end count within s h =
+    let after : List KeptLine = lines_after lines edit in
+    take-add place count (readings_in after)
+    ∙ ap (λ ls. take place (readings_in after) ++ ls)
+    (sym (ap (λ ls. take count (readings_in ls)) (stretch-lines lines edit place start end within s)
+    ∙ ap (take count) (sym (take-map reading_in (end - start) (drop place after)) ∙ ap (take (end - start)) (sym (drop-map reading_in place after)))
+    ∙ take-take count (end - start) (drop place (readings_in after)) h))

@@ -19,6 +19,7 @@ use Rattle.chip_asm.specs.Listing.{bytes_shown, field_shown, more_shown, shown, 
 use Rattle.chip_asm.specs.Program.{fault_of, code_under, bytes_in_code}
 use Rattle.chip_asm.specs.inner.Records.{reading_in, readings_in, texts_in}
 use Rattle.chip_asm.proofs.LinesByPlace.{AtPlace}
+use Rattle.chip_asm.proofs.UnclosedByPlace.{number-at}
 
 one-byte : (b : ℕ) → flat_map two_hex_digits (b ∷ []) ≡ two_hex_digits b
 one-byte b = append-nil (two_hex_digits b)
@@ -101,10 +102,11 @@ field-by None true body here value size kept own k =
 -- what is kept of a line gives its line of the listing
 same-line : (lines : List KeptLine) (q : Placement) (kept : KeptLine) (i : ℕ) (a : AtPlace (readings_in lines) i q) (fault : Option Fault) (bytes : List ℕ) → fault ≡ fault_of (placed (readings_in lines)) a.x
     → ((k : ℕ) → k < a.x.size → get_or bytes k 0 ≡ get_or (bytes_in_code (code_under (placed (readings_in lines)) a.x)) k 0)
-    → reading_in kept ≡ a.x.line → shown q.number q.live q.here (field_shown fault q.live (body_of (reading_in kept)) q.here q.value q.size bytes) (more_shown fault q.size) kept.text
+    → reading_in kept ≡ a.x.line → shown (i + 1) q.live q.here (field_shown fault q.live (body_of (reading_in kept)) q.here q.value q.size bytes) (more_shown fault q.size) kept.text
     ≡ line_shown (placed (readings_in lines)) a.x kept.text
 same-line lines q kept i a fault bytes f own read =
-    ap (λ (p : Placement). shown p.number p.live p.here (field_shown fault p.live (body_of (reading_in kept)) p.here p.value p.size bytes) (more_shown fault p.size) kept.text) a.placement
+    ap (λ (p : Placement). shown (i + 1) p.live p.here (field_shown fault p.live (body_of (reading_in kept)) p.here p.value p.size bytes) (more_shown fault p.size) kept.text) a.placement
+    ∙ ap (λ n. shown n a.x.live a.x.here (field_shown fault a.x.live (body_of (reading_in kept)) a.x.here a.x.value a.x.size bytes) (more_shown fault a.x.size) kept.text) (sym (number-at (readings_in lines) i a.x a.at))
     ∙ ap (λ g. shown a.x.number a.x.live a.x.here (field_shown g a.x.live (body_of (reading_in kept)) a.x.here a.x.value a.x.size bytes) (more_shown g a.x.size) kept.text) f
     ∙ ap (λ r. shown a.x.number a.x.live a.x.here (field_shown (fault_of (placed (readings_in lines)) a.x) a.x.live (body_of r) a.x.here a.x.value a.x.size bytes) (more_shown (fault_of (placed (readings_in lines)) a.x) a.x.size) kept.text) read
     ∙ ap (λ g. shown a.x.number a.x.live a.x.here g (more_shown (fault_of (placed (readings_in lines)) a.x) a.x.size) kept.text)
@@ -127,14 +129,14 @@ pub listed-more : (lines : List KeptLine) (q : Placement) (kept : KeptLine) (i :
     → fault ≡ fault_of (placed (readings_in lines)) a.x
     → ((k : ℕ) → k < a.x.size → get_or bytes k 0 ≡ get_or (bytes_in_code (code_under (placed (readings_in lines)) a.x)) k 0)
     → reading_in kept ≡ a.x.line → listed lines (i + 1)
-    ≡ listed lines i ++ shown q.number q.live q.here (field_shown fault q.live (body_of (reading_in kept)) q.here q.value q.size bytes) (more_shown fault q.size) kept.text
+    ≡ listed lines i ++ shown (i + 1) q.live q.here (field_shown fault q.live (body_of (reading_in kept)) q.here q.value q.size bytes) (more_shown fault q.size) kept.text
 listed-more lines q kept i a fault bytes inside is f own read =
     let text : slice_get (texts_in lines) i ≡ Some kept.text
     = slice_get-map (λ (k : KeptLine). k.text) lines i ∙ ap (option_map (λ (k : KeptLine). k.text)) (slice_get-get_or lines i kept inside ∙ ap Some (sym is)) in
-    rw add-one
-    (ap (flat_map (λ e. line_shown (placed (readings_in lines)) e.0 e.1)) (zip-more (reverse (placed (readings_in lines))) (texts_in lines) i a.x kept.text a.at text)
+    ap (listed lines) (add-one i)
+    ∙ ap (flat_map (λ e. line_shown (placed (readings_in lines)) e.0 e.1)) (zip-more (reverse (placed (readings_in lines))) (texts_in lines) i a.x kept.text a.at text)
     ∙ flat_map-append (λ e. line_shown (placed (readings_in lines)) e.0 e.1) (take i (zip (reverse (placed (readings_in lines))) (texts_in lines))) ((a.x, kept.text) ∷ [])
-    ∙ ap (λ l. listed lines i ++ l) (append-nil (line_shown (placed (readings_in lines)) a.x kept.text) ∙ sym (same-line lines q kept i a fault bytes f own read)))
+    ∙ ap (λ l. listed lines i ++ l) (append-nil (line_shown (placed (readings_in lines)) a.x kept.text) ∙ sym (same-line lines q kept i a fault bytes f own read))
 
 length-zip-le : (xs : List Placed) (ys : List (List ℕ)) → length (zip xs ys) ≤ length ys
 length-zip-le [] ys = omega arith

@@ -6,7 +6,7 @@ use Rattle.chip_lang.specs.Line.{Body, Reading}
 use Rattle.chip_asm.specs.declared.block.Block.{Block}
 use Rattle.chip_asm.specs.declared.pass.Pass.{Pass}
 use Rattle.chip_asm.specs.declared.placement.Placement.{Placement}
-use Rattle.chip_asm.specs.Layout.{Placed, is_if_body, body_of, full_size, value_at, value_or_zero, is_end_body, condition_of, symbol_given, has_ended}
+use Rattle.chip_asm.specs.Layout.{Placed, body_of, full_size, value_at, value_or_zero, is_end_body, condition_of, symbol_given, has_ended}
 use Rattle.chip_asm.specs.computed.Walk.{place, placed, is_live, first_fault, symbols, is_aligning, address, fault_of_value, enclosing}
 use Rattle.chip_asm.specs.inner.Follows.{Follows, block_of, placement_of, next_address, next_aligning}
 use Rattle.chip_asm.specs.inner.Placements.{is_placed}
@@ -17,15 +17,14 @@ use Rattle.chip_asm.proofs.PlaceSteps.{address-cons, aligning-cons, has_ended-co
 use Rattle.chip_asm.proofs.Placing.{placed-push, line-at, numbered-next, length-placed}
 
 -- the parts of a placement, one by one
-pub placement-at : (before : List Placed) (line : Reading) (number : ℕ) (opens live : Bool) (here : ℕ) (fault : Option Fault) (value : ℤ) (size : ℕ)
-    → number ≡ length before + 1 → opens ≡ is_if_body (body_of line)
+pub placement-at : (before : List Placed) (line : Reading) (live : Bool) (here : ℕ) (fault : Option Fault) (value : ℤ) (size : ℕ)
     → live ≡ is_live before (body_of line) → here ≡ address before
     → value ≡ value_or_zero (value_at (symbols before) (body_of line))
     → fault ≡ (if live then first_fault before line else None)
     → size ≡ (if live && is_none fault then full_size (is_aligning before) here (body_of line) value else 0)
-    → (let made : Placement = record { number = number; is_if = opens; live = live; here = here; fault = fault; value = value; size = size } in made ≡ placement_of (place before line))
+    → (let made : Placement = record { live = live; here = here; fault = fault; value = value; size = size } in made ≡ placement_of (place before line))
 unfolding place
-placement-at before line number opens live here fault value size n o l h v f s = rw (s, f, v, h, l, o, n) refl
+placement-at before line live here fault value size l h v f s = rw (s, f, v, h, l) refl
 
 -- what the state is after a line of which this holds
 pub record Advances (pass next : Pass) (line : Reading) (q : Placement) (number : ℕ) : Type 0 where

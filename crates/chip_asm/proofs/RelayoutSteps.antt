@@ -1,8 +1,8 @@
 -- What is known of the lines before an edit, where its pass begins, and of all lines where it ends.
-use Rattle.std.proofs.Common.{◌≡◌, ℕ, ◌+◌, ◌-◌, ◌<◌, ◌≤◌, true, false, List, [], ◌++◌, length, take, drop, get_or, ap, sym, subst, ◌∙◌, arith, All}
-use Rattle.std.proofs.lemmas.List.{length-map, length-take-le, take-map, take_all, get_or-take}
+use Rattle.std.proofs.Common.{◌≡◌, ℕ, ◌-◌, ◌<◌, ◌≤◌, true, false, List, [], ◌++◌, length, take, get_or, slice_range, append_assoc, ap, sym, subst, ◌∙◌, arith, All}
+use Rattle.std.proofs.lemmas.List.{length-map, length-take, length-take-le, take-append-le, take-map, take-take, take_all, get_or-take}
 use Rattle.std.proofs.lemmas.List.Elements.{All-map}
-use Rattle.std.proofs.Math.Seq.{take-add}
+use Rattle.std.proofs.Math.Seq.{take-add, take-append_seam}
 use Rattle.chip_lang.specs.Line.{Reading}
 use Rattle.chip_lang.specs.declared.limits.TheConstants.{MEMORY_BYTES}
 use Rattle.chip_asm.specs.declared.edit.Edit.{Edit}
@@ -24,7 +24,7 @@ use Rattle.chip_asm.specs.inner.Resume.{AreSteady, BeginsAsOld, IsRelayout, IsWa
 use Rattle.chip_asm.specs.inner.Tables.{AreOver, AreUpTo, Tables}
 use Rattle.chip_asm.proofs.Bounds.{end-high}
 use Rattle.chip_asm.proofs.LinesAfter.{first-before, first-kept, first-same, first-within, length-lines_after, length-readings_after, shorter}
-use Rattle.chip_asm.proofs.Resumed.{AllSteady, NamesSplit, Resumes, first-laid, names-split, resumes}
+use Rattle.chip_asm.proofs.Resumed.{AllSteady, NamesSplit, Resumes, first-laid, length-laid, names-split, resumes}
 
 -- the first lines stay, and are steady
 pub record Begun (lines : List KeptLine) (edit : Edit) (first : ℕ) : Type 0 where
@@ -84,16 +84,36 @@ begun-steady lines edit first where_is stays steady place other h =
     let same : take first lines ≡ take first new = shorter first (first_changed edit) lines new stays (first-kept lines edit where_is) in
     ap (λ (x : KeptLine). x.info.is_steady) (sym (get_or-take first new place other h) ∙ ap (λ xs. get_or xs place other) (sym same) ∙ get_or-take first lines place other h) ∙ steady place other h
 
--- the first part of the other layout, and what comes behind it up to the first lines' end
-pub spare-more : (r : Relayout) (spare : Layout) → r.settled ≤ r.first → BeginsAsOld spare r
-    → take r.settled spare.placements.items ++ take (r.first - r.settled) (drop r.settled r.old.now.placements.items) ≡ take r.first r.old.now.placements.items
-spare-more r spare h same =
-    ap (λ ps. ps ++ take (r.first - r.settled) (drop r.settled r.old.now.placements.items)) same
-    ∙ sym (take-add r.settled (r.first - r.settled) r.old.now.placements.items)
-    ∙ ap (λ n. take n r.old.now.placements.items) (sum r.settled r.first h)
+-- the first part of the other layout, and behind it those of the known one up to the first lines' end
+pub spare-begun : (keys : List Name) (r : Relayout) (spare : Layout) (found rest behind : List Placement) (many : ℕ) → IsRelayout keys r → BeginsAsOld spare r → many ≡ count_then r → found ≡ take many spare.placements.items ++ rest
+    → take (length (take r.first (lines_then r))) (take r.settled found ++ (slice_range r.old.now.placements.items r.settled r.first ++ behind)) ≡ first_placements (take r.first (lines_then r))
+spare-begun keys r spare found rest behind many k same all is =
+    let front : take r.settled found ≡ take r.settled old
+    = ap (take r.settled) is ∙ take-append-le r.settled (take many spare.placements.items) rest (omega (arith, length-take many spare.placements.items, few, spare_long)) ∙ take-take r.settled many spare.placements.items few ∙ same in
+    let known : take r.settled found ++ middle ≡ take r.first old = ap (λ ps. ps ++ middle) front ∙ sym (take-add r.settled (r.first - r.settled) old) ∙ ap (λ n. take n old) (let s = k.settled in omega arith) in
+    let seam : length (take r.first (lines_then r)) ≡ length (take r.settled found ++ middle)
+    = omega (arith, length-take-le r.first (lines_then r) (omega (arith, b.within, length-readings_after r.lines.now r.edit.now k.within)), ap length known, length-take-le r.first old old_long) in
+    ap (λ n. take n (take r.settled found ++ (middle ++ behind))) seam
+    ∙ ap (take (length (take r.settled found ++ middle))) (sym (append_assoc (take r.settled found) middle behind))
+    ∙ take-append_seam (take r.settled found ++ middle) behind ∙ known ∙ begun-placements keys r k
   where
-    sum : (a b : ℕ) → a ≤ b → a + (b - a) ≡ b
-    sum a b h = omega arith
+    old : List Placement
+    old = r.old.now.placements.items
+
+    middle : List Placement
+    middle = slice_range old r.settled r.first
+
+    b : Begun r.lines.now r.edit.now r.first
+    b = begun-relayout keys r k
+
+    old_long : r.first ≤ length old
+    old_long = omega (arith, b.long, length-laid r.old.now (lines_before r) k.laid_out, length-map r.lines.now reading_in)
+
+    few : r.settled ≤ many
+    few = (let s = k.settled in omega (arith, b.within, s, all))
+
+    spare_long : r.settled ≤ length spare.placements.items
+    spare_long = (let s = k.settled in omega (arith, s, ap length same, length-take r.settled spare.placements.items, length-take-le r.settled old (omega (arith, s, old_long))))
 
 -- the symbols that are left of those before the edit
 pub begun-symbols : (r : Relayout) → Begun r.lines.now r.edit.now r.first → (old left : List (Name × Symbol)) → old ≡ names_of_lines (lines_before r)
@@ -115,10 +135,10 @@ pub record Walked (found : List Placement) (pass : Pass) (r : Relayout) : Type 0
   pub placements : found ≡ first_placements (lines_then r)
   pub follows : Follows pass (placed (lines_then r))
 
-pub walked : (keys : List Name) (r : Relayout) (found : List Placement) (pass : Pass) → IsRelayout keys r → IsWalked found pass (lines_then r) (count_then r) → Walked found pass r
-walked keys r found pass k w =
+pub walked : (keys : List Name) (r : Relayout) (found : List Placement) (pass : Pass) → IsRelayout keys r → length found ≡ count_then r → IsWalked found pass (lines_then r) (count_then r) → Walked found pass r
+walked keys r found pass k long w =
     let whole : take (count_then r) (lines_then r) ≡ lines_then r = take_all (count_then r) (lines_then r) (omega (arith, length-readings_after r.lines.now r.edit.now k.within)) in
     record {
-      placements = w.placements ∙ ap first_placements whole;
+      placements = sym (take_all (length (take (count_then r) (lines_then r))) found (omega (arith, long, ap length whole, length-readings_after r.lines.now r.edit.now k.within))) ∙ w.placements ∙ ap first_placements whole;
       follows = subst (λ (xs : List Reading). Follows pass (placed xs)) whole w.follows;
     }

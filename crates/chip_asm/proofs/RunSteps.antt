@@ -408,7 +408,7 @@ rises lines layout laid i j p q h inside first second =
 -- lines that stay
 
 abbrev pub blank : Placement
-blank = record { value = pos 0; number = 0; here = 0; size = 0; fault = None; live = false; is_if = false }
+blank = record { value = pos 0; here = 0; size = 0; fault = None; live = false }
 
 -- a line in a part of those that are laid out
 pub part-at : (placements whole : List Placement) (place count index next : ℕ) → whole ≡ placements → next ≡ place + index → index < count → next < length placements

@@ -2,7 +2,7 @@
 use Rattle.std.proofs.Common.{◌≡◌, ℕ, ◌-◌, ◌<◌, ℤ, Bool, true, false, eqb, ◌⊎◌, inl, inr, List, [], ◌∷◌, All, length, take, drop, set, get_or, refl, ap, sym, subst, length-drop, ◌∙◌, arith, Option, None, option_map, suc, zero}
 use Rattle.std.specs.Str.{bytes_eq}
 use Rattle.std.proofs.lemmas.Bool.{eqb-true, eqb-false}
-use Rattle.std.proofs.lemmas.List.{ext_get_or, get_or-set_same, get_or-set_other, map-append, take-append-drop, take_all}
+use Rattle.std.proofs.lemmas.List.{ext_get_or, get_or-set_same, map-append, take-append-drop, take_all}
 use Rattle.std.proofs.lemmas.List.Elements.{All-drop}
 use Rattle.chip_asm.specs.declared.table.Definitions.{Definitions}
 use Rattle.chip_asm.specs.declared.table.Entry.{Entry}
@@ -15,13 +15,6 @@ use Rattle.chip_asm.proofs.SymbolSteps.{apart-names, lookup-front, same-values}
 
 pub same-own : (values from : List (Option ℤ)) (i : ℕ) (v : Option ℤ) → i < length values → v ≡ get_or from i None → HaveSame (set values i v) from i
 same-own values from i v h is = get_or-set_same values i v None h ∙ is
-
-pub same-still : (values from : List (Option ℤ)) (i : ℕ) (v : Option ℤ) → i < length values → v ≡ get_or from i None → (n : ℕ) → HaveSame values from n → HaveSame (set values i v) from n
-same-still values from i v h is n had = by (eqb n i) refl
-  where
-    by : (b : Bool) → eqb n i ≡ b → HaveSame (set values i v) from n
-    by true e = rw (eqb-true n i e) (same-own values from i v h is)
-    by false e = get_or-set_other values i n v None (eqb-false n i e) ∙ had
 
 -- what holds at the numbers of the entries in which two tables differ, and where their values are
 -- the same, holds at all numbers

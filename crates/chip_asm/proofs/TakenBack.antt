@@ -77,13 +77,6 @@ going-stops number whole now x g under early later e up over = by (eqb (length e
         let above : number < x.1.line = rw mine at high in
         absurd (omega (arith, above, under))
 
-pub going-none : (number : ℕ) (whole : List (Name × Symbol)) → Going number whole [] → (early later : List (Name × Symbol)) → whole ≡ early ++ later → AreUpTo number early → AreOver number later → [] ≡ early
-going-none number whole g early later e up over = by early (g.enough early later e up over)
-  where
-    by : (xs : List (Name × Symbol)) → length xs ≤ 0 → [] ≡ xs
-    by [] h = refl
-    by (x ∷ xs) h = absurd (omega (arith, h))
-
 -- one step back
 
 last-inside : (es : List Entry) (e : Entry) → Some e ≡ slice_get es (length es - 1) → length es - 1 < length es
@@ -113,9 +106,6 @@ going-there number keys whole es e g at under early later is up over =
     split ∙ going-stops number whole (symbols_in keys (take (length es - 1) es)) (key_at keys e.id.number, e.symbol) (subst (Going number whole) split g) under early later is up over
 
 -- which entries are the same as before
-
-pub alike-whole : (now past : List Entry) → past ≡ now → BeginAlike (length now) now past
-alike-whole now past e = record { within = omega arith; past_within = omega (arith, ap length e); same = ap (take (length now)) (sym e) }
 
 pub alike-less : (es next past : List Entry) (e : Entry) → es ≡ next ++ e ∷ [] → BeginAlike (length es) es past → BeginAlike (length next) next past
 alike-less es next past e is a =

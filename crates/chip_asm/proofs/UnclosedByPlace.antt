@@ -1,5 +1,5 @@
 -- An IF without ENDIF, by place.
-use Rattle.std.proofs.Common.{◌≡◌, ℕ, zero, suc, ◌+◌, ◌<◌, ◌≤◌, Bool, true, false, not, ◌&&◌, eqb, List, [], ◌∷◌, reverse, length, slice_get, refl, ap, sym, subst, ◌∙◌, arith, Option, Some, None, Decides, eq-eqb, eqb-true}
+use Rattle.std.proofs.Common.{◌≡◌, ℕ, zero, suc, ◌+◌, ◌<◌, ◌≤◌, Bool, true, false, not, ◌&&◌, eqb, nat_eq, List, [], ◌∷◌, reverse, length, slice_get, refl, ap, sym, subst, ◌∙◌, arith, Option, Some, None, Decides, eq-eqb, eqb-true}
 use Rattle.std.specs.List.{list_any}
 use Rattle.std.proofs.lemmas.Bool.{and_parts}
 use Rattle.std.proofs.lemmas.List.{length-take-le}
@@ -61,3 +61,39 @@ unclosed-to lines i p u =
 
 pub unclosed : (lines : List Reading) (i : ℕ) (p : Placed) → slice_get (reverse (placed lines)) i ≡ Some p → Decides (is_unclosed (placed lines) p) (IsUnclosed (reverse (placed lines)) i p)
 unclosed lines i p there = (unclosed-from lines i p there, unclosed-to lines i p)
+
+-- a live IF line at a place
+abbrev pub opens_at : ℕ → Placed → Bool
+opens_at place o = o.live && nat_eq o.number (place + 1)
+
+-- an IF without ENDIF is a live one whose block is open at the end
+pub open-at : (lines : List Reading) (i : ℕ) (p : Placed) → slice_get (reverse (placed lines)) i ≡ Some p → (not (has_ended (placed lines)) && list_any (opens_at i) (enclosing (placed lines))) ≡ is_unclosed (placed lines) p
+open-at lines i p there = by (not (has_ended (placed lines)) && list_any (opens_at i) (enclosing (placed lines))) (is_unclosed (placed lines) p) refl refl
+  where
+    negated : (b : Bool) → not b ≡ true → b ≡ false
+    negated true k = cc
+    negated false k = refl
+
+    found : Enclosing (opens_at i) (placed lines) → not (has_ended (placed lines)) ≡ true → is_unclosed (placed lines) p ≡ true
+    found (one_encloses j o e g) yet =
+        let two = and_parts o.live (nat_eq o.number (i + 1)) g in
+        let at : j ≡ i = omega (arith, eqb-true o.number (i + 1) two.1, number-at lines j o e.there) in
+        let moved : Encloses (reverse (placed lines)) i o = subst (λ (n : ℕ). Encloses (reverse (placed lines)) n o) at e in
+        let same : o ≡ p = same-there (reverse (placed lines)) i o p moved.there there in
+        unclosed-to lines i p (record {
+          encloses = subst (Encloses (reverse (placed lines)) i) same moved;
+          live = ap (λ (q : Placed). q.live) (sym same) ∙ two.0;
+          not_ended = ended-turned (placed lines) ∙ negated (has_ended (placed lines)) yet;
+        })
+
+    by : (a u : Bool) → (not (has_ended (placed lines)) && list_any (opens_at i) (enclosing (placed lines))) ≡ a → is_unclosed (placed lines) p ≡ u → a ≡ u
+    by true true e h = refl
+    by false false e h = refl
+    by true false e h = let two = and_parts (not (has_ended (placed lines))) (list_any (opens_at i) (enclosing (placed lines))) e in sym (found (any-enclosing (opens_at i) (placed lines) two.1) two.0) ∙ h
+    by false true e h =
+        let is = unclosed-from lines i p there h in
+        let any : list_any (opens_at i) (enclosing (placed lines)) ≡ true
+        = enclosing-any (opens_at i) (placed lines) i p is.encloses (rw is.live (eq-eqb p.number (i + 1) (number-at lines i p there))) in
+        let yet : has_ended (placed lines) ≡ false = sym (ended-turned (placed lines)) ∙ is.not_ended in
+        let none : true ≡ false = (rw (yet, any) refl) ∙ e in
+        cc

@@ -15,7 +15,7 @@ use Rattle.chip_asm.specs.declared.codes.Codes.{Codes}
 use Rattle.chip_asm.specs.declared.kept.Kept.{Kept}
 use Rattle.chip_asm.specs.declared.placement.Placement.{Placement}
 use Rattle.chip_asm.specs.Layout.{Placed}
-use Rattle.chip_asm.specs.Program.{byte_at, bytes_in_code, bytes_of_lines, code_under, fault_of, faults_of_lines, image_of_lines, numbered_fault, unless_faulty}
+use Rattle.chip_asm.specs.Program.{byte_at, bytes_in_code, code_under, fault_of, faults_of_lines, image_of_lines, numbered_fault, unless_faulty}
 use Rattle.chip_asm.specs.computed.Walk.{address, place, placed}
 use Rattle.chip_asm.specs.inner.Codes.{AreCodesOf, line_faults}
 use Rattle.chip_asm.specs.inner.Kept.{IsKept}
@@ -38,9 +38,6 @@ no-faults (f ∷ faults) e = absurd (omega arith)
 some-fault : (faults : List (ℕ × Fault)) (bytes : List ℕ) → (length faults ≡ 0 → ⊥) → None ≡ unless_faulty faults bytes
 some-fault [] bytes h = absurd (h refl)
 some-fault (f ∷ faults) bytes h = refl
-
-pub faulty-image : (lines : List Reading) (count : ℕ) → count ≡ length (faults_of_lines lines) → (count ≡ 0 → ⊥) → None ≡ image_of_lines lines
-faulty-image lines count e h = some-fault (faults_of_lines lines) (bytes_of_lines (placed lines)) (λ n. h (e ∙ n))
 
 pub image-made : (lines : List Reading) (image : List ℕ) (size : ℕ) → size ≤ length image → size ≡ address (placed lines) - IMAGE_START → 0 ≡ length (faults_of_lines lines)
     → ((k : ℕ) → k < IMAGE_BYTES → get_or image k 0 ≡ byte_at (placed lines) (IMAGE_START + k)) → Some (take size image) ≡ image_of_lines lines

@@ -1,7 +1,6 @@
--- What the functions inside say: of the first pass in Turns, Follows, Bare, Placements, Marks,
+-- What the functions inside say: of the first pass in Turns, Follows, Placements, Marks,
 -- Layouts and Resume; of symbols in Tables; of kept lines in HeldText, HeldLine, KeptLine, Infos,
 -- Records and Effect; of their codes in Recode, Recoding and Codes; of all of it in Kept.
-pub mod Bare
 pub mod Codes
 pub mod Effect
 pub mod Follows

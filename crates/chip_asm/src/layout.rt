@@ -1,10 +1,10 @@
 //! What the first pass finds of all lines.
-ghost use Rattle.std.specs.Prelude.{◌≡◌, ◌≤◌, [], List, length, map, take, true};
+ghost use Rattle.std.specs.Prelude.{◌≡◌, ◌≤◌, [], List, length, take, true};
 ghost use Rattle.std.specs.List.{list_all};
 ghost use Rattle.chip_lang.specs.Line.{Reading};
 ghost use Rattle.chip_asm.specs.computed.Walk.{address, placed};
 ghost use Rattle.chip_asm.specs.inner.Layouts.{IsLayoutOf};
-ghost use Rattle.chip_asm.specs.inner.Marks.{AreNumbered, is_among, marked, unclosed};
+ghost use Rattle.chip_asm.specs.inner.Marks.{AreMarked, is_among};
 
 use crate::block::Block;
 use crate::placement::Placement;
@@ -43,33 +43,19 @@ impl Layout {
     }
 }
 
-/// What holds of a line whose block is open at the end: a live IF line has a fault.
-fn unclosed(placement: &Placement) -> Placement
-    ensures { result ≡ unclosed placement.now }
-{
-    let fault = if placement.is_if && placement.live {
-        Some(Fault::UnclosedIf)
-    } else {
-        placement.fault
-    };
-    Placement {
-        fault,
-        ..*placement
-    }
-}
-
-/// Gives the IF lines that no ENDIF closes their fault. The line of a number stands at the place
-/// before it.
+/// Gives the live IF lines that no ENDIF closes their fault. The line of a number stands at the
+/// place before it.
 pub(crate) fn mark_unclosed(placements: &mut [Placement], ended: bool, blocks: &[Block])
-    requires numbered { AreNumbered placements.old }
-    requires among { list_all (is_among (length placements.old)) blocks.now ≡ true }
-    ensures { placements.new ≡ map (λ q. marked ended blocks.now q) placements.old }
+    requires { list_all (is_among (length placements.old)) blocks.now ≡ true }
+    ensures { AreMarked ended blocks.now placements.old placements.new }
 {
     if ended {
         return;
     }
     for index in 0..blocks.len() {
-        let place = blocks[index].number - 1;
-        placements[place] = unclosed(&placements[place]);
+        if blocks[index].live {
+            let place = blocks[index].number - 1;
+            placements[place].fault = Some(Fault::UnclosedIf);
+        }
     }
 }

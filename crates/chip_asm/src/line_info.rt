@@ -5,9 +5,8 @@ ghost use Rattle.chip_lang.specs.SeenLine.{seen_line};
 ghost use Rattle.chip_lang.specs.Uses.{name_defined, names_used};
 ghost use Rattle.chip_asm.specs.Layout.{body_of};
 ghost use Rattle.chip_asm.specs.Names.{Name};
-ghost use Rattle.chip_asm.specs.inner.Bare.{IsBare};
 ghost use Rattle.chip_asm.specs.inner.HeldText.{SaysNothing};
-ghost use Rattle.chip_asm.specs.inner.Infos.{AreInfosOf, IsInfo, IsNumberOf, is_bare_line, is_steady, numbers_used};
+ghost use Rattle.chip_asm.specs.inner.Infos.{AreInfosOf, IsBare, IsInfo, IsNumberOf, is_bare_line, is_steady, numbers_used};
 ghost use Rattle.chip_asm.specs.inner.Records.{readings_in};
 ghost use Rattle.chip_asm.specs.inner.Recode.{has_code};
 ghost use Rattle.chip_asm.specs.inner.Tables.{AreNumbers, Extends};
@@ -199,15 +198,20 @@ impl LineInfo {
         Ok(infos)
     }
 
-    /// The size of a line of which the first pass asks nothing else but its name.
-    pub(crate) fn bare_size(self) -> Option<usize>
+    /// The size that a line takes, live or not, and the name that it gives then, if the first pass
+    /// asks nothing else of it.
+    #[inline(always)]
+    pub(crate) fn bare(self, live: bool) -> Option<(usize, Option<NameId>)>
         ensures { (keys : List Name) (several : List NameId) (line : Reading)
             → IsInfo keys self several line
-            → IfSome result (λ size. IsBare line (name_defined line) size) }
+            → IfSome result (λ made. IsBare keys live line made.0 made.1) }
     {
         if !self.is_bare {
             return None;
         }
-        Some(if self.is_coded { 2 } else { 0 })
+        if !live {
+            return Some((0, None));
+        }
+        Some((if self.is_coded { 2 } else { 0 }, self.defines))
     }
 }

@@ -181,20 +181,21 @@ fn more_sign(fault: Option<Fault>, size: usize) -> u8
 #[tactic(auto, unfolding(crate::specs::Listing::shown))]
 fn push_line(
     out: &mut Vec<u8>,
+    number: usize,
     fault: Option<Fault>,
     placement: &Placement,
     kept: &BoxedLine,
     bytes: &[u8],
 ) -> Result<(), AllocError>
-    requires { placement.now.number < 10000 }
+    requires { number < 10000 }
     ensures { OnOk result (out.new.items
         ≡ out.old.items
-        ++ shown placement.now.number placement.now.live placement.now.here
+        ++ shown number placement.now.live placement.now.here
         (field_shown fault placement.now.live (body_of (reading_in kept.now)) placement.now.here
         placement.now.value placement.now.size bytes.now)
         (more_shown fault placement.now.size) kept.now.text) }
 {
-    let [a, b, c, d] = number_text(placement.number as usize);
+    let [a, b, c, d] = number_text(number);
     let [e, f, g, h] = address_text(placement.live, placement.here);
     out.extend_from_slice(&[a, b, c, d, b' ', e, f, g, h, b' '])?;
     push_field(out, fault, placement, kept.line(), bytes)?;
@@ -234,7 +235,14 @@ pub(crate) fn listing_in(
         let placement = layout.placements[place];
         let fault = codes.faults[place];
         let bytes = codes.bytes_at(&placement);
-        push_line(&mut listing, fault, &placement, &lines[place], bytes)?;
+        push_line(
+            &mut listing,
+            place + 1,
+            fault,
+            &placement,
+            &lines[place],
+            bytes,
+        )?;
     }
     Ok(listing)
 }

@@ -1,13 +1,12 @@
 //! The first pass: one line after another.
-ghost use Rattle.std.specs.Prelude.{◌≡◌, reverse, ◌+◌, ◌-◌, ◌≤◌, ◌<◌, ◌^◌, List, [], ◌∷◌, ◌++◌, OnOk, IfOk, IfSome, length, is_some, is_none, unsigned_abs, pos, Option, None, Some, Ok, true, false, not, ◌&&◌, ◌||◌, if◌then◌else◌, option_to_list};
+ghost use Rattle.std.specs.Prelude.{◌≡◌, reverse, ◌+◌, ◌-◌, ◌≤◌, ◌<◌, ◌^◌, List, [], ◌∷◌, ◌++◌, OnOk, IfOk, IfSome, length, is_some, is_none, unsigned_abs, pos, Option, None, Some, Ok, true, false, not, ◌&&◌, ◌||◌, if◌then◌else◌, option_to_list, take};
 ghost use Rattle.std.specs.List.{list_all};
-ghost use Rattle.chip_asm.specs.inner.Bare.{IsBare, fault_of_bare};
 ghost use Rattle.chip_asm.specs.declared.block.Block.{Block};
 ghost use Rattle.chip_asm.specs.inner.Turns.{AreNested};
 ghost use Rattle.chip_asm.specs.inner.HeldLine.{IsKnownUnder};
 ghost use Rattle.chip_asm.specs.inner.Tables.{IsNumber, KeepsBefore, key_at};
 ghost use Rattle.chip_asm.specs.Names.{Name, lookup_name};
-ghost use Rattle.chip_asm.specs.Layout.{value_at, own_size, is_padded, full_size, is_backwards, is_past_end, is_redefinition, is_if_body, body_of, value_or_zero, condition_of, is_end_body, symbol_given};
+ghost use Rattle.chip_asm.specs.Layout.{value_at, own_size, is_padded, full_size, is_backwards, is_past_end, is_redefinition, body_of, value_or_zero, condition_of, is_end_body, symbol_given};
 ghost use Rattle.chip_asm.specs.computed.Walk.{fault_of_value};
 ghost use Rattle.chip_lang.specs.SeenLine.{seen_line, seen_body};
 ghost use Rattle.chip_lang.specs.Line.{Reading, empty as empty_body};
@@ -15,7 +14,7 @@ ghost use Rattle.chip_lang.specs.Uses.{name_defined};
 ghost use Rattle.chip_lang.specs.declared.limits.TheConstants.{MEMORY_BYTES};
 
 use crate::block::{Block, all_hold, move_blocks};
-use crate::limits::MOST_LINES;
+use crate::kept_line::BoxedLine;
 use crate::placement::{Placement, is_passed};
 use crate::table::{NameId, Scope, Symbol, Table};
 use chip_lang::limits::MEMORY_BYTES;
@@ -71,12 +70,6 @@ pub(crate) fn size_of_body(body: &Body, value: i32) -> usize
     }
 }
 
-fn is_if(body: &Body) -> bool
-    ensures { result ≡ is_if_body (seen_body body.now) }
-{
-    matches!(body, Body::Ifdef(_) | Body::Ifund(_))
-}
-
 pub(crate) fn is_data(body: &Body) -> bool
     ensures { result ≡ is_padded (seen_body body.now) }
 {
@@ -86,10 +79,11 @@ pub(crate) fn is_data(body: &Body) -> bool
 impl Pass {
     ghost use Rattle.chip_asm.specs.Layout.{Placed, has_ended};
     ghost use Rattle.chip_asm.specs.computed.Walk.{address, is_aligning, enclosing, is_live, is_misplaced, first_fault, symbols, place, placed};
-    ghost use Rattle.chip_asm.specs.inner.Infos.{IsNumberOf};
+    ghost use Rattle.chip_asm.specs.inner.Infos.{AreInfos, IsNumberOf};
     ghost use Rattle.chip_asm.specs.inner.Placements.{is_placed};
     ghost use Rattle.chip_asm.specs.inner.Follows.{Follows, placement_of, next_address, next_aligning};
     ghost use Rattle.chip_asm.specs.inner.Layouts.{HasPassed};
+    ghost use Rattle.chip_asm.specs.inner.Records.{readings_in};
 
     /// At an address, after lines that give these names, where no block is open.
     pub(crate) fn resume(alloc: Global, here: usize, names: Table) -> Self
@@ -256,18 +250,15 @@ impl Pass {
     /// What holds of the next line. The value of its expression may be known.
     fn place(
         &self,
-        number: usize,
         known: Option<i32>,
         line: &Line,
         defines: Option<NameId>,
         numbers: &[NameId],
     ) -> Placement
-        requires number { number ≤ MOST_LINES + 1 }
         requires known { IsKnownUnder self.now.names.symbols known (seen_line line.now) }
         requires defines { IsNumberOf self.now.names.keys defines
             (name_defined (seen_line line.now)) }
         ensures placed { (before : List Placed) → Follows self.now before
-            → number ≡ length before + 1
             → result ≡ placement_of (place before (seen_line line.now)) }
         ensures new_name { is_placed result ≡ true
             → is_redefinition self.now.names.symbols (name_defined (seen_line line.now)) ≡ false }
@@ -289,42 +280,39 @@ impl Pass {
         let size = self.size_of(is_passed(live, fault), body, value);
         Placement {
             value,
-            number: number as u16,
             here: self.here as u16,
             size: size as u16,
             fault,
             live,
-            is_if: is_if(body),
         }
     }
 
-    /// Goes on by one line, and notes what holds of it. The value of its expression may be known; it is
-    /// found fastest where the numbers are those of the names that the line uses.
+    /// Goes on by the line at a place, and notes what holds of it. The value of its expression may be
+    /// known; it is found fastest where the numbers are those of the names that the line uses.
     #[inline(never)]
     pub(crate) fn step(
         &mut self,
-        placements: &mut Vec<Placement>,
-        number: usize,
+        placements: &mut [Placement],
+        place: usize,
         known: Option<i32>,
         line: &Line,
         defines: Option<NameId>,
         numbers: &[NameId],
     ) -> Result<(), AllocError>
-        requires number { number ≤ MOST_LINES + 1 }
+        requires place { place < length placements.old }
         requires known { IsKnownUnder self.old.names.symbols known (seen_line line.now) }
         requires defines { IsNumberOf self.old.names.keys defines
             (name_defined (seen_line line.now)) }
         ensures keeps { KeepsBefore self.old.names self.new.names }
-        ensures passed { (lines : List Reading) → HasPassed placements.old.items self.old lines
-            → number ≡ length lines + 1
-            → OnOk result (HasPassed placements.new.items self.new
-            (lines ++ seen_line line.now ∷ [])) }
+        ensures passed { (lines : List Reading) → HasPassed placements.old self.old lines
+            → place ≡ length lines
+            → OnOk result (HasPassed placements.new self.new (lines ++ seen_line line.now ∷ [])) }
     {
         let empty = Body::Empty;
         let body = body_or(line, &empty);
-        let placement = self.place(number, known, line, defines, numbers);
-        placements.push(placement)?;
+        let placement = self.place(known, line, defines, numbers);
         let accepted = placement.is_accepted();
+        let number = place + 1;
         let opened = Block {
             number,
             live: placement.live,
@@ -341,6 +329,7 @@ impl Pass {
             placement.size as usize,
         );
         self.note_live();
+        placements[place] = placement;
         Ok(())
     }
 
@@ -358,106 +347,54 @@ impl Pass {
         self.live = !self.ended && all_hold(&self.blocks);
     }
 
-    /// Whether a line of this size, of which nothing else is asked but its name, is accepted.
-    #[inline(always)]
-    fn accepts_bare(&self, size: usize, defines: Option<NameId>) -> bool
-        requires { IfSome defines (λ id. id.number < length self.now.names.keys) }
-        ensures accepted { (name : Option Name) → IsNumberOf self.now.names.keys defines name
-            → result ≡ (self.now.live && is_none (fault_of_bare true
-            (is_redefinition self.now.names.symbols name) self.now.here size)) }
-        ensures live { result ≡ true → self.now.live ≡ true }
-        ensures fits { result ≡ true → self.now.here + size ≤ MEMORY_BYTES }
-        ensures new_name { result ≡ true → IfSome defines (λ id.
-            lookup_name self.now.names.symbols (key_at self.now.names.keys id.number) ≡ None) }
-    {
-        self.live && size <= MEMORY_BYTES - self.here && !self.is_redefinition(defines)
-    }
-
-    /// Goes on by such a line, and notes what holds of it.
-    #[inline(always)]
+    /// Goes on by lines that stand at a place and behind it, and notes what holds of them, up to the
+    /// first one of which more is asked than its size and its name, or which has a fault. How many
+    /// these are.
+    #[inline(never)]
     pub(crate) fn step_bare(
         &mut self,
-        placements: &mut Vec<Placement>,
-        number: usize,
-        size: usize,
-        defines: Option<NameId>,
-    ) -> Result<(), AllocError>
-        requires number { number ≤ MOST_LINES + 1 }
-        requires defines { IfSome defines (λ id. id.number < length self.old.names.keys) }
+        placements: &mut [Placement],
+        place: usize,
+        lines: &[BoxedLine],
+    ) -> Result<usize, AllocError>
+        requires infos { AreInfos self.old.names.keys lines.now }
+        requires room { place + length lines.now ≤ length placements.old }
+        ensures within { IfOk result (λ count. count ≤ length lines.now) }
         ensures keeps { KeepsBefore self.old.names self.new.names }
-        ensures passed { (lines : List Reading) (line : Reading) (name : Option Name)
-            → IsNumberOf self.old.names.keys defines name → IsBare line name size
-            → HasPassed placements.old.items self.old lines → number ≡ length lines + 1
-            → OnOk result (HasPassed placements.new.items self.new (lines ++ line ∷ [])) }
+        ensures passed { (before : List Reading) → HasPassed placements.old self.old before
+            → place ≡ length before → IfOk result (λ count. HasPassed placements.new self.new
+            (before ++ take count (readings_in lines.now))) }
     {
-        if !self.accepts_bare(size, defines) {
-            return self.refuse_bare(placements, number, size, defines);
+        let live = self.live;
+        let mut here = self.here;
+        let mut count = 0;
+        while count < lines.len() {
+            let Some((size, defines)) = lines[count].info().bare(live) else {
+                break;
+            };
+            if size > MEMORY_BYTES - here {
+                break;
+            }
+            let value = here as i32;
+            let symbol = Symbol {
+                value,
+                line: place + count + 1,
+            };
+            if !self.names.define_new(defines, symbol)? {
+                break;
+            }
+            placements[place + count] = Placement {
+                value: 0,
+                here: here as u16,
+                size: size as u16,
+                fault: None,
+                live,
+            };
+            here += size;
+            count += 1;
         }
-        let here = self.here;
-        placements.push(Placement {
-            value: 0,
-            number: number as u16,
-            here: here as u16,
-            size: size as u16,
-            fault: None,
-            live: true,
-            is_if: false,
-        })?;
-        self.here = here + size;
-        let Some(id) = defines else {
-            return Ok(());
-        };
-        let value = here as i32;
-        let symbol = Symbol {
-            value,
-            line: number,
-        };
-        self.names.define(id, symbol)
-    }
-
-    /// Notes what holds of such a line that isn't accepted.
-    #[inline(never)]
-    fn refuse_bare(
-        &self,
-        placements: &mut Vec<Placement>,
-        number: usize,
-        size: usize,
-        defines: Option<NameId>,
-    ) -> Result<(), AllocError>
-        requires number { number ≤ MOST_LINES + 1 }
-        requires defines { IfSome defines (λ id. id.number < length self.now.names.keys) }
-        ensures { (name : Option Name) → IsNumberOf self.now.names.keys defines name
-            → OnOk result (placements.new.items ≡ placements.old.items ++ record {
-              value = pos 0;
-              number = number;
-              here = self.now.here;
-              size = 0;
-              fault = fault_of_bare self.now.live (is_redefinition self.now.names.symbols name)
-                  self.now.here size;
-              live = self.now.live;
-              is_if = false;
-            } ∷ []) }
-    {
-        let twice = self.is_redefinition(defines);
-        let fault = if !self.live {
-            None
-        } else if twice {
-            Some(Fault::DefinedTwice)
-        } else if size > MEMORY_BYTES - self.here {
-            Some(Fault::PastMemory)
-        } else {
-            None
-        };
-        placements.push(Placement {
-            value: 0,
-            number: number as u16,
-            here: self.here as u16,
-            size: 0,
-            fault,
-            live: self.live,
-            is_if: false,
-        })?;
-        Ok(())
+        self.here = here;
+        Ok(count)
     }
 
     /// Whether the condition of an IF line holds.

@@ -3,16 +3,14 @@ ghost use Rattle.std.specs.Prelude.{◌≡◌, is_none, ◌&&◌};
 
 use chip_lang::Fault;
 
-/// What the first pass finds of a line. All lines have one each, so it is small: 16 bytes.
+/// What the first pass finds of a line. All lines have one each, so it is small: 12 bytes.
 #[derive(Clone, Copy)]
 pub(crate) struct Placement {
     pub(crate) value: i32,
-    pub(crate) number: u16,
     pub(crate) here: u16,
     pub(crate) size: u16,
     pub(crate) fault: Option<Fault>,
     pub(crate) live: bool,
-    pub(crate) is_if: bool,
 }
 
 /// Whether a line is accepted.
@@ -24,6 +22,15 @@ pub(crate) fn is_passed(live: bool, fault: Option<Fault>) -> bool
 
 impl Placement {
     ghost use Rattle.chip_asm.specs.inner.Placements.{is_placed};
+
+    /// Stands where nothing is found yet.
+    pub(crate) const NOTHING: Placement = Placement {
+        value: 0,
+        here: 0,
+        size: 0,
+        fault: None,
+        live: false,
+    };
 
     /// The address at which the line stands.
     pub(crate) fn address(&self) -> usize

@@ -97,85 +97,48 @@ impl<'a> Relayout<'a> {
         }
     }
 
-    /// Goes on by the line at a place, which is looked into only where what is kept beside it
-    /// doesn't say all.
+    /// Goes on by the line at a place.
     fn step_at(
         &self,
-        placements: &mut Vec<Placement>,
+        placements: &mut [Placement],
         pass: &mut Pass,
         place: usize,
     ) -> Result<(), AllocError>
         requires relayout { IsRelayout pass.old.names.keys self.now }
         requires place { place < count_then self.now }
+        requires room { length placements.old ≡ count_then self.now }
         requires before { pass.old.names.before ≡ names_of_lines (lines_before self.now) }
-        ensures walked { IsWalked placements.old.items pass.old (lines_then self.now) place
-            → OnOk result (IsWalked placements.new.items pass.new (lines_then self.now) (place + 1)) }
+        ensures walked { IsWalked placements.old pass.old (lines_then self.now) place
+            → OnOk result (IsWalked placements.new pass.new (lines_then self.now) (place + 1)) }
         ensures keeps { KeepsBefore pass.old.names pass.new.names }
     {
         let kept = kept_after(self.lines, self.edit, place);
-        let info = kept.info();
-        match info.bare_size() {
-            Some(size) => pass.step_bare(placements, place + 1, size, info.defines),
-            None => {
-                let known = self.known_value(&pass.names, place);
-                let numbers = kept.numbers();
-                pass.step(
-                    placements,
-                    place + 1,
-                    known,
-                    kept.line(),
-                    info.defines,
-                    numbers,
-                )
-            }
-        }
-    }
-
-    /// Goes on by the lines that stand, one after another, at a place and behind it and were there
-    /// before the edit, up to the first one of which more is asked than its size and its name. The
-    /// place of that one.
-    #[inline(never)]
-    fn walk_bare(
-        &self,
-        placements: &mut Vec<Placement>,
-        pass: &mut Pass,
-        place: usize,
-    ) -> Result<usize, AllocError>
-        requires relayout { IsRelayout pass.old.names.keys self.now }
-        requires place { place ≤ count_then self.now }
-        requires walked { IsWalked placements.old.items pass.old (lines_then self.now) place }
-        ensures onward { IfOk result (λ next. place ≤ next) }
-        ensures within { IfOk result (λ next. next ≤ count_then self.now) }
-        ensures walked { IfOk result (λ next. IsWalked placements.new.items pass.new
-            (lines_then self.now) next) }
-        ensures keeps { KeepsBefore pass.old.names pass.new.names }
-    {
-        let stretch = stretch_from(self.edit, self.lines.len(), place);
-        let mut next = place;
-        for before in stretch.start..stretch.end {
-            let info = self.lines[before].info();
-            let Some(size) = info.bare_size() else {
-                return Ok(next);
-            };
-            pass.step_bare(placements, next + 1, size, info.defines)?;
-            next += 1;
-        }
-        Ok(next)
+        let known = self.known_value(&pass.names, place);
+        let defines = kept.info().defines;
+        pass.step(
+            placements,
+            place,
+            known,
+            kept.line(),
+            defines,
+            kept.numbers(),
+        )
     }
 
     /// What is found of the lines from a place on, behind what was found of those before it.
     #[inline(never)]
     fn walk(
         &self,
-        placements: &mut Vec<Placement>,
+        placements: &mut [Placement],
         pass: &mut Pass,
         place: usize,
     ) -> Result<(), AllocError>
         requires relayout { IsRelayout pass.old.names.keys self.now }
         requires before { pass.old.names.before ≡ names_of_lines (lines_before self.now) }
         requires place { place ≤ count_then self.now }
-        requires walked { IsWalked placements.old.items pass.old (lines_then self.now) place }
-        ensures walked { OnOk result (IsWalked placements.new.items pass.new (lines_then self.now)
+        requires room { length placements.old ≡ count_then self.now }
+        requires walked { IsWalked placements.old pass.old (lines_then self.now) place }
+        ensures walked { OnOk result (IsWalked placements.new pass.new (lines_then self.now)
             (count_then self.now)) }
         ensures keeps { KeepsBefore pass.old.names pass.new.names }
     {
@@ -183,7 +146,10 @@ impl<'a> Relayout<'a> {
         let mut next = place;
         while next < count {
             self.step_at(placements, pass, next)?;
-            next = self.walk_bare(placements, pass, next + 1)?;
+            next += 1;
+            let stretch = stretch_from(self.edit, self.lines.len(), next);
+            let lines = &self.lines[stretch.start..stretch.end];
+            next += pass.step_bare(placements, next, lines)?;
         }
         Ok(())
     }
@@ -201,11 +167,13 @@ impl<'a> Relayout<'a> {
         ensures keeps { KeepsBefore pass.old.names pass.new.names }
     {
         let Layout { mut placements, .. } = spare;
-        placements.truncate(self.settled);
-        placements.reserve(count_after(self.lines.len(), self.edit) - self.settled)?;
-        placements.extend_from_slice(&self.old.placements[self.settled..self.first])?;
-        self.walk(&mut placements, pass, self.first)?;
-        mark_unclosed(&mut placements, pass.ended, &pass.blocks);
+        let count = count_after(self.lines.len(), self.edit);
+        placements.resize(count, Placement::NOTHING)?;
+        let found = placements.as_mut_slice();
+        let known = &self.old.placements[self.settled..self.first];
+        found[self.settled..self.first].copy_from_slice(known);
+        self.walk(found, pass, self.first)?;
+        mark_unclosed(found, pass.ended, &pass.blocks);
         Ok(Layout {
             placements,
             end: pass.here,

@@ -1,11 +1,12 @@
 //! The symbols of a source.
-ghost use Rattle.std.specs.Prelude.{◌≡◌, ◌++◌, [], ◌∷◌, ◌<◌, ◌≤◌, ℕ, All, List, true, OnOk, OnErr, IfOk, IfSome, None, Some, Option, is_some, length, map, option_map, slice_get, take};
+ghost use Rattle.std.specs.Prelude.{◌≡◌, ◌++◌, [], ◌∷◌, ◌<◌, ◌≤◌, ℕ, All, List, true, false, not, if◌then◌else◌, OnOk, OnErr, IfOk, IfSome, None, Some, Option, is_some, length, map, option_map, slice_get, take};
 ghost use Rattle.std.specs.List.{list_all};
 ghost use Rattle.std.specs.Str.{bytes_eq};
 ghost use Rattle.chip_lang.specs.Line.{upper};
 ghost use Rattle.chip_lang.specs.Uses.{has_same_value};
 ghost use Rattle.chip_asm.specs.Names.{Name, lookup_name, values_of};
-ghost use Rattle.chip_asm.specs.inner.Tables.{AreApart, AreDefined, AreOver, AreUpTo, Extends, HaveSame, IsNumber, KeepsBefore, key_at, names_at, value_among};
+ghost use Rattle.chip_asm.specs.Layout.{is_redefinition};
+ghost use Rattle.chip_asm.specs.inner.Tables.{AreApart, AreDefined, AreOver, AreUpTo, Extends, HaveSame, IsNumber, KeepsBefore, key_at, name_of, names_at, symbols_of, value_among};
 
 use crate::name_hasher::NameHasher;
 use chip_lang::short_bytes::upper;
@@ -355,6 +356,31 @@ impl Table {
             table.define(id, entry.symbol)?;
         }
         Ok(table)
+    }
+
+    /// Adds the symbol of a name, if there is one. False where the name has one already.
+    #[inline(always)]
+    pub(crate) fn define_new(
+        &mut self,
+        defines: Option<NameId>,
+        symbol: Symbol,
+    ) -> Result<bool, AllocError>
+        requires { IfSome defines (λ id. id.number < length self.old.keys) }
+        ensures new { IfOk result (λ new. new
+            ≡ not (is_redefinition self.old.symbols (name_of self.old.keys defines))) }
+        ensures symbols { IfOk result (λ new. new ≡ true
+            → self.new.symbols ≡ self.old.symbols ++ symbols_of self.old.keys defines symbol) }
+        ensures same { IfOk result (λ new. new ≡ false → self.new ≡ self.old) }
+        ensures keeps { KeepsBefore self.old self.new }
+    {
+        let Some(id) = defines else {
+            return Ok(true);
+        };
+        if self.is_defined(id) {
+            return Ok(false);
+        }
+        self.define(id, symbol)?;
+        Ok(true)
     }
 
     /// Adds the symbol of a name that has none.

@@ -2,7 +2,7 @@
 use Rattle.std.specs.Prelude.{◌≡◌, ℕ, ◌+◌, ℤ, Bool, not, ◌&&◌, List, reverse, map, if◌then◌else◌, unsigned_abs}
 use Rattle.std.specs.List.{list_all}
 use Rattle.chip_lang.specs.Line.{Body, align}
-use Rattle.chip_asm.specs.Layout.{Placed, is_if, has_ended, holds, has_else, is_org_body}
+use Rattle.chip_asm.specs.Layout.{Placed, has_ended, holds, has_else, is_org_body}
 use Rattle.chip_asm.specs.computed.Walk.{address, is_aligning, enclosing, symbols}
 use Rattle.chip_asm.specs.declared.block.Block.{Block}
 use Rattle.chip_asm.specs.declared.placement.Placement.{Placement}
@@ -22,8 +22,6 @@ block_of before opener =
 abbrev pub placement_of : Placed → Placement
 placement_of p =
     record {
-      number = p.number;
-      is_if = is_if p;
       live = p.live;
       here = p.here;
       fault = p.fault;

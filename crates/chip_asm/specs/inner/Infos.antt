@@ -1,7 +1,7 @@
 -- What is kept of a line beside its reading, so that steps over all lines needn't look into most of
 -- them (own).
-use Rattle.std.specs.Prelude.{◌≡◌, ℕ, length, slice_get, Bool, false, not, ◌&&◌, List, [], ◌∷◌, All, Option, Some, None}
-use Rattle.chip_lang.specs.Line.{Body, Reading, bad, read}
+use Rattle.std.specs.Prelude.{◌≡◌, ℕ, ◌≤◌, pos, length, slice_get, Bool, true, false, not, if◌then◌else◌, ◌&&◌, List, [], ◌∷◌, All, Option, Some, None}
+use Rattle.chip_lang.specs.Line.{Body, empty, code, Reading, bad, read}
 use Rattle.chip_lang.specs.Uses.{names_used, name_defined}
 use Rattle.chip_asm.specs.Names.{Name}
 use Rattle.chip_asm.specs.inner.KeptLine.{KeptLine}
@@ -10,13 +10,17 @@ use Rattle.chip_asm.specs.declared.line_info.Numbered.{Numbered}
 use Rattle.chip_asm.specs.declared.line_info.Uses.{Uses}
 use Rattle.chip_asm.specs.declared.line_info.Uses.TheVariants.{Nothing, One, Several}
 use Rattle.chip_asm.specs.declared.table.NameId.{NameId}
-use Rattle.chip_asm.specs.inner.Bare.{is_bare}
 use Rattle.chip_asm.specs.inner.Recode.{has_code}
 use Rattle.chip_asm.specs.inner.Records.{reading_in}
 use Rattle.chip_asm.specs.inner.Tables.{AreNumbers, IsNumber}
-use Rattle.chip_asm.specs.Layout.{body_of, is_if_body, is_end_body, is_align_body}
+use Rattle.chip_asm.specs.Layout.{body_of, own_size, is_if_body, is_end_body, is_align_body}
 
 -- it is an instruction or has no statement
+abbrev pub is_bare : Body → Bool
+is_bare empty = true
+is_bare (code form operands) = true
+is_bare _ = false
+
 abbrev pub is_bare_line : Reading → Bool
 is_bare_line (bad fault) = false
 is_bare_line (read name body) = is_bare body
@@ -48,6 +52,14 @@ pub record IsInfo (keys : List Name) (info : LineInfo) (several : List NameId)
   pub steady : info.is_steady ≡ is_steady (body_of line)
   pub defines : IsNumberOf keys info.defines (name_defined line)
   pub uses : AreNumbers keys (numbers_used info.uses several) (names_used line)
+
+-- an instruction or no statement, which takes this size, live or not, and gives this name then
+pub record IsBare (keys : List Name) (live : Bool) (line : Reading) (size : ℕ)
+    (defines : Option NameId) : Type 0 where
+  pub bare : is_bare_line line ≡ true
+  pub sized : size ≡ (if live then own_size (body_of line) (pos 0) else 0)
+  pub small : size ≤ 2
+  pub named : IsNumberOf keys defines (if live then name_defined line else None)
 
 -- each of these is kept beside the line at its place
 abbrev pub AreInfosOf : List Name → List Numbered → List Reading → Type 0

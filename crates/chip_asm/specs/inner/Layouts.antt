@@ -1,5 +1,5 @@
 -- The layout of a list of lines (own).
-use Rattle.std.specs.Prelude.{◌≡◌, List, map, reverse}
+use Rattle.std.specs.Prelude.{◌≡◌, List, length, map, reverse, take}
 use Rattle.chip_lang.specs.Line.{Reading}
 use Rattle.chip_asm.specs.Layout.{Placed}
 use Rattle.chip_asm.specs.computed.Walk.{placed, address}
@@ -13,9 +13,9 @@ use Rattle.chip_asm.specs.declared.pass.Pass.{Pass}
 unfoldable pub first_placements : List Reading → List Placement
 first_placements lines = map placement_of (reverse (placed lines))
 
--- the pass stands after these lines, with what it found of them
+-- the pass stands after these lines, and what it found of them stands first
 pub record HasPassed (found : List Placement) (pass : Pass) (lines : List Reading) : Type 0 where
-  pub placements : found ≡ first_placements lines
+  pub placements : take (length lines) found ≡ first_placements lines
   pub follows : Follows pass (placed lines)
 
 -- the same, with the fault of an IF that no ENDIF closes

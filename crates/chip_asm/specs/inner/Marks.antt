@@ -5,22 +5,25 @@ use Rattle.chip_lang.specs.declared.fault.Fault.TheVariants.{UnclosedIf}
 use Rattle.chip_asm.specs.declared.block.Block.{Block}
 use Rattle.chip_asm.specs.declared.placement.Placement.{Placement}
 
--- the line at each place has the next number
-abbrev pub AreNumbered : List Placement → Type 0
-AreNumbered qs =
-    (i : ℕ) (other : Placement) → i < length qs → (slice_index_or qs i other).number ≡ i + 1
-
 -- the block was opened by one of so many lines
 abbrev pub is_among : ℕ → Block → Bool
 is_among count b = nat_lt 0 b.number && nat_le b.number count
 
+-- the block was opened by the line at a place, which is live
+abbrev pub is_opened_at : ℕ → Block → Bool
+is_opened_at place b = b.live && nat_eq b.number (place + 1)
+
 -- a live IF line whose block is open at the end
 abbrev pub unclosed : Placement → Placement
-unclosed q = if q.is_if && q.live then record q { fault = Some UnclosedIf } else q
+unclosed q = record q { fault = Some UnclosedIf }
 
--- the fault of an IF whose block is open at the end
-abbrev pub marked : Bool → List Block → Placement → Placement
-marked ended blocks q =
-    if q.is_if && q.live && not ended && list_any (λ b. nat_eq b.number q.number) blocks
-    then record q { fault = Some UnclosedIf }
-    else q
+-- the line at a place, with the fault of an IF whose block is open at the end
+abbrev pub marked : Bool → List Block → ℕ → Placement → Placement
+marked ended blocks place q =
+    if not ended && list_any (is_opened_at place) blocks then unclosed q else q
+
+-- each of some lines, marked
+abbrev pub AreMarked : Bool → List Block → (old new : List Placement) → Type 0
+AreMarked ended blocks old new =
+    (place : ℕ) (other : Placement) → place < length old
+    → slice_index_or new place other ≡ marked ended blocks place (slice_index_or old place other)

@@ -1,6 +1,6 @@
 -- What contracts see of the table of symbols: the names that lines use or define, each under a
 -- number that stays, and the symbols, as they are and as they were before the edit (own).
-use Rattle.std.specs.Prelude.{◌≡◌, ℕ, ◌<◌, ◌≤◌, ℤ, List, [], All, length, map, Option, None, option_map, slice_index_or, take}
+use Rattle.std.specs.Prelude.{◌≡◌, ℕ, ◌<◌, ◌≤◌, ℤ, List, [], All, length, map, Option, None, option_map, option_to_list, slice_index_or, take}
 use Rattle.chip_asm.specs.Names.{Name, lookup_name}
 use Rattle.chip_asm.specs.declared.table.Symbol.{Symbol}
 use Rattle.chip_asm.specs.declared.table.NameId.{NameId}
@@ -38,6 +38,15 @@ pub record Extends (old new : List Name) : Type 0 where
 -- the symbols of entries, which name by numbers
 abbrev pub symbols_in : List Name → List Entry → List (Name × Symbol)
 symbols_in keys entries = map (λ e. (key_at keys e.id.number, e.symbol)) entries
+
+-- the name of a number, if there is one
+abbrev pub name_of : List Name → Option NameId → Option Name
+name_of keys defines = option_map (λ id. key_at keys id.number) defines
+
+-- what the name of a number, if there is one, adds to the symbols
+abbrev pub symbols_of : List Name → Option NameId → Symbol → List (Name × Symbol)
+symbols_of keys defines symbol =
+    option_to_list (option_map (λ name. (name, symbol)) (name_of keys defines))
 
 -- the value of a name among symbols
 abbrev pub value_among : List (Name × Symbol) → Name → Option ℤ

@@ -1,4 +1,4 @@
-use Rattle.std.proofs.Common.{◌≡◌, ◌∙◌, ◌++◌, ◌<◌, ℕ, ap, sym, arith, get_or}
+use Rattle.std.proofs.Common.{◌≡◌, ◌∙◌, ◌++◌, ◌<◌, ◌+◌, ℕ, ap, sym, arith, get_or}
 use Rattle.std.proofs.lemmas.List.{length-map}
 use Rattle.chip_asm.specs.Layout.{body_of}
 use Rattle.chip_asm.specs.Listing.{shown, field_shown, more_shown}
@@ -11,7 +11,7 @@ use Rattle.chip_asm.proofs.FoundLines.{found-kept, read-found}
 use Rattle.chip_asm.proofs.LinesByPlace.{AtPlace, high, low}
 use Rattle.chip_asm.proofs.ListingSteps.{listed-more, listed-all}
 use Rattle.chip_asm.proofs.Resumed.{length-laid}
-use Rattle.chip_asm.proofs.WholeImage.{bytes-found, fault-kept, length-faults, number-at}
+use Rattle.chip_asm.proofs.WholeImage.{bytes-found, fault-kept, length-faults}
 use Rattle.chip_asm.proofs.listing.listing_in.Goals as goal
 
 pub index-requires : goal.index-requires
@@ -37,9 +37,7 @@ bytes_at-bytes-requires-clause-long c = c.requires.codes.long (omega (arith, c.l
 
 pub push_line-requires : goal.push_line-requires
 push_line-requires c =
-    let q : Placement = c.index.result.now in
-    let a : AtPlace (readings_in c.args.lines.now) c.loop-place.place q = found-kept c.args.layout.now c.args.lines.now c.requires.laid_out c.loop-place.place c.index.result.now c.loop-place-test.true c.index.ensures in
-    omega (arith, ap (λ (p : Placement). p.number) a.placement, number-at (readings_in c.args.lines.now) c.loop-place.place a.x a.at, c.requires.few, c.loop-place-test.true)
+    omega (arith, c.requires.few, c.loop-place-test.true)
 
 pub loop-place-preserved : goal.loop-place-preserved
 loop-place-preserved c =
@@ -53,7 +51,7 @@ loop-place-preserved c =
     let own : (k : ℕ) → k < a.x.size → get_or c.bytes_at-bytes.result.now k 0 ≡ get_or (bytes_in_code (code_under (placed (readings_in c.args.lines.now)) a.x)) k 0
     = λ k h. c.bytes_at-bytes.ensures k (omega (arith, h, size)) ∙ bytes-found c.args.codes.now (readings_in c.args.lines.now) c.loop-place.place q a c.requires.codes k (omega (arith, h, size)) in
     c.in_ok-push_line.ensures
-    ∙ ap (λ l. l ++ shown q.number q.live q.here (field_shown c.index-fault.result.now q.live (body_of (reading_in kept)) q.here q.value q.size c.bytes_at-bytes.result.now) (more_shown c.index-fault.result.now q.size) kept.text) c.loop-place.invariant
+    ∙ ap (λ l. l ++ shown (c.loop-place.place + 1) q.live q.here (field_shown c.index-fault.result.now q.live (body_of (reading_in kept)) q.here q.value q.size c.bytes_at-bytes.result.now) (more_shown c.index-fault.result.now q.size) kept.text) c.loop-place.invariant
     ∙ sym (listed-more c.args.lines.now q kept c.loop-place.place a c.index-fault.result.now c.bytes_at-bytes.result.now c.loop-place-test.true c.index-lines-place.is fault own
     (read-found c.args.lines.now c.loop-place.place q kept a c.loop-place-test.true c.index-lines-place.is))
 

@@ -2,20 +2,19 @@ use Rattle.std.proofs.Common.{◌≡◌, ◌∙◌, true, ◌&&◌, is_none, if�
 use Rattle.std.proofs.lemmas.Int.{to_z-of_z}
 use Rattle.std.proofs.lemmas.Bool.{and_parts}
 use Rattle.chip_lang.specs.SeenLine.{seen_line}
-use Rattle.chip_asm.specs.Layout.{value_at, value_or_zero, body_of, is_if_body, full_size}
+use Rattle.chip_asm.specs.Layout.{value_at, value_or_zero, body_of, full_size}
 use Rattle.chip_asm.specs.computed.Walk.{symbols, is_live, is_aligning}
 use Rattle.chip_asm.proofs.NextLine.{placement-at, fits_at, none_from}
 use Rattle.chip_asm.proofs.pass.Pass.place.Goals as goal
 
 pub returns-clause-placed : goal.returns-clause-placed
-returns-clause-placed c = λ before f n.
+returns-clause-placed c = λ before f.
     let same : to_z w32 (of_z w32 c.or_zero-value.result) ≡ c.or_zero-value.result = grind (arith, to_z-of_z) in
     let read : c.value_at-read.result ≡ value_at (symbols before) (body_of (seen_line c.args.line.now)) = c.value_at-read.ensures ∙ (rw (f.names, c.body_or-body.ensures) refl) in
     let size : c.size_of-size.result ≡ (if c.is_live-live.result && is_none c.fault_of-fault.result then full_size (is_aligning before) c.args.self.now.here (body_of (seen_line c.args.line.now)) c.or_zero-value.result else 0)
     = c.size_of-size.ensures.size ∙ (rw (same, c.is_passed.ensures, f.aligning, c.body_or-body.ensures) refl) in
     rw same
-    (placement-at before (seen_line c.args.line.now) c.args.number c.is_if.result c.is_live-live.result c.args.self.now.here c.fault_of-fault.result c.or_zero-value.result c.size_of-size.result
-    n (c.is_if.ensures ∙ ap is_if_body c.body_or-body.ensures)
+    (placement-at before (seen_line c.args.line.now) c.is_live-live.result c.args.self.now.here c.fault_of-fault.result c.or_zero-value.result c.size_of-size.result
     (c.is_live-live.ensures before f ∙ ap (is_live before) c.body_or-body.ensures)
     f.at_address
     (c.or_zero-value.ensures ∙ ap value_or_zero read)

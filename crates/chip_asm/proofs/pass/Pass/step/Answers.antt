@@ -1,11 +1,10 @@
-use Rattle.std.proofs.Common.{◌≡◌, ◌∙◌, ◌+◌, ap, sym, refl, arith, w32, to_z, of_z}
+use Rattle.std.proofs.Common.{◌≡◌, ◌∙◌, ◌+◌, ap, refl, arith, w32, to_z, of_z}
 use Rattle.std.proofs.lemmas.Int.{to_z-of_z}
 use Rattle.chip_lang.specs.SeenLine.{seen_line}
 use Rattle.chip_asm.specs.Layout.{condition_of, body_of}
 use Rattle.chip_asm.specs.computed.Walk.{place, placed}
 use Rattle.chip_asm.specs.inner.Follows.{placement_of}
 use Rattle.chip_asm.proofs.LayoutSteps.{one-more}
-use Rattle.chip_asm.proofs.Placing.{length-placed}
 use Rattle.chip_asm.proofs.NextLine.{follows-push}
 use Rattle.chip_asm.proofs.pass.Pass.step.Goals as goal
 
@@ -13,12 +12,12 @@ pub returns-clause-passed : goal.returns-clause-passed
 returns-clause-passed c = λ lines h n.
     let f = h.follows in
     let q = c.place-placement.result in
-    let found : q ≡ placement_of (place (placed lines) (seen_line c.args.line.now)) = c.place-placement.ensures.placed (placed lines) f (n ∙ ap (λ k. k + 1) (sym (length-placed lines))) in
+    let found : q ≡ placement_of (place (placed lines) (seen_line c.args.line.now)) = c.place-placement.ensures.placed (placed lines) f in
     let same : to_z w32 (of_z w32 c.place-placement.result.value) ≡ c.place-placement.result.value = grind (arith, to_z-of_z) in
     let holds : c.condition.result ≡ condition_of c.args.self.now.names.symbols (body_of (seen_line c.args.line.now)) = c.condition.ensures ∙ ap (condition_of c.args.self.now.names.symbols) c.body_or-body.ensures in
     record {
-      placements = one-more c.args.placements.now.items c.push.new.self.items lines (seen_line c.args.line.now) q h.placements c.in_ok-push.ensures.items found;
-      follows = follows-push c.args.self.now c.note_live.new.self lines (seen_line c.args.line.now) c.args.number q n f found
+      placements = one-more c.args.placements.now lines (seen_line c.args.line.now) c.args.place q h.placements n c.requires.place found;
+      follows = follows-push c.args.self.now c.note_live.new.self lines (seen_line c.args.line.now) (c.args.place + 1) q (ap (λ k. k + 1) n) f found
           (record {
             at_address = c.note_live.ensures.here ∙ c.advance.ensures.here ∙ (rw (same, c.is_accepted-accepted.ensures, c.define.ensures.here, c.body_or-body.ensures) refl);
             aligning = c.note_live.ensures.aligning ∙ c.advance.ensures.aligning ∙ (rw (c.is_accepted-accepted.ensures, c.define.ensures.aligning, c.body_or-body.ensures) refl);
