@@ -34,7 +34,7 @@ around old items d at k room (inr behind) =
     ∙ get_or-drop (at + length items) old (k - at - length items) d
     ∙ ap (λ n. get_or old n d) back
 
-covered : (here size k : ℕ) (b : Bool) → (leb here (IMAGE_START + k) && ltb (IMAGE_START + k) (here + size)) ≡ b → IMAGE_START ≤ here → cond b ((here - IMAGE_START ≤ k) × (k < here - IMAGE_START + size)) ((k < here - IMAGE_START) ⊎ (here - IMAGE_START + size ≤ k))
+pub covered : (here size k : ℕ) (b : Bool) → (leb here (IMAGE_START + k) && ltb (IMAGE_START + k) (here + size)) ≡ b → IMAGE_START ≤ here → cond b ((here - IMAGE_START ≤ k) × (k < here - IMAGE_START + size)) ((k < here - IMAGE_START) ⊎ (here - IMAGE_START + size ≤ k))
 covered here size k true e low =
     let both = and_parts _ _ e in
     let from = leb-true here (IMAGE_START + k) both.0 in

@@ -43,4 +43,4 @@ pub mod ImageSteps
 pub mod LinesByPlace
 pub mod CodeSteps
 pub mod RecodingSteps
-pub mod RunSteps
+pub mod CarrySteps

@@ -171,6 +171,7 @@ stretch-front count edit place start within front e =
       within = low;
       after = omega arith;
       stood = λ next before at from to. (let here : next ≡ before = omega arith in ap (place_before edit) here ∙ origin edit before to);
+      none = λ all inside. absurd (omega arith);
     }
 
 behind-insert : (at next before : ℕ) → at ≤ before → next ≡ before + 1 → cond (nat_lt next at) (Some next) (cond (nat_eq next at) None (Some (next - 1))) ≡ Some before
@@ -224,6 +225,7 @@ stretch-back count (Insert at line) place start within inside back e =
       within = omega arith;
       after = omega arith;
       stood = λ next before at_next from to. behind-insert at next before (omega arith) (omega arith);
+      none = λ all some. absurd (omega arith);
     }
 stretch-back count (Replace at line) place start within inside back e =
     let s = start-replace at place start back e in
@@ -232,6 +234,7 @@ stretch-back count (Replace at line) place start within inside back e =
       within = omega arith;
       after = omega arith;
       stood = λ next before at_next from to. behind-replace at next before (omega arith) (omega arith);
+      none = λ all some. absurd (omega arith);
     }
 stretch-back count (Delete at) place start within inside back e =
     let s = start-delete at place start back e in
@@ -240,15 +243,17 @@ stretch-back count (Delete at) place start within inside back e =
       within = omega arith;
       after = omega arith;
       stood = λ next before at_next from to. behind-delete at next before (omega arith) (omega arith);
+      none = λ all some. absurd (omega arith);
     }
 stretch-back count (Open all) place start within inside back e = cc
 
-pub no-stretch : (count : ℕ) (edit : Edit) (place : ℕ) → place ≤ count_after count edit → IsStretch count edit place 0 0
-no-stretch count edit place inside = record {
+pub no-stretch : (count : ℕ) (edit : Edit) (place : ℕ) → place ≤ count_after count edit → place_before edit place ≡ None → IsStretch count edit place 0 0
+no-stretch count edit place inside none = record {
   ordered = omega arith;
   within = omega arith;
   after = omega arith;
   stood = λ next before at from to. absurd (omega arith);
+  none = λ all some. none;
 }
 
 -- a line of such a stretch

@@ -1,7 +1,7 @@
 //! The second pass, as it is kept: the image, and the fault of each line.
 ghost use Rattle.std.specs.Prelude.{◌≡◌, ℕ, true, ◌+◌, ◌-◌, ◌<◌, ◌≤◌, ◌++◌, [], OnOk, drop, if◌then◌else◌, length, slice_index, slice_set, sum_by, take, vec_len};
 ghost use Rattle.chip_lang.specs.Code.{code_length};
-ghost use Rattle.chip_asm.specs.inner.Codes.{AreCodesOf, IsCounted, IsWritten, count_of, is_coded, kept_bytes, kept_fault};
+ghost use Rattle.chip_asm.specs.inner.Codes.{AreCodesOf, IsCopied, IsCounted, IsWritten, count_of, is_coded, kept_bytes, kept_fault};
 ghost use Rattle.chip_asm.specs.inner.Infos.{IsInfo};
 ghost use Rattle.chip_asm.specs.inner.Placements.{is_placed};
 ghost use Rattle.chip_asm.specs.inner.Records.{reading_in};
@@ -146,4 +146,28 @@ pub(crate) fn copy_to<T: Copy>(all: &mut [T], at: usize, items: &[T])
     ensures { all.new ≡ take at all.old ++ (items.now ++ drop (at + length items.now) all.old) }
 {
     all[at..at + items.len()].copy_from_slice(items);
+}
+
+/// Copies the code of a line from where it stood in one image to where it stands in another one, as
+/// far as there is room for it in both. Most lines have two bytes or none.
+#[inline(always)]
+pub(crate) fn copy_code(was: &Placement, now: &Placement, from: &[u8], image: &mut [u8])
+    requires was_low { IMAGE_START ≤ was.now.here }
+    requires was_high { was.now.here + was.now.size ≤ length from.now + IMAGE_START }
+    requires low { IMAGE_START ≤ now.now.here }
+    requires high { now.now.here + now.now.size ≤ length image.old + IMAGE_START }
+    ensures { IsCopied was.now now.now from.now image.old image.new }
+{
+    let size = was.size.min(now.size) as usize;
+    if size == 0 {
+        return;
+    }
+    let at = was.address() - IMAGE_START;
+    let to = now.address() - IMAGE_START;
+    if size == 2 {
+        image[to] = from[at];
+        image[to + 1] = from[at + 1];
+    } else {
+        copy_to(image, to, &from[at..at + size]);
+    }
 }

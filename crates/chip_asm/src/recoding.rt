@@ -1,18 +1,12 @@
 //! The codes of the lines after an edit: those that it doesn't touch are carried over.
-ghost use Rattle.std.specs.Prelude.{◌≡◌, ◌+◌, ◌-◌, ◌<◌, ◌≤◌, ◌&&◌, ℕ, IfOk, Some, length, nat_eq};
-ghost use Rattle.chip_lang.specs.Uses.{agree_on};
-ghost use Rattle.chip_asm.specs.Names.{values_of};
+ghost use Rattle.std.specs.Prelude.{◌≡◌, ◌+◌, ◌<◌, ◌≤◌, IfOk};
 ghost use Rattle.chip_asm.specs.inner.Codes.{AreCodesOf};
-ghost use Rattle.chip_asm.specs.inner.Infos.{IsInfo};
-ghost use Rattle.chip_asm.specs.inner.Placements.{is_placed};
-ghost use Rattle.chip_asm.specs.inner.Recoding.{AreWritten, IsAnew, IsRecoding, IsRun, again_up_to, count_then, lines_again, lines_then, shift_of};
-ghost use Rattle.chip_asm.specs.inner.Records.{IsStretch, place_before, reading_in};
+ghost use Rattle.chip_asm.specs.inner.Recoding.{AreWritten, IsAnew, IsRecoding, again_up_to, count_then, lines_again, lines_then};
 
-use crate::codes::{Codes, copy_to, count_faults, count_of, write_line};
-use crate::edit::{Edit, first_changed, kept_after, place_before};
+use crate::codes::{Codes, copy_code, copy_to, count_faults, count_of, write_line};
+use crate::edit::{Edit, kept_after, stretch_from};
 use crate::kept_line::BoxedLine;
 use crate::layout::Layout;
-use crate::placement::Placement;
 use crate::relayout::keeps_values;
 use crate::table::Table;
 use chip_lang::Meter;
@@ -38,111 +32,65 @@ pub(crate) struct Recoding<'a> {
     pub(crate) codes: &'a Codes,
 }
 
-/// How many bytes lines take, from the first one's address to the last one's end.
-fn bytes_to(first: &Placement, last: &Placement) -> usize
-    requires { first.now.here ≤ last.now.here }
-    ensures { first.now.here + result ≡ last.now.here + last.now.size }
-{
-    last.here as usize + last.size as usize - first.here as usize
-}
-
 impl<'a> Recoding<'a> {
-    /// Whether a line keeps its code and its fault, and stands so much higher, modulo 2^16, than it
-    /// stood.
-    #[inline(always)]
-    fn stays(&self, kept: &BoxedLine, was: &Placement, now: &Placement, shift: u16) -> bool
+    /// Takes over the codes of the first lines, where all names keep their values. How many lines
+    /// these are.
+    fn carry_first(&self, codes: &mut Codes) -> usize
         requires recoding { IsRecoding self.now }
-        requires info { IsInfo self.now.names.now.keys kept.now.info kept.now.several
-            (reading_in kept.now) }
-        ensures { result ≡ (nat_eq (shift_of was.now now.now) shift && is_placed was.now
-            && is_placed now.now
-            && agree_on (values_of self.now.names.now.before) (values_of self.now.names.now.symbols)
-            (reading_in kept.now)) }
+        requires written { AreWritten self.now codes.old 0 }
+        ensures within { result ≤ count_then self.now }
+        ensures written { AreWritten self.now codes.new result }
     {
-        if now.here.wrapping_sub(was.here) != shift {
-            return false;
+        if !self.same_names || self.first == 0 {
+            return 0;
         }
-        if !was.is_accepted() {
-            return false;
+        same_code();
+        let last = &self.new.placements[self.first - 1];
+        let end = last.address() + last.size as usize - IMAGE_START;
+        copy_to(&mut codes.image, 0, &self.codes.image[..end]);
+        let faults = &self.codes.faults[..self.first];
+        copy_to(&mut codes.faults, 0, faults);
+        if self.codes.count > 0 {
+            codes.count = count_faults(faults);
         }
-        if !now.is_accepted() {
-            return false;
-        }
-        self.same_names || keeps_values(self.names, kept)
+        self.first
     }
 
-    /// The place behind the lines that stood one after another before the edit, as those do that
-    /// stand from a place on.
-    fn end_from(&self, place: usize) -> usize
+    /// Takes over the codes of lines that stood, one after another, as those do that stand from a
+    /// place on, up to the first that doesn't keep its code. The place behind them.
+    #[inline(never)]
+    fn carry(&self, codes: &mut Codes, place: usize) -> usize
         requires recoding { IsRecoding self.now }
         requires place { place < count_then self.now }
-        ensures stretch { (start : ℕ) → place_before self.now.edit.now place ≡ Some start
-            → IsStretch (length self.now.lines.now) self.now.edit.now place start result }
-        ensures some { (start : ℕ) → place_before self.now.edit.now place ≡ Some start
-            → start < result }
-    {
-        let changed = first_changed(self.edit);
-        if place < changed {
-            changed
-        } else {
-            self.lines.len()
-        }
-    }
-
-    /// The place behind the lines that stood, one after another, from a place on before the edit,
-    /// keep their codes, and stand so from another place on.
-    fn run_from(&self, place: usize, start: usize) -> usize
-        requires recoding { IsRecoding self.now }
-        requires place { place < count_then self.now }
-        requires stood { place_before self.now.edit.now place ≡ Some start }
-        ensures run { IsRun self.now place start result }
-        ensures none { result ≡ start → IsAnew self.now place }
+        requires written { AreWritten self.now codes.old place }
+        ensures after { place ≤ result }
+        ensures within { result ≤ count_then self.now }
+        ensures written { AreWritten self.now codes.new result }
+        ensures none { result ≡ place → IsAnew self.now place }
     {
         same_code();
-        let end = self.end_from(place);
-        let lines = &self.lines[start..end];
-        let old = &self.old.placements[start..end];
-        let new = &self.new.placements[place..place + (end - start)];
-        let to = new[0].here;
-        let from = old[0].here;
-        let shift = to.wrapping_sub(from);
-        let known = if self.same_names && place < self.first {
-            self.first - place
-        } else {
-            0
-        };
-        for index in known..end - start {
-            if !self.stays(&lines[index], &old[index], &new[index], shift) {
-                return start + index;
+        let stretch = stretch_from(self.edit, self.lines.len(), place);
+        let lines = &self.lines[stretch.start..stretch.end];
+        let old = &self.old.placements[stretch.start..stretch.end];
+        let faults = &self.codes.faults[stretch.start..stretch.end];
+        let new = &self.new.placements[place..place + lines.len()];
+        for index in 0..lines.len() {
+            let was = &old[index];
+            let now = &new[index];
+            if !was.is_accepted() || !now.is_accepted() {
+                return place + index;
+            }
+            if !self.same_names && !keeps_values(self.names, &lines[index]) {
+                return place + index;
+            }
+            copy_code(was, now, &self.codes.image, &mut codes.image);
+            let fault = faults[index];
+            codes.faults[place + index] = fault;
+            if fault.is_some() {
+                codes.count += 1;
             }
         }
-        end
-    }
-
-    /// Takes over the codes of the lines that stood from one place up to another one before the
-    /// edit, and stand from a third one on.
-    fn carry(&self, codes: &mut Codes, place: usize, start: usize, end: usize)
-        requires recoding { IsRecoding self.now }
-        requires run { IsRun self.now place start end }
-        requires some { start < end }
-        requires written { AreWritten self.now codes.old place }
-        ensures { AreWritten self.now codes.new (place + (end - start)) }
-    {
-        let was = self.old.placements[start];
-        let now = self.new.placements[place];
-        let old_bytes = bytes_to(&was, &self.old.placements[end - 1]);
-        let new_bytes = bytes_to(&now, &self.new.placements[place + (end - start) - 1]);
-        let at = was.here as usize - IMAGE_START;
-        copy_to(
-            &mut codes.image,
-            now.here as usize - IMAGE_START,
-            &self.codes.image[at..at + old_bytes.min(new_bytes)],
-        );
-        let faults = &self.codes.faults[start..end];
-        copy_to(&mut codes.faults, place, faults);
-        if self.codes.count > 0 {
-            codes.count += count_faults(faults);
-        }
+        place + lines.len()
     }
 
     /// Encodes the line at a place, unless it is refused.
@@ -164,31 +112,6 @@ impl<'a> Recoding<'a> {
         codes.count += count_of(fault);
     }
 
-    /// Writes the code of the line at a place, and those of the lines behind it that keep theirs as
-    /// it does. The place behind them.
-    fn write_from(&self, meter: &mut Meter, codes: &mut Codes, place: usize) -> usize
-        requires recoding { IsRecoding self.now }
-        requires place { place < count_then self.now }
-        requires written { AreWritten self.now codes.old place }
-        ensures onward { place < result }
-        ensures within { result ≤ count_then self.now }
-        ensures written { AreWritten self.now codes.new result }
-        ensures encoded { meter.new.encoded + again_up_to self.now place
-            ≤ meter.old.encoded + again_up_to self.now result }
-        ensures not_lowered { meter.old.encoded ≤ meter.new.encoded }
-        ensures parsed { meter.new.parsed ≡ meter.old.parsed }
-    {
-        if let Some(start) = place_before(self.edit, place) {
-            let end = self.run_from(place, start);
-            if start < end {
-                self.carry(codes, place, start, end);
-                return place + (end - start);
-            }
-        }
-        self.encode(meter, codes, place);
-        place + 1
-    }
-
     /// The codes of all lines after the edit, in the room of others.
     pub(crate) fn codes(&self, meter: &mut Meter, spare: Codes) -> Result<Codes, AllocError>
         requires { IsRecoding self.now }
@@ -200,9 +123,15 @@ impl<'a> Recoding<'a> {
         let mut codes = spare;
         let count = self.new.placements.len();
         codes.clear(count)?;
-        let mut next = 0;
+        let mut next = self.carry_first(&mut codes);
         while next < count {
-            next = self.write_from(meter, &mut codes, next);
+            let end = self.carry(&mut codes, next);
+            if next < end {
+                next = end;
+            } else {
+                self.encode(meter, &mut codes, next);
+                next += 1;
+            }
         }
         Ok(codes)
     }

@@ -1,5 +1,5 @@
 -- The second pass, as it is kept: the image, and the fault of each line (own).
-use Rattle.std.specs.Prelude.{◌≡◌, ℕ, ◌+◌, ◌-◌, ◌<◌, ◌≤◌, ◌&&◌, Bool, true, List, [], length, map, reverse, Option, Some, None, Result, nat_le, nat_lt, if◌then◌else◌, slice_get, slice_index, sum_by, vec_len}
+use Rattle.std.specs.Prelude.{◌≡◌, ℕ, ◌+◌, ◌-◌, ◌<◌, ◌≤◌, ◌&&◌, ◌++◌, Bool, true, List, [], drop, length, map, min, reverse, take, Option, Some, None, Result, nat_le, nat_lt, if◌then◌else◌, slice_get, slice_index, sum_by, vec_len}
 use Rattle.chip_lang.specs.declared.fault.Fault.{Fault}
 use Rattle.chip_lang.specs.declared.limits.TheConstants.{IMAGE_BYTES, IMAGE_START}
 use Rattle.chip_lang.specs.Code.{own_bytes}
@@ -80,3 +80,15 @@ IsWritten q bytes old new =
     → slice_index new k
     ≡ (if covers_byte q k then slice_index bytes (IMAGE_START + k - q.here)
     else slice_index old k)
+
+-- the bytes of a line are copied from where it stood to where it stands, as far as there is room in
+-- both places
+abbrev pub copied_bytes : (was now : Placement) → (from : List ℕ) → List ℕ
+copied_bytes was now from = take (min was.size now.size) (drop (was.here - IMAGE_START) from)
+
+abbrev pub IsCopied : (was now : Placement) → (from old new : List ℕ) → Type 0
+IsCopied was now from old new =
+    new
+    ≡ take (now.here - IMAGE_START) old
+    ++ (copied_bytes was now from
+    ++ drop (now.here - IMAGE_START + length (copied_bytes was now from)) old)

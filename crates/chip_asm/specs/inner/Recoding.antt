@@ -1,5 +1,5 @@
 -- What is known of an edit when the lines after it get their codes (own).
-use Rattle.std.specs.Prelude.{◌≡◌, ℕ, ◌+◌, ◌-◌, ◌%◌, ◌<◌, ◌≤◌, Bool, true, false, List, length, Option, None, Some, Result, slice_get, slice_index, slice_index_or, sum_by, take, vec_len}
+use Rattle.std.specs.Prelude.{◌≡◌, ℕ, ◌+◌, ◌-◌, ◌<◌, ◌≤◌, Bool, true, false, List, length, Option, None, Some, Result, slice_get, slice_index, slice_index_or, sum_by, take, vec_len}
 use Rattle.chip_lang.specs.Line.{Reading}
 use Rattle.chip_asm.specs.declared.limits.TheConstants.{MOST_LINES}
 use Rattle.chip_asm.specs.declared.recoding.Recoding.{Recoding}
@@ -65,10 +65,6 @@ is_kept r at = keeps_code (lines_before r) (lines_then r) (place_before r.edit.n
 abbrev pub code_then : Recoding → Placed → Result (List ℕ) Fault
 code_then r x = code_under (placed (lines_then r)) x
 
--- how much higher a line stands than another one, modulo 2 ^ 16
-abbrev pub shift_of : Placement → Placement → ℕ
-shift_of was now = (now.here + (65536 - was.here)) % 65536
-
 -- the line at a place doesn't keep its code
 abbrev pub IsAnew : Recoding → ℕ → Type 0
 IsAnew r place =
@@ -85,27 +81,14 @@ pub record HasCodeAt (lines : List Reading) (placements : List Placement) (place
       → right_byte lines k ≡ slice_index bytes (IMAGE_START + k - q.here)
   pub faulty : slice_index_or (line_faults lines) place None ≡ fault
 
--- the line at a place has the code of the one that stood at another place, and stands as far behind
--- one address as that one stood behind another
-pub record IsCarried (r : Recoding) (place before to from : ℕ) : Type 0 where
+-- the line at a place has the code and the fault of the one that stood at another place
+pub record IsCarried (r : Recoding) (place before : ℕ) : Type 0 where
   pub q : Placement
   pub p : Placement
   pub bytes : List ℕ
   pub fault : Option Fault
   pub now : HasCodeAt (lines_then r) r.new.now.placements.items place q bytes fault
   pub was : HasCodeAt (lines_before r) r.old.now.placements.items before p bytes fault
-  pub moved : q.here + from ≡ p.here + to
-
--- the lines that stood from one place up to another one keep their codes, and stand so from a third
--- one on
-pub record IsRun (r : Recoding) (place start end : ℕ) : Type 0 where
-  pub to : ℕ
-  pub from : ℕ
-  pub ordered : start ≤ end
-  pub inside : end ≤ length r.lines.now
-  pub within : place + end ≤ count_then r + start
-  pub each : (next before : ℕ) → next + start ≡ place + before → start ≤ before → before < end
-      → IsCarried r next before to from
 
 -- the lines before a place have their codes, and those from there on wait
 pub record AreWritten (r : Recoding) (codes : Codes) (place : ℕ) : Type 0 where

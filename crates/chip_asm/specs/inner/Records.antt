@@ -43,10 +43,12 @@ place_before (Replace at line) place = before_replace at place
 place_before (Delete at) place = before_delete at place
 place_before (Open all) place = None
 
--- the lines of some places before the edit stand one after another from a place after it on
+-- the lines of some places before the edit stand one after another from a place after it on; there
+-- are none only where the line there is new, or there is none
 pub record IsStretch (count : ℕ) (edit : Edit) (place start end : ℕ) : Type 0 where
   pub ordered : start ≤ end
   pub within : end ≤ count
   pub after : place + end ≤ count_after count edit + start
   pub stood : (next before : ℕ) → next + start ≡ place + before → start ≤ before → before < end
       → place_before edit next ≡ Some before
+  pub none : end ≤ start → place < count_after count edit → place_before edit place ≡ None

@@ -4,7 +4,7 @@ use Rattle.chip_asm.proofs.LinesAfter.{no-stretch, stretch-back, stretch-front}
 use Rattle.chip_asm.proofs.edit.stretch_from.Goals as goal
 
 pub returns-in_default : goal.returns-in_default
-returns-in_default c = no-stretch c.args.count c.args.edit.now c.args.place c.requires.place
+returns-in_default c = no-stretch c.args.count c.args.edit.now c.args.place c.requires.place (sym c.place_before.ensures ∙ c.in_default.is)
 
 pub returns-then-place-changed : goal.returns-then-place-changed
 returns-then-place-changed c =

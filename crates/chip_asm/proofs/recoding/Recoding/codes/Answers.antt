@@ -7,25 +7,29 @@ use Rattle.chip_asm.specs.inner.Recoding.{AreWritten, count_then, lines_before, 
 use Rattle.chip_asm.specs.inner.Records.{place_before}
 use Rattle.chip_asm.proofs.CodeSteps.{byte-done, byte-zero, count_by-take, count_faults, faults-counted, length-faults}
 use Rattle.chip_asm.proofs.LinesAfter.{length-readings_after}
-use Rattle.chip_asm.proofs.RecodingSteps.{long-then}
+use Rattle.chip_asm.proofs.RecodingSteps.{again-later, long-then}
 use Rattle.chip_asm.proofs.recoding.Recoding.codes.Goals as goal
 
-pub loop-next-init : goal.loop-next-init
-loop-next-init c =
+pub carry_first-next-requires-clause-written : goal.carry_first-next-requires-clause-written
+carry_first-next-requires-clause-written c =
     let r = c.args.self.now in
-    let clear = c.in_ok-clear.ensures in (
-      record {
-        long = clear.image;
-        bytes = λ k h. byte-zero (lines_then r) r.new.now c.requires.new k _ (clear.zeros k);
-        many = clear.faults ∙ (omega (arith, c.len-count.ensures, long-then r c.requires, r.new.now.placements.ok.0));
-        faults = refl;
-        counted = clear.count;
-      },
-      omega arith,
-      omega arith,
-      omega arith,
-      refl,
-    )
+    let clear = c.in_ok-clear.ensures in
+    record {
+      long = clear.image;
+      bytes = λ k h. byte-zero (lines_then r) r.new.now c.requires.new k _ (clear.zeros k);
+      many = clear.faults ∙ (omega (arith, c.len-count.ensures, long-then r c.requires, r.new.now.placements.ok.0));
+      faults = refl;
+      counted = clear.count;
+    }
+
+pub loop-next-preserved-then-next-end : goal.loop-next-preserved-then-next-end
+loop-next-preserved-then-next-end c = (
+  c.carry-end.ensures.written,
+  c.carry-end.ensures.within,
+  omega (arith, c.loop-next.invariant.2, again-later c.args.self.now c.loop-next.next c.carry-end.result c.carry-end.ensures.after),
+  c.loop-next.invariant.3,
+  c.loop-next.invariant.4,
+)
 
 pub returns-clause-codes : goal.returns-clause-codes
 returns-clause-codes c =
@@ -49,7 +53,22 @@ returns-clause-encoded c =
     let r = c.args.self.now in
     omega (arith, c.loop-next.invariant.2, count_by-take (is_encoded_again (lines_before r) (lines_then r) (place_before r.edit.now)) (enumerate_from 0 (lines_then r)) c.loop-next.next)
 
-pub write_from-next-requires-clause-place : goal.write_from-next-requires-clause-place
-write_from-next-requires-clause-place c =
+pub carry-end-requires-clause-place : goal.carry-end-requires-clause-place
+carry-end-requires-clause-place c =
     let r = c.args.self.now in
     omega (arith, c.loop-next-test.true, c.len-count.ensures, long-then r c.requires, r.new.now.placements.ok.0)
+
+pub encode-requires-clause-place : goal.encode-requires-clause-place
+encode-requires-clause-place c =
+    let r = c.args.self.now in
+    omega (arith, c.loop-next-test.true, c.len-count.ensures, long-then r c.requires, r.new.now.placements.ok.0)
+
+pub loop-next-preserved : goal.loop-next-preserved
+loop-next-preserved c =
+    let r = c.args.self.now in (
+      c.encode.ensures.written,
+      omega (arith, c.loop-next-test.true, c.len-count.ensures, long-then r c.requires, r.new.now.placements.ok.0),
+      omega (arith, c.loop-next.invariant.2, c.encode.ensures.encoded),
+      omega (arith, c.loop-next.invariant.3, c.encode.ensures.not_lowered),
+      c.encode.ensures.parsed ∙ c.loop-next.invariant.4,
+    )
