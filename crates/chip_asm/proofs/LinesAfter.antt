@@ -295,20 +295,21 @@ stretch-lines lines edit place start end within s =
     now : length (take (end - start) (drop place (lines_after lines edit))) ≡ end - start
     now = (let a = s.after in length-take-le (end - start) (drop place (lines_after lines edit)) (omega (arith, a, length-drop place (lines_after lines edit), length-lines_after lines edit within)))
 
--- what is kept beside them
-pub stretch-infos : (keys : List Name) (lines : List KeptLine) (edit : Edit) (place start end : ℕ) → IsPlaceWithin (length lines) edit → IsStretch (length lines) edit place start end
-    → AreInfos keys (lines_after lines edit) → AreInfos keys (slice_range lines start end)
-stretch-infos keys lines edit place start end within s infos =
+-- what is kept beside lines that stand at a place and behind it
+pub part-infos : (keys : List Name) (all part : List KeptLine) (place : ℕ) → part ≡ take (length part) (drop place all) → AreInfos keys all → AreInfos keys part
+part-infos keys all part place is infos =
     let P : KeptLine → Type 0 = λ k. IsInfo keys k.info k.several (reading_in k) in
-    subst (AreInfos keys) (sym (stretch-lines lines edit place start end within s)) (All-take P (end - start) (drop place (lines_after lines edit)) (All-drop P place (lines_after lines edit) infos))
+    subst (AreInfos keys) (sym is) (All-take P (length part) (drop place all) (All-drop P place all infos))
 
 -- the first ones of them follow those before the place
-pub stretch-readings : (lines : List KeptLine) (edit : Edit) (place start end count : ℕ) → IsPlaceWithin (length lines) edit → IsStretch (length lines) edit place start end → count ≤ end - start
-    → take (place + count) (readings_in (lines_after lines edit)) ≡ take place (readings_in (lines_after lines edit)) ++ take count (readings_in (slice_range lines start end))
-stretch-readings lines edit place start end count within s h =
-    let after : List KeptLine = lines_after lines edit in
-    take-add place count (readings_in after)
-    ∙ ap (λ ls. take place (readings_in after) ++ ls)
-    (sym (ap (λ ls. take count (readings_in ls)) (stretch-lines lines edit place start end within s)
-    ∙ ap (take count) (sym (take-map reading_in (end - start) (drop place after)) ∙ ap (take (end - start)) (sym (drop-map reading_in place after)))
-    ∙ take-take count (end - start) (drop place (readings_in after)) h))
+pub part-readings : (all part : List KeptLine) (place count : ℕ) → part ≡ take (length part) (drop place all) → count ≤ length part
+    → take (place + count) (readings_in all) ≡ take place (readings_in all) ++ take count (readings_in part)
+part-readings all part place count is h =
+    take-add place count (readings_in all)
+    ∙ ap (λ ls. take place (readings_in all) ++ ls)
+    (sym (ap (λ ls. take count (readings_in ls)) is
+    ∙ ap (take count) (sym (take-map reading_in (length part) (drop place all)) ∙ ap (take (length part)) (sym (drop-map reading_in place all)))
+    ∙ take-take count (length part) (drop place (readings_in all)) h))
+
+pub length-part : (all part : List KeptLine) (place : ℕ) → part ≡ take (length part) (drop place all) → place ≤ length all → place + length part ≤ length all
+length-part all part place is h = omega (arith, ap length is, length-take (length part) (drop place all), length-drop place all, h)

@@ -1,5 +1,5 @@
 //! A change of one line, seen before it is made.
-ghost use Rattle.std.specs.Prelude.{◌≡◌, ◌<◌, ◌≤◌, length, slice_get, slice_set, Some, vec_len, vec_capacity};
+ghost use Rattle.std.specs.Prelude.{◌≡◌, ◌<◌, ◌≤◌, drop, length, take, slice_get, slice_set, Some, vec_len, vec_capacity};
 ghost use Rattle.chip_asm.specs.inner.Records.{IsPlaceWithin, IsStretch, lines_after, count_after, place_before};
 ghost use Rattle.chip_asm.specs.inner.Resume.{first_changed};
 
@@ -114,6 +114,26 @@ pub(crate) fn stretch_from(edit: &Edit, count: usize, place: usize) -> Range<usi
         return start..changed;
     }
     start..count
+}
+
+/// Lines that stand, one after another, at a place after the edit and behind it.
+pub(crate) fn lines_from<'a>(
+    lines: &'a [BoxedLine],
+    edit: &'a Edit,
+    place: usize,
+) -> &'a [BoxedLine]
+    requires few { count_after (length lines.now) edit.now ≤ MOST_LINES }
+    requires within { IsPlaceWithin (length lines.now) edit.now }
+    requires place { place ≤ count_after (length lines.now) edit.now }
+    ensures { result.now ≡ take (length result.now) (drop place (lines_after lines.now edit.now)) }
+{
+    match edit {
+        Edit::Open(all) => &all[place..],
+        _ => {
+            let stretch = stretch_from(edit, lines.len(), place);
+            &lines[stretch.start..stretch.end]
+        }
+    }
 }
 
 /// Makes the edit in a list with room for one line more.

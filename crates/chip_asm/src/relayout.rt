@@ -13,7 +13,7 @@ ghost use Rattle.chip_asm.specs.inner.Records.{reading_in};
 ghost use Rattle.chip_asm.specs.inner.Resume.{AreSteady, BeginsAsOld, IsRelayout, IsWalked, count_then, lines_before, lines_then};
 ghost use Rattle.chip_asm.specs.inner.Tables.{KeepsBefore};
 
-use crate::edit::{Edit, count_after, kept_after, place_before, stretch_from};
+use crate::edit::{Edit, count_after, kept_after, lines_from, place_before};
 use crate::kept_line::BoxedLine;
 use crate::layout::{Layout, mark_unclosed};
 use crate::line_info::Uses;
@@ -147,8 +147,7 @@ impl<'a> Relayout<'a> {
         while next < count {
             self.step_at(placements, pass, next)?;
             next += 1;
-            let stretch = stretch_from(self.edit, self.lines.len(), next);
-            let lines = &self.lines[stretch.start..stretch.end];
+            let lines = lines_from(self.lines, self.edit, next);
             next += pass.step_bare(placements, next, lines)?;
         }
         Ok(())
