@@ -334,7 +334,7 @@ pub carried-line : (r : Recoding) → IsRecoding r → (place before : ℕ) → 
     → (old new : Codes) → AreWritten r old place → IsCopied p q r.codes.now.image.items old.image.items new.image.items → vec_len new.image ≡ vec_len old.image
     → (fault : Option Fault) → fault ≡ get_or r.codes.now.faults.items before None → new.faults.items ≡ set old.faults.items place fault → new.count ≡ old.count + count_of fault → AreWritten r new (place + 1)
 carried-line r known place before line q p w old new so_far image same_long fault fault_is faults counts =
-    written-more r known place line.q line.bytes fault (subst (HasCodeAt (lines_then r) r.new.now.placements.items place line.q line.bytes) (sym is_fault) line.now) old new so_far written same_long faults counts
+    written-more r known place q line.bytes fault (subst (HasCodeAt (lines_then r) r.new.now.placements.items place q line.bytes) (sym is_fault) now) old new so_far written same_long faults counts
   where
     at : ℕ
     at = q.here - IMAGE_START
@@ -348,69 +348,51 @@ carried-line r known place before line q p w old new so_far image same_long faul
     part : List ℕ
     part = copied_bytes p q r.codes.now.image.items
 
-    q_is : line.q ≡ q
-    q_is = same_Some line.q q (sym line.now.there ∙ w.now)
+    now : HasCodeAt (lines_then r) r.new.now.placements.items place q line.bytes line.fault
+    now = subst (λ x. HasCodeAt (lines_then r) r.new.now.placements.items place x line.bytes line.fault) (same_Some line.q q (sym line.now.there ∙ w.now)) line.now
 
-    p_is : line.p ≡ p
-    p_is = same_Some line.p p (sym line.was.there ∙ w.was)
-
-    q_size : line.q.size ≡ q.size
-    q_size = ap (λ (x : Placement). x.size) q_is
-
-    p_size : line.p.size ≡ p.size
-    p_size = ap (λ (x : Placement). x.size) p_is
-
-    here : at + IMAGE_START ≡ line.q.here
-    here = (let same : line.q.here ≡ q.here = ap (λ (x : Placement). x.here) q_is in omega (arith, w.low_now))
-
-    stood : from + IMAGE_START ≡ line.p.here
-    stood = (let same : line.p.here ≡ p.here = ap (λ (x : Placement). x.here) p_is in omega (arith, w.low_was))
-
-    top_now : line.q.here + line.q.size ≤ MEMORY_BYTES
-    top_now = high (lines_then r) place line.q (placed-then r known place line.q line.now.there)
-
-    top_was : line.p.here + line.p.size ≤ MEMORY_BYTES
-    top_was = high (lines_before r) before line.p (placed-before r known before line.p line.was.there)
+    stood : HasCodeAt (lines_before r) r.old.now.placements.items before p line.bytes line.fault
+    stood = subst (λ x. HasCodeAt (lines_before r) r.old.now.placements.items before x line.bytes line.fault) (same_Some line.p p (sym line.was.there ∙ w.was)) line.was
 
     is_fault : fault ≡ line.fault
     is_fault = fault_is ∙ ap (λ fs. get_or fs before None) known.codes.faulty ∙ line.was.faulty
 
     part_long : length part ≡ count
-    part_long = length-take-le count (drop from r.codes.now.image.items) (omega (arith, length-drop from r.codes.now.image.items, w.long, r.codes.now.image.ok.0, top_was, stood, p_size))
+    part_long = length-take-le count (drop from r.codes.now.image.items) (omega (arith, length-drop from r.codes.now.image.items, w.long, r.codes.now.image.ok.0, w.low_was, w.high_was))
 
     room : at + length part ≤ length old.image.items
-    room = omega (arith, part_long, so_far.long, old.image.ok.0, top_now, here, q_size)
+    room = omega (arith, part_long, so_far.long, old.image.ok.0, w.low_now, w.high_now)
 
     -- a byte that is copied
-    copied : (k was : ℕ) → at ≤ k → k < at + length part → was + at ≡ from + k → covers_byte line.q k ≡ true → get_or part (k - at) 0 ≡ get_or line.bytes (IMAGE_START + k - line.q.here) 0
+    copied : (k was : ℕ) → at ≤ k → k < at + length part → was + at ≡ from + k → covers_byte q k ≡ true → get_or part (k - at) 0 ≡ get_or line.bytes (IMAGE_START + k - q.here) 0
     copied k was from_there less shift c =
         let same : from + (k - at) ≡ was = omega arith in
-        let index : IMAGE_START + was - line.p.here ≡ IMAGE_START + k - line.q.here = omega (arith, here, stood) in
+        let index : IMAGE_START + was - p.here ≡ IMAGE_START + k - q.here = omega (arith, w.low_now, w.low_was) in
         get_or-take count (drop from r.codes.now.image.items) (k - at) 0 (omega (arith, part_long)) ∙ get_or-drop from r.codes.now.image.items (k - at) 0
-        ∙ ap (λ n. get_or r.codes.now.image.items n 0) same ∙ known.codes.imaged was (omega (arith, part_long, p_size, stood, top_was))
-        ∙ line.was.byte was (covering line.p.here line.p.size (IMAGE_START + was) (omega (arith, stood)) (omega (arith, p_size, stood, part_long)))
+        ∙ ap (λ n. get_or r.codes.now.image.items n 0) same ∙ known.codes.imaged was (omega (arith, part_long, w.low_was, w.high_was))
+        ∙ stood.byte was (covering p.here p.size (IMAGE_START + was) (omega (arith, w.low_was)) (omega (arith, w.low_was, part_long)))
         ∙ ap (λ n. get_or line.bytes n 0) index
 
-    written : IsWritten line.q line.bytes old.image.items new.image.items
-    written k = ap (λ l. get_or l k 0) image ∙ by (covers_byte line.q k) refl
+    written : IsWritten q line.bytes old.image.items new.image.items
+    written k = ap (λ l. get_or l k 0) image ∙ by (covers_byte q k) refl
       where
-        by : (b : Bool) → covers_byte line.q k ≡ b → get_or (take at old.image.items ++ (part ++ drop (at + length part) old.image.items)) k 0 ≡ cond b (get_or line.bytes (IMAGE_START + k - line.q.here) 0) (get_or old.image.items k 0)
+        by : (b : Bool) → covers_byte q k ≡ b → get_or (take at old.image.items ++ (part ++ drop (at + length part) old.image.items)) k 0 ≡ cond b (get_or line.bytes (IMAGE_START + k - q.here) 0) (get_or old.image.items k 0)
         by true c = within (cases_lt k (at + length part))
           where
-            parts : (line.q.here ≤ IMAGE_START + k) × (IMAGE_START + k < line.q.here + line.q.size)
-            parts = covered-parts line.q (IMAGE_START + k) c
+            parts : (q.here ≤ IMAGE_START + k) × (IMAGE_START + k < q.here + q.size)
+            parts = covered-parts q (IMAGE_START + k) c
 
             from_there : at ≤ k
-            from_there = omega (arith, parts.0, here)
+            from_there = omega (arith, parts.0)
 
-            within : (k < at + length part) ⊎ (at + length part ≤ k) → get_or (take at old.image.items ++ (part ++ drop (at + length part) old.image.items)) k 0 ≡ get_or line.bytes (IMAGE_START + k - line.q.here) 0
+            within : (k < at + length part) ⊎ (at + length part ≤ k) → get_or (take at old.image.items ++ (part ++ drop (at + length part) old.image.items)) k 0 ≡ get_or line.bytes (IMAGE_START + k - q.here) 0
             within (inl less) = inserted old.image.items part 0 at k room from_there less ∙ copied k (from + k - at) from_there less (omega (arith, from_there)) c
             within (inr past) =
                 around old.image.items part 0 at k room (inr past)
-                ∙ (so_far.bytes k (omega (arith, parts.1, top_now))).waiting (record { place = place; q = line.q; low = omega arith; there = line.now.there; covered = c })
-                ∙ sym (get_or_past line.bytes (IMAGE_START + k - line.q.here) 0 (omega (arith, past, part_long, parts.1, here, q_size, p_size, line.was.fits)))
-        by false c = around old.image.items part 0 at k room (apart (covered line.q.here line.q.size k false c (omega (arith, here))))
+                ∙ (so_far.bytes k (omega (arith, parts.1, w.high_now))).waiting (record { place = place; q = q; low = omega arith; there = w.now; covered = c })
+                ∙ sym (get_or_past line.bytes (IMAGE_START + k - q.here) 0 (omega (arith, past, part_long, parts.1, stood.fits)))
+        by false c = around old.image.items part 0 at k room (apart (covered q.here q.size k false c w.low_now))
           where
-            apart : (k < line.q.here - IMAGE_START) ⊎ (line.q.here - IMAGE_START + line.q.size ≤ k) → (k < at) ⊎ (at + length part ≤ k)
-            apart (inl before) = inl (omega (arith, here))
-            apart (inr behind) = inr (omega (arith, here, q_size, part_long))
+            apart : (k < q.here - IMAGE_START) ⊎ (q.here - IMAGE_START + q.size ≤ k) → (k < at) ⊎ (at + length part ≤ k)
+            apart (inl before) = inl before
+            apart (inr behind) = inr (omega (arith, part_long))

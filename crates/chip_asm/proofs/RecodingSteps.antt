@@ -4,7 +4,7 @@ use Rattle.std.proofs.lemmas.List.Sums.{sum_by_push}
 use Rattle.std.specs.List.{enumerate_from}
 use Rattle.std.specs.Option.{option_map_or}
 use Rattle.std.proofs.lemmas.List.{length-map, take-take, take_more, take_more_set}
-use Rattle.std.proofs.lemmas.Option.{slice_get_within, slice_get_read, slice_get-get_or}
+use Rattle.std.proofs.lemmas.Option.{slice_get_within, slice_get_read}
 use Rattle.chip_lang.specs.Code.{own_bytes}
 use Rattle.chip_lang.specs.declared.limits.TheConstants.{IMAGE_START}
 use Rattle.chip_lang.specs.Line.{Reading}
@@ -25,13 +25,9 @@ use Rattle.chip_asm.specs.inner.Recode.{has_code, is_encoded_again, is_placed_at
 use Rattle.chip_asm.specs.inner.Recoding.{AreWritten, HasCodeAt, IsAnew, IsRecoding, again_up_to, code_then, count_then, is_again, is_kept, lines_before, lines_then}
 use Rattle.chip_asm.specs.inner.Records.{lines_after, place_before, reading_in}
 use Rattle.chip_asm.proofs.CodeSteps.{byte-more, count-numbered, count_by-take, length-faults}
-use Rattle.chip_asm.proofs.LinesAfter.{Stood, info-at, length-lines_after, length-readings_after, line-at, read-at, stood}
+use Rattle.chip_asm.proofs.LinesAfter.{info-at, length-readings_after, line-at, read-at}
 use Rattle.chip_asm.proofs.LinesByPlace.{AtPlace, at-place}
 use Rattle.chip_asm.proofs.Resumed.{length-laid}
-
--- where the line stood there was one
-pub before-at : (r : Recoding) → IsRecoding r → (place before : ℕ) → place < count_then r → place_before r.edit.now place ≡ Some before → before < length r.lines.now
-before-at r k place before inside origin = (stood r.lines.now r.edit.now place before k.within inside origin).inside
 
 pub long-before : (r : Recoding) → IsRecoding r → length r.old.now.placements.items ≡ length r.lines.now
 long-before r k = length-laid r.old.now (lines_before r) k.old ∙ length-map r.lines.now reading_in
@@ -64,14 +60,6 @@ code-then r k place q a kept there =
     ap (λ line. own_bytes (body_of line) (values_of r.names.now.symbols)) (kept-line r place q a kept there)
     ∙ ap (λ names. own_bytes (body_of a.x.line) (values_of names)) k.symbols
 
--- whether a line keeps its code
-pub kept-is : (r : Recoding) → IsRecoding r → (place before : ℕ) (p : Placement) (line : Reading) → place_before r.edit.now place ≡ Some before → slice_get r.old.now.placements.items before ≡ Some p
-    → is_kept r (place, line) ≡ (is_placed p && agree_on (values_of (names_of_lines (lines_before r))) (values_of (names_of_lines (lines_then r))) line)
-kept-is r k place before p line origin there =
-    ap (λ o. option_map_or (λ b. is_placed_at (placements_of (lines_before r)) b && agree_on (values_of (names_of_lines (lines_before r))) (values_of (names_of_lines (lines_then r))) line) o false) origin
-    ∙ ap (λ o. option_map_or is_placed o false && agree_on (values_of (names_of_lines (lines_before r))) (values_of (names_of_lines (lines_then r))) line)
-    (ap (λ ps. slice_get ps before) (sym k.old.placements) ∙ there)
-
 -- a line that stood nowhere keeps no code
 pub new-anew : (r : Recoding) (place : ℕ) (line : Reading) → place_before r.edit.now place ≡ None → is_kept r (place, line) ≡ false
 new-anew r place line e =
@@ -82,25 +70,6 @@ pub agree-kept : (r : Recoding) → IsRecoding r → (line : Reading)
 agree-kept r k line =
     ap (λ names. agree_on (values_of names) (values_of r.names.now.symbols) line) k.before
     ∙ ap (λ names. agree_on (values_of (names_of_lines (lines_before r))) (values_of names) line) k.symbols
-
-pub was-at : (r : Recoding) → IsRecoding r → (before : ℕ) (p : Placement) → before < length r.lines.now → p ≡ get_or r.old.now.placements.items before p → slice_get r.old.now.placements.items before ≡ Some p
-was-at r k before p inside is = slice_get_read r.old.now.placements.items _ before p refl (let n = long-before r k in omega arith) is
-
--- what is kept of a line that stood somewhere
-pub stood-kept : (r : Recoding) → IsRecoding r → (place before : ℕ) (d : KeptLine) → place < count_then r → place_before r.edit.now place ≡ Some before
-    → slice_get (lines_after r.lines.now r.edit.now) place ≡ Some (get_or r.lines.now before d)
-stood-kept r k place before d inside origin =
-    let there : Stood r.lines.now r.edit.now place before = stood r.lines.now r.edit.now place before k.within inside origin in
-    slice_get-get_or (lines_after r.lines.now r.edit.now) place d (omega (arith, inside, length-lines_after r.lines.now r.edit.now k.within)) ∙ ap Some (there.line d)
-
--- whether its names keep their values
-pub agree-stood : (r : Recoding) → IsRecoding r → (place before : ℕ) (d : KeptLine) (line : Reading) (b : Bool) → place < count_then r → place_before r.edit.now place ≡ Some before
-    → slice_get (lines_then r) place ≡ Some line → agree_on (values_of r.names.now.before) (values_of r.names.now.symbols) (reading_in (get_or r.lines.now before d)) ≡ b
-    → agree_on (values_of (names_of_lines (lines_before r))) (values_of (names_of_lines (lines_then r))) line ≡ b
-agree-stood r k place before d line b inside origin at is =
-    sym (agree-kept r k line)
-    ∙ ap (agree_on (values_of r.names.now.before) (values_of r.names.now.symbols)) (sym (read-at (lines_after r.lines.now r.edit.now) place (get_or r.lines.now before d) line (stood-kept r k place before d inside origin) at))
-    ∙ is
 
 -- a line with code that is accepted and doesn't keep it is encoded again
 pub again-is : (r : Recoding) → IsRecoding r → (place : ℕ) (q : Placement) (line : Reading) → slice_get r.new.now.placements.items place ≡ Some q → has_code (body_of line) ≡ true → is_placed q ≡ true

@@ -62,33 +62,17 @@ keeps_values-requires c =
     let t = c.stretch_from-stretch.result in
     (named c.args.self.now c.requires.recoding c.args.place t.start t.end c.loop-index.index c.stretch_from-stretch.ensures (omega (arith, c.loop-index-test.true)) c.index-lines-index.result c.index-lines-index.is).info
 
-pub copy_code-requires-clause-was_low : goal.copy_code-requires-clause-was_low
-copy_code-requires-clause-was_low c =
+pub copy_code-requires : goal.copy_code-requires
+copy_code-requires c =
     let t = c.stretch_from-stretch.result in
     let w = stands c.args.self.now c.requires.recoding c.args.place t.start t.end c.loop-index.index c.stretch_from-stretch.ensures (omega (arith, c.loop-index-test.true))
     c.deref-3.result.now c.deref.result.now c.deref-3.ensures.value c.deref.ensures.value (c.args.place + length (take (t.end - t.start) (drop t.start c.args.self.now.lines.now)) - c.args.place) (omega (arith, c.loop-index-test.true)) _ in
-    w.low_was
-
-pub copy_code-requires-clause-was_high : goal.copy_code-requires-clause-was_high
-copy_code-requires-clause-was_high c =
-    let t = c.stretch_from-stretch.result in
-    let w = stands c.args.self.now c.requires.recoding c.args.place t.start t.end c.loop-index.index c.stretch_from-stretch.ensures (omega (arith, c.loop-index-test.true))
-    c.deref-3.result.now c.deref.result.now c.deref-3.ensures.value c.deref.ensures.value (c.args.place + length (take (t.end - t.start) (drop t.start c.args.self.now.lines.now)) - c.args.place) (omega (arith, c.loop-index-test.true)) _ in
-    within _ _ _ _ w.high_was w.long c.deref-in-loop-index.ensures.len
-
-pub copy_code-requires-clause-low : goal.copy_code-requires-clause-low
-copy_code-requires-clause-low c =
-    let t = c.stretch_from-stretch.result in
-    let w = stands c.args.self.now c.requires.recoding c.args.place t.start t.end c.loop-index.index c.stretch_from-stretch.ensures (omega (arith, c.loop-index-test.true))
-    c.deref-3.result.now c.deref.result.now c.deref-3.ensures.value c.deref.ensures.value (c.args.place + length (take (t.end - t.start) (drop t.start c.args.self.now.lines.now)) - c.args.place) (omega (arith, c.loop-index-test.true)) _ in
-    w.low_now
-
-pub copy_code-requires-clause-high : goal.copy_code-requires-clause-high
-copy_code-requires-clause-high c =
-    let t = c.stretch_from-stretch.result in
-    let w = stands c.args.self.now c.requires.recoding c.args.place t.start t.end c.loop-index.index c.stretch_from-stretch.ensures (omega (arith, c.loop-index-test.true))
-    c.deref-3.result.now c.deref.result.now c.deref-3.ensures.value c.deref.ensures.value (c.args.place + length (take (t.end - t.start) (drop t.start c.args.self.now.lines.now)) - c.args.place) (omega (arith, c.loop-index-test.true)) _ in
-    within _ _ _ _ w.high_now c.loop-index.invariant.long c.deref_mut.ensures.len
+    record {
+      was_low = w.low_was;
+      was_high = within _ _ _ _ w.high_was w.long c.deref-in-loop-index.ensures.len;
+      low = w.low_now;
+      high = within _ _ _ _ w.high_now c.loop-index.invariant.long c.deref_mut.ensures.len;
+    }
 
 pub overflow_add-codes : goal.overflow_add-codes
 overflow_add-codes c =

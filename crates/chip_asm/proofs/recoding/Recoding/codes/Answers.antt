@@ -22,20 +22,23 @@ carry_first-next-requires-clause-written c =
       counted = clear.count;
     }
 
+pub loop-next-init : goal.loop-next-init
+loop-next-init c =
+    let r = c.args.self.now in
+    let count : c.len-count.result ≡ count_then r = omega (arith, c.len-count.ensures, long-then r c.requires, r.new.now.placements.ok.0) in
+    (c.carry_first-next.ensures.written, count, omega (arith, count, c.carry_first-next.ensures.within), omega arith, omega arith, refl)
+
 pub loop-next-preserved-then-next-end : goal.loop-next-preserved-then-next-end
-loop-next-preserved-then-next-end c = (
-  c.carry-end.ensures.written,
-  c.carry-end.ensures.within,
-  omega (arith, c.loop-next.invariant.2, again-later c.args.self.now c.loop-next.next c.carry-end.result c.carry-end.ensures.after),
-  c.loop-next.invariant.3,
-  c.loop-next.invariant.4,
-)
+loop-next-preserved-then-next-end c =
+    let later = again-later c.args.self.now c.loop-next.next c.carry-end.result c.carry-end.ensures.after in
+    let i = c.loop-next.invariant in
+    (c.carry-end.ensures.written, i.1, omega (arith, i.1, c.carry-end.ensures.within), omega (arith, i.3, later), i.4, i.5)
 
 pub returns-clause-codes : goal.returns-clause-codes
 returns-clause-codes c =
     let r = c.args.self.now in
     let known : AreWritten r c.loop-next.codes c.loop-next.next = c.loop-next.invariant.0 in
-    let all : count_then r ≤ c.loop-next.next = omega (arith, c.loop-next-test.false, c.len-count.ensures, long-then r c.requires, r.new.now.placements.ok.0) in
+    let all : count_then r ≤ c.loop-next.next = omega (arith, c.loop-next-test.false, c.loop-next.invariant.1) in
     let whole : take c.loop-next.next c.loop-next.codes.faults.items ≡ line_faults (lines_then r)
     = known.faults ∙ take_all c.loop-next.next (line_faults (lines_then r)) (omega (arith, all, length-faults (lines_then r), length-readings_after r.lines.now r.edit.now c.requires.within)) in
     let faults : c.loop-next.codes.faults.items ≡ line_faults (lines_then r)
@@ -51,24 +54,4 @@ returns-clause-codes c =
 pub returns-clause-encoded : goal.returns-clause-encoded
 returns-clause-encoded c =
     let r = c.args.self.now in
-    omega (arith, c.loop-next.invariant.2, count_by-take (is_encoded_again (lines_before r) (lines_then r) (place_before r.edit.now)) (enumerate_from 0 (lines_then r)) c.loop-next.next)
-
-pub carry-end-requires-clause-place : goal.carry-end-requires-clause-place
-carry-end-requires-clause-place c =
-    let r = c.args.self.now in
-    omega (arith, c.loop-next-test.true, c.len-count.ensures, long-then r c.requires, r.new.now.placements.ok.0)
-
-pub encode-requires-clause-place : goal.encode-requires-clause-place
-encode-requires-clause-place c =
-    let r = c.args.self.now in
-    omega (arith, c.loop-next-test.true, c.len-count.ensures, long-then r c.requires, r.new.now.placements.ok.0)
-
-pub loop-next-preserved : goal.loop-next-preserved
-loop-next-preserved c =
-    let r = c.args.self.now in (
-      c.encode.ensures.written,
-      omega (arith, c.loop-next-test.true, c.len-count.ensures, long-then r c.requires, r.new.now.placements.ok.0),
-      omega (arith, c.loop-next.invariant.2, c.encode.ensures.encoded),
-      omega (arith, c.loop-next.invariant.3, c.encode.ensures.not_lowered),
-      c.encode.ensures.parsed ∙ c.loop-next.invariant.4,
-    )
+    omega (arith, c.loop-next.invariant.3, count_by-take (is_encoded_again (lines_before r) (lines_then r) (place_before r.edit.now)) (enumerate_from 0 (lines_then r)) c.loop-next.next)
