@@ -97,34 +97,6 @@ impl<'a> Relayout<'a> {
         }
     }
 
-    /// Goes on by the line at a place.
-    fn step_at(
-        &self,
-        placements: &mut [Placement],
-        pass: &mut Pass,
-        place: usize,
-    ) -> Result<(), AllocError>
-        requires relayout { IsRelayout pass.old.names.keys self.now }
-        requires place { place < count_then self.now }
-        requires room { length placements.old ≡ count_then self.now }
-        requires before { pass.old.names.before ≡ names_of_lines (lines_before self.now) }
-        ensures walked { IsWalked placements.old pass.old (lines_then self.now) place
-            → OnOk result (IsWalked placements.new pass.new (lines_then self.now) (place + 1)) }
-        ensures keeps { KeepsBefore pass.old.names pass.new.names }
-    {
-        let kept = kept_after(self.lines, self.edit, place);
-        let known = self.known_value(&pass.names, place);
-        let defines = kept.info().defines;
-        pass.step(
-            placements,
-            place,
-            known,
-            kept.line(),
-            defines,
-            kept.numbers(),
-        )
-    }
-
     /// What is found of the lines from a place on, behind what was found of those before it.
     #[inline(never)]
     fn walk(
@@ -145,7 +117,10 @@ impl<'a> Relayout<'a> {
         let count = count_after(self.lines.len(), self.edit);
         let mut next = place;
         while next < count {
-            self.step_at(placements, pass, next)?;
+            let kept = kept_after(self.lines, self.edit, next);
+            let known = self.known_value(&pass.names, next);
+            let (line, defines, numbers) = (kept.line(), kept.info().defines, kept.numbers());
+            pass.step(placements, next, known, line, defines, numbers)?;
             next += 1;
             let lines = lines_from(self.lines, self.edit, next);
             next += pass.step_bare(placements, next, lines)?;
