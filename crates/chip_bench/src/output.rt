@@ -92,10 +92,10 @@ pub(crate) fn list_source<'a, O: Write>(
 {
     match Source::open_bytes(alloc, source) {
         Ok(opened) => {
-            let ending = print_listing(alloc, &opened, is_hex, output)?;
+            let ended = print_listing(alloc, &opened, is_hex, output);
             // The program ends here, and its memory goes back at once.
             mem::forget(opened);
-            Ok(ending)
+            ended
         }
         Err(error) => refuse_source(error, output),
     }
@@ -114,10 +114,10 @@ pub(crate) fn print_symbols<'a, O: Write>(
 {
     match Source::open_bytes(alloc, source) {
         Ok(opened) => {
-            let ending = print_table(alloc, &opened, is_hex, output)?;
+            let ended = print_table(alloc, &opened, is_hex, output);
             // The program ends here, and its memory goes back at once.
             mem::forget(opened);
-            Ok(ending)
+            ended
         }
         Err(error) => refuse_source(error, output),
     }
