@@ -51,7 +51,6 @@ impl Covered {
             is_deep: false,
         };
         let explored = explore(alloc, &start, &question, &bounds, watcher);
-        drop(start);
         Ok(Covered {
             within: covered_by(&explored.outcome),
             executed: explored.executed,
