@@ -55,7 +55,8 @@ impl Report {
             self.push_tap_line(file, case, has_passed)?;
         }
         if !has_passed {
-            let details = failure_text(alloc, file, case, verdict)?;
+            let mut details = Vec::new(alloc);
+            push_failure(alloc, &mut details, file, case, verdict)?;
             self.push_details(&details)?;
         }
         Ok(())
@@ -119,38 +120,53 @@ impl Report {
     }
 }
 
-// Why a case failed.
-fn failure_text(
+// Adds why a case failed.
+fn push_failure(
     alloc: Global,
+    text: &mut Vec<u8>,
     file: &str,
     case: &Case<'_>,
     verdict: &Verdict,
-) -> Result<Vec<u8>, AllocError> {
-    let mut text = Vec::new(alloc);
+) -> Result<(), AllocError> {
     match verdict {
         Verdict::Unopened(why) => {
-            push_place(&mut text, file, case.line, case.name)?;
+            push_place(text, file, case.line, case.name)?;
             let why = format!(in alloc; "the source does not open: {why}\n")?;
-            text.extend_from_slice(why.as_bytes())?;
+            text.extend_from_slice(why.as_bytes())
         }
         Verdict::BadKeys(number, code) => {
-            push_place(&mut text, file, case.line, case.name)?;
-            let line = format!(in alloc; "line {number} of the key events: no ")?;
-            text.extend_from_slice(line.as_bytes())?;
-            text.extend_from_slice(code.0)?;
-            push_title(&mut text, code.0)?;
-            text.push(b'\n')?;
+            push_place(text, file, case.line, case.name)?;
+            push_refused_line(text, *number, code.0)
         }
-        Verdict::Answered(others) => {
-            for step in &case.steps {
-                if let Some(given) = answer_at(others, step.line) {
-                    push_place(&mut text, file, step.line, case.name)?;
-                    push_other_answer(alloc, &mut text, step, given)?;
-                }
-            }
+        Verdict::Answered(others) => push_other_answers(alloc, text, file, case, others),
+    }
+}
+
+// Adds which line of the key events is refused, and why.
+fn push_refused_line(text: &mut Vec<u8>, line: usize, code: &[u8]) -> Result<(), AllocError> {
+    let mut digits = Buffer::new();
+    let number = digits.format(line as u64).as_bytes();
+    push_parts(text, &[b"line ", number, b" of the key events: no ", code])?;
+    push_title(text, code)?;
+    text.push(b'\n')?;
+    Ok(())
+}
+
+// Adds the answers that were not as expected, each after its place.
+fn push_other_answers(
+    alloc: Global,
+    text: &mut Vec<u8>,
+    file: &str,
+    case: &Case<'_>,
+    others: &[Given],
+) -> Result<(), AllocError> {
+    for step in &case.steps {
+        if let Some(given) = answer_at(others, step.line) {
+            push_place(text, file, step.line, case.name)?;
+            push_other_answer(alloc, text, step, given)?;
         }
     }
-    Ok(text)
+    Ok(())
 }
 
 // The answer to the command of that line.

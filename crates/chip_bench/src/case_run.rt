@@ -48,7 +48,12 @@ pub(crate) fn run_case(
         ↔ CasePasses settings source.now keys.now (map expectation_of steps.now)) }
 {
     match Bench::open(alloc, source, settings) {
-        Ok(mut bench) => run_under(alloc, &mut bench, keys, steps),
+        Ok(mut bench) => {
+            let verdict = run_under(alloc, &mut bench, keys, steps);
+            // A case's bench goes before the next one's is opened.
+            drop(bench);
+            verdict
+        }
         Err(error) => unopened(error),
     }
 }

@@ -126,7 +126,17 @@ impl Checker {
         let bytes = read_source(alloc, files, name, input)?;
         match Source::open(alloc, &bytes) {
             Ok(source) => {
-                self.print_found(alloc, name.as_bytes(), &bytes, &source, output, watcher)
+                let ended = self.print_found(
+                    alloc,
+                    name.as_bytes(),
+                    &bytes,
+                    &source,
+                    output,
+                    watcher,
+                );
+                // A source goes before the next one is read.
+                drop(source);
+                ended
             }
             Err(error) => self.refuse(alloc, name.as_bytes(), error, output),
         }

@@ -92,10 +92,10 @@ pub(crate) fn list_source<'a, O: Write>(
 {
     match Source::open_bytes(alloc, source) {
         Ok(opened) => {
-            let ending = print_listing(alloc, &opened, is_hex, output)?;
+            let ended = print_listing(alloc, &opened, is_hex, output);
             // The program ends here, and its memory goes back at once.
             mem::forget(opened);
-            Ok(ending)
+            ended
         }
         Err(error) => refuse_source(error, output),
     }
@@ -114,10 +114,10 @@ pub(crate) fn print_symbols<'a, O: Write>(
 {
     match Source::open_bytes(alloc, source) {
         Ok(opened) => {
-            let ending = print_table(alloc, &opened, is_hex, output)?;
+            let ended = print_table(alloc, &opened, is_hex, output);
             // The program ends here, and its memory goes back at once.
             mem::forget(opened);
-            Ok(ending)
+            ended
         }
         Err(error) => refuse_source(error, output),
     }
@@ -231,7 +231,12 @@ pub(crate) fn run_source<'a, O: Write>(
         (λ session. printed_run session steps) result }
 {
     match Bench::open(alloc, source, settings) {
-        Ok(mut bench) => print_run_under(alloc, &mut bench, keys, steps, output),
+        Ok(mut bench) => {
+            let ended = print_run_under(alloc, &mut bench, keys, steps, output);
+            // The program ends here, and its memory goes back at once.
+            mem::forget(bench);
+            ended
+        }
         Err(error) => refuse_source(error, output),
     }
 }
@@ -267,7 +272,12 @@ pub(crate) fn picture_source<'a, O: Write>(
         (λ session. printed_picture session steps form) result }
 {
     match Bench::open(alloc, source, settings) {
-        Ok(mut bench) => print_picture_under(alloc, &mut bench, keys, steps, form, output),
+        Ok(mut bench) => {
+            let ended = print_picture_under(alloc, &mut bench, keys, steps, form, output);
+            // Of two pictures the first one's bench goes before the second one's is opened.
+            drop(bench);
+            ended
+        }
         Err(error) => refuse_source(error, output),
     }
 }

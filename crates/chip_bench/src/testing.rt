@@ -27,13 +27,14 @@ pub(crate) fn test_files<'a, F: FileAccess, O: Write>(
     ensures { Tests words.now result }
 {
     let mut report = Report::new(alloc, words.is_tap);
-    let mut has_passed = true;
-    for name in &words.files {
-        let passes = test_file(alloc, files, name, words.is_update, &mut report)?;
-        has_passed = has_passed && passes;
-        print(report.text(), Ending::Done, output)?;
-        report.clear();
-    }
+    let has_passed = report_files(
+        alloc,
+        files,
+        &words.files,
+        words.is_update,
+        &mut report,
+        output,
+    )?;
     report.push_counts()?;
     print(report.text(), Ending::Done, output)?;
     Ok(if has_passed {
@@ -41,6 +42,28 @@ pub(crate) fn test_files<'a, F: FileAccess, O: Write>(
     } else {
         Ending::Faulty
     })
+}
+
+// Carries out the cases of files, prints the outcomes file by file, and says whether all pass.
+fn report_files<'a, F: FileAccess, O: Write>(
+    alloc: Global,
+    files: &F,
+    names: &[&'a str],
+    is_update: bool,
+    report: &mut Report,
+    output: &mut Counted<O>,
+) -> Result<bool, Failure<'a>>
+    ensures ok { IfOk result (JudgesAll JudgesFile names.now) }
+    ensures err { IfErr result IsHindrance }
+{
+    let mut has_passed = true;
+    for name in names {
+        let passes = test_file(alloc, files, name, is_update, report)?;
+        has_passed = has_passed && passes;
+        print(report.text(), Ending::Done, output)?;
+        report.clear();
+    }
+    Ok(has_passed)
 }
 
 // Carries out the cases of a file, and says whether all pass.

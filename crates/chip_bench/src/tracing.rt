@@ -13,6 +13,7 @@ use chip_session::{Bench, Counted, Refusal, Settings, insert_keys};
 use chip_trace::{Columns, Form, Trace, difference_text};
 use std::alloc::Global;
 use std::io::Write;
+use std::mem;
 
 // How many lines are written at once.
 const BLOCK_LINES: usize = 256;
@@ -48,7 +49,12 @@ pub(crate) fn trace_source<'a, O: Write>(
         keys.now.bytes.items (λ session. printed_trace session shown.now) result }
 {
     match Bench::open(alloc, source, settings) {
-        Ok(mut bench) => trace_under(alloc, &mut bench, keys, shown, output),
+        Ok(mut bench) => {
+            let ended = trace_under(alloc, &mut bench, keys, shown, output);
+            // The program ends here, and its memory goes back at once.
+            mem::forget(bench);
+            ended
+        }
         Err(error) => refuse_source(error, output),
     }
 }
@@ -137,7 +143,12 @@ pub(crate) fn compare_source<'a, O: Write>(
         keys.now.bytes.items (λ session. IsCompared session shown.now (lines theirs.now)) result }
 {
     match Bench::open(alloc, source, settings) {
-        Ok(mut bench) => compare_under(alloc, &mut bench, keys, shown, theirs, output),
+        Ok(mut bench) => {
+            let ended = compare_under(alloc, &mut bench, keys, shown, theirs, output);
+            // The program ends here, and its memory goes back at once.
+            mem::forget(bench);
+            ended
+        }
         Err(error) => refuse_source(error, output),
     }
 }

@@ -5,8 +5,8 @@ use Rattle.chip_bench.proofs.case_run.run_case.Goals as goal
 
 pub returns-in-Ok : goal.returns-in-Ok
 returns-in-Ok c =
-    passes_case_if_ok c.args.settings c.args.source.now c.args.keys.now (map expectation_of c.args.steps.now) c.in-Ok.bench.session c.run_under.result
-    c.in-Ok.ensures.ok.0 c.in-Ok.ensures.ok.1 c.run_under.ensures
+    passes_case_if_ok c.args.settings c.args.source.now c.args.keys.now (map expectation_of c.args.steps.now) c.in-Ok.bench.session c.run_under-verdict.result
+    c.in-Ok.ensures.ok.0 c.in-Ok.ensures.ok.1 c.run_under-verdict.ensures
 
 pub returns-in-Err : goal.returns-in-Err
 returns-in-Err c =

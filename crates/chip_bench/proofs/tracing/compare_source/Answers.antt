@@ -5,8 +5,8 @@ use Rattle.chip_bench.proofs.tracing.compare_source.Goals as goal
 
 pub returns-in-Ok : goal.returns-in-Ok
 returns-in-Ok g c =
-    such_under g.O.Write.contents c.args.output.now c.compare_under.new.output c.args.settings c.args.source.now c.args.keys.now.bytes.items
-    (λ session. IsCompared session c.args.shown.now (lines c.args.theirs.now)) c.compare_under.result c.in-Ok.bench.session c.in-Ok.ensures.ok.0 c.in-Ok.ensures.ok.1 c.compare_under.ensures
+    such_under g.O.Write.contents c.args.output.now c.compare_under-ended.new.output c.args.settings c.args.source.now c.args.keys.now.bytes.items
+    (λ session. IsCompared session c.args.shown.now (lines c.args.theirs.now)) c.compare_under-ended.result c.in-Ok.bench.session c.in-Ok.ensures.ok.0 c.in-Ok.ensures.ok.1 c.compare_under-ended.ensures
 
 pub returns-in-Err : goal.returns-in-Err
 returns-in-Err g c =

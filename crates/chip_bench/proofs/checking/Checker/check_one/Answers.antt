@@ -13,8 +13,8 @@ pub returns-in-Ok : goal.returns-in-Ok
 returns-in-Ok g c =
     let called : c.as_bytes.result.now ≡ c.args.name.now = search rules in
     one_opened g.I.Read.remaining g.O.Write.contents c.args.self.is_json c.args.self.is_painted c.args.self.is_alone c.args.input.now c.read_source.new.input
-    c.args.output.now c.print_found.new.output c.args.name c.in_ok-bytes.bytes.items c.deref.result.now c.print_found.result c.deref.ensures.value
-    c.in_ok-bytes.ensures.ok c.as_bytes.result.now _ called c.in-Ok.ensures.ok.0 c.in-Ok.ensures.ok.1 c.print_found.ensures
+    c.args.output.now c.print_found-ended.new.output c.args.name c.in_ok-bytes.bytes.items c.deref.result.now c.print_found-ended.result c.deref.ensures.value
+    c.in_ok-bytes.ensures.ok c.as_bytes.result.now _ called c.in-Ok.ensures.ok.0 c.in-Ok.ensures.ok.1 c.print_found-ended.ensures
 
 pub returns : goal.returns
 returns g c =
