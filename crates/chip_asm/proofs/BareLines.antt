@@ -1,8 +1,6 @@
 -- What the first pass finds of a line of which it asks only the size and the name.
-use Rattle.std.proofs.Common.{◌≡◌, ℕ, ◌+◌, ◌<◌, ◌≤◌, ℤ, pos, Bool, true, false, cond, ◌&&◌, ◌||◌, nat_lt, List, [], ◌∷◌, ◌++◌, length, set, get_or, take, append_assoc, subst, refl, ap, sym, ◌∙◌, reverse, Option, None, Some, option_map, option_to_list, IfSome, if◌then◌else◌, unsigned_abs, arith}
+use Rattle.std.proofs.Common.{◌≡◌, ℕ, ◌+◌, ◌<◌, ◌≤◌, ℤ, pos, Bool, true, false, cond, ◌&&◌, ◌||◌, nat_lt, List, [], ◌∷◌, ◌++◌, length, set, get_or, subst, refl, ap, sym, ◌∙◌, reverse, Option, None, Some, option_map, option_to_list, IfSome, if◌then◌else◌, unsigned_abs}
 use Rattle.std.proofs.lemmas.Bool.{le-ltb}
-use Rattle.std.proofs.lemmas.List.{length-map}
-use Rattle.std.proofs.lemmas.Option.{slice_get-get_or}
 use Rattle.chip_lang.specs.declared.limits.TheConstants.{MEMORY_BYTES}
 use Rattle.chip_lang.specs.Line.{Body, empty, code, Reading, bad, read}
 use Rattle.chip_asm.specs.Names.{Name}
@@ -13,15 +11,14 @@ use Rattle.chip_asm.specs.declared.table.NameId.{NameId}
 use Rattle.chip_asm.specs.inner.Follows.{placement_of}
 use Rattle.chip_asm.specs.inner.Infos.{AreInfos, IsBare, IsInfo, IsNumberOf, is_bare}
 use Rattle.chip_asm.specs.inner.KeptLine.{KeptLine}
-use Rattle.chip_asm.specs.inner.Records.{reading_in, readings_in}
+use Rattle.chip_asm.specs.inner.Records.{reading_in}
 use Rattle.chip_asm.specs.inner.Layouts.{HasPassed}
 use Rattle.chip_asm.specs.inner.Tables.{Tables, name_of, symbols_of}
 use Rattle.chip_asm.specs.inner.Turns.{moved}
 use Rattle.chip_asm.specs.Layout.{Placed, full_size, own_size, is_redefinition, is_side_or_end, symbol_given}
 use Rattle.chip_asm.specs.computed.Walk.{place, placed, first_fault, symbols, is_aligning, address}
 use Rattle.chip_asm.proofs.BlockSteps.{live_here}
-use Rattle.chip_asm.proofs.LayoutSteps.{one-more, take-next}
-use Rattle.chip_asm.proofs.LinesAfter.{line-at}
+use Rattle.chip_asm.proofs.LayoutSteps.{one-more}
 use Rattle.chip_asm.proofs.NextLine.{placement-at, follows-push}
 use Rattle.chip_asm.proofs.QuietLines.{Calm, Plain, calm-idle, plain}
 
@@ -123,10 +120,3 @@ pub number-within : (keys : List Name) (defines : Option NameId) (name : Option 
 number-within keys None name n = tt
 number-within keys (Some id) None n = absurd n
 number-within keys (Some id) (Some name) n = n.within
-
--- one line more
-pub more-lines : (before : List Reading) (lines : List KeptLine) (place : ℕ) (kept : KeptLine) → place < length lines → kept ≡ get_or lines place kept
-    → before ++ take (place + 1) (readings_in lines) ≡ (before ++ take place (readings_in lines)) ++ reading_in kept ∷ []
-more-lines before lines place kept inside is =
-    ap (λ ls. before ++ ls) (take-next (readings_in lines) place (reading_in kept) (omega (arith, inside, length-map lines reading_in)) (line-at lines place kept (slice_get-get_or lines place kept inside ∙ ap Some (sym is))))
-    ∙ sym (append_assoc before (take place (readings_in lines)) (reading_in kept ∷ []))

@@ -6,12 +6,12 @@ use Rattle.std.proofs.lemmas.List.{drop-drop, get_or-append_right, get_or_append
 use borrow.Rule.Slice.PartMut.{put_mid}
 use Rattle.chip_lang.specs.declared.limits.TheConstants.{IMAGE_START}
 use Rattle.chip_lang.specs.declared.fault.Fault.{Fault}
-use Rattle.chip_lang.specs.Line.{Body, db, dw, da, code, ifdef, ifund, Reading, bad, read}
+use Rattle.chip_lang.specs.Line.{Body, db, dw, da, code, Reading, bad, read}
 use Rattle.chip_lang.specs.Tree.{Tree}
 use Rattle.chip_lang.specs.Value.{◌>>=◌, Symbols}
 use Rattle.chip_lang.specs.Encoding.{word_of_form}
 use Rattle.chip_lang.specs.Code.{own_bytes, bytes_coded, coded, code_length, code_of, data_bytes, datum_of, byte_of, own_length, word_bytes}
-use Rattle.chip_asm.specs.Layout.{body_of, is_if_body, own_size}
+use Rattle.chip_asm.specs.Layout.{body_of, own_size}
 use Rattle.chip_asm.specs.Program.{bytes_in_code}
 use Rattle.chip_asm.specs.declared.placement.Placement.{Placement}
 use Rattle.chip_asm.specs.inner.Recode.{has_code}
@@ -93,11 +93,6 @@ no-code (dw es) names h = cc
 no-code (da bytes) names h = cc
 no-code (code f os) names h = cc
 no-code _ names h = refl
-
-pub code-no_if : (b : Body) → has_code b ≡ true → is_if_body b ≡ false
-code-no_if (ifdef n) h = cc
-code-no_if (ifund n) h = cc
-code-no_if _ h = refl
 
 pub bytes-coded : (r : Result (List ℕ) Fault) → bytes_coded (coded r) ≡ bytes_in_code r
 bytes-coded (Ok bytes) = refl

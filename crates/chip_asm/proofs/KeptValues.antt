@@ -10,14 +10,13 @@ use Rattle.chip_lang.specs.Tree.{Tree}
 use Rattle.chip_lang.specs.Line.{Body, equ, org, ds, Reading, bad, read}
 use Rattle.chip_lang.specs.Value.{Symbols, value, value_of_name}
 use Rattle.chip_lang.specs.Uses.{names_in, has_same_value, agree_on}
-use Rattle.chip_asm.specs.declared.layout.Layout.{Layout}
 use Rattle.chip_asm.specs.declared.placement.Placement.{Placement}
 use Rattle.chip_asm.specs.declared.table.Symbol.{Symbol}
 use Rattle.chip_asm.specs.Names.{Name, lookup_name, values_of}
 use Rattle.chip_asm.specs.Layout.{Placed, body_of, is_redefinition, value_at, value_or_zero}
 use Rattle.chip_asm.specs.Program.{is_unclosed, names_of_lines}
 use Rattle.chip_asm.specs.computed.Walk.{address, first_fault, fault_of_value, is_aligning, is_live, is_misplaced, place, placed, symbols}
-use Rattle.chip_asm.specs.inner.Layouts.{IsLayoutOf, final_placement, placements_of}
+use Rattle.chip_asm.specs.inner.Layouts.{final_placement, placements_of}
 use Rattle.chip_asm.specs.inner.Placements.{is_placed}
 use Rattle.chip_asm.proofs.Bounds.{no_fault}
 use Rattle.chip_asm.proofs.NameValues.{value-of-name}
@@ -108,13 +107,13 @@ still-read same old new (read label (org e)) h = same e (values_of old) (values_
 still-read same old new (read label (ds e)) h = same e (values_of old) (values_of new) h
 still-read same old new (read label body) h = refl
 
-pub value-kept : KeepsValue → SameValue → (layout : Layout) (lines : List Reading) (n : ℕ) (line : Reading) (q : Placement) (old new : List (Name × Symbol)) → IsLayoutOf layout lines
-    → old ≡ names_of_lines lines → slice_get lines n ≡ Some line → slice_get layout.placements.items n ≡ Some q → is_placed q ≡ true
+pub value-kept : KeepsValue → SameValue → (lines : List Reading) (n : ℕ) (line : Reading) (q : Placement) (old new : List (Name × Symbol))
+    → old ≡ names_of_lines lines → slice_get lines n ≡ Some line → slice_get (placements_of lines) n ≡ Some q → is_placed q ≡ true
     → agree_on (values_of old) (values_of new) line ≡ true → value_at new (body_of line) ≡ Ok q.value
-value-kept keeps same layout lines n line q old new laid names at is accepted agree =
+value-kept keeps same lines n line q old new names at is accepted agree =
     let inside : n < length lines = slice_get_within lines n line at in
     let split : NamesSplit lines n = names-split lines n (omega arith) in
-    let first = value-before lines n line q at (ap (λ qs. slice_get qs n) (sym laid.placements) ∙ is) accepted in
+    let first = value-before lines n line q at is accepted in
     sym (still-read same old new line agree)
     ∙ ap (λ ns. value_at ns (body_of line)) (names ∙ split.is)
     ∙ still keeps (symbols (placed (take n lines))) split.later (body_of line) q.value first

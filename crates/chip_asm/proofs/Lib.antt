@@ -11,7 +11,7 @@ pub mod MarkSteps
 pub mod Bounds
 pub mod LinesAfter
 pub mod Resumed
-pub mod RelayoutSteps
+pub mod FirstLines
 pub mod NameValues
 pub mod KeptValues
 pub mod NamesDiffer
@@ -35,12 +35,17 @@ pub mod EditTexts
 pub mod Views
 pub mod ListingSteps
 pub mod KeptSteps
+pub mod KeptRoom
 pub mod EditNeeds
 pub mod KeptSwapped
 pub mod KeptEdits
+pub mod Exchanges
 pub mod NeededLines
 pub mod ImageSteps
 pub mod LinesByPlace
 pub mod CodeSteps
-pub mod RecodingSteps
 pub mod CarrySteps
+pub mod PassSteps
+pub mod RunSteps
+pub mod SecondPass
+pub mod Assembling

@@ -1,6 +1,8 @@
 -- No address is covered by two lines.
-use Rattle.std.proofs.Common.{◌≡◌, ℕ, ◌+◌, ◌≤◌, Bool, true, false, ◌&&◌, ltb, leb, List, [], ◌∷◌, length, fold, filter, refl, arith}
+use Rattle.std.proofs.Common.{◌≡◌, ℕ, suc, zero, ◌+◌, ◌-◌, ◌<◌, ◌≤◌, Bool, true, false, ◌&&◌, ltb, leb, List, [], ◌∷◌, length, reverse, get_or, slice_get, fold, filter, refl, sym, subst, ◌∙◌, arith, Some}
 use Rattle.std.proofs.lemmas.Bool.Decides.{nat_tests}
+use Rattle.std.proofs.lemmas.List.{get_or-reverse, length-reverse}
+use Rattle.std.proofs.lemmas.Option.{get_or_from_slice_get, slice_get_within}
 use Rattle.chip_lang.specs.Line.{Reading}
 use Rattle.chip_asm.specs.Layout.{Placed}
 use Rattle.chip_asm.specs.computed.Walk.{place, placed, address}
@@ -53,6 +55,26 @@ apart-fold : (at : ℕ) (before : List Placed) (lines : List Reading) → Apart 
 apart-fold at before [] a = a
 apart-fold at before (line ∷ lines) a = apart-fold at (onto before line) lines (next-apart at before line a)
 
-pub one-covers : (lines : List Reading) (at : ℕ) → length (filter (covers at) (placed lines)) ≤ 1
+apart : (lines : List Reading) (at : ℕ) → Apart at (placed lines)
 unfolding placed
-one-covers lines at = (apart-fold at [] lines (record { ends = tt; few = omega arith })).few
+apart lines at = apart-fold at [] lines (record { ends = tt; few = omega arith })
+
+pub one-covers : (lines : List Reading) (at : ℕ) → length (filter (covers at) (placed lines)) ≤ 1
+one-covers lines at = (apart lines at).few
+
+-- a line by its place, among those of which the last one stands first
+pub turned : (xs : List Placed) (n : ℕ) (x : Placed) → slice_get (reverse xs) n ≡ Some x → (length xs - 1 - n < length xs) × (get_or xs (length xs - 1 - n) x ≡ x)
+turned xs n x at =
+    let inside : n < length xs = omega (arith, slice_get_within (reverse xs) n x at, length-reverse xs) in
+    (omega arith, sym (get_or-reverse xs n x inside) ∙ get_or_from_slice_get (reverse xs) n x x at)
+
+end-get : (top : ℕ) (xs : List Placed) (i : ℕ) (d : Placed) → EndBy top xs → i < length xs → (get_or xs i d).here + (get_or xs i d).size ≤ top
+end-get top [] i d e h = absurd (omega arith)
+end-get top (x ∷ xs) zero d e h = e.0
+end-get top (x ∷ xs) (suc i) d e h = end-get top xs i d e.1 (omega arith)
+
+-- each line ends by the address after the last one
+pub ends-by : (lines : List Reading) (n : ℕ) (x : Placed) → slice_get (reverse (placed lines)) n ≡ Some x → x.here + x.size ≤ address (placed lines)
+ends-by lines n x at =
+    let t = turned (placed lines) n x at in
+    subst (λ (y : Placed). y.here + y.size ≤ address (placed lines)) t.1 (end-get (address (placed lines)) (placed lines) (length (placed lines) - 1 - n) x (apart lines 0).ends t.0)

@@ -1,5 +1,5 @@
 -- The marks of the open blocks are the faults of IF lines without ENDIF.
-use Rattle.std.proofs.Common.{◌≡◌, ℕ, Bool, true, false, ◌||◌, List, [], ◌∷◌, ◌+◌, ◌<◌, ◌≤◌, length, map, get_or, reverse, slice_get, le-leb, arith, refl, ap, sym, ◌∙◌, Option, Some, None, if◌then◌else◌}
+use Rattle.std.proofs.Common.{◌≡◌, ℕ, Bool, true, false, not, ◌&&◌, ◌||◌, List, [], ◌∷◌, ◌+◌, ◌<◌, ◌≤◌, length, map, get_or, reverse, slice_get, le-leb, arith, refl, ap, sym, ◌∙◌, Option, Some, None, if◌then◌else◌}
 use Rattle.std.specs.List.{list_any, list_all}
 use Rattle.std.proofs.lemmas.Bool.{lt-ltb}
 use Rattle.std.proofs.lemmas.List.{get_or-map, length-map, same_lists}
@@ -39,13 +39,18 @@ by_mark true all p e = rw e refl
 by_mark false all p e = rw e refl
 
 -- a line whose block is open at the end is marked, and no other
-marked-final : (lines : List Reading) (i : ℕ) (p : Placed) (ended : Bool) (blocks : List Block) → slice_get (reverse (placed lines)) i ≡ Some p → ended ≡ has_ended (placed lines)
-    → blocks ≡ reverse (map (block_of (placed lines)) (enclosing (placed lines))) → marked ended blocks i (placement_of p) ≡ final_placement (placed lines) p
-marked-final lines i p ended blocks there e b =
+pub is-marked : (lines : List Reading) (i : ℕ) (p : Placed) (ended : Bool) (blocks : List Block) → slice_get (reverse (placed lines)) i ≡ Some p → ended ≡ has_ended (placed lines)
+    → blocks ≡ reverse (map (block_of (placed lines)) (enclosing (placed lines))) → (not ended && list_any (is_opened_at i) blocks) ≡ is_unclosed (placed lines) p
+is-marked lines i p ended blocks there e b =
     let all = placed lines in
     let found : list_any (is_opened_at i) blocks ≡ list_any (opens_at i) (enclosing all)
     = ap (list_any (is_opened_at i)) b ∙ list_any-reverse (is_opened_at i) (map (block_of all) (enclosing all)) ∙ list_any-blocks all i (enclosing all) in
-    rw (found, e, open-at lines i p there) (by_mark (is_unclosed all p) all p refl)
+    rw (found, e) (open-at lines i p there)
+
+marked-final : (lines : List Reading) (i : ℕ) (p : Placed) (ended : Bool) (blocks : List Block) → slice_get (reverse (placed lines)) i ≡ Some p → ended ≡ has_ended (placed lines)
+    → blocks ≡ reverse (map (block_of (placed lines)) (enclosing (placed lines))) → marked ended blocks i (placement_of p) ≡ final_placement (placed lines) p
+marked-final lines i p ended blocks there e b =
+    rw (is-marked lines i p ended blocks there e b) (by_mark (is_unclosed (placed lines) p) (placed lines) p refl)
 
 pub marked-placements : (lines : List Reading) (ended : Bool) (blocks : List Block) (now : List Placement) → ended ≡ has_ended (placed lines) → blocks ≡ reverse (map (block_of (placed lines)) (enclosing (placed lines)))
     → length now ≡ length lines → AreMarked ended blocks (first_placements lines) now → now ≡ placements_of lines

@@ -1,9 +1,9 @@
 -- What is encoded again is needed.
-use Rattle.std.proofs.Common.{◌≡◌, ℕ, ◌≤◌, Bool, true, false, cond, not, ◌&&◌, List, [], ◌∷◌, reverse, count_by, slice_get, refl, ap, sym, ◌∙◌, arith, Option, Some, None, option_map}
+use Rattle.std.proofs.Common.{◌≡◌, ℕ, ◌≤◌, Bool, true, false, cond, not, ◌&&◌, List, reverse, count_by, slice_get, refl, ap, sym, ◌∙◌, arith, Option, Some, None, option_map}
 use Rattle.std.specs.List.{enumerate_from}
 use Rattle.std.specs.Option.{option_map_or}
-use Rattle.std.proofs.lemmas.Bool.{and_parts, and_from, false≢true}
-use Rattle.std.proofs.lemmas.List.Sums.{sum_by-cons}
+use Rattle.std.proofs.lemmas.Bool.{and_parts, and_from}
+use Rattle.std.proofs.lemmas.List.Sums.{sum_by-le-sum_by}
 use Rattle.std.proofs.lemmas.Option.{slice_get-map}
 use Rattle.chip_lang.specs.Line.{Reading}
 use Rattle.chip_lang.specs.Uses.{agree_on}
@@ -16,19 +16,12 @@ use Rattle.chip_asm.specs.Program.{names_of_lines}
 use Rattle.chip_asm.specs.Work.{needs, needs_count, is_accepted_at, is_accepted_in, accepted_lines}
 use Rattle.chip_asm.specs.inner.Recode.{count_again, is_encoded_again, is_placed_at}
 
+pub count-step : (a b : Bool) → (a ≡ true → b ≡ true) → cond a 1 0 ≤ cond b 1 0
+count-step false b e = omega arith
+count-step true b e = rw (e refl) (omega arith)
+
 count-le : {X : Type 0} (p q : X → Bool) → ((x : X) → p x ≡ true → q x ≡ true) → (xs : List X) → count_by p xs ≤ count_by q xs
-count-le p q h [] = omega arith
-count-le {X} p q h (x ∷ xs) =
-    let by_p = sum_by-cons (λ y. cond (p y) 1 0) x xs in
-    let by_q = sum_by-cons (λ y. cond (q y) 1 0) x xs in
-    let rest = count-le p q h xs in
-    let first = step (p x) (q x) (h x) in
-    omega (arith, by_p, by_q, rest, first)
-  where
-    step : (a b : Bool) → (a ≡ true → b ≡ true) → cond a 1 0 ≤ cond b 1 0
-    step false b e = omega arith
-    step true true e = omega arith
-    step true false e = absurd (false≢true (e refl))
+count-le p q h xs = sum_by-le-sum_by (λ x. cond (p x) 1 0) (λ x. cond (q x) 1 0) xs (λ x. count-step (p x) (q x) (h x))
 
 -- what the pass keeps says which lines are accepted
 pub placed-at : (lines : List Reading) (i : ℕ) → is_placed_at (placements_of lines) i ≡ is_accepted_at lines i

@@ -2,7 +2,7 @@
 use Rattle.std.proofs.Common.{◌≡◌, ℕ, ◌+◌, ◌<◌, ◌≤◌, Bool, true, false, cond, not, ◌&&◌, ◌||◌, List, [], ◌∷◌, ◌++◌, map, reverse, length, take, drop, fold, get_or, filter_map, refl, ap, sym, subst, ◌∙◌, arith, Option, Some, None, option_map, option_to_list, append_assoc, All}
 use Rattle.std.specs.List.{cons_option}
 use Rattle.std.proofs.Math.Seq.{take-append_seam, get_or-append_seam}
-use Rattle.std.proofs.lemmas.List.{append-nil, map-append, length-map, take-append-drop, length-take-le, take_more, get_or-map, get_or_default}
+use Rattle.std.proofs.lemmas.List.{append-nil, map-append, length-map, take-append-drop, length-take-le, take_at, take_more, get_or-map, get_or_default}
 use Rattle.std.proofs.lemmas.List.Elements.{filter_map-append, All-nil, All-cons, All-head, All-tail, All-append, All-weaker}
 use Rattle.chip_lang.specs.declared.fault.Fault.TheVariants.{UnclosedIf}
 use Rattle.chip_lang.specs.Line.{Body, align, Reading, bad}
@@ -67,6 +67,9 @@ begins lines n = subst (λ (ls : List Reading). Begins (placed (take n lines)) (
 
 length-first : (lines : List Reading) (n : ℕ) → n ≤ length lines → length (reverse (placed (take n lines))) ≡ n
 length-first lines n h = length-numbered (take n lines) ∙ length-take-le n lines h
+
+pub first-placed : (lines : List Reading) (n : ℕ) → n ≤ length lines → take n (reverse (placed lines)) ≡ reverse (placed (take n lines))
+first-placed lines n h = let b : Begins (placed (take n lines)) (placed lines) = begins lines n in ap (take n) b.is ∙ take_at (reverse (placed (take n lines))) b.rest n (length-first lines n h)
 
 -- steady lines
 

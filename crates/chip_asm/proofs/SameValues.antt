@@ -1,8 +1,8 @@
 -- Two tables of values that are made the same at the numbers of entries.
-use Rattle.std.proofs.Common.{◌≡◌, ℕ, ◌-◌, ◌<◌, ℤ, Bool, true, false, eqb, ◌⊎◌, inl, inr, List, [], ◌∷◌, All, length, take, drop, set, get_or, refl, ap, sym, subst, length-drop, ◌∙◌, arith, Option, None, option_map, suc, zero}
+use Rattle.std.proofs.Common.{◌≡◌, ℕ, ◌-◌, ◌<◌, ℤ, Bool, true, false, eqb, ◌⊎◌, inl, inr, List, [], ◌∷◌, ◌++◌, All, length, take, drop, get_or, refl, ap, sym, subst, length-drop, ◌∙◌, arith, Option, None, option_map, suc, zero}
 use Rattle.std.specs.Str.{bytes_eq}
 use Rattle.std.proofs.lemmas.Bool.{eqb-true, eqb-false}
-use Rattle.std.proofs.lemmas.List.{ext_get_or, get_or-set_same, map-append, take-append-drop, take_all}
+use Rattle.std.proofs.lemmas.List.{ext_get_or, map-append, take-append-drop, take-append-le, take_all}
 use Rattle.std.proofs.lemmas.List.Elements.{All-drop}
 use Rattle.chip_asm.specs.declared.table.Definitions.{Definitions}
 use Rattle.chip_asm.specs.declared.table.Entry.{Entry}
@@ -11,10 +11,10 @@ use Rattle.chip_asm.specs.Names.{Name, lookup_name}
 use Rattle.chip_asm.specs.inner.Tables.{AreApart, AreDefined, HaveSame, key_at, symbols_in, value_among}
 use Rattle.chip_asm.proofs.SymbolSteps.{apart-names, lookup-front, same-values}
 
--- a value that is copied
-
-pub same-own : (values from : List (Option ℤ)) (i : ℕ) (v : Option ℤ) → i < length values → v ≡ get_or from i None → HaveSame (set values i v) from i
-same-own values from i v h is = get_or-set_same values i v None h ∙ is
+-- a vector whose elements were written through a slice
+pub refilled : {X : Type 0} (count : ℕ) (written old : List X) → length written ≡ count → take count (written ++ drop (length written) old) ≡ written
+refilled count written old e =
+    take-append-le count written (drop (length written) old) (omega arith) ∙ take_all count written (omega arith)
 
 -- what holds at the numbers of the entries in which two tables differ, and where their values are
 -- the same, holds at all numbers

@@ -1,6 +1,6 @@
 -- What the functions inside say: of the first pass in Turns, Follows, Placements, Marks,
 -- Layouts and Resume; of symbols in Tables; of kept lines in HeldText, HeldLine, KeptLine, Infos,
--- Records and Effect; of their codes in Recode, Recoding and Codes; of all of it in Kept.
+-- Records and Effect; of their codes in Recode and Codes; of both passes in Passes; of all of it in Kept.
 pub mod Codes
 pub mod Effect
 pub mod Follows
@@ -11,9 +11,9 @@ pub mod Kept
 pub mod KeptLine
 pub mod Layouts
 pub mod Marks
+pub mod Passes
 pub mod Placements
 pub mod Recode
-pub mod Recoding
 pub mod Records
 pub mod Resume
 pub mod Tables

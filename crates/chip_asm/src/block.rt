@@ -1,12 +1,11 @@
 //! The open blocks.
-ghost use Rattle.std.specs.Prelude.{◌≡◌, List, OnOk, reverse};
+ghost use Rattle.std.specs.Prelude.{◌≡◌, ◌+◌, ◌<◌, ◌≤◌, List, reverse, vec_len, vec_capacity};
 ghost use Rattle.std.specs.List.{list_all};
 ghost use Rattle.chip_asm.specs.inner.Turns.{turned as turned_block, moved, AreNested};
 ghost use Rattle.chip_lang.specs.SeenLine.{seen_body};
 ghost use Rattle.chip_asm.specs.declared.block.Block.{Block};
 
 use chip_lang::Body;
-use std::alloc::AllocError;
 
 /// An open block: the number of its IF line; that line was live; its condition holds on this side;
 /// an ELSE came.
@@ -48,16 +47,15 @@ fn turned(block: Block) -> Block
 
 /// An IF opens a block, an ELSE turns to its other side, an ENDIF closes it. The last block stands
 /// last.
-pub(crate) fn move_blocks(
-    blocks: &mut Vec<Block>,
-    body: &Body,
-    opened: Block,
-) -> Result<(), AllocError>
-    ensures { (nearest : List Block) → blocks.old.items ≡ reverse nearest
-        → OnOk result (blocks.new.items ≡ reverse (moved (seen_body body.now) opened nearest)) }
+pub(crate) fn move_blocks(blocks: &mut Vec<Block>, body: &Body, opened: Block)
+    requires room { vec_len blocks.old < vec_capacity blocks.old }
+    ensures items { (nearest : List Block) → blocks.old.items ≡ reverse nearest
+        → blocks.new.items ≡ reverse (moved (seen_body body.now) opened nearest) }
+    ensures few { vec_len blocks.new ≤ vec_len blocks.old + 1 }
+    ensures room { vec_capacity blocks.old ≤ vec_capacity blocks.new }
 {
     match body {
-        Body::Ifdef(_) | Body::Ifund(_) => blocks.push(opened)?,
+        Body::Ifdef(_) | Body::Ifund(_) => blocks.push_reserved(opened),
         Body::Else => {
             let count = blocks.len();
             if count > 0 {
@@ -69,5 +67,4 @@ pub(crate) fn move_blocks(
         }
         _ => {}
     }
-    Ok(())
 }

@@ -1,7 +1,7 @@
-//! The second pass, as it is kept: the image, and the fault of each line.
-ghost use Rattle.std.specs.Prelude.{◌≡◌, ℕ, true, ◌+◌, ◌-◌, ◌<◌, ◌≤◌, ◌++◌, [], OnOk, drop, if◌then◌else◌, length, slice_index, slice_set, sum_by, take, vec_len};
+//! The second pass, as it is kept: the image, and what became of the code of each line.
+ghost use Rattle.std.specs.Prelude.{◌≡◌, ℕ, true, ◌+◌, ◌-◌, ◌<◌, ◌≤◌, ◌++◌, [], drop, if◌then◌else◌, length, slice_index, slice_set, sum_by, take, vec_capacity, vec_len};
 ghost use Rattle.chip_lang.specs.Code.{code_length};
-ghost use Rattle.chip_asm.specs.inner.Codes.{AreCodesOf, IsCopied, IsCounted, IsWritten, count_of, is_coded, kept_bytes, kept_fault};
+ghost use Rattle.chip_asm.specs.inner.Codes.{AreCodesOf, IsCopied, IsCounted, IsWritten, coding_of, count_of, fault_noted, is_coded, kept_bytes, kept_fault};
 ghost use Rattle.chip_asm.specs.inner.Infos.{IsInfo};
 ghost use Rattle.chip_asm.specs.inner.Placements.{is_placed};
 ghost use Rattle.chip_asm.specs.inner.Records.{reading_in};
@@ -11,17 +11,49 @@ use crate::placement::Placement;
 use crate::table::{Scope, Table};
 use chip_lang::limits::{IMAGE_BYTES, IMAGE_START, MEMORY_BYTES};
 use chip_lang::{Fault, Meter, encode_into};
-use std::alloc::{AllocError, Global};
+use std::alloc::Global;
 
-/// The image, with the fault of each line.
+/// What became of the code of a line.
+#[derive(Clone, Copy)]
+pub(crate) enum Coding {
+    /// It is to be encoded.
+    Pending,
+    /// Its bytes stand in the image, if it has any.
+    Done,
+    /// The line has this fault.
+    Faulty(Fault),
+}
+
+impl Coding {
+    /// That of a line with this fault, or with none.
+    pub(crate) fn of(fault: Option<Fault>) -> Coding
+        ensures { result ≡ coding_of fault }
+    {
+        match fault {
+            Some(fault) => Coding::Faulty(fault),
+            None => Coding::Done,
+        }
+    }
+
+    /// The fault of the line.
+    pub(crate) fn fault(self) -> Option<Fault>
+        ensures { result ≡ fault_noted self }
+    {
+        match self {
+            Coding::Faulty(fault) => Some(fault),
+            _ => None,
+        }
+    }
+}
+
+/// The image, and what became of the code of each line.
 #[derive(Drop)]
 pub(crate) struct Codes {
     /// The byte at each address from `IMAGE_START` on, also where a line has a fault. Empty until
     /// there is a line.
     pub(crate) image: Vec<u8>,
-    /// The fault of each line, of the first pass or of the second one.
-    pub(crate) faults: Vec<Option<Fault>>,
-    /// How many lines have one.
+    pub(crate) codings: Vec<Coding>,
+    /// How many lines have a fault.
     pub(crate) count: usize,
 }
 
@@ -32,34 +64,21 @@ impl Codes {
     {
         Codes {
             image: Vec::new(alloc),
-            faults: Vec::new(alloc),
+            codings: Vec::new(alloc),
             count: 0,
         }
     }
 
-    /// Makes all bytes zeros, and gives the faults room for those of so many lines.
-    pub(crate) fn clear(&mut self, lines: usize) -> Result<(), AllocError>
-        ensures image { OnOk result (vec_len self.new.image ≡ IMAGE_BYTES) }
-        ensures zeros { OnOk result ((k : ℕ) → slice_index self.new.image.items k ≡ 0) }
-        ensures faults { OnOk result (vec_len self.new.faults ≡ lines) }
-        ensures count { OnOk result (self.new.count ≡ 0) }
-    {
-        self.image.clear();
-        self.image.resize(IMAGE_BYTES, 0)?;
-        self.count = 0;
-        self.faults.resize(lines, None)
-    }
-
-    /// Puts a fault, or none, in the place of the one that a line had.
-    pub(crate) fn set_fault(&mut self, at: usize, fault: Option<Fault>)
-        requires there { at < vec_len self.old.faults }
+    /// Puts what became of the code of a line in the place of what was known of it.
+    pub(crate) fn set(&mut self, at: usize, coding: Coding)
+        requires there { at < vec_len self.old.codings }
         requires counted { IsCounted self.old }
         ensures image { self.new.image ≡ self.old.image }
-        ensures faults { self.new.faults.items ≡ slice_set self.old.faults.items at fault }
+        ensures codings { self.new.codings.items ≡ slice_set self.old.codings.items at coding }
+        ensures room { vec_capacity self.new.codings ≡ vec_capacity self.old.codings }
         ensures counted { IsCounted self.new }
     {
-        self.count = self.count + count_of(fault) - count_of(self.faults[at]);
-        self.faults[at] = fault;
+        self.count = set_coding(&mut self.codings, self.count, at, coding);
     }
 
     /// The bytes of a line that stand in the listing.
@@ -76,24 +95,27 @@ impl Codes {
 }
 
 /// 1 for a fault, 0 for none.
-pub(crate) fn count_of(fault: Option<Fault>) -> usize
-    ensures { result ≡ count_of fault }
+pub(crate) fn count_of(coding: Coding) -> usize
+    ensures { result ≡ count_of coding }
 {
-    match fault {
-        Some(_) => 1,
-        None => 0,
+    match coding {
+        Coding::Faulty(_) => 1,
+        _ => 0,
     }
 }
 
-/// How many faults there are.
-pub(crate) fn count_faults(faults: &[Option<Fault>]) -> usize
-    ensures { result ≡ sum_by count_of faults.now }
+/// Puts what became of the code of a line in the place of what was known of it. How many lines have a
+/// fault, where so many had one.
+#[inline(always)]
+pub(crate) fn set_coding(codings: &mut [Coding], count: usize, at: usize, coding: Coding) -> usize
+    requires there { at < length codings.old }
+    requires counted { count ≡ sum_by count_of codings.old }
+    ensures codings { codings.new ≡ slice_set codings.old at coding }
+    ensures counted { result ≡ sum_by count_of codings.new }
 {
-    let mut count = 0;
-    for index in 0..faults.len() {
-        count += count_of(faults[index]);
-    }
-    count
+    let others = count - count_of(codings[at]);
+    codings[at] = coding;
+    others + count_of(coding)
 }
 
 /// The byte at an index, or 0 past the end.
@@ -148,6 +170,18 @@ pub(crate) fn copy_to<T: Copy>(all: &mut [T], at: usize, items: &[T])
     all[at..at + items.len()].copy_from_slice(items);
 }
 
+/// Copies two bytes, those of an instruction, from one place to another.
+#[inline(always)]
+pub(crate) fn copy_two(image: &mut [u8], to: usize, from: &[u8], at: usize)
+    requires to { to + 2 ≤ length image.old }
+    requires at { at + 2 ≤ length from.now }
+    ensures { image.new
+        ≡ take to image.old ++ (take 2 (drop at from.now) ++ drop (to + 2) image.old) }
+{
+    image[to] = from[at];
+    image[to + 1] = from[at + 1];
+}
+
 /// Copies the code of a line from where it stood in one image to where it stands in another one, as
 /// far as there is room for it in both. Most lines have two bytes or none.
 #[inline(always)]
@@ -165,9 +199,19 @@ pub(crate) fn copy_code(was: &Placement, now: &Placement, from: &[u8], image: &m
     let at = was.address() - IMAGE_START;
     let to = now.address() - IMAGE_START;
     if size == 2 {
-        image[to] = from[at];
-        image[to + 1] = from[at + 1];
+        copy_two(image, to, from, at);
     } else {
         copy_to(image, to, &from[at..at + size]);
     }
+}
+
+/// Copies so many first bytes of an image into another one, of which the others become zeros.
+pub(crate) fn copy_front(image: &mut [u8], from: &[u8], end: usize)
+    requires long { length image.old ≡ length from.now }
+    requires end { end ≤ length from.now }
+    ensures front { (k : ℕ) → k < end → slice_index image.new k ≡ slice_index from.now k }
+    ensures zeros { (k : ℕ) → end ≤ k → slice_index image.new k ≡ 0 }
+{
+    image[..end].copy_from_slice(&from[..end]);
+    image[end..].fill(0);
 }

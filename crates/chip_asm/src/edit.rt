@@ -1,11 +1,10 @@
 //! A change of one line, seen before it is made.
-ghost use Rattle.std.specs.Prelude.{◌≡◌, ◌<◌, ◌≤◌, drop, length, take, slice_get, slice_set, Some, vec_len, vec_capacity};
-ghost use Rattle.chip_asm.specs.inner.Records.{IsPlaceWithin, IsStretch, lines_after, count_after, place_before};
+ghost use Rattle.std.specs.Prelude.{◌≡◌, ◌+◌, ◌<◌, ◌≤◌, slice_set, vec_len, vec_capacity};
+ghost use Rattle.chip_asm.specs.inner.Records.{IsPlaceWithin, count_after, items_after, lines_after};
 ghost use Rattle.chip_asm.specs.inner.Resume.{first_changed};
 
 use crate::kept_line::BoxedLine;
 use crate::limits::MOST_LINES;
-use std::ops::Range;
 
 /// A change of one line; places count from 0.
 #[derive(Drop)]
@@ -18,34 +17,6 @@ pub(crate) enum Edit {
     Delete(usize),
     /// There were no lines, and these come.
     Open(Vec<BoxedLine>),
-}
-
-/// The line at a place after the edit.
-pub(crate) fn kept_after<'a>(lines: &'a [BoxedLine], edit: &'a Edit, place: usize) -> &'a BoxedLine
-    requires within { IsPlaceWithin (length lines.now) edit.now }
-    requires place { place < count_after (length lines.now) edit.now }
-    ensures { slice_get (lines_after lines.now edit.now) place ≡ Some result.now }
-{
-    match edit {
-        Edit::Insert(at, added) => {
-            if place < *at {
-                &lines[place]
-            } else if place == *at {
-                added
-            } else {
-                &lines[place - 1]
-            }
-        }
-        Edit::Replace(at, added) => { if place == *at { added } else { &lines[place] } }
-        Edit::Delete(at) => {
-            if place < *at {
-                &lines[place]
-            } else {
-                &lines[place + 1]
-            }
-        }
-        Edit::Open(all) => &all[place],
-    }
 }
 
 /// How many lines there are after the edit.
@@ -71,67 +42,24 @@ pub(crate) fn first_changed(edit: &Edit) -> usize
     }
 }
 
-/// Where the line at a place stood before the edit; none for the new line.
-pub(crate) fn place_before(edit: &Edit, place: usize) -> Option<usize>
-    requires { place ≤ MOST_LINES }
-    ensures { result ≡ place_before edit.now place }
+/// Makes the edit in what is kept of each line, in a list with room for it. What is known of a new
+/// line is handed in.
+pub(crate) fn edit_items<T: Copy>(items: &mut Vec<T>, edit: &Edit, new: T)
+    requires within { IsPlaceWithin (vec_len items.old) edit.now }
+    requires room { vec_len items.old + count_after (vec_len items.old) edit.now
+        ≤ vec_capacity items.old }
+    ensures { items.new.items ≡ items_after items.old.items edit.now new }
 {
     match edit {
         Edit::Insert(at, _) => {
-            if place < *at {
-                Some(place)
-            } else if place == *at {
-                None
-            } else {
-                Some(place - 1)
-            }
+            let _ = items.insert(*at, new);
         }
-        Edit::Replace(at, _) => { if place == *at { None } else { Some(place) } }
+        Edit::Replace(at, _) => items[*at] = new,
         Edit::Delete(at) => {
-            if place < *at {
-                Some(place)
-            } else {
-                Some(place + 1)
-            }
+            let _ = items.remove(*at);
         }
-        Edit::Open(_) => None,
-    }
-}
-
-/// The places before the edit of the lines that stand, one after another, at a place after it and
-/// behind it. None of them is new.
-pub(crate) fn stretch_from(edit: &Edit, count: usize, place: usize) -> Range<usize>
-    requires few { count_after count edit.now ≤ MOST_LINES }
-    requires within { IsPlaceWithin count edit.now }
-    requires place { place ≤ count_after count edit.now }
-    ensures { IsStretch count edit.now place result.start result.end }
-{
-    let Some(start) = place_before(edit, place) else {
-        return 0..0;
-    };
-    let changed = first_changed(edit);
-    if place < changed {
-        return start..changed;
-    }
-    start..count
-}
-
-/// Lines that stand, one after another, at a place after the edit and behind it.
-pub(crate) fn lines_from<'a>(
-    lines: &'a [BoxedLine],
-    edit: &'a Edit,
-    place: usize,
-) -> &'a [BoxedLine]
-    requires few { count_after (length lines.now) edit.now ≤ MOST_LINES }
-    requires within { IsPlaceWithin (length lines.now) edit.now }
-    requires place { place ≤ count_after (length lines.now) edit.now }
-    ensures { result.now ≡ take (length result.now) (drop place (lines_after lines.now edit.now)) }
-{
-    match edit {
-        Edit::Open(all) => &all[place..],
-        _ => {
-            let stretch = stretch_from(edit, lines.len(), place);
-            &lines[stretch.start..stretch.end]
+        Edit::Open(all) => {
+            let _ = items.resize(all.len(), new);
         }
     }
 }

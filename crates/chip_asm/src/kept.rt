@@ -11,18 +11,27 @@ ghost use Rattle.chip_lang.specs.declared.limits.TheConstants.{IMAGE_BYTES};
 ghost use Rattle.chip_asm.specs.inner.Effect.{HasSameEffectAt};
 ghost use Rattle.chip_asm.specs.Names.{Name};
 ghost use Rattle.chip_asm.specs.inner.Infos.{AreInfos, AreInfosOf, IsInfo};
-ghost use Rattle.chip_asm.specs.inner.Kept.{IsKept, MayEdit, lines_kept, needed_by, texts_kept};
-ghost use Rattle.chip_asm.specs.inner.Records.{lines_after, reading_in, readings_in, texts_in};
+ghost use Rattle.chip_asm.specs.inner.Codes.{IsCounted};
+ghost use Rattle.chip_asm.specs.inner.Kept.{HasRoomFor, IsAssembled, IsExchanged, IsKept, MayEdit, lines_kept, needed_by, texts_kept};
+ghost use Rattle.chip_asm.specs.inner.Passes.{Change, IsUnderWay};
+ghost use Rattle.chip_asm.specs.inner.Recode.{count_again};
+ghost use Rattle.chip_asm.specs.declared.codes.Coding.TheVariants.{Done};
+ghost use Rattle.chip_asm.specs.inner.Placements.{nothing};
+ghost use Rattle.chip_asm.specs.inner.Records.{IsPlaceWithin, count_after, items_after, lines_after, reading_in, readings_in, texts_in};
 
-use crate::codes::{Codes, write_line};
-use crate::edit::{Edit, first_changed, make_edit, replace_line};
+use crate::assemble::{encode_lines, steady_lines, walk};
+use crate::block::Block;
+use crate::codes::{Codes, Coding, copy_front, write_line};
+use crate::edit::{Edit, count_after, edit_items, first_changed, make_edit, replace_line};
 use crate::effect::has_same_effect;
 use crate::kept_line::BoxedLine;
-use crate::layout::Layout;
+use crate::layout::{Layout, mark_unclosed};
 use crate::line_info::{LineInfo, Numbered};
-use crate::recoding::Recoding;
-use crate::relayout::{Relayout, steady_lines};
+use crate::pass::Pass;
+use crate::placement::Placement;
 use crate::table::Table;
+use crate::waiting::Waiting;
+use chip_lang::laws::same_code;
 use chip_lang::limits::{IMAGE_BYTES, IMAGE_START};
 use chip_lang::{Fault, Line, Meter};
 use std::alloc::{AllocError, Global};
@@ -54,10 +63,10 @@ pub(crate) struct Kept {
     pub(crate) names: Table,
     pub(crate) layout: Layout,
     pub(crate) codes: Codes,
-    /// Room for the layout and the codes after an edit.
-    spare_layout: Layout,
-    spare_codes: Codes,
-    /// So many first lines are steady, and the spare layout begins with what holds of them.
+    /// Room for the image after an edit, and for the open blocks of a pass.
+    spare_image: Vec<u8>,
+    blocks: Vec<Block>,
+    /// So many first lines are steady.
     settled: usize,
 }
 
@@ -74,8 +83,8 @@ impl Kept {
             names,
             layout: Layout::new(alloc),
             codes: Codes::new(alloc),
-            spare_layout: Layout::new(alloc),
-            spare_codes: Codes::new(alloc),
+            spare_image: Vec::new(alloc),
+            blocks: Vec::new(alloc),
             settled: 0,
         }
     }
@@ -123,8 +132,8 @@ impl Kept {
         if number == 0 {
             return None;
         }
-        match self.codes.faults.get(number - 1) {
-            Some(fault) => *fault,
+        match self.codes.codings.get(number - 1) {
+            Some(coding) => coding.fault(),
             None => None,
         }
     }
@@ -135,8 +144,8 @@ impl Kept {
         ensures { IfOk result (λ faults. faults.items ≡ faults_of_lines (lines_kept self.now)) }
     {
         let mut faults = Vec::new(alloc);
-        for place in 0..self.codes.faults.len() {
-            if let Some(fault) = self.codes.faults[place] {
+        for place in 0..self.codes.codings.len() {
+            if let Some(fault) = self.codes.codings[place].fault() {
                 faults.push((place + 1, fault))?;
             }
         }
@@ -246,13 +255,28 @@ impl Kept {
         let placement = self.layout.placements[at];
         let image = &mut self.codes.image;
         let fault = write_line(meter, &self.names, &added, &placement, image);
-        self.codes.set_fault(at, fault);
+        self.codes.set(at, Coding::of(fault));
         self.settled = self.settled.min(at);
         replace_line(&mut self.lines, at, added);
     }
 
-    /// Makes an edit by the layout and the codes made anew. Each growth comes before the first
-    /// change.
+    /// Takes the room for an edit after which there are so many lines.
+    fn reserve(&mut self, count: usize) -> Result<(), AllocError>
+        requires { IsKept self.old }
+        ensures kept { IsKept self.new }
+        ensures texts { texts_kept self.new ≡ texts_kept self.old }
+        ensures room { OnOk result (HasRoomFor self.old self.new count) }
+    {
+        self.lines.reserve(1)?;
+        self.layout.placements.reserve(count)?;
+        self.codes.codings.reserve(count)?;
+        self.codes.image.resize(IMAGE_BYTES, 0)?;
+        self.spare_image.resize(IMAGE_BYTES, 0)?;
+        self.blocks.clear();
+        self.blocks.reserve(count)
+    }
+
+    /// Makes an edit by both passes. Each growth comes before the first change.
     fn remake(&mut self, alloc: Global, meter: &mut Meter, edit: Edit) -> Result<(), AllocError>
         requires { MayEdit self.old edit }
         ensures ok { OnOk result (texts_kept self.new
@@ -263,42 +287,117 @@ impl Kept {
         ensures not_lowered { meter.old.encoded ≤ meter.new.encoded }
         ensures parsed { meter.new.parsed ≡ meter.old.parsed }
     {
-        self.lines.reserve(1)?;
-        let spare_layout = mem::replace(&mut self.spare_layout, Layout::new(alloc));
-        let spare_codes = mem::replace(&mut self.spare_codes, Codes::new(alloc));
         let place = first_changed(&edit);
-        let settled = mem::replace(&mut self.settled, 0).min(place);
-        let first = steady_lines(&self.lines, settled, place);
-        let relayout = Relayout {
-            lines: &self.lines,
-            old: &self.layout,
-            edit: &edit,
-            settled,
-            first,
-        };
-        let layout = relayout.layout(alloc, spare_layout, &mut self.names)?;
-        let recoding = Recoding {
-            lines: &self.lines,
-            edit: &edit,
-            first,
-            old: &self.layout,
-            new: &layout,
-            names: &self.names,
-            same_names: self.names.keeps_all_values(),
-            codes: &self.codes,
-        };
-        match recoding.codes(meter, spare_codes) {
-            Ok(codes) => {
-                make_edit(&mut self.lines, edit);
-                self.spare_layout = mem::replace(&mut self.layout, layout);
-                self.spare_codes = mem::replace(&mut self.codes, codes);
-                self.settled = first;
-                Ok(())
-            }
-            Err(error) => {
-                self.names.restore();
-                Err(error)
-            }
+        let first = steady_lines(&self.lines, self.settled.min(place), place);
+        let count = count_after(self.lines.len(), &edit);
+        self.reserve(count)?;
+        self.names.begin(first, count)?;
+        let here = self.layout.address_at(first);
+        self.exchange(edit);
+        self.settled = first;
+        self.assemble(alloc, meter, first, here);
+        Ok(())
+    }
+
+    /// Makes an edit in the lines and in what is kept of each, where there is room for it.
+    fn exchange(&mut self, edit: Edit)
+        requires within { IsPlaceWithin (vec_len self.old.lines) edit }
+        requires placed_many { vec_len self.old.layout.placements ≡ vec_len self.old.lines }
+        requires coded_many { vec_len self.old.codes.codings ≡ vec_len self.old.lines }
+        requires counted { IsCounted self.old.codes }
+        requires room { HasRoomFor self.old self.old (count_after (vec_len self.old.lines) edit) }
+        ensures lines { self.new.lines.items ≡ lines_after self.old.lines.items edit }
+        ensures placements { self.new.layout.placements.items
+            ≡ items_after self.old.layout.placements.items edit nothing }
+        ensures codings { self.new.codes.codings.items
+            ≡ items_after self.old.codes.codings.items edit Done }
+        ensures counted { IsCounted self.new.codes }
+        ensures image { self.new.codes.image ≡ self.old.codes.image }
+        ensures spare { self.new.spare_image ≡ self.old.spare_image }
+        ensures names { self.new.names ≡ self.old.names }
+        ensures blocks { self.new.blocks ≡ self.old.blocks }
+        ensures settled { self.new.settled ≡ self.old.settled }
+    {
+        if let Edit::Replace(at, _) | Edit::Delete(at) = &edit {
+            self.codes.set(*at, Coding::Done);
         }
+        edit_items(&mut self.layout.placements, &edit, Placement::NOTHING);
+        edit_items(&mut self.codes.codings, &edit, Coding::Done);
+        make_edit(&mut self.lines, edit);
+    }
+
+    /// The first pass, where the lines up to a place stay, and the next one stands at an address. The
+    /// image is that of before, as far as lines take their codes along.
+    fn first_pass(&mut self, alloc: Global, first: usize, here: usize) -> (Pass, Waiting)
+        requires { (e : Change) × IsExchanged e self.old first here }
+        ensures lines { self.new.lines ≡ self.old.lines }
+        ensures settled { self.new.settled ≡ self.old.settled }
+        ensures passed { (e : Change) → IsExchanged e self.old first here
+            → IsUnderWay e self.new.lines.items result.0 self.new.layout.placements.items
+            self.new.codes.codings.items result.1 self.new.spare_image.items
+            self.new.codes.image.items (length self.new.lines.items) }
+    {
+        mem::swap(&mut self.codes.image, &mut self.spare_image);
+        copy_front(&mut self.codes.image, &self.spare_image, here - IMAGE_START);
+        let hasher = self.names.hasher();
+        let names = mem::replace(&mut self.names, Table::new(alloc, hasher));
+        let blocks = mem::replace(&mut self.blocks, Vec::new(alloc));
+        let mut pass = Pass::resume(here, names, blocks);
+        let mut waiting = Waiting {
+            count: self.codes.count,
+            start: usize::MAX,
+            end: 0,
+        };
+        walk(
+            &mut pass,
+            &self.lines,
+            &mut self.layout.placements,
+            &mut self.codes.codings,
+            &mut waiting,
+            &self.spare_image,
+            &mut self.codes.image,
+            first,
+        );
+        (pass, waiting)
+    }
+
+    /// Makes layout and codes by both passes, where the lines up to a place stay, and the next one
+    /// stands at an address.
+    fn assemble(&mut self, alloc: Global, meter: &mut Meter, first: usize, here: usize)
+        requires { (e : Change) × IsExchanged e self.old first here }
+        ensures lines { self.new.lines ≡ self.old.lines }
+        ensures settled { self.new.settled ≡ self.old.settled }
+        ensures assembled { (e : Change) → IsExchanged e self.old first here
+            → IsAssembled e self.new }
+        ensures encoded { (e : Change) → IsExchanged e self.old first here
+            → meter.new.encoded ≤ meter.old.encoded + count_again e.was e.now e.origin }
+        ensures not_lowered { meter.old.encoded ≤ meter.new.encoded }
+        ensures parsed { meter.new.parsed ≡ meter.old.parsed }
+    {
+        same_code();
+        let (pass, mut waiting) = self.first_pass(alloc, first, here);
+        let placements = self.layout.placements.as_mut_slice();
+        let codings = self.codes.codings.as_mut_slice();
+        mark_unclosed(placements, codings, &mut waiting, pass.ended, &pass.blocks);
+        let places = if pass.names.keeps_all_values() {
+            waiting.range()
+        } else {
+            0..self.lines.len()
+        };
+        encode_lines(
+            meter,
+            &pass.names,
+            &self.lines,
+            placements,
+            codings,
+            &mut waiting,
+            &mut self.codes.image,
+            places,
+        );
+        self.codes.count = waiting.count;
+        self.layout.end = pass.here;
+        let (names, blocks) = pass.into_parts();
+        self.names = names;
+        self.blocks = blocks;
     }
 }

@@ -4,10 +4,13 @@ ghost use Rattle.std.specs.List.{list_all};
 ghost use Rattle.chip_lang.specs.Line.{Reading};
 ghost use Rattle.chip_asm.specs.computed.Walk.{address, placed};
 ghost use Rattle.chip_asm.specs.inner.Layouts.{IsLayoutOf};
-ghost use Rattle.chip_asm.specs.inner.Marks.{AreMarked, is_among};
+ghost use Rattle.chip_asm.specs.inner.Marks.{AreMarked, AreNoted, is_among};
+ghost use Rattle.chip_asm.specs.inner.Passes.{IsTally};
 
 use crate::block::Block;
+use crate::codes::Coding;
 use crate::placement::Placement;
+use crate::waiting::Waiting;
 use chip_lang::Fault;
 use chip_lang::limits::IMAGE_START;
 use std::alloc::Global;
@@ -45,9 +48,21 @@ impl Layout {
 
 /// Gives the live IF lines that no ENDIF closes their fault. The line of a number stands at the
 /// place before it.
-pub(crate) fn mark_unclosed(placements: &mut [Placement], ended: bool, blocks: &[Block])
-    requires { list_all (is_among (length placements.old)) blocks.now ≡ true }
-    ensures { AreMarked ended blocks.now placements.old placements.new }
+pub(crate) fn mark_unclosed(
+    placements: &mut [Placement],
+    codings: &mut [Coding],
+    waiting: &mut Waiting,
+    ended: bool,
+    blocks: &[Block],
+)
+    requires among { list_all (is_among (length placements.old)) blocks.now ≡ true }
+    requires many { length codings.old ≡ length placements.old }
+    requires tally { IsTally codings.old waiting.old }
+    ensures marked { AreMarked ended blocks.now placements.old placements.new }
+    ensures codings { AreNoted ended blocks.now codings.old codings.new }
+    ensures tally { IsTally codings.new waiting.new }
+    ensures start { waiting.new.start ≡ waiting.old.start }
+    ensures end { waiting.new.end ≡ waiting.old.end }
 {
     if ended {
         return;
@@ -56,6 +71,7 @@ pub(crate) fn mark_unclosed(placements: &mut [Placement], ended: bool, blocks: &
         if blocks[index].live {
             let place = blocks[index].number - 1;
             placements[place].fault = Some(Fault::UnclosedIf);
+            waiting.set(codings, place, Coding::Faulty(Fault::UnclosedIf));
         }
     }
 }

@@ -1,6 +1,7 @@
 //! Whole sources of the Chipper assembler: layout, names, faults and image, kept under edits.
 #![tactic(auto)]
 
+mod assemble;
 mod block;
 mod codes;
 mod cut;
@@ -17,11 +18,10 @@ mod listing;
 mod name_hasher;
 mod pass;
 mod placement;
-mod recoding;
 mod refusal;
-mod relayout;
 mod source;
 mod table;
+mod waiting;
 
 pub use name_hasher::NameHasher;
 pub use refusal::{OpenError, Refusal};

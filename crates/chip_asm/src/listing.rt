@@ -233,7 +233,7 @@ pub(crate) fn listing_in(
     let mut listing = Vec::with_capacity(alloc, listing_bytes(lines))?;
     for place in 0..lines.len() {
         let placement = layout.placements[place];
-        let fault = codes.faults[place];
+        let fault = codes.codings[place].fault();
         let bytes = codes.bytes_at(&placement);
         push_line(
             &mut listing,

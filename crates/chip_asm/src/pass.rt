@@ -1,5 +1,5 @@
 //! The first pass: one line after another.
-ghost use Rattle.std.specs.Prelude.{◌≡◌, reverse, ◌+◌, ◌-◌, ◌≤◌, ◌<◌, ◌^◌, List, [], ◌∷◌, ◌++◌, OnOk, IfOk, IfSome, length, is_some, is_none, unsigned_abs, pos, Option, None, Some, Ok, true, false, not, ◌&&◌, ◌||◌, if◌then◌else◌, option_to_list, take};
+ghost use Rattle.std.specs.Prelude.{ℕ, ◌≡◌, reverse, ◌+◌, ◌-◌, ◌≤◌, ◌<◌, ◌^◌, List, [], ◌∷◌, ◌++◌, IfSome, length, is_some, is_none, unsigned_abs, pos, Option, None, Some, Ok, true, false, not, ◌&&◌, ◌||◌, if◌then◌else◌, option_to_list, slice_get, vec_capacity};
 ghost use Rattle.std.specs.List.{list_all};
 ghost use Rattle.chip_asm.specs.declared.block.Block.{Block};
 ghost use Rattle.chip_asm.specs.inner.Turns.{AreNested};
@@ -14,12 +14,13 @@ ghost use Rattle.chip_lang.specs.Uses.{name_defined};
 ghost use Rattle.chip_lang.specs.declared.limits.TheConstants.{MEMORY_BYTES};
 
 use crate::block::{Block, all_hold, move_blocks};
+use crate::codes::{Coding, copy_two};
 use crate::kept_line::BoxedLine;
 use crate::placement::{Placement, is_passed};
 use crate::table::{NameId, Scope, Symbol, Table};
-use chip_lang::limits::MEMORY_BYTES;
+use crate::waiting::Waiting;
+use chip_lang::limits::{IMAGE_START, MEMORY_BYTES};
 use chip_lang::{Body, Fault, Line, eval};
-use std::alloc::{AllocError, Global};
 
 /// The state of the pass between two lines.
 #[derive(Drop)]
@@ -83,21 +84,26 @@ impl Pass {
     ghost use Rattle.chip_asm.specs.inner.Placements.{is_placed};
     ghost use Rattle.chip_asm.specs.inner.Follows.{Follows, placement_of, next_address, next_aligning};
     ghost use Rattle.chip_asm.specs.inner.Layouts.{HasPassed};
-    ghost use Rattle.chip_asm.specs.inner.Records.{readings_in};
+    ghost use Rattle.chip_asm.specs.inner.Passes.{Change, HasRoom, IsUnderWay};
 
-    /// At an address, after lines that give these names, where no block is open.
-    pub(crate) fn resume(alloc: Global, here: usize, names: Table) -> Self
+    /// At an address, after lines that give these names, where no block is open, in the room of other
+    /// blocks.
+    pub(crate) fn resume(here: usize, names: Table, blocks: Vec<Block>) -> Self
         ensures follows { (before : List Placed) → here ≡ address before → here ≤ MEMORY_BYTES
             → is_aligning before ≡ true → has_ended before ≡ false → enclosing before ≡ []
             → names.symbols ≡ symbols before → Follows result before }
         ensures names { result.names ≡ names }
+        ensures room { (left : ℕ) → left ≤ vec_capacity blocks
+            → length names.symbols + left ≤ names.room → HasRoom result left }
     {
+        let mut blocks = blocks;
+        blocks.clear();
         Pass {
             here: here.min(MEMORY_BYTES),
             aligning: true,
             ended: false,
             live: true,
-            blocks: Vec::new(alloc),
+            blocks,
             names,
         }
     }
@@ -298,15 +304,19 @@ impl Pass {
         line: &Line,
         defines: Option<NameId>,
         numbers: &[NameId],
-    ) -> Result<(), AllocError>
+    )
         requires place { place < length placements.old }
         requires known { IsKnownUnder self.old.names.symbols known (seen_line line.now) }
         requires defines { IsNumberOf self.old.names.keys defines
             (name_defined (seen_line line.now)) }
+        requires room { HasRoom self.old 1 }
         ensures keeps { KeepsBefore self.old.names self.new.names }
+        ensures room { (left : ℕ) → HasRoom self.old (left + 1) → HasRoom self.new left }
+        ensures others { (other : ℕ) → (other ≡ place → ⊥)
+            → slice_get placements.new other ≡ slice_get placements.old other }
         ensures passed { (lines : List Reading) → HasPassed placements.old self.old lines
             → place ≡ length lines
-            → OnOk result (HasPassed placements.new self.new (lines ++ seen_line line.now ∷ [])) }
+            → HasPassed placements.new self.new (lines ++ seen_line line.now ∷ []) }
     {
         let empty = Body::Empty;
         let body = body_or(line, &empty);
@@ -319,8 +329,8 @@ impl Pass {
             holds: self.condition(body),
             has_else: false,
         };
-        self.define(accepted, number, line, defines, placement.value)?;
-        move_blocks(&mut self.blocks, body, opened)?;
+        self.define(accepted, number, line, defines, placement.value);
+        move_blocks(&mut self.blocks, body, opened);
         self.advance(
             body,
             placement.live,
@@ -330,7 +340,6 @@ impl Pass {
         );
         self.note_live();
         placements[place] = placement;
-        Ok(())
     }
 
     /// Notes whether a line other than ELSE or ENDIF is live here.
@@ -347,54 +356,70 @@ impl Pass {
         self.live = !self.ended && all_hold(&self.blocks);
     }
 
-    /// Goes on by lines that stand at a place and behind it, and notes what holds of them, up to the
-    /// first one of which more is asked than its size and its name, or which has a fault. How many
-    /// these are.
+    /// Goes on by the lines from a place on, and notes what holds of them, up to the first one of which
+    /// more is asked than its size and its name, or which has a fault. A line that was accepted and
+    /// still is takes its code along from the image before; another one that is accepted waits for
+    /// its code. The place behind the last of them.
     #[inline(never)]
-    pub(crate) fn step_bare(
+    pub(crate) fn run(
         &mut self,
-        placements: &mut [Placement],
-        place: usize,
         lines: &[BoxedLine],
-    ) -> Result<usize, AllocError>
-        requires infos { AreInfos self.old.names.keys lines.now }
-        requires room { place + length lines.now ≤ length placements.old }
-        ensures within { IfOk result (λ count. count ≤ length lines.now) }
-        ensures keeps { KeepsBefore self.old.names self.new.names }
-        ensures passed { (before : List Reading) → HasPassed placements.old self.old before
-            → place ≡ length before → IfOk result (λ count. HasPassed placements.new self.new
-            (before ++ take count (readings_in lines.now))) }
+        placements: &mut [Placement],
+        codings: &mut [Coding],
+        waiting: &mut Waiting,
+        from: &[u8],
+        image: &mut [u8],
+        first: usize,
+    ) -> usize
+        requires { (e : Change) × IsUnderWay e lines.now self.old placements.old codings.old
+            waiting.old from.now image.old first }
+        ensures after { first ≤ result }
+        ensures within { result ≤ length lines.now }
+        ensures under_way { (e : Change)
+            → IsUnderWay e lines.now self.old placements.old codings.old waiting.old from.now
+            image.old first
+            → IsUnderWay e lines.now self.new placements.new codings.new waiting.new from.now
+            image.new result }
     {
         let live = self.live;
         let mut here = self.here;
-        let mut count = 0;
-        while count < lines.len() {
-            let Some((size, defines)) = lines[count].info().bare(live) else {
+        let mut place = first;
+        while place < lines.len() {
+            let Some((size, defines)) = lines[place].info().bare(live) else {
                 break;
             };
             if size > MEMORY_BYTES - here {
                 break;
             }
-            let value = here as i32;
             let symbol = Symbol {
-                value,
-                line: place + count + 1,
+                value: here as i32,
+                line: place + 1,
             };
-            if !self.names.define_new(defines, symbol)? {
+            if !self.names.define_new(defines, symbol) {
                 break;
             }
-            placements[place + count] = Placement {
-                value: 0,
-                here: here as u16,
-                size: size as u16,
-                fault: None,
-                live,
-            };
+            let was = placements[place];
+            if live && was.is_accepted() {
+                if size == 2 {
+                    let at = was.address() - IMAGE_START;
+                    copy_two(image, here - IMAGE_START, from, at);
+                }
+                placements[place].here = here as u16;
+            } else {
+                placements[place] = Placement {
+                    value: 0,
+                    here: here as u16,
+                    size: size as u16,
+                    fault: None,
+                    live,
+                };
+                waiting.wait(codings, place, size == 2);
+            }
             here += size;
-            count += 1;
+            place += 1;
         }
         self.here = here;
-        Ok(count)
+        place
     }
 
     /// Whether the condition of an IF line holds.
@@ -416,15 +441,16 @@ impl Pass {
         line: &Line,
         defines: Option<NameId>,
         value: i32,
-    ) -> Result<(), AllocError>
+    )
         requires defines { IsNumberOf self.old.names.keys defines
             (name_defined (seen_line line.now)) }
         requires new { accepted ≡ true
             → is_redefinition self.old.names.symbols (name_defined (seen_line line.now)) ≡ false }
-        ensures names { OnOk result (self.new.names.symbols
+        requires room { length self.old.names.symbols < self.old.names.room }
+        ensures names { self.new.names.symbols
             ≡ self.old.names.symbols ++ option_to_list (if accepted
             then symbol_given number self.old.here value (seen_line line.now)
-            else None)) }
+            else None) }
         ensures keeps { KeepsBefore self.old.names self.new.names }
         ensures here { self.new.here ≡ self.old.here }
         ensures aligning { self.new.aligning ≡ self.old.aligning }
@@ -432,10 +458,10 @@ impl Pass {
         ensures blocks { self.new.blocks ≡ self.old.blocks }
     {
         let Some(id) = defines else {
-            return Ok(());
+            return;
         };
         if !accepted {
-            return Ok(());
+            return;
         }
         let empty = Body::Empty;
         let value = match body_or(line, &empty) {
@@ -449,7 +475,7 @@ impl Pass {
                 value,
                 line: number,
             },
-        )
+        );
     }
 
     /// Moves past a line of this size.
@@ -486,18 +512,18 @@ impl Pass {
         }
     }
 
-    /// The names found.
-    pub(crate) fn into_names(self) -> Table
-        ensures { result ≡ self.names }
+    /// The names found, and the room of the blocks.
+    pub(crate) fn into_parts(self) -> (Table, Vec<Block>)
+        ensures { result.0 ≡ self.names }
     {
         let Pass {
             here: _,
             aligning: _,
             ended: _,
             live: _,
-            blocks: _,
+            blocks,
             names,
         } = self;
-        names
+        (names, blocks)
     }
 }

@@ -1,5 +1,5 @@
 //! The symbols of a source.
-ghost use Rattle.std.specs.Prelude.{◌≡◌, ◌++◌, [], ◌∷◌, ◌<◌, ◌≤◌, ℕ, All, List, true, false, not, if◌then◌else◌, OnOk, OnErr, IfOk, IfSome, None, Some, Option, is_some, length, map, option_map, slice_get, take};
+ghost use Rattle.std.specs.Prelude.{◌≡◌, ◌+◌, ◌++◌, [], ◌∷◌, ◌<◌, ◌≤◌, ℕ, All, List, true, false, not, if◌then◌else◌, OnOk, OnErr, IfOk, IfSome, None, Some, Option, is_some, length, map, option_map, slice_get, take};
 ghost use Rattle.std.specs.List.{list_all};
 ghost use Rattle.std.specs.Str.{bytes_eq};
 ghost use Rattle.chip_lang.specs.Line.{upper};
@@ -15,7 +15,6 @@ use indexmap::IndexSet;
 use std::alloc::{AllocError, Global};
 use std::cell::Cell;
 use std::marker::Model;
-use std::mem;
 
 /// The value of a name, and the number of the line that gives it.
 #[derive(Clone, Copy, Debug, PartialEq, Eq)]
@@ -127,7 +126,7 @@ pub(crate) struct Table {
 }
 
 impl Model for Table {
-    ghost use Rattle.std.specs.Prelude.{map};
+    ghost use Rattle.std.specs.Prelude.{map, vec_capacity};
     ghost use Rattle.chip_asm.specs.inner.Tables.{AreApart, AreDefined, BeginAlike, Tables, symbols_in};
 
     ghost Value = { Tables };
@@ -136,6 +135,7 @@ impl Model for Table {
       keys = map (λ k. k.items) t.keys.keys;
       symbols = symbols_in (map (λ k. k.items) t.keys.keys) t.current.entries.items;
       before = symbols_in (map (λ k. k.items) t.keys.keys) t.past.entries.items;
+      room = vec_capacity t.current.entries;
     } };
 
     ghost invariant = { λ t. AreApart (map (λ k. k.items) t.keys.keys)
@@ -197,9 +197,20 @@ impl Table {
         Ok(index)
     }
 
-    /// Begins an edit before which the lines up to a number stay: the symbols are theirs, and those
-    /// before the edit are kept apart.
-    pub(crate) fn begin(&mut self, number: usize) -> Result<(), AllocError>
+    /// Takes room for the symbols of so many lines more.
+    fn reserve(&mut self, lines: usize) -> Result<(), AllocError>
+        ensures keys { self.new.keys ≡ self.old.keys }
+        ensures symbols { self.new.symbols ≡ self.old.symbols }
+        ensures before { self.new.before ≡ self.old.before }
+        ensures room { OnOk result (length self.new.symbols + lines ≤ self.new.room) }
+    {
+        self.current.entries.reserve(lines)
+    }
+
+    /// Begins an edit before which the lines up to a number stay: the symbols are theirs, with room
+    /// for those of so many lines, and those before the edit are kept apart.
+    pub(crate) fn begin(&mut self, number: usize, lines: usize) -> Result<(), AllocError>
+        ensures room { OnOk result (length self.new.symbols + lines ≤ self.new.room) }
         ensures keys { self.new.keys ≡ self.old.keys }
         ensures before { OnOk result (self.new.before ≡ self.old.symbols) }
         ensures symbols { OnOk result ((early later : List (Name × Symbol))
@@ -207,6 +218,7 @@ impl Table {
             → self.new.symbols ≡ early) }
         ensures same { OnErr result (self.new.symbols ≡ self.old.symbols) }
     {
+        self.reserve(lines)?;
         self.past.catch_up(&self.current, self.same)?;
         self.same = self.current.entries.len();
         while let Some(entry) = self.current.entries.last() {
@@ -219,15 +231,6 @@ impl Table {
             self.same -= 1;
         }
         Ok(())
-    }
-
-    /// Takes an edit back.
-    pub(crate) fn restore(&mut self)
-        ensures keys { self.new.keys ≡ self.old.keys }
-        ensures symbols { self.new.symbols ≡ self.old.before }
-        ensures before { self.new.before ≡ self.old.symbols }
-    {
-        mem::swap(&mut self.current, &mut self.past);
     }
 
     /// Whether the name of a number has a symbol.
@@ -353,48 +356,46 @@ impl Table {
         let mut table = Table::new(alloc, self.hasher);
         for entry in &self.current.entries {
             let id = table.number(alloc, self.name(entry.id))?;
-            table.define(id, entry.symbol)?;
+            table.reserve(1)?;
+            table.define(id, entry.symbol);
         }
         Ok(table)
     }
 
     /// Adds the symbol of a name, if there is one. False where the name has one already.
     #[inline(always)]
-    pub(crate) fn define_new(
-        &mut self,
-        defines: Option<NameId>,
-        symbol: Symbol,
-    ) -> Result<bool, AllocError>
-        requires { IfSome defines (λ id. id.number < length self.old.keys) }
-        ensures new { IfOk result (λ new. new
-            ≡ not (is_redefinition self.old.symbols (name_of self.old.keys defines))) }
-        ensures symbols { IfOk result (λ new. new ≡ true
-            → self.new.symbols ≡ self.old.symbols ++ symbols_of self.old.keys defines symbol) }
-        ensures same { IfOk result (λ new. new ≡ false → self.new ≡ self.old) }
+    pub(crate) fn define_new(&mut self, defines: Option<NameId>, symbol: Symbol) -> bool
+        requires within { IfSome defines (λ id. id.number < length self.old.keys) }
+        requires room { length self.old.symbols < self.old.room }
+        ensures new { result
+            ≡ not (is_redefinition self.old.symbols (name_of self.old.keys defines)) }
+        ensures symbols { result ≡ true
+            → self.new.symbols ≡ self.old.symbols ++ symbols_of self.old.keys defines symbol }
+        ensures same { result ≡ false → self.new ≡ self.old }
         ensures keeps { KeepsBefore self.old self.new }
     {
         let Some(id) = defines else {
-            return Ok(true);
+            return true;
         };
         if self.is_defined(id) {
-            return Ok(false);
+            return false;
         }
-        self.define(id, symbol)?;
-        Ok(true)
+        self.define(id, symbol);
+        true
     }
 
     /// Adds the symbol of a name that has none.
     #[inline(never)]
-    pub(crate) fn define(&mut self, id: NameId, symbol: Symbol) -> Result<(), AllocError>
+    pub(crate) fn define(&mut self, id: NameId, symbol: Symbol)
         requires within { id.number < length self.old.keys }
         requires new { lookup_name self.old.symbols (key_at self.old.keys id.number) ≡ None }
-        ensures symbols { OnOk result (self.new.symbols
-            ≡ self.old.symbols ++ (key_at self.old.keys id.number, symbol) ∷ []) }
+        requires room { length self.old.symbols < self.old.room }
+        ensures symbols { self.new.symbols
+            ≡ self.old.symbols ++ (key_at self.old.keys id.number, symbol) ∷ [] }
         ensures keeps { KeepsBefore self.old self.new }
     {
-        self.current.entries.push(Entry { id, symbol })?;
+        self.current.entries.push_reserved(Entry { id, symbol });
         self.current.values[id.number as usize] = Some(symbol.value);
-        Ok(())
     }
 }
 

@@ -1,10 +1,12 @@
--- The second pass, as it is kept: the image, and the fault of each line (own).
-use Rattle.std.specs.Prelude.{◌≡◌, ℕ, ◌+◌, ◌-◌, ◌<◌, ◌≤◌, ◌&&◌, ◌++◌, Bool, true, List, [], drop, length, map, min, reverse, take, Option, Some, None, Result, nat_le, nat_lt, if◌then◌else◌, slice_get, slice_index, sum_by, vec_len}
+-- The second pass, as it is kept: the image, and what became of the code of each line (own).
+use Rattle.std.specs.Prelude.{◌≡◌, ℕ, ◌+◌, ◌-◌, ◌<◌, ◌≤◌, ◌&&◌, ◌++◌, Bool, List, [], drop, length, map, min, reverse, take, Option, Some, None, Result, nat_le, nat_lt, if◌then◌else◌, slice_index, sum_by, vec_len}
 use Rattle.chip_lang.specs.declared.fault.Fault.{Fault}
 use Rattle.chip_lang.specs.declared.limits.TheConstants.{IMAGE_BYTES, IMAGE_START}
 use Rattle.chip_lang.specs.Code.{own_bytes}
 use Rattle.chip_lang.specs.Line.{Reading}
 use Rattle.chip_asm.specs.declared.codes.Codes.{Codes}
+use Rattle.chip_asm.specs.declared.codes.Coding.{Coding}
+use Rattle.chip_asm.specs.declared.codes.Coding.TheVariants.{Done, Faulty}
 use Rattle.chip_asm.specs.declared.placement.Placement.{Placement}
 use Rattle.chip_asm.specs.declared.table.Table.{Table}
 use Rattle.chip_asm.specs.Layout.{body_of}
@@ -16,9 +18,19 @@ use Rattle.chip_asm.specs.inner.Records.{reading_in}
 use Rattle.chip_asm.specs.computed.Walk.{placed}
 use Rattle.chip_asm.specs.Program.{byte_at, bytes_in_code, fault_in_code, fault_of, faults_of_lines}
 
-abbrev pub count_of : Option Fault → ℕ
-count_of None = 0
-count_of (Some fault) = 1
+-- what is noted of a line with this fault, or with none
+abbrev pub coding_of : Option Fault → Coding
+coding_of None = Done
+coding_of (Some fault) = Faulty fault
+
+-- the fault of a line of which this is noted
+abbrev pub fault_noted : Coding → Option Fault
+fault_noted (Faulty fault) = Some fault
+fault_noted _ = None
+
+abbrev pub count_of : Coding → ℕ
+count_of (Faulty fault) = 1
+count_of _ = 0
 
 -- the code of a kept line under a table
 abbrev pub code_kept : Table → KeptLine → Result (List ℕ) Fault
@@ -44,7 +56,7 @@ right_byte lines k = byte_at (placed lines) (IMAGE_START + k)
 
 -- the count is that of the faults
 abbrev pub IsCounted : Codes → Type 0
-IsCounted codes = codes.count ≡ sum_by count_of codes.faults.items
+IsCounted codes = codes.count ≡ sum_by count_of codes.codings.items
 
 -- each byte is that at its address, also where a line has a fault; past the kept bytes they are
 -- zeros
@@ -52,26 +64,12 @@ pub record AreCodesOf (codes : Codes) (lines : List Reading) : Type 0 where
   pub imaged : (k : ℕ) → k < IMAGE_BYTES → slice_index codes.image.items k ≡ right_byte lines k
   pub short : vec_len codes.image ≤ IMAGE_BYTES
   pub long : 0 < length lines → vec_len codes.image ≡ IMAGE_BYTES
-  pub faulty : codes.faults.items ≡ line_faults lines
+  pub coded : codes.codings.items ≡ map coding_of (line_faults lines)
   pub counted : codes.count ≡ length (faults_of_lines lines)
 
 -- the line covers the byte
 abbrev pub covers_byte : Placement → ℕ → Bool
 covers_byte q k = nat_le q.here (IMAGE_START + k) && nat_lt (IMAGE_START + k) (q.here + q.size)
-
--- a line from a place on covers the byte
-pub record Waits (placements : List Placement) (first k : ℕ) : Type 0 where
-  pub place : ℕ
-  pub q : Placement
-  pub low : first ≤ place
-  pub there : slice_get placements place ≡ Some q
-  pub covered : covers_byte q k ≡ true
-
--- what is known of a byte while the lines from a place on wait
-pub record IsByte (lines : List Reading) (placements : List Placement)
-    (place k byte : ℕ) : Type 0 where
-  pub waiting : Waits placements place k → byte ≡ 0
-  pub done : (Waits placements place k → ⊥) → byte ≡ right_byte lines k
 
 -- the bytes of a line are written, and no others
 abbrev pub IsWritten : Placement → (bytes old new : List ℕ) → Type 0

@@ -3,6 +3,8 @@ use Rattle.std.specs.Prelude.{◌≡◌, ℕ, ◌+◌, ◌<◌, Bool, not, ◌&&
 use Rattle.std.specs.List.{list_any}
 use Rattle.chip_lang.specs.declared.fault.Fault.TheVariants.{UnclosedIf}
 use Rattle.chip_asm.specs.declared.block.Block.{Block}
+use Rattle.chip_asm.specs.declared.codes.Coding.{Coding}
+use Rattle.chip_asm.specs.declared.codes.Coding.TheVariants.{Faulty}
 use Rattle.chip_asm.specs.declared.placement.Placement.{Placement}
 
 -- the block was opened by one of so many lines
@@ -27,3 +29,13 @@ abbrev pub AreMarked : Bool → List Block → (old new : List Placement) → Ty
 AreMarked ended blocks old new =
     (place : ℕ) (other : Placement) → place < length old
     → slice_index_or new place other ≡ marked ended blocks place (slice_index_or old place other)
+
+-- what is noted of the codes of these lines
+abbrev pub noted : Bool → List Block → ℕ → Coding → Coding
+noted ended blocks place c =
+    if not ended && list_any (is_opened_at place) blocks then Faulty UnclosedIf else c
+
+abbrev pub AreNoted : Bool → List Block → (old new : List Coding) → Type 0
+AreNoted ended blocks old new =
+    (place : ℕ) (other : Coding) → place < length old
+    → slice_index_or new place other ≡ noted ended blocks place (slice_index_or old place other)

@@ -1,5 +1,5 @@
 -- What is kept of each line, before and after a change of one line (own).
-use Rattle.std.specs.Prelude.{◌≡◌, ℕ, ◌+◌, ◌-◌, ◌<◌, ◌≤◌, List, length, map, insert, remove, slice_set, Option, None, Some}
+use Rattle.std.specs.Prelude.{◌≡◌, ℕ, ◌+◌, ◌-◌, ◌<◌, ◌≤◌, List, length, map, insert, remove, replicate, slice_set, Option, None}
 use Rattle.chip_lang.specs.Line.{Reading}
 use Rattle.chip_lang.specs.SeenLine.{seen_line}
 use Rattle.chip_asm.specs.inner.KeptLine.{KeptLine}
@@ -30,6 +30,13 @@ lines_after lines (Replace at line) = slice_set lines at line
 lines_after lines (Delete at) = remove lines at
 lines_after lines (Open all) = all.items
 
+-- what is kept of each line after the edit, where this is known of a new one
+abbrev pub items_after : {X : Type 0} → List X → Edit → (new : X) → List X
+items_after items (Insert at line) new = insert items at new
+items_after items (Replace at line) new = slice_set items at new
+items_after items (Delete at) new = remove items at
+items_after items (Open all) new = replicate (length all.items) new
+
 abbrev pub count_after : ℕ → Edit → ℕ
 count_after count (Insert at line) = count + 1
 count_after count (Replace at line) = count
@@ -42,13 +49,3 @@ place_before (Insert at line) place = before_insert at place
 place_before (Replace at line) place = before_replace at place
 place_before (Delete at) place = before_delete at place
 place_before (Open all) place = None
-
--- the lines of some places before the edit stand one after another from a place after it on; there
--- are none only where the line there is new, or there is none
-pub record IsStretch (count : ℕ) (edit : Edit) (place start end : ℕ) : Type 0 where
-  pub ordered : start ≤ end
-  pub within : end ≤ count
-  pub after : place + end ≤ count_after count edit + start
-  pub stood : (next before : ℕ) → next + start ≡ place + before → start ≤ before → before < end
-      → place_before edit next ≡ Some before
-  pub none : end ≤ start → place < count_after count edit → place_before edit place ≡ None

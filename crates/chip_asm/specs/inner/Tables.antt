@@ -11,6 +11,8 @@ pub record Tables : Type 0 where
   pub keys : List Name
   pub symbols : List (Name × Symbol)
   pub before : List (Name × Symbol)
+  -- how many symbols there is room for
+  pub room : ℕ
 
 -- the name of a number; no bytes where there is none
 abbrev pub key_at : List Name → ℕ → Name
@@ -83,6 +85,7 @@ pub record BeginAlike (count : ℕ) (now past : List Entry) : Type 0 where
 pub record KeepsBefore (old new : Tables) : Type 0 where
   pub keys : new.keys ≡ old.keys
   pub before : new.before ≡ old.before
+  pub room : old.room ≤ new.room
 
 -- all of these symbols stand in lines up to a number
 abbrev pub AreUpTo : ℕ → List (Name × Symbol) → Type 0

@@ -10,6 +10,6 @@ returns c = record {
   imaged = λ k h. rw c.new.ensures.items refl;
   short = omega arith;
   long = λ h. absurd (omega arith);
-  faulty = c.new-2.ensures.items;
+  coded = c.new-2.ensures.items;
   counted = refl;
 }

@@ -4,7 +4,7 @@ use Rattle.std.proofs.lemmas.List.{length-map}
 use Rattle.chip_lang.specs.Code.{code_length}
 use Rattle.chip_lang.specs.Line.{Reading}
 use Rattle.chip_lang.specs.declared.limits.TheConstants.{IMAGE_START}
-use Rattle.chip_asm.specs.inner.Codes.{covers_byte, kept_bytes}
+use Rattle.chip_asm.specs.inner.Codes.{coding_of, covers_byte, kept_bytes}
 use Rattle.chip_asm.specs.inner.Records.{reading_in, readings_in, texts_in}
 use Rattle.chip_asm.proofs.CodeSteps.{codes-counted, refilled}
 use Rattle.chip_asm.proofs.CodesSwapped.{Exchange, codes-swapped, line-new}
@@ -12,7 +12,7 @@ use Rattle.chip_asm.proofs.EditTexts.{texts-set}
 use Rattle.chip_asm.proofs.KeptSwapped.{code-swapped, encoded-kept, exchange-kept, kept-swapped}
 use Rattle.chip_asm.proofs.LinesByPlace.{code-fits, high, low}
 use Rattle.chip_asm.proofs.Resumed.{length-laid}
-use Rattle.chip_asm.proofs.WholeImage.{length-faults}
+use Rattle.chip_asm.proofs.WholeImage.{length-codings}
 use Rattle.chip_asm.proofs.kept.Kept.rewrite.Goals as goal
 
 pub index-requires : goal.index-requires
@@ -24,22 +24,22 @@ write_line-fault-requires c =
     let old = c.args.self.now in
     let lines : List Reading = readings_in old.lines.items in
     let q = c.index.result.now in
-    let e : Exchange lines c.args.at (reading_in c.args.added) old.layout q = exchange-kept old c.args.at c.args.added q c.requires.kept c.requires.inside c.index.ensures c.requires.same in
+    let e : Exchange lines c.args.at (reading_in c.args.added) q = exchange-kept old c.args.at c.args.added q c.requires.kept c.requires.inside c.index.ensures c.requires.same in
     record {
       info = c.requires.info;
       low = low lines c.args.at q e.was;
       high = omega (arith, high lines c.args.at q e.was, c.requires.kept.codes.long (omega (arith, e.inside)), c.deref_mut.ensures.len);
       room = λ accepted.
           (let fits : code_length e.now.x.line ≤ q.size = code-fits (set lines c.args.at (reading_in c.args.added)) c.args.at q e.now accepted in
-          omega (arith, fits, ap code_length (line-new lines c.args.at (reading_in c.args.added) old.layout q e)));
+          omega (arith, fits, ap code_length (line-new lines c.args.at (reading_in c.args.added) q e)));
     }
 
-pub set_fault-requires : goal.set_fault-requires
-set_fault-requires c =
+pub set-requires : goal.set-requires
+set-requires c =
     let old = c.args.self.now in
     let lines : List Reading = readings_in old.lines.items in
     record {
-      there = omega (arith, c.requires.inside, length-faults old.codes lines c.requires.kept.codes, length-map old.lines.items reading_in, old.lines.ok.0, old.codes.faults.ok.0);
+      there = omega (arith, c.requires.inside, length-codings old.codes lines c.requires.kept.codes, length-map old.lines.items reading_in, old.lines.ok.0, old.codes.codings.ok.0);
       counted = codes-counted old.codes lines c.requires.kept.codes;
     }
 
@@ -51,15 +51,15 @@ returns-clause-kept c =
     let lines : List Reading = readings_in c.args.self.now.lines.items in
     let old = c.args.self.now in
     let q = c.index.result.now in
-    let e : Exchange lines c.args.at (reading_in c.args.added) old.layout q = exchange-kept old c.args.at c.args.added q c.requires.kept c.requires.inside c.index.ensures c.requires.same in
+    let e : Exchange lines c.args.at (reading_in c.args.added) q = exchange-kept old c.args.at c.args.added q c.requires.kept c.requires.inside c.index.ensures c.requires.same in
     let long : length c.write_line-fault.new.image ≡ old.codes.image.len = c.write_line-fault.auto.image ∙ c.deref_mut.ensures.len in
     let image = refilled old.codes.image.len c.write_line-fault.new.image old.codes.image.items long in
-    kept-swapped old _ c.args.at c.args.added q c.requires.kept c.replace_line.ensures refl refl
+    kept-swapped old _ c.args.at c.args.added q c.requires.kept c.replace_line.ensures refl
     (omega (arith, c.min-self.ensures, min-le_left old.settled c.args.at)) (omega (arith, c.min-self.ensures, min-le_right old.settled c.args.at)) refl c.requires.is_read c.requires.info e
-    (codes-swapped old.codes c.set_fault.new.self lines c.args.at (reading_in c.args.added) old.layout q _ _ e c.requires.kept.codes (code-swapped old c.args.at c.args.added q c.requires.kept e)
-    (λ k. ap (λ v. get_or v.items k 0) c.set_fault.ensures.image ∙ ap (λ l. get_or l k 0) image ∙ c.write_line-fault.ensures.written k
+    (codes-swapped old.codes c.set.new.self lines c.args.at (reading_in c.args.added) q _ _ e c.requires.kept.codes (code-swapped old c.args.at c.args.added q c.requires.kept e)
+    (λ k. ap (λ v. get_or v.items k 0) c.set.ensures.image ∙ ap (λ l. get_or l k 0) image ∙ c.write_line-fault.ensures.written k
     ∙ ap (λ l. cond (covers_byte q k) (get_or (kept_bytes old.names c.args.added q) (IMAGE_START + k - q.here) 0) (get_or l k 0)) c.deref_mut.ensures.value)
-    (ap (λ v. v.len) c.set_fault.ensures.image) (c.set_fault.ensures.faults ∙ ap (set old.codes.faults.items c.args.at) c.write_line-fault.ensures.fault) c.set_fault.ensures.counted)
+    (ap (λ v. v.len) c.set.ensures.image) (c.set.ensures.codings ∙ ap (set old.codes.codings.items c.args.at) (c.of.ensures ∙ ap coding_of c.write_line-fault.ensures.fault)) c.set.ensures.counted)
 
 pub returns-clause-encoded : goal.returns-clause-encoded
 returns-clause-encoded c =

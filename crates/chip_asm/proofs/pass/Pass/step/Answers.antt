@@ -22,9 +22,9 @@ returns-clause-passed c = λ lines h n.
             at_address = c.note_live.ensures.here ∙ c.advance.ensures.here ∙ (rw (same, c.is_accepted-accepted.ensures, c.define.ensures.here, c.body_or-body.ensures) refl);
             aligning = c.note_live.ensures.aligning ∙ c.advance.ensures.aligning ∙ (rw (c.is_accepted-accepted.ensures, c.define.ensures.aligning, c.body_or-body.ensures) refl);
             ended = c.note_live.ensures.ended ∙ c.advance.ensures.ended ∙ (rw (c.define.ensures.ended, c.body_or-body.ensures) refl);
-            names = ap (λ t. t.symbols) (c.note_live.ensures.names ∙ c.advance.ensures.names) ∙ c.in_ok-define.ensures.names ∙ (rw (same, c.is_accepted-accepted.ensures) refl);
+            names = ap (λ t. t.symbols) (c.note_live.ensures.names ∙ c.advance.ensures.names) ∙ c.define.ensures.names ∙ (rw (same, c.is_accepted-accepted.ensures) refl);
             open_blocks = λ nearest e.
-                ap (λ v. v.items) (c.note_live.ensures.blocks ∙ c.advance.ensures.blocks) ∙ c.in_ok-move_blocks.ensures nearest (ap (λ v. v.items) c.define.ensures.blocks ∙ e) ∙ (rw (holds, c.body_or-body.ensures) refl);
+                ap (λ v. v.items) (c.note_live.ensures.blocks ∙ c.advance.ensures.blocks) ∙ c.move_blocks.ensures.items nearest (ap (λ v. v.items) c.define.ensures.blocks ∙ e) ∙ (rw (holds, c.body_or-body.ensures) refl);
             live = c.note_live.ensures.live;
           });
     }

@@ -1,7 +1,6 @@
 use Rattle.std.proofs.Common.{◌≡◌, ◌∙◌, ℕ, ℤ, List, None, Option, drop, length, get_or, refl, sym, ap, arith}
 use Rattle.chip_asm.specs.inner.Tables.{HaveSame}
-use Rattle.chip_asm.proofs.CodeSteps.{refilled}
-use Rattle.chip_asm.proofs.SameValues.{caught-up, same-later}
+use Rattle.chip_asm.proofs.SameValues.{caught-up, refilled, same-later}
 use Rattle.chip_asm.proofs.table.Definitions.catch_up.Goals as goal
 
 abbrev Values : Type 0

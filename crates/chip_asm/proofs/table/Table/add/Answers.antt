@@ -1,40 +1,49 @@
-use Rattle.std.proofs.Common.{refl, ◌≡◌, ◌∙◌, ◌++◌, ◌∷◌, [], ap, None, cond, arith}
-use Rattle.chip_asm.specs.inner.Tables.{Tables}
-use Rattle.chip_asm.proofs.SymbolSteps.{OneKeyMore, one-key-more, apart-keys, defined-keys, symbols-keys, key-there}
+use Rattle.std.proofs.Common.{refl, ◌≡◌, ◌∙◌, ◌++◌, ◌∷◌, [], ap, subst, None, cond, arith}
+use Rattle.chip_asm.specs.inner.Tables.{Extends, Tables}
+use Rattle.chip_asm.proofs.SymbolSteps.{OneMore, apart-more, defined-same, defined-under, extends-more, key-there, names_of, one-more, same-keys, symbols-more}
 use Rattle.chip_asm.proofs.table.Table.add.Goals as goal
+use Rattle.chip_asm.proofs.table.Table.add.Goals.{Then-is_new}
+
+more : (c : Then-is_new) → OneMore (names_of c.self.inside.keys.keys) (names_of c.insert_full.new.self.keys) c.in_ok-key.key.items
+more c = one-more c.self.inside.keys.keys c.insert_full.new.self.keys c.in_ok-key.key c.in_ok-index.is_new c.if-is_new.true c.in_ok-index.ensures.added c.in_ok-index.ensures.keys
 
 pub invariant_of-self-then-is_new : goal.invariant_of-self-then-is_new
 invariant_of-self-then-is_new c =
-    let o : OneKeyMore c.self.inside.keys.keys c.insert_full.new.self.keys c.in_ok-key.key
-    = one-key-more c.self.inside.keys.keys c.insert_full.new.self.keys c.in_ok-key.key c.in_ok-index.is_new c.if-is_new.true c.in_ok-index.ensures.added c.in_ok-index.ensures.keys in
+    let o = more (goal.at.invariant_of-self-then-is_new c).Then-is_new in
     let now : c.push.new.self.items ≡ c.self.inside.current.values.items ++ None ∷ []
     = c.push.ensures.items ∙ ap (λ b. cond b (c.reserve.new.self.items ++ None ∷ []) c.reserve.new.self.items) (c.push.ensures.succeeds (omega (arith, c.in_ok-reserve.ensures.ok))) ∙ ap (λ xs. xs ++ None ∷ []) c.reserve.ensures.items in
     let past : c.push-then-is_new.new.self.items ≡ c.self.inside.past.values.items ++ None ∷ []
     = c.push-then-is_new.ensures.items ∙ ap (λ b. cond b (c.reserve-2.new.self.items ++ None ∷ []) c.reserve-2.new.self.items) (c.push-then-is_new.ensures.succeeds (omega (arith, c.in_ok-reserve-2.ensures.ok))) ∙ ap (λ xs. xs ++ None ∷ []) c.reserve-2.ensures.items in (
-      apart-keys c.self.inside.keys.keys c.insert_full.new.self.keys c.in_ok-key.key o c.self.invariant.0,
-      (
-        defined-keys c.self.inside.keys.keys c.insert_full.new.self.keys c.in_ok-key.key c.self.inside.current _ o c.self.invariant.1.0 refl now,
-        (
-          defined-keys c.self.inside.keys.keys c.insert_full.new.self.keys c.in_ok-key.key c.self.inside.past _ o c.self.invariant.1.1.0 refl past,
-          c.self.invariant.1.1.1,
-        ),
-      ),
+      apart-more _ _ _ o c.self.invariant.0,
+      (defined-under _ _ _ c.self.inside.current _ o c.self.invariant.1.0 refl now, (defined-under _ _ _ c.self.inside.past _ o c.self.invariant.1.1.0 refl past, c.self.invariant.1.1.1)),
     )
 
 pub returns-then-is_new-clause-symbols : goal.returns-then-is_new-clause-symbols
 returns-then-is_new-clause-symbols c =
-    symbols-keys c.self.inside.keys.keys c.insert_full.new.self.keys c.in_ok-key.key c.self.inside.current
-    (one-key-more c.self.inside.keys.keys c.insert_full.new.self.keys c.in_ok-key.key c.in_ok-index.is_new c.if-is_new.true c.in_ok-index.ensures.added c.in_ok-index.ensures.keys) c.self.invariant.1.0
-    ∙ ap (λ (t : Tables). t.symbols) c.self.view_is
+    symbols-more _ _ _ c.self.inside.current.entries.items (more (goal.at.returns-then-is_new-clause-symbols c).Then-is_new) c.self.invariant.1.0.inside ∙ ap (λ (t : Tables). t.symbols) c.self.view_is
 
 pub returns-then-is_new-clause-before : goal.returns-then-is_new-clause-before
 returns-then-is_new-clause-before c =
-    symbols-keys c.self.inside.keys.keys c.insert_full.new.self.keys c.in_ok-key.key c.self.inside.past
-    (one-key-more c.self.inside.keys.keys c.insert_full.new.self.keys c.in_ok-key.key c.in_ok-index.is_new c.if-is_new.true c.in_ok-index.ensures.added c.in_ok-index.ensures.keys) c.self.invariant.1.1.0
-    ∙ ap (λ (t : Tables). t.before) c.self.view_is
+    symbols-more _ _ _ c.self.inside.past.entries.items (more (goal.at.returns-then-is_new-clause-before c).Then-is_new) c.self.invariant.1.1.0.inside ∙ ap (λ (t : Tables). t.before) c.self.view_is
 
 pub returns-then-is_new-clause-named : goal.returns-then-is_new-clause-named
 returns-then-is_new-clause-named c = key-there c.insert_full.new.self.keys c.in_ok-index.index c.in_ok-key.key.items c.in_ok-index.ensures.stored ∙ c.in_ok-key.ensures.items
 
 pub returns-else-is_new-clause-named : goal.returns-else-is_new-clause-named
 returns-else-is_new-clause-named c = key-there c.insert_full.new.self.keys c.in_ok-index.index c.in_ok-key.key.items c.in_ok-index.ensures.stored ∙ c.in_ok-key.ensures.items
+
+pub returns-then-is_new-clause-keys : goal.returns-then-is_new-clause-keys
+returns-then-is_new-clause-keys c =
+    subst (λ (t : Tables). Extends t.keys (names_of c.insert_full.new.self.keys)) c.self.view_is (extends-more _ _ _ (more (goal.at.returns-then-is_new-clause-keys c).Then-is_new))
+
+pub invariant_of-self-else-is_new : goal.invariant_of-self-else-is_new
+invariant_of-self-else-is_new c =
+    let same : c.insert_full.new.self.keys ≡ c.self.inside.keys.keys
+    = same-keys c.self.inside.keys.keys c.insert_full.new.self.keys c.in_ok-key.key c.in_ok-index.is_new c.if-is_new.false c.in_ok-index.ensures.added c.in_ok-index.ensures.keys in
+    rw same (
+      c.self.invariant.0,
+      (
+        defined-same (names_of c.self.inside.keys.keys) c.self.inside.current _ c.self.invariant.1.0 refl c.reserve.ensures.items,
+        (defined-same (names_of c.self.inside.keys.keys) c.self.inside.past _ c.self.invariant.1.1.0 refl c.reserve-2.ensures.items, c.self.invariant.1.1.1),
+      ),
+    )

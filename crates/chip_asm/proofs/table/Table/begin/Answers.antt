@@ -10,7 +10,6 @@ pub loop-entry-preserved : goal.loop-entry-preserved
 loop-entry-preserved c =
     let d : Definitions = c.loop-entry.self-inside.current in
     let e : Entry = c.in-Some.entry.now in
-    let next : Definitions = record { entries = c.pop.new.self; values = c.loop-entry.self-inside.current.values } in
     let at : Some e ≡ slice_get d.entries.items (length d.entries.items - 1)
     = subst (λ (xs : List Entry). Some c.in-Some.entry.now ≡ slice_get xs (length xs - 1)) c.deref.ensures.value c.in-Some.ensures.value in
     let entries : d.entries.items ≡ c.pop.new.self.items ++ e ∷ []
@@ -24,7 +23,8 @@ loop-entry-preserved c =
       alike = subst (λ n. BeginAlike n c.pop.new.self.items c.loop-entry.self-inside.past.entries.items) (sym left) (alike-less d.entries.items c.pop.new.self.items c.loop-entry.self-inside.past.entries.items e entries
           (subst (λ n. BeginAlike n d.entries.items c.loop-entry.self-inside.past.entries.items) c.loop-entry.invariant.count c.loop-entry.invariant.alike));
       current = defined-less c.args.self.now.keys d _ e c.loop-entry.invariant.apart c.loop-entry.invariant.current entries refl;
-      going = going-back c.args.number c.args.self.now.keys c.args.self.now.symbols d next e c.loop-entry.invariant.going entries c.if-entry-number.false;
+      room = omega (arith, c.loop-entry.invariant.room, left, c.loop-entry.invariant.count, c.pop.ensures.capacity);
+      going = going-back c.args.number c.args.self.now.keys c.args.self.now.symbols d.entries.items c.pop.new.self.items e c.loop-entry.invariant.going entries c.if-entry-number.false;
     }
 
 pub returns-then-entry-number-clause-symbols : goal.returns-then-entry-number-clause-symbols

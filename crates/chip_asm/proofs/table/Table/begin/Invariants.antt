@@ -1,4 +1,4 @@
-use Rattle.std.proofs.Common.{◌≡◌, map, length}
+use Rattle.std.proofs.Common.{◌≡◌, ◌+◌, ◌≤◌, map, length, vec_capacity}
 use Rattle.chip_asm.specs.inner.Tables.{AreApart, AreDefined, BeginAlike, symbols_in}
 use Rattle.chip_asm.proofs.TakenBack.{Going}
 use Rattle.chip_asm.proofs.table.Table.begin.Given as goal
@@ -12,6 +12,7 @@ invariant-loop-entry l = record {
   count : l.self-inside.same ≡ length l.self-inside.current.entries.items;
   alike : BeginAlike l.self-inside.same l.self-inside.current.entries.items l.self-inside.past.entries.items;
   current : AreDefined l.fn.self.keys l.self-inside.current;
+  room : length l.self-inside.current.entries.items + l.lines ≤ vec_capacity l.self-inside.current.entries;
   going : Going l.number l.fn.self.symbols (symbols_in l.fn.self.keys l.self-inside.current.entries.items);
 }
 

@@ -1,5 +1,0 @@
-use Rattle.chip_asm.specs.inner.Resume.{AreSteady}
-use Rattle.chip_asm.proofs.relayout.steady_lines.Given as goal
-
-abbrev pub invariant-loop-index : goal.invariant-loop-index
-invariant-loop-index l = AreSteady l.lines l.index

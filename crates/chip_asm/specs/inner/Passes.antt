@@ -1,0 +1,162 @@
+-- What is known while the two passes go over the lines after an edit (own).
+use Rattle.std.specs.Prelude.{◌≡◌, ℕ, ◌+◌, ◌-◌, ◌<◌, ◌≤◌, ◌⊎◌, ◌&&◌, Bool, true, false, List, length, reverse, Option, Some, Result, nat_le, nat_lt, slice_get, slice_index, sum_by, vec_len, vec_capacity}
+use Rattle.std.specs.Option.{option_map_or}
+use Rattle.chip_lang.specs.declared.fault.Fault.{Fault}
+use Rattle.chip_lang.specs.declared.limits.TheConstants.{IMAGE_BYTES, IMAGE_START}
+use Rattle.chip_lang.specs.Code.{own_bytes}
+use Rattle.chip_lang.specs.Line.{Reading}
+use Rattle.chip_asm.specs.declared.codes.Coding.{Coding}
+use Rattle.chip_asm.specs.declared.codes.Coding.TheVariants.{Pending}
+use Rattle.chip_asm.specs.declared.limits.TheConstants.{MOST_LINES}
+use Rattle.chip_asm.specs.declared.pass.Pass.{Pass}
+use Rattle.chip_asm.specs.declared.placement.Placement.{Placement}
+use Rattle.chip_asm.specs.declared.waiting.Waiting.{Waiting}
+use Rattle.chip_asm.specs.Layout.{Placed, body_of, takes_effect}
+use Rattle.chip_asm.specs.Names.{values_of}
+use Rattle.chip_asm.specs.Program.{bytes_in_code, code_under, fault_in_code, fault_of, names_of_lines}
+use Rattle.chip_asm.specs.Work.{is_accepted_in}
+use Rattle.chip_asm.specs.computed.Walk.{placed}
+use Rattle.chip_asm.specs.inner.Codes.{coding_of, count_of}
+use Rattle.chip_asm.specs.inner.Infos.{AreInfos}
+use Rattle.chip_asm.specs.inner.KeptLine.{KeptLine}
+use Rattle.chip_asm.specs.inner.Layouts.{placements_of}
+use Rattle.chip_asm.specs.inner.Placements.{is_placed}
+use Rattle.chip_asm.specs.inner.Recode.{has_code, is_placed_at, count_up_to}
+use Rattle.chip_asm.specs.inner.Records.{readings_in}
+use Rattle.chip_asm.specs.inner.Resume.{IsWalked}
+use Rattle.chip_asm.specs.inner.Tables.{Tables}
+
+-- an edit: the lines before and after it, and where the line at a place stood
+pub record Change : Type 0 where
+  pub was : List Reading
+  pub now : List Reading
+  pub origin : ℕ → Option ℕ
+
+-- a line that stood somewhere is the same
+abbrev pub IsChange : Change → Type 0
+IsChange e =
+    (j b : ℕ) → e.origin j ≡ Some b → j < length e.now → slice_get e.was b ≡ slice_get e.now j
+
+-- the line at a place stood before the edit, and was accepted there
+abbrev pub stood : Change → ℕ → Bool
+stood e j = option_map_or (is_placed_at (placements_of e.was)) (e.origin j) false
+
+-- the line at a place, as it is placed after the edit
+abbrev pub placed_at : Change → ℕ → Option Placed
+placed_at e j = slice_get (reverse (placed e.now)) j
+
+-- the code of a line under the names before the edit
+abbrev pub code_before : Change → Reading → Result (List ℕ) Fault
+code_before e line = own_bytes (body_of line) (values_of (names_of_lines e.was))
+
+-- the byte at a place of an image is one of so many from an address on
+abbrev pub is_byte_of : (here size k : ℕ) → Bool
+is_byte_of here size k = nat_le here (IMAGE_START + k) && nat_lt (IMAGE_START + k) (here + size)
+
+-- a code stands at an address of an image, with zeros behind it, or its fault is noted
+pub record HasCode (code : Result (List ℕ) Fault) (here size : ℕ) (c : Coding) (image : List ℕ) : Type 0 where
+  pub bytes : (k : ℕ) → is_byte_of here size k ≡ true
+      → slice_index image k ≡ slice_index (bytes_in_code code) (IMAGE_START + k - here)
+  pub coding : c ≡ coding_of (fault_in_code code)
+
+-- what is known of the line at a place that the first pass has yet to pass: `q` and `c` are what was
+-- known of it before the edit, if it was accepted then
+pub record IsSlot (e : Change) (from : List ℕ) (j : ℕ) (line : Reading) (q : Placement) (c : Coding) : Type 0 where
+  pub accepted : is_placed q ≡ stood e j
+  pub was : is_placed q ≡ true
+      → (b : ℕ) × (e.origin j ≡ Some b) × (slice_get (placements_of e.was) b ≡ Some q)
+  pub code : is_placed q ≡ true → HasCode (code_before e line) q.here q.size c from
+
+-- an accepted line with code, which wasn't accepted before, waits for it
+pub record Waits (e : Change) (j : ℕ) (x : Placed) (c : Coding) (image : List ℕ) : Type 0 where
+  pub pending : c ≡ Pending
+  pub coded : has_code (body_of x.line) ≡ true
+  pub new : stood e j ≡ false
+  pub zeros : (k : ℕ) → is_byte_of x.here x.size k ≡ true → slice_index image k ≡ 0
+
+-- an accepted line waits for its code, or has the one that it had before the edit
+abbrev pub IsCarried : Change → (j : ℕ) (x : Placed) (c : Coding) (image : List ℕ) → Type 0
+IsCarried e j x c image =
+    Waits e j x c image ⊎ HasCode (code_before e x.line) x.here x.size c image
+
+-- what is known of a line that the first pass has passed
+pub record IsHeld (e : Change) (j : ℕ) (x : Placed) (c : Coding) (image : List ℕ) : Type 0 where
+  pub refused : takes_effect x ≡ false → c ≡ coding_of x.fault
+  pub accepted : takes_effect x ≡ true → IsCarried e j x c image
+
+-- the bytes of an image that none of the lines up to a place covers are zeros
+abbrev pub AreGapsZero : Change → (place : ℕ) (image : List ℕ) → Type 0
+AreGapsZero e place image =
+    (k : ℕ) → k < IMAGE_BYTES
+    → ((j : ℕ) (x : Placed) → j < place → placed_at e j ≡ Some x → is_byte_of x.here x.size k ≡ false)
+    → slice_index image k ≡ 0
+
+-- the faults are counted, and the lines that wait stand between these places
+pub record IsTally (codings : List Coding) (w : Waiting) : Type 0 where
+  pub counted : w.count ≡ sum_by count_of codings
+  pub low : (j : ℕ) → slice_get codings j ≡ Some Pending → w.start ≤ j
+  pub high : (j : ℕ) → slice_get codings j ≡ Some Pending → j < w.end
+  pub within : w.end ≤ length codings
+
+-- so many lines can be passed without another growth
+pub record HasRoom (pass : Pass) (left : ℕ) : Type 0 where
+  pub blocks : vec_len pass.blocks + left ≤ vec_capacity pass.blocks
+  pub names : length pass.names.symbols + left ≤ pass.names.room
+
+-- the first pass stands at a place
+pub record IsUnderWay (e : Change) (lines : List KeptLine) (pass : Pass) (placements : List Placement)
+    (codings : List Coding) (w : Waiting) (from image : List ℕ) (place : ℕ) : Type 0 where
+  pub now : e.now ≡ readings_in lines
+  pub change : IsChange e
+  pub few : length lines ≤ MOST_LINES
+  pub inside : place ≤ length lines
+  pub placed_many : length placements ≡ length lines
+  pub coded_many : length codings ≡ length lines
+  pub from_long : length from ≡ IMAGE_BYTES
+  pub image_long : length image ≡ IMAGE_BYTES
+  pub infos : AreInfos pass.names.keys lines
+  pub before : pass.names.before ≡ names_of_lines e.was
+  pub walked : IsWalked placements pass e.now place
+  pub room : HasRoom pass (length lines - place)
+  pub tally : IsTally codings w
+  pub slots : (j : ℕ) (line : Reading) (q : Placement) (c : Coding) → place ≤ j
+      → slice_get e.now j ≡ Some line → slice_get placements j ≡ Some q → slice_get codings j ≡ Some c
+      → IsSlot e from j line q c
+  pub held : (j : ℕ) (x : Placed) (c : Coding) → j < place
+      → placed_at e j ≡ Some x → slice_get codings j ≡ Some c → IsHeld e j x c image
+  pub gaps : AreGapsZero e place image
+
+-- what is known of a line that has its code, and of one that the second pass has yet to look at
+pub record IsDone (e : Change) (x : Placed) (c : Coding) (image : List ℕ) : Type 0 where
+  pub refused : is_accepted_in (placed e.now) x ≡ false → c ≡ coding_of (fault_of (placed e.now) x)
+  pub accepted : is_accepted_in (placed e.now) x ≡ true
+      → HasCode (code_under (placed e.now) x) x.here x.size c image
+
+pub record IsHalfDone (e : Change) (j : ℕ) (x : Placed) (c : Coding) (image : List ℕ) : Type 0 where
+  pub refused : is_accepted_in (placed e.now) x ≡ false → c ≡ coding_of (fault_of (placed e.now) x)
+  pub accepted : is_accepted_in (placed e.now) x ≡ true → IsCarried e j x c image
+
+-- the second pass stands at a place
+pub record AreCoded (e : Change) (codings : List Coding) (image : List ℕ) (place : ℕ) : Type 0 where
+  pub coded_many : length codings ≡ length e.now
+  pub image_long : length image ≡ IMAGE_BYTES
+  pub done : (j : ℕ) (x : Placed) (c : Coding) → j < place
+      → placed_at e j ≡ Some x → slice_get codings j ≡ Some c → IsDone e x c image
+  pub half : (j : ℕ) (x : Placed) (c : Coding) → place ≤ j
+      → placed_at e j ≡ Some x → slice_get codings j ≡ Some c → IsHalfDone e j x c image
+  pub gaps : AreGapsZero e (length e.now) image
+
+-- the second pass is over the lines of the edit, under their symbols
+pub record IsEncodedUnder (e : Change) (names : Tables) (lines : List KeptLine) : Type 0 where
+  pub now : e.now ≡ readings_in lines
+  pub change : IsChange e
+  pub symbols : names.symbols ≡ names_of_lines e.now
+  pub before : names.before ≡ names_of_lines e.was
+
+abbrev pub is_pending : Coding → Bool
+is_pending Pending = true
+is_pending _ = false
+
+-- how many of the lines before a place are encoded again
+abbrev pub again_up_to : Change → ℕ → ℕ
+again_up_to e place = count_up_to e.was e.now e.origin place

@@ -1,0 +1,204 @@
+//! The two passes over the lines after an edit.
+ghost use Rattle.std.specs.Prelude.{◌≡◌, ◌+◌, ◌<◌, ◌≤◌, ◌&&◌, ◌||◌, not, true, length, Ok};
+ghost use Rattle.chip_lang.specs.Uses.{agree_on};
+ghost use Rattle.chip_asm.specs.Layout.{body_of, value_at};
+ghost use Rattle.chip_asm.specs.Names.{values_of};
+ghost use Rattle.chip_lang.specs.declared.limits.TheConstants.{IMAGE_BYTES};
+ghost use Rattle.chip_asm.specs.inner.Codes.{is_coded};
+ghost use Rattle.chip_asm.specs.inner.HeldLine.{IsKnownUnder};
+ghost use Rattle.chip_asm.specs.inner.Infos.{AreInfos, IsInfo};
+ghost use Rattle.chip_asm.specs.inner.Layouts.{placements_of};
+ghost use Rattle.chip_asm.specs.inner.Passes.{AreCoded, Change, IsEncodedUnder, IsTally, IsUnderWay, again_up_to, is_pending};
+ghost use Rattle.chip_asm.specs.inner.Placements.{is_placed};
+ghost use Rattle.chip_asm.specs.inner.Records.{reading_in, readings_in};
+ghost use Rattle.chip_asm.specs.inner.Resume.{AreSteady};
+
+use crate::codes::{Coding, copy_code, write_line};
+use crate::kept_line::BoxedLine;
+use crate::line_info::Uses;
+use crate::pass::Pass;
+use crate::placement::Placement;
+use crate::table::Table;
+use crate::waiting::Waiting;
+use chip_lang::Meter;
+use chip_lang::laws::{kept_value, same_code};
+use std::ops::Range;
+
+/// How many lines before a place are steady, up to the first that isn't, where so many are known to
+/// be.
+pub(crate) fn steady_lines(lines: &[BoxedLine], known: usize, place: usize) -> usize
+    requires place { place ≤ length lines.now }
+    requires within { known ≤ place }
+    requires known { AreSteady lines.now known }
+    ensures after { known ≤ result }
+    ensures within { result ≤ place }
+    ensures steady { AreSteady lines.now result }
+{
+    for index in known..place {
+        if !lines[index].info().is_steady {
+            return index;
+        }
+    }
+    place
+}
+
+/// Whether the names of a line have the values, or none, that they had before the edit.
+#[inline(always)]
+fn keeps_values(names: &Table, kept: &BoxedLine) -> bool
+    requires { IsInfo names.now.keys kept.now.info kept.now.several (reading_in kept.now) }
+    ensures { result
+        ≡ agree_on (values_of names.now.before) (values_of names.now.symbols)
+        (reading_in kept.now) }
+{
+    match kept.info().uses {
+        Uses::Nothing => true,
+        Uses::One(id) => names.keeps_value(id),
+        Uses::Several => names.keep_values(kept.numbers()),
+    }
+}
+
+/// The value of the expression of a line, where it is known: it is constant, or the line was accepted
+/// before and its names keep their values.
+#[inline(never)]
+fn known_value(names: &Table, kept: &BoxedLine, was: &Placement) -> Option<i32>
+    requires info { IsInfo names.now.keys kept.now.info kept.now.several (reading_in kept.now) }
+    requires was { is_placed was.now ≡ true
+        → agree_on (values_of names.now.before) (values_of names.now.symbols) (reading_in kept.now)
+        ≡ true
+        → value_at names.now.symbols (body_of (reading_in kept.now)) ≡ Ok was.now.value }
+    ensures { IsKnownUnder names.now.symbols result (reading_in kept.now) }
+{
+    if let Some(value) = kept.constant() {
+        return Some(value);
+    }
+    if was.is_accepted() && keeps_values(names, kept) {
+        Some(was.value)
+    } else {
+        None
+    }
+}
+
+/// The first pass over the line at a place. A line that was accepted and still is takes its code along
+/// from the image before; another one that is accepted waits for its code.
+fn pass_line(
+    pass: &mut Pass,
+    lines: &[BoxedLine],
+    placements: &mut [Placement],
+    codings: &mut [Coding],
+    waiting: &mut Waiting,
+    from: &[u8],
+    image: &mut [u8],
+    place: usize,
+)
+    requires under_way { (e : Change) × IsUnderWay e lines.now pass.old placements.old codings.old
+        waiting.old from.now image.old place }
+    requires inside { place < length lines.now }
+    ensures { (e : Change)
+        → IsUnderWay e lines.now pass.old placements.old codings.old waiting.old from.now image.old
+        place
+        → IsUnderWay e lines.now pass.new placements.new codings.new waiting.new from.now image.new
+        (place + 1) }
+{
+    kept_value();
+    same_code();
+    let kept = &lines[place];
+    let was = placements[place];
+    let known = known_value(&pass.names, kept, &was);
+    let (line, defines, numbers) = (kept.line(), kept.info().defines, kept.numbers());
+    pass.step(placements, place, known, line, defines, numbers);
+    let now = placements[place];
+    if !now.is_accepted() {
+        waiting.set(codings, place, Coding::of(now.fault));
+    } else if was.is_accepted() {
+        copy_code(&was, &now, from, image);
+    } else {
+        waiting.wait(codings, place, kept.info().is_coded);
+    }
+}
+
+/// The first pass over the lines from a place on.
+pub(crate) fn walk(
+    pass: &mut Pass,
+    lines: &[BoxedLine],
+    placements: &mut [Placement],
+    codings: &mut [Coding],
+    waiting: &mut Waiting,
+    from: &[u8],
+    image: &mut [u8],
+    first: usize,
+)
+    requires { (e : Change) × IsUnderWay e lines.now pass.old placements.old codings.old waiting.old
+        from.now image.old first }
+    ensures { (e : Change)
+        → IsUnderWay e lines.now pass.old placements.old codings.old waiting.old from.now image.old
+        first
+        → IsUnderWay e lines.now pass.new placements.new codings.new waiting.new from.now image.new
+        (length lines.now) }
+{
+    let mut place = pass.run(lines, placements, codings, waiting, from, image, first);
+    while place < lines.len() {
+        pass_line(
+            pass, lines, placements, codings, waiting, from, image, place,
+        );
+        place = pass.run(lines, placements, codings, waiting, from, image, place + 1);
+    }
+}
+
+/// Whether a line is to be encoded.
+#[inline(always)]
+fn is_again(names: &Table, kept: &BoxedLine, placement: &Placement, coding: Coding) -> bool
+    requires { IsInfo names.now.keys kept.now.info kept.now.several (reading_in kept.now) }
+    ensures { result
+        ≡ (is_pending coding
+        || (not (agree_on (values_of names.now.before) (values_of names.now.symbols)
+        (reading_in kept.now)) && is_coded kept.now placement.now)) }
+{
+    if let Coding::Pending = coding {
+        return true;
+    }
+    !keeps_values(names, kept) && placement.is_accepted() && kept.info().is_coded
+}
+
+/// The second pass, over the lines of some places. A line is encoded if it waits for its code, or if
+/// its names have other values than before the edit.
+#[inline(never)]
+pub(crate) fn encode_lines(
+    meter: &mut Meter,
+    names: &Table,
+    lines: &[BoxedLine],
+    placements: &[Placement],
+    codings: &mut [Coding],
+    waiting: &mut Waiting,
+    image: &mut [u8],
+    places: Range<usize>,
+)
+    requires ordered { places.start ≤ places.end }
+    requires within { places.end ≤ length lines.now }
+    requires infos { AreInfos names.now.keys lines.now }
+    requires laid { placements.now ≡ placements_of (readings_in lines.now) }
+    requires many { length codings.old ≡ length lines.now }
+    requires long { length image.old ≡ IMAGE_BYTES }
+    requires tally { IsTally codings.old waiting.old }
+    ensures tally { IsTally codings.new waiting.new }
+    ensures start { waiting.new.start ≡ waiting.old.start }
+    ensures end { waiting.new.end ≡ waiting.old.end }
+    ensures coded { (e : Change) → IsEncodedUnder e names.now lines.now
+        → AreCoded e codings.old image.old places.start
+        → AreCoded e codings.new image.new places.end }
+    ensures encoded { (e : Change) → IsEncodedUnder e names.now lines.now
+        → AreCoded e codings.old image.old places.start
+        → meter.new.encoded + again_up_to e places.start
+        ≤ meter.old.encoded + again_up_to e places.end }
+    ensures not_lowered { meter.old.encoded ≤ meter.new.encoded }
+    ensures parsed { meter.new.parsed ≡ meter.old.parsed }
+{
+    same_code();
+    for place in places.start..places.end {
+        let kept = &lines[place];
+        let placement = &placements[place];
+        if is_again(names, kept, placement, codings[place]) {
+            let fault = write_line(meter, names, kept, placement, image);
+            waiting.set(codings, place, Coding::of(fault));
+        }
+    }
+}
