@@ -1,29 +1,12 @@
 //! A session that takes its commands as text, and counts.
 
 use anyhow::{Error, bail};
-use chip_bench::{Bench, Change, Command, CommandFault, Question, Refusal, Settings, read_command};
+use chip_bench::{Bench, Settings};
+use chip_session::respond;
 use std::alloc::Global;
 
-// What a bench does, without its clauses, so that callers are proved fast.
-fn read(command: &[u8]) -> Result<Command<'_>, CommandFault> {
-    read_command(command)
-}
-
-fn ask(
-    alloc: Global,
-    bench: &mut Bench,
-    question: &Question,
-    written: &mut Vec<u8>,
-) -> Result<(), Refusal> {
-    bench.ask(alloc, question, written)
-}
-
-fn apply(alloc: Global, bench: &mut Bench, change: &Change<'_>) -> Result<(), Refusal> {
-    bench.apply(alloc, change)
-}
-
-/// A session, and how many steps it had made before the last command.
-#[derive(Drop)]
+/// A session, and how many steps it had made before the last command. It has no `Drop`: `close` ends
+/// it, so that the proof need not look at each part of a bench.
 pub(crate) struct Session {
     bench: Bench,
     ran_before: u64,
@@ -39,36 +22,21 @@ impl Session {
         })
     }
 
+    /// Ends the session.
+    pub(crate) fn close(self) {
+        let Session {
+            bench,
+            ran_before: _ran_before,
+        } = self;
+        bench.close();
+    }
+
     /// Carries out a command, and gives its answer.
     pub(crate) fn carry_out(&mut self, alloc: Global, command: &str) -> Result<String, Error> {
         self.ran_before = self.bench.ran();
-        let mut written = Vec::new(alloc);
-        if let Some(code) = self.code_of(alloc, command.as_bytes(), &mut written)? {
-            written.extend_from_slice(b"no ")?;
-            written.extend_from_slice(code)?;
-        }
-        Ok(String::from_utf8_lossy(alloc, &written)?)
-    }
-
-    /// Carries out a command, and gives the code of its refusal.
-    fn code_of(
-        &mut self,
-        alloc: Global,
-        command: &[u8],
-        written: &mut Vec<u8>,
-    ) -> Result<Option<&'static [u8]>, Error> {
-        let carried_out = match read(command) {
-            Err(fault) => return Ok(Some(fault.code())),
-            Ok(Command::Blank) => return Ok(None),
-            Ok(Command::Ask(question)) => ask(alloc, &mut self.bench, &question, written),
-            Ok(Command::Change(change)) => apply(alloc, &mut self.bench, &change),
-        };
-        match carried_out {
-            Ok(()) if written.is_empty() => written.extend_from_slice(b"ok")?,
-            Ok(()) => (),
-            Err(refusal) => return Ok(Some(refusal.code())),
-        }
-        Ok(None)
+        let mut answer = Vec::new(alloc);
+        respond(alloc, &mut self.bench, command.as_bytes(), &mut answer)?;
+        Ok(String::from_utf8_lossy(alloc, &answer)?)
     }
 
     /// Whether a count is as wanted, `LEAST MOST` or `MOST`: `yes`, or `no` and the count.

@@ -210,4 +210,8 @@ impl Bench {
     {
         self.run.ran()
     }
+
+    /// Ends the session. That its parts are let go is then proved here, and not in each crate that
+    /// holds a bench.
+    pub fn close(self) {}
 }
