@@ -1,27 +1,23 @@
 -- What `explore` did, from what its steps did.
-use Rattle.std.proofs.Common.{◌≡◌, ◌⊎◌, ◌∙◌, inl, inr, ℕ, List, ◌++◌, Option, Some, None, Ok, Err, refl, sym, ap, subst}
-use Rattle.std.specs.Prelude.{option_copied}
+use Rattle.std.proofs.Common.{◌≡◌, ◌⊎◌, inl, inr, ℕ, List, ◌++◌, Option, Some, None, Ok, Err, sym, subst}
+use Rattle.std.specs.Prelude.{MatchOption, option_copied}
 use Rattle.chip_arguments.specs.declared.command_line.ExploreWords.{ExploreWords}
 use Rattle.chip_asm.specs.Lines.{lines_of, open_fault}
 use Rattle.chip_asm.specs.Program.{image_of, symbols_of}
-use Rattle.chip_asm.specs.declared.refusal.OpenError.{OpenError}
-use Rattle.chip_asm.specs.declared.refusal.OpenError.TheVariants as unopened
 use Rattle.chip_explore.specs.Answers.{Answers, AreExecuted}
 use Rattle.chip_explore.specs.declared.question.Explored.{Explored}
 use Rattle.chip_explore.specs.declared.target.Target.{Target}
 use Rattle.chip_machine.specs.Start.{start_of}
 use Rattle.chip_machine.specs.State.{State}
-use Rattle.chip_machine.specs.declared.profile.Profile.{Profile}
 use Rattle.chip_session.specs.Settings.{SessionSettings}
 use Rattle.chip_session.specs.Tally.{Tally}
-use Rattle.chip_bench.specs.Doing.{Declined, Explores, FromGiven, IfSets, IfSettled, IsBadPlace, IsBadSet, IsShort, Outcome, Searches, SearchesFrom, WithSets, image_if_opened, image_in}
+use Rattle.chip_bench.specs.Doing.{Declined, Explores, Fails, FromGiven, IfSets, IfSettled, IsBadPlace, IsBadSet, IsShort, Outcome, Searches, SearchesFor, SearchesFrom, WithSets, image_in}
 use Rattle.chip_bench.specs.Exploring.{AsksCauses, AsksKeys, covering_text, first_lines, search_ending, target_asked}
-use Rattle.chip_bench.specs.Printing.{Prints, Refuses, printed, printed_faults, unopened_text}
+use Rattle.chip_bench.specs.Printing.{Prints, printed, printed_faults}
 use Rattle.chip_bench.specs.SettingWords.{settings_asked}
 use Rattle.chip_bench.specs.declared.ending.Ending.{Ending}
-use Rattle.chip_bench.specs.declared.ending.Ending.TheVariants.{Done, Faulty}
+use Rattle.chip_bench.specs.declared.ending.Ending.TheVariants.{Done}
 use Rattle.chip_bench.specs.declared.ending.Failure.{Failure}
-use Rattle.chip_bench.specs.declared.ending.Failure.TheVariants as failure
 use Rattle.chip_bench.specs.inner.Reads.{IsGiven, IsNotGiven}
 use Rattle.chip_bench.specs.inner.Sets.{IsBadSets}
 use Rattle.chip_bench.proofs.DoingLemmas.{Unsettles, declines, fails, given_next, settles, unsettles}
@@ -44,73 +40,34 @@ module _ {W : Type 0} (contents : W → Option (List ℕ)) (out_old out_new : Ta
     abbrev Searched : Option (List ℕ) → Type 0
     Searched image = Searches contents out_old out_new words settings causes keys image source ended
 
-    -- memory ran out
-    pub searches_short : ended ≡ Err failure.OutOfMemory → out_new ≡ out_old → Searched (image_in source)
-    searches_short e same = by_image (image_in source)
-      where
-        by_image : (image : Option (List ℕ)) → Searched image
-        by_image (Some image) = inr (fails IsShort ended failure.OutOfMemory e refl, same)
-        by_image None = rw e same
+    -- what a search of the machine of an image did, for a target that a source of these lines has
+    abbrev ByTarget : List (List ℕ) → List ℕ → Option Target → Type 0
+    ByTarget lines image target =
+        MatchOption target (Fails contents out_old out_new IsBadPlace ended)
+        (λ found. SearchesFrom contents out_old out_new words lines settings.rate keys found (start_of image settings.tape settings.profile) ended)
 
-    opened_image : (fault : Option OpenError) (image : Option (List ℕ)) → open_fault source ≡ fault → image_of (lines_of source) ≡ image →
-        image_in source ≡ image_if_opened fault image
-    opened_image fault image f i =
-        ap (λ (x : Option OpenError). image_if_opened x (image_of (lines_of source))) f ∙ ap (λ (x : Option (List ℕ)). image_if_opened fault x) i
+    -- the same for the image, if such a source has one
+    abbrev ByImage : List (List ℕ) → Option (List ℕ) → Type 0
+    ByImage lines image =
+        MatchOption image (Prints contents out_old out_new (printed_faults lines) ended)
+        (λ found. ByTarget lines found (target_asked causes (option_copied words.place) (symbols_of lines)) ⊎ Fails contents out_old out_new IsShort ended)
 
-    -- the source doesn't open
-    unopened_by : (fault : OpenError) → open_fault source ≡ Some fault → Prints contents out_old out_new (printed (unopened_text fault) Faulty) ended →
+    -- the source opens
+    pub searches_opened : (lines : List (List ℕ)) → open_fault source ≡ None → lines ≡ lines_of source → ByImage lines (image_of lines) →
         Searched (image_in source)
-    unopened_by fault is prints = rw (opened_image (Some fault) (image_of (lines_of source)) is refl, is) prints
-
-    pub searches_unopened : (fault : OpenError) → (fault ≡ unopened.OutOfMemory) ⊎ (open_fault source ≡ Some fault) →
-        Refuses contents out_old out_new fault ended → Searched (image_in source)
-    searches_unopened unopened.OutOfMemory is refused = searches_short refused.0 refused.1
-    searches_unopened (unopened.LineTooLong number) (inl none) refused = absurd (no_memory none)
+    searches_opened lines opens same did =
+        let at_lines = subst (λ (l : List (List ℕ)). ByImage l (image_of l)) same did in
+        rw opens (by_image (image_of (lines_of source)) at_lines)
       where
-        no_memory : unopened.LineTooLong number ≡ unopened.OutOfMemory → ⊥
-        no_memory h = cc
-    searches_unopened (unopened.LineTooLong number) (inr is) refused = unopened_by (unopened.LineTooLong number) is refused
-    searches_unopened unopened.TooManyLines (inl none) refused = absurd (no_memory none)
-      where
-        no_memory : unopened.TooManyLines ≡ unopened.OutOfMemory → ⊥
-        no_memory h = cc
-    searches_unopened unopened.TooManyLines (inr is) refused = unopened_by unopened.TooManyLines is refused
+        by_target : (image : List ℕ) (target : Option Target) → ByTarget (lines_of source) image target →
+            SearchesFor contents out_old out_new words settings keys target image source ended
+        by_target image None did = did
+        by_target image (Some target) did = did
 
-    -- it has faults
-    pub searches_faults : (lines : List (List ℕ)) → open_fault source ≡ None → lines ≡ lines_of source → image_of lines ≡ None →
-        Prints contents out_old out_new (printed_faults lines) ended → Searched (image_in source)
-    searches_faults lines opens same none prints =
-        let at_lines = subst (λ (l : List (List ℕ)). image_of l ≡ None) same none in
-        rw (opened_image None None opens at_lines, opens)
-        (subst (λ (l : List (List ℕ)). Prints contents out_old out_new (printed_faults l) ended) same prints)
-
-    with_image : (image : List ℕ) (lines : List (List ℕ)) → open_fault source ≡ None → lines ≡ lines_of source → image_of lines ≡ Some image →
-        image_in source ≡ Some image
-    with_image image lines opens same is =
-        opened_image None (Some image) opens (subst (λ (l : List (List ℕ)). image_of l ≡ Some image) same is)
-
-    -- it doesn't have the place
-    pub searches_nowhere : (image : List ℕ) (lines : List (List ℕ)) (target : Option Target) (why : Failure) → open_fault source ≡ None →
-        lines ≡ lines_of source → image_of lines ≡ Some image → target ≡ None → target ≡ target_asked causes (option_copied words.place) (symbols_of lines) →
-        ended ≡ Err why → IsBadPlace why → out_new ≡ out_old → Searched (image_in source)
-    searches_nowhere image lines target why opens same is none asked e bad quiet =
-        let at_lines = subst (λ (l : List (List ℕ)). target ≡ target_asked causes (option_copied words.place) (symbols_of l)) same asked in
-        rw (with_image image lines opens same is, sym at_lines, none) (inl (fails IsBadPlace ended why e bad, quiet))
-
-    -- its machine was searched
-    pub searches_done : (image text tape : List ℕ) (lines : List (List ℕ)) (target : Target) (rate : ℕ) (profile : Profile) (start : State) →
-        open_fault source ≡ None → lines ≡ lines_of source → image_of lines ≡ Some image →
-        Some target ≡ target_asked causes (option_copied words.place) (symbols_of lines) → rate ≡ settings.rate → text ≡ image → tape ≡ settings.tape →
-        profile ≡ settings.profile → start ≡ start_of text tape profile → SearchesFrom contents out_old out_new words lines rate keys target start ended →
-        Searched (image_in source)
-    searches_done image text tape lines target rate profile start opens same is asked r t a p s did =
-        let at_lines = subst (λ (l : List (List ℕ)). Some target ≡ target_asked causes (option_copied words.place) (symbols_of l)) same asked in
-        let begun : start ≡ start_of image settings.tape settings.profile =
-        s ∙ ap (λ x. start_of x tape profile) t ∙ ap (λ x. start_of image x profile) a ∙ ap (λ x. start_of image settings.tape x) p in
-        let did_lines = subst (λ (l : List (List ℕ)). SearchesFrom contents out_old out_new words l rate keys target start ended) same did in
-        let did_rate = subst (λ (n : ℕ). SearchesFrom contents out_old out_new words (lines_of source) n keys target start ended) r did_lines in
-        let did_start = subst (λ (m : State). SearchesFrom contents out_old out_new words (lines_of source) settings.rate keys target m ended) begun did_rate in
-        rw (with_image image lines opens same is, sym at_lines) (inl did_start)
+        by_image : (image : Option (List ℕ)) → ByImage (lines_of source) image → Searched image
+        by_image None did = rw opens did
+        by_image (Some image) (inl did) = inl (by_target image (target_asked causes (option_copied words.place) (symbols_of (lines_of source))) did)
+        by_image (Some image) (inr short) = inr short
 
 module _ {R W : Type 0} (remaining : R → Option (List ℕ)) (contents : W → Option (List ℕ)) (in_old in_new : Tally R) (out_old out_new : Tally W)
     (words : ExploreWords) (ended : Outcome) where

@@ -36,9 +36,9 @@ use chip_trace::{Columns, Form, HeaderError};
 use clap::error::ErrorKind;
 use std::alloc::Global;
 use std::convert::AsStr;
-use std::io;
 use std::io::{Read, Write};
 use std::rt::Files;
+use std::{io, mem};
 
 /// What the program is told of the system that it runs on.
 #[derive(Clone, Copy)]
@@ -152,23 +152,29 @@ fn carry_out<'a, F: FileAccess, S: AsStr, I: Read, O: Write, E: Write>(
         → ShowsVersion I.remaining O.contents input.old input.new output.old output.new result }
 {
     match parse_words(alloc, words) {
-        Ok(line) => perform(alloc, files, host, line, input, output, errors),
+        Ok(line) => {
+            let ended = perform(alloc, files, host, &line, input, output, errors);
+            // The program ends here, and its memory goes back at once.
+            mem::forget(line);
+            ended
+        }
         Err(help) if !help.use_stderr() => show_help(alloc, &help, output),
         Err(fault) => Err(Failure::from(fault)),
     }
 }
 
+// The words are looked at behind a reference, since the arms would else each let go of what they took.
 fn perform<'a, F: FileAccess, I: Read, O: Write, E: Write>(
     alloc: Global,
     files: &F,
     host: Host,
-    line: CommandLine<'a>,
+    line: &CommandLine<'a>,
     input: &mut Counted<I>,
     output: &mut Counted<O>,
     errors: &mut E,
 ) -> Result<Ending, Failure<'a>>
     ensures { Does I.remaining O.contents input.old input.new output.old output.new
-        host.takes_color line.entry result }
+        host.takes_color line.entry.now result }
 {
     match line {
         CommandLine::Debug {
@@ -176,27 +182,38 @@ fn perform<'a, F: FileAccess, I: Read, O: Write, E: Write>(
             is_image,
             settings,
         } => {
-            let given = Given { source, is_image };
-            let seed = host.name_seed;
-            debug(alloc, files, seed, given, &settings, input, output, errors)
+            let given = Given {
+                source: *source,
+                is_image: *is_image,
+            };
+            debug(
+                alloc,
+                files,
+                host.name_seed,
+                given,
+                settings,
+                input,
+                output,
+                errors,
+            )
         }
-        CommandLine::Asm { source, image } => asm(alloc, files, source, image, input, output),
+        CommandLine::Asm { source, image } => asm(alloc, files, *source, *image, input, output),
         CommandLine::List { source, is_hex } => {
-            list(alloc, files, source, is_hex, input, output)
+            list(alloc, files, *source, *is_hex, input, output)
         }
         CommandLine::Syms { source, is_hex } => {
-            syms(alloc, files, source, is_hex, input, output)
+            syms(alloc, files, *source, *is_hex, input, output)
         }
-        CommandLine::Check(words) => { check(alloc, files, host, &words, input, output, errors) }
-        CommandLine::Dis { image } => dis(alloc, files, image, input, output),
-        CommandLine::Run(words) => run(alloc, files, &words, input, output, errors),
-        CommandLine::Trace(words) => trace(alloc, files, &words, input, output, errors),
-        CommandLine::Picture(words) => picture(alloc, files, &words, input, output, errors),
-        CommandLine::Test(words) => test_files(alloc, files, &words, output),
+        CommandLine::Check(words) => check(alloc, files, host, words, input, output, errors),
+        CommandLine::Dis { image } => dis(alloc, files, *image, input, output),
+        CommandLine::Run(words) => run(alloc, files, words, input, output, errors),
+        CommandLine::Trace(words) => trace(alloc, files, words, input, output, errors),
+        CommandLine::Picture(words) => picture(alloc, files, words, input, output, errors),
+        CommandLine::Test(words) => test_files(alloc, files, words, output),
         CommandLine::Explore(words) => {
-            explore(alloc, files, host.has_reader, &words, input, output, errors)
+            explore(alloc, files, host.has_reader, words, input, output, errors)
         }
-        CommandLine::Explain { code } => explain(alloc, code, output),
+        CommandLine::Explain { code } => explain(alloc, *code, output),
     }
 }
 

@@ -1,9 +1,10 @@
 //! `explore`: what a search over all key scripts answers of a source's image.
-ghost use Rattle.std.specs.Prelude.{◌≡◌, ◌<◌, ◌++◌, ℕ, List, IfOk, IfErr, OnOk, option_copied};
+ghost use Rattle.std.specs.Prelude.{◌≡◌, ◌⊎◌, ◌<◌, ◌++◌, ℕ, List, IfOk, IfErr, MatchOption, OnOk, option_copied};
 ghost use Rattle.std.specs.Fmt.{decimal};
-ghost use Rattle.chip_asm.specs.Program.{symbols_of};
+ghost use Rattle.chip_asm.specs.Program.{image_of, symbols_of};
 ghost use Rattle.chip_machine.specs.Start.{start_of};
-ghost use Rattle.chip_bench.specs.Doing.{Explores, IsScriptUnwritten, Searches, SearchesFrom, image_in};
+ghost use Rattle.chip_bench.specs.Doing.{Explores, Fails, IsBadPlace, IsScriptUnwritten, IsShort, Searches, SearchesFrom, image_in};
+ghost use Rattle.chip_bench.specs.Printing.{Prints, printed_faults};
 ghost use Rattle.chip_bench.specs.Exploring.{address_of, cause_word, covering_text, first_lines, in_memory, met_word, number_line, search_ending, target_asked};
 
 use crate::ending::{Ending, Failure};
@@ -25,6 +26,7 @@ use chip_session::{Counted, Settings, number_of};
 use itoa::Buffer;
 use std::alloc::{AllocError, Global};
 use std::io::{Read, Write};
+use std::mem;
 
 /// `explore`: what a search over all key scripts answers of a source's image, or the faults where
 /// there is no image. Settings and sets are judged before the source is read.
@@ -72,14 +74,42 @@ fn search_source<'a, F: FileAccess, O: Write, W: Watcher>(
     ensures { Searches O.contents output.old output.new words.entry.now settings.now sets.causes
         sets.keys (image_in source.items) source.items result }
 {
-    let opened = match Source::open_bytes(alloc, source) {
-        Ok(opened) => opened,
-        Err(error) => return refuse_source(error, output),
+    match Source::open_bytes(alloc, source) {
+        Ok(opened) => {
+            let ended = search_opened(
+                alloc, files, words, &opened, settings, sets, output, watcher,
+            );
+            // The program ends here, and its memory goes back at once.
+            mem::forget(opened);
+            ended
+        }
+        Err(error) => refuse_source(error, output),
+    }
+}
+
+fn search_opened<'a, F: FileAccess, O: Write, W: Watcher>(
+    alloc: Global,
+    files: &F,
+    words: &ExploreWords<'a>,
+    source: &Source,
+    settings: &Settings,
+    sets: Sets,
+    output: &mut Counted<O>,
+    watcher: &mut W,
+) -> Result<Ending, Failure<'a>>
+    ensures { MatchOption (image_of source.now.lines)
+        (Prints O.contents output.old output.new (printed_faults source.now.lines) result)
+        (λ image. MatchOption (target_asked sets.causes (option_copied words.entry.now.place)
+        (symbols_of source.now.lines)) (Fails O.contents output.old output.new IsBadPlace result)
+        (λ target. SearchesFrom O.contents output.old output.new words.entry.now source.now.lines
+        settings.now.rate sets.keys target
+        (start_of image settings.now.tape settings.now.profile) result)
+        ⊎ Fails O.contents output.old output.new IsShort result) }
+{
+    let Some(image) = source.image() else {
+        return print_faults(alloc, source, output);
     };
-    let Some(image) = opened.image() else {
-        return print_faults(alloc, &opened, output);
-    };
-    let Some(target) = target_of(words, sets.causes, &opened) else {
+    let Some(target) = target_of(words, sets.causes, source) else {
         return Err(Failure::BadPlace(words.place.unwrap_or("")));
     };
     let start = machine_of(alloc, image, settings.tape(), settings.profile())?;
@@ -89,7 +119,7 @@ fn search_source<'a, F: FileAccess, O: Write, W: Watcher>(
         target,
     };
     search(
-        alloc, files, words, &opened, &start, &question, output, watcher,
+        alloc, files, words, source, &start, &question, output, watcher,
     )
 }
 

@@ -1,5 +1,5 @@
 //! What each command reads and prints, from the bytes of a source.
-ghost use Rattle.std.specs.Prelude.{◌≡◌, ◌≤◌, Ok, Err, Some, None, length, IfOk, MatchResult, option_map};
+ghost use Rattle.std.specs.Prelude.{◌≡◌, ◌≤◌, ◌⊎◌, Ok, Err, Some, None, length, IfOk, IfErr, MatchOption, MatchResult, option_map};
 ghost use Rattle.chip_asm.specs.Lines.{lines_of, open_fault};
 ghost use Rattle.chip_asm.specs.Program.{image_of, symbols_of};
 ghost use Rattle.chip_views.specs.Dis.{source_of_image};
@@ -7,7 +7,7 @@ ghost use Rattle.chip_session.specs.Transcript.{refused};
 ghost use Rattle.chip_bench.specs.Printing.{Prints, Refuses, printed, printed_of, printed_faults, printed_listing, printed_run, printed_picture, printed_symbols, listing_shown, symbols_shown, unanswered, unopened_text, keys_failure, PrintsUnder, PrintsUnless};
 ghost use Rattle.chip_session.specs.KeyFile.{key_fault, session_under};
 ghost use Rattle.chip_bench.specs.Running.{AnswersScript};
-ghost use Rattle.chip_bench.specs.Doing.{Explains};
+ghost use Rattle.chip_bench.specs.Doing.{Explains, IsShort};
 ghost use Rattle.chip_bench.specs.inner.Reads.{IsImageHindered, IsImageOrFaults};
 ghost use Rattle.chip_arguments.specs.Version.{version_text};
 
@@ -58,25 +58,38 @@ pub(crate) fn image_or_faults<'a, O: Write>(
         (option_map (λ v. v.items) found))
         (λ failure. IsImageHindered O.contents output.old output.new source.items failure) }
 {
-    let opened = match Source::open_bytes(alloc, source) {
-        Ok(opened) => opened,
-        Err(error) => {
-            refuse_source(error, output)?;
-            return Ok(None);
-        }
-    };
-    match opened.image() {
-        Some(image) => {
-            let image = Vec::from_slice(alloc, image)?;
+    match Source::open_bytes(alloc, source) {
+        Ok(opened) => {
+            let found = image_unless_faulty(alloc, &opened, output);
             // The program ends soon, and its memory goes back at once.
             mem::forget(opened);
-            Ok(Some(image))
+            found
         }
-        None => {
-            print_faults(alloc, &opened, output)?;
+        Err(error) => {
+            refuse_source(error, output)?;
             Ok(None)
         }
     }
+}
+
+fn image_unless_faulty<'a, O: Write>(
+    alloc: Global,
+    source: &Source,
+    output: &mut Counted<O>,
+) -> Result<Option<Vec<u8>>, Failure<'a>>
+    ensures ok { IfOk result (λ found. MatchOption found
+        ((image_of source.now.lines ≡ None) × Prints O.contents output.old output.new
+        (printed_faults source.now.lines) (Ok Ending.Faulty))
+        (λ image. (image_of source.now.lines ≡ Some image.items) × (output.new ≡ output.old))) }
+    ensures err { IfErr result (λ why. (IsShort why × (output.new ≡ output.old))
+        ⊎ ((image_of source.now.lines ≡ None) × Prints O.contents output.old output.new
+        (printed_faults source.now.lines) (Err why))) }
+{
+    let Some(image) = source.image() else {
+        print_faults(alloc, source, output)?;
+        return Ok(None);
+    };
+    Ok(Some(Vec::from_slice(alloc, image)?))
 }
 
 /// `list`: the listing of a source.

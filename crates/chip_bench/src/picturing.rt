@@ -31,12 +31,7 @@ pub(crate) fn picture<'a, F: FileAccess, I: Read, O: Write, E: Write>(
         words: *words,
         asked,
     };
-    match (words.bitmap, words.png) {
-        (None, None) => shot.print(alloc, PictureForm::Text(letters_of(words.ascii)), output),
-        (Some(name), None) => shot.write(alloc, files, PictureForm::Bitmap, name, output),
-        (None, Some(name)) => shot.write(alloc, files, PictureForm::Png, name, output),
-        (Some(bitmap), Some(png)) => shot.write_both(alloc, files, bitmap, png, output),
-    }
+    shot.show(alloc, files, output)
 }
 
 // Which characters stand for the points.
@@ -58,6 +53,29 @@ struct Shot<'a> {
 }
 
 impl<'a> Shot<'a> {
+    // Prints the picture, or writes it to the files that the words name.
+    fn show<F: FileAccess, O: Write>(
+        &self,
+        alloc: Global,
+        files: &F,
+        output: &mut Counted<O>,
+    ) -> Result<Ending, Failure<'a>>
+        ensures { PicturesBy O.contents output.old output.new
+            (settings_asked self.now.words.run.settings) self.now.asked.source.items
+            self.now.asked.keys.bytes.items self.now.words self.now.words.bitmap
+            self.now.words.png result }
+    {
+        match (self.words.bitmap, self.words.png) {
+            (None, None) => {
+                let form = PictureForm::Text(letters_of(self.words.ascii));
+                self.print(alloc, form, output)
+            }
+            (Some(name), None) => self.write(alloc, files, PictureForm::Bitmap, name, output),
+            (None, Some(name)) => self.write(alloc, files, PictureForm::Png, name, output),
+            (Some(bitmap), Some(png)) => self.write_both(alloc, files, bitmap, png, output),
+        }
+    }
+
     fn print<O: Write>(
         &self,
         alloc: Global,

@@ -11,6 +11,19 @@ use chip_lang::limits::{IMAGE_BYTES, IMAGE_START, NAME_BYTES};
 use chip_lang::{Fault, Line};
 use std::alloc::{AllocError, Global};
 
+/// A line with a fault, and its tokens.
+#[derive(Clone, Copy)]
+struct FaultyLine<'a> {
+    number: usize,
+    line: &'a [u8],
+    /// The line from the place of the fault on.
+    text: &'a [u8],
+    /// The tokens of the line, in upper case.
+    words: &'a [&'a [u8]],
+    /// Those of the text.
+    rest: &'a [&'a [u8]],
+}
+
 /// Adds the help for a fault of the line of a number, which lies at a place of the line.
 pub(crate) fn push_advice(
     alloc: Global,
@@ -24,36 +37,48 @@ pub(crate) fn push_advice(
     let upper = line.to_ascii_uppercase(alloc)?;
     let words = words_of(alloc, &upper)?;
     let rest = words_of(alloc, upper.get(place..).unwrap_or(&[]))?;
+    let faulty = FaultyLine {
+        number,
+        line,
+        text: line.get(place..).unwrap_or(&[]),
+        words: &words,
+        rest: &rest,
+    };
+    push_fault_advice(alloc, hints, known, fault, faulty)
+}
+
+fn push_fault_advice(
+    alloc: Global,
+    hints: &mut Vec<Hint>,
+    known: &Known,
+    fault: Fault,
+    faulty: FaultyLine<'_>,
+) -> Result<(), AllocError> {
     match fault {
-        Fault::UndefinedName => undefined_name(alloc, hints, known, number, &rest),
-        Fault::OutOfRange => out_of_range(alloc, hints, known, line),
-        Fault::DefinedTwice => defined_twice(alloc, hints, known, &rest),
-        _ => {
-            let text = line.get(place..).unwrap_or(&[]);
-            push_line_advice(alloc, hints, fault, line, text, &words, &rest)
-        }
+        Fault::UndefinedName => undefined_name(alloc, hints, known, faulty.number, faulty.rest),
+        Fault::OutOfRange => out_of_range(alloc, hints, known, faulty.line),
+        Fault::DefinedTwice => defined_twice(alloc, hints, known, faulty.rest),
+        _ => push_line_advice(alloc, hints, fault, faulty),
     }
 }
 
-/// Help with a fault that no other line has a part in: `text` is the line from its place on, `words`
-/// are those of the line, `rest` those of the text.
+/// Help with a fault that no other line has a part in.
 fn push_line_advice(
     alloc: Global,
     hints: &mut Vec<Hint>,
     fault: Fault,
-    line: &[u8],
-    text: &[u8],
-    words: &[&[u8]],
-    rest: &[&[u8]],
+    faulty: FaultyLine<'_>,
 ) -> Result<(), AllocError> {
     match fault {
         Fault::BadCharacter | Fault::UnfinishedString | Fault::UnknownWord | Fault::WrongOperands
-            if has_twice(b"/", words) => push_help(alloc, hints, &[b"a comment begins with `;`"]),
-        Fault::BadCharacter => bad_character(alloc, hints, line, text, rest),
-        Fault::UnknownWord => unknown_word(alloc, hints, line, text, rest),
-        Fault::WrongOperands => wrong_operands(alloc, hints, words, rest),
-        Fault::BadName => bad_name(alloc, hints, rest),
-        Fault::NotInProfile => not_in_profile(alloc, hints, rest),
+            if has_twice(b"/", faulty.words) => {
+            push_help(alloc, hints, &[b"a comment begins with `;`"])
+        }
+        Fault::BadCharacter => bad_character(alloc, hints, faulty),
+        Fault::UnknownWord => unknown_word(alloc, hints, faulty),
+        Fault::WrongOperands => wrong_operands(alloc, hints, faulty.words, faulty.rest),
+        Fault::BadName => bad_name(alloc, hints, faulty.rest),
+        Fault::NotInProfile => not_in_profile(alloc, hints, faulty.rest),
         Fault::PastMemory => push_formatted(
             alloc,
             hints,
@@ -76,21 +101,23 @@ fn sentence_for(fault: Fault) -> Option<&'static str> {
     }
 }
 
-/// Help with bytes that begin no token: `text` is the line from them on, `rest` its words.
+/// Help with bytes that begin no token.
 fn bad_character(
     alloc: Global,
     hints: &mut Vec<Hint>,
-    line: &[u8],
-    text: &[u8],
-    rest: &[&[u8]],
+    faulty: FaultyLine<'_>,
 ) -> Result<(), AllocError> {
-    let sentence = sentence_for_file(line);
+    let sentence = sentence_for_file(faulty.line);
     if sentence.is_some() {
         return push_sentence(alloc, hints, sentence);
     }
-    match other_number(rest) {
+    match other_number(faulty.rest) {
         Some((radix, digits)) => push_other_number(alloc, hints, radix, digits),
-        None => push_sentence(alloc, hints, sentence_for_character(text, rest)),
+        None => push_sentence(
+            alloc,
+            hints,
+            sentence_for_character(faulty.text, faulty.rest),
+        ),
     }
 }
 
@@ -140,16 +167,13 @@ fn push_other_number(
     push_help(alloc, hints, &[front.as_bytes(), digits])
 }
 
-/// Help with a word that begins a statement and isn't known: `text` is the line from it on, `rest`
-/// its words.
+/// Help with a word that begins a statement and isn't known.
 fn unknown_word(
     alloc: Global,
     hints: &mut Vec<Hint>,
-    line: &[u8],
-    text: &[u8],
-    rest: &[&[u8]],
+    faulty: FaultyLine<'_>,
 ) -> Result<(), AllocError> {
-    let Some(word) = rest.first() else {
+    let Some(word) = faulty.rest.first() else {
         return Ok(());
     };
     if is_register(word) || is_special(word) {
@@ -159,8 +183,8 @@ fn unknown_word(
             &[b"an instruction stands first, as in LD ", word, b", 5"],
         );
     }
-    let (written, behind) = text.split_at(word.len().min(text.len()));
-    let is_label = reads_as_label(alloc, line, behind)?;
+    let (written, behind) = faulty.text.split_at(word.len().min(faulty.text.len()));
+    let is_label = reads_as_label(alloc, faulty.line, behind)?;
     push_meant(alloc, hints, word, is_label)?;
     if is_label {
         push_help(
@@ -335,13 +359,13 @@ fn not_in_profile(alloc: Global, hints: &mut Vec<Hint>, rest: &[&[u8]]) -> Resul
     let Some((word, more)) = rest.split_first() else {
         return Ok(());
     };
-    if !push_forms(alloc, hints, word, more)? && matches!(*word, b"INCLUDE") {
+    if *word == b"INCLUDE".as_slice() {
         push_help(
             alloc,
             hints,
             &[b"a source is one file; copy the other one's lines into it"],
         )
     } else {
-        Ok(())
+        push_forms(alloc, hints, word, more)
     }
 }

@@ -128,36 +128,37 @@ pub(crate) fn near_heading(word: &[u8]) -> Option<&str> {
 }
 
 /// Adds what an instruction or a directive takes, by its first forms: nothing for another word.
-/// Answers whether it has a form.
 pub(crate) fn push_forms(
     alloc: Global,
     hints: &mut Vec<Hint>,
     word: &[u8],
     operands: &[&[u8]],
-) -> Result<bool, AllocError> {
+) -> Result<(), AllocError> {
     let forms = forms_by_nearness(alloc, word, operands)?;
-    if forms.is_empty() {
-        return Ok(false);
+    push_first_forms(alloc, hints, word, &forms)
+}
+
+/// Adds what an instruction or a directive of these forms takes.
+fn push_first_forms(
+    alloc: Global,
+    hints: &mut Vec<Hint>,
+    word: &[u8],
+    forms: &[&str],
+) -> Result<(), AllocError> {
+    match forms {
+        [] => Ok(()),
+        [_] if stands_alone(word) => push_help(alloc, hints, &[word, b" takes no operands"]),
+        _ => {
+            let shown = forms.get(..MOST_SHOWN).unwrap_or(forms).join(alloc, " | ")?;
+            let more = if forms.len() > MOST_SHOWN {
+                " | .."
+            } else {
+                ""
+            };
+            let parts: &[&[u8]] = &[word, b" takes: ", shown.as_bytes(), more.as_bytes()];
+            push_help(alloc, hints, parts)
+        }
     }
-    if stands_alone(word) && forms.len() == 1 {
-        push_help(alloc, hints, &[word, b" takes no operands"])?;
-        return Ok(true);
-    }
-    let shown = forms
-        .get(..MOST_SHOWN)
-        .unwrap_or(&forms)
-        .join(alloc, " | ")?;
-    let more = if forms.len() > MOST_SHOWN {
-        " | .."
-    } else {
-        ""
-    };
-    push_help(
-        alloc,
-        hints,
-        &[word, b" takes: ", shown.as_bytes(), more.as_bytes()],
-    )?;
-    Ok(true)
 }
 
 /// The forms of an instruction or a directive, those first that are nearest to what was written

@@ -129,7 +129,7 @@ fn push_front_name(
     let upper = line.to_ascii_uppercase(alloc)?;
     let words = words_of(alloc, &upper)?;
     let name = match words.as_slice() {
-        [b"DEFINE", name, ..] => *name,
+        [first, name, ..] if *first == b"DEFINE".as_slice() => *name,
         [name, ..] if is_word(name) => *name,
         _ => return Ok(()),
     };

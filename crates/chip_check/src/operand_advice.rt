@@ -52,7 +52,7 @@ fn forms_help(
     operands: &[&[u8]],
 ) -> Result<(), AllocError> {
     push_forms(alloc, hints, heading, operands)?;
-    if matches!(heading, b"SUB") && has_number(operands) {
+    if heading == b"SUB".as_slice() && has_number(operands) {
         push_help(alloc, hints, &[b"ADD subtracts a number, as in ADD V0, -5"])
     } else {
         Ok(())
@@ -113,7 +113,7 @@ fn sentence_for(heading: &[u8], words: &[&[u8]], rest: &[&[u8]]) -> Option<&'sta
         Some("a shift is one sign, `<` or `>`")
     } else if operand.is_empty() {
         Some(sentence_for_missing(words, rest))
-    } else if matches!(heading, b"DEFINE") {
+    } else if heading == b"DEFINE".as_slice() {
         Some("DEFINE gives 0; EQU gives another value, as in SIZE EQU 5")
     } else if is_part(operand) || is_one_of(heading, WITHOUT_EXPRESSION) {
         None
