@@ -14,10 +14,18 @@ use std::rc::Rc;
 pub(crate) const ROWS: usize = 64;
 
 /// A machine, and the rows of points of its screen.
-#[derive(Drop)]
 pub(crate) struct Base {
     pub(crate) machine: Machine,
     pub(crate) rows: Vec<u128>,
+}
+
+impl Drop for Base {
+    fn drop(self) {
+        let Base {
+            machine: _,
+            rows: _,
+        } = self;
+    }
 }
 
 /// A state, by what it has beside a base.

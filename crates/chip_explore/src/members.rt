@@ -14,7 +14,6 @@ use std::alloc::{AllocError, Global};
 
 /// The states that are kept, each with the parts that are forgotten of it and the least step at
 /// which it was reached, and which of them were taken up.
-#[derive(Drop)]
 pub(crate) struct Members {
     pub(crate) start: Machine,
     /// What the states are kept against.
@@ -27,6 +26,21 @@ pub(crate) struct Members {
     pub(crate) limit: u64,
     /// At which addresses the search saw steps made.
     pub(crate) executed: Executed,
+}
+
+impl Drop for Members {
+    fn drop(self) {
+        let Members {
+            start: _,
+            base: _,
+            states: _,
+            forgotten: _,
+            steps: _,
+            closed: _,
+            limit: _,
+            executed: _,
+        } = self;
+    }
 }
 
 impl Members {

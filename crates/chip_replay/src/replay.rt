@@ -23,12 +23,22 @@ pub enum AtError {
 }
 
 /// A machine's start state and the events of its keys, with what was kept of its run.
-#[derive(Drop)]
 pub struct Replay<M: Traced> {
     start: M,
     rate: u32,
     keys: Keys,
     kept: Kept<M>,
+}
+
+impl<M: Traced> Drop for Replay<M> {
+    fn drop(self) {
+        let Replay {
+            start: _,
+            rate: _,
+            keys: _,
+            kept: _,
+        } = self;
+    }
 }
 
 impl<M: Traced> Model for Replay<M> {
