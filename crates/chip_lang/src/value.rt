@@ -13,6 +13,7 @@ use crate::names::Names;
 use crate::postfix::{Item, Leaf};
 
 /// The value of an expression, or the first fault from the left.
+#[inline(always)]
 pub fn eval<N: Names>(expr: &Expr, names: &N) -> Result<i32, Fault>
     ensures { result ≡ value (tree_of expr.now) (N.symbols names.now) }
 {
@@ -23,7 +24,7 @@ pub fn eval<N: Names>(expr: &Expr, names: &N) -> Result<i32, Fault>
     }
 }
 
-#[inline]
+#[inline(always)]
 fn value_of_name<N: Names>(names: &N, name: &[u8]) -> Result<i32, Fault>
     ensures { result ≡ or_fault (value_of_name (N.symbols names.now) name.now)
         Fault.UndefinedName }
@@ -31,7 +32,7 @@ fn value_of_name<N: Names>(names: &N, name: &[u8]) -> Result<i32, Fault>
     names.value(name).ok_or(Fault::UndefinedName)
 }
 
-#[inline]
+#[inline(always)]
 fn value_of_leaf<N: Names>(names: &N, leaf: &Leaf) -> Result<i32, Fault>
     ensures { result ≡ value (leaf_tree leaf.now) (N.symbols names.now) }
 {
@@ -43,6 +44,7 @@ fn value_of_leaf<N: Names>(names: &N, leaf: &Leaf) -> Result<i32, Fault>
 
 /// The outcome of the tree on top of those that items leave. One turn takes all items of an
 /// expression; a sign with no left side, as no expression has, takes 0 for it.
+#[inline(never)]
 #[tactic(auto, using(crate::proofs::LastOutcome::zero_under))]
 fn eval_items<N: Names>(items: &[Item], names: &N) -> Result<i32, Fault>
     ensures { result ≡ value (top (stack_of items.now)) (N.symbols names.now) }
@@ -89,7 +91,7 @@ fn eval_right<'a, N: Names>(
 }
 
 /// The outcome of a sign before an operand.
-#[inline]
+#[inline(always)]
 fn after_prefix(sign: Prefix, operand: Result<i32, Fault>) -> Result<i32, Fault>
     ensures { result ≡ prefixed_outcome sign operand }
 {
@@ -98,7 +100,7 @@ fn after_prefix(sign: Prefix, operand: Result<i32, Fault>) -> Result<i32, Fault>
 }
 
 /// The outcome of a sign between two operands: the left one's fault comes first.
-#[inline]
+#[inline(always)]
 fn joined(sign: Operator, left: Result<i32, Fault>, right: Result<i32, Fault>) -> Result<i32, Fault>
     ensures { result ≡ joined_outcome sign left right }
 {
@@ -140,6 +142,7 @@ fn apply_prefix(sign: Prefix, value: i32) -> Result<i32, Fault>
     }
 }
 
+#[inline(always)]
 fn apply(sign: Operator, a: i32, b: i32) -> Result<i32, Fault>
     ensures { result ≡ apply sign a b }
 {
