@@ -12,7 +12,6 @@ pub mod OneToken
 pub mod Pieces
 pub mod SameCode
 pub mod KeptValue
-pub mod LastOutcome
 pub mod Outcomes
 pub mod Scan
 pub mod SaidForm
@@ -34,3 +33,4 @@ pub mod LongWords
 pub mod LastDigits
 pub mod FewTokens
 pub mod Fields
+pub mod LastValue

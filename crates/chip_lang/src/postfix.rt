@@ -73,6 +73,7 @@ impl Postfix {
     #[tactic(auto, using(crate::proofs::NamesUsed::names_whole))]
     pub(crate) fn items(&self) -> &[Item]
         ensures tree { top (stack_of result.now) ≡ self.now }
+        ensures whole { popped (stack_of result.now) ≡ [] }
         ensures names { names_of result.now ≡ names_in self.now }
     {
         &self.items
