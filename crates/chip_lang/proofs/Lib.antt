@@ -12,7 +12,6 @@ pub mod OneToken
 pub mod Pieces
 pub mod SameCode
 pub mod KeptValue
-pub mod LastOutcome
 pub mod Outcomes
 pub mod Scan
 pub mod SaidForm
@@ -26,7 +25,6 @@ pub mod TokenList
 pub mod NamesUsed
 pub mod NamesBound
 pub mod FormedLine
-pub mod Fused
 pub mod Lookup
 pub mod Misfit
 pub mod FaultSpan
@@ -34,3 +32,4 @@ pub mod LongWords
 pub mod LastDigits
 pub mod FewTokens
 pub mod Fields
+pub mod LastValue

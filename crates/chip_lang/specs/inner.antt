@@ -2,9 +2,9 @@
 -- postfix order; no public clause cites these files.
 pub mod Atom
 pub mod ByDigits
+pub mod LastValue
 pub mod NamedForms
 pub mod NamedRow
-pub mod Outcome
 pub mod Postfix
 pub mod Scanned
 pub mod Seen

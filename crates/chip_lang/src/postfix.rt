@@ -73,6 +73,7 @@ impl Postfix {
     #[tactic(auto, using(crate::proofs::NamesUsed::names_whole))]
     pub(crate) fn items(&self) -> &[Item]
         ensures tree { top (stack_of result.now) ≡ self.now }
+        ensures whole { popped (stack_of result.now) ≡ [] }
         ensures names { names_of result.now ≡ names_in self.now }
     {
         &self.items
@@ -132,19 +133,18 @@ impl Builder {
     }
 
     /// Appends the sign between two operands, in one item with the second where that is one token.
-    #[tactic(auto, using(crate::proofs::Fused::fused))]
+    #[tactic(auto, using(std::proofs::lemmas::List::Sums::fold_push))]
     pub fn push_binary(&mut self, sign: Operator) -> Result<(), AllocError>
         ensures { OnOk result (self.new ≡ pushed self.old (Item.Binary sign)) }
     {
         match self.items.pop() {
-            Some(Item::Operand(leaf)) => self.items.push(Item::WithOperand(sign, leaf))?,
+            Some(Item::Operand(leaf)) => self.push(Item::WithOperand(sign, leaf)),
             Some(last) => {
-                self.items.push(last)?;
-                self.items.push(Item::Binary(sign))?;
+                self.push(last)?;
+                self.push(Item::Binary(sign))
             }
-            None => self.items.push(Item::Binary(sign))?,
+            None => self.push(Item::Binary(sign)),
         }
-        Ok(())
     }
 
     /// The expression that all items are.

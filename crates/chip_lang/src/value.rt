@@ -1,11 +1,11 @@
 //! The value of an expression.
 
-ghost use Rattle.std.specs.Prelude.{◌≡◌, ◌*ℤ◌, pos, ◌^◌, ◌<◌, ℕ, neg_ℤ, ◌≤◌, ◌-◌, ◌∷◌, List, IfSome, Ok, length};
+ghost use Rattle.std.specs.Prelude.{◌≡◌, ◌*ℤ◌, pos, ◌^◌, ◌<◌, ℕ, ℤ, neg_ℤ, ◌≤◌, ◌-◌, [], ◌∷◌, List, IfOk, IfErr, IfSome, Ok, Err, length};
 ghost use Rattle.chip_lang.specs.Tree.{tree_of};
 ghost use Rattle.chip_lang.specs.Uses.{constant};
 ghost use Rattle.chip_lang.specs.Value.{Symbols, value, value_of_name, or_fault, no_names, apply, apply_prefix, shift_left, shift_right, divide};
-ghost use Rattle.chip_lang.specs.inner.Outcome.{Outcome, last_outcome, prefixed_outcome, joined_outcome};
-ghost use Rattle.chip_lang.specs.inner.Postfix.{top, leaf_tree, stack_of};
+ghost use Rattle.chip_lang.specs.inner.LastValue.{last_value};
+ghost use Rattle.chip_lang.specs.inner.Postfix.{top, popped, leaf_tree, stack_of};
 
 use crate::expr::{Expr, Operator, Prefix};
 use crate::fault::Fault;
@@ -13,6 +13,7 @@ use crate::names::Names;
 use crate::postfix::{Item, Leaf};
 
 /// The value of an expression, or the first fault from the left.
+#[inline(always)]
 pub fn eval<N: Names>(expr: &Expr, names: &N) -> Result<i32, Fault>
     ensures { result ≡ value (tree_of expr.now) (N.symbols names.now) }
 {
@@ -23,7 +24,7 @@ pub fn eval<N: Names>(expr: &Expr, names: &N) -> Result<i32, Fault>
     }
 }
 
-#[inline]
+#[inline(always)]
 fn value_of_name<N: Names>(names: &N, name: &[u8]) -> Result<i32, Fault>
     ensures { result ≡ or_fault (value_of_name (N.symbols names.now) name.now)
         Fault.UndefinedName }
@@ -31,7 +32,7 @@ fn value_of_name<N: Names>(names: &N, name: &[u8]) -> Result<i32, Fault>
     names.value(name).ok_or(Fault::UndefinedName)
 }
 
-#[inline]
+#[inline(always)]
 fn value_of_leaf<N: Names>(names: &N, leaf: &Leaf) -> Result<i32, Fault>
     ensures { result ≡ value (leaf_tree leaf.now) (N.symbols names.now) }
 {
@@ -41,34 +42,36 @@ fn value_of_leaf<N: Names>(names: &N, leaf: &Leaf) -> Result<i32, Fault>
     }
 }
 
-/// The outcome of the tree on top of those that items leave. One turn takes all items of an
+/// The value of the tree that items leave, or its first fault. One turn takes all items of an
 /// expression; a sign with no left side, as no expression has, takes 0 for it.
-#[tactic(auto, using(crate::proofs::LastOutcome::zero_under))]
+#[inline(never)]
 fn eval_items<N: Names>(items: &[Item], names: &N) -> Result<i32, Fault>
+    requires whole { popped (stack_of items.now) ≡ [] }
     ensures { result ≡ value (top (stack_of items.now)) (N.symbols names.now) }
 {
-    let mut top = Ok(0);
+    let mut top = 0;
     let mut rest = items;
     while !rest.is_empty() {
-        let (outcome, after) = eval_right(Ok(0), top, rest, names);
-        top = outcome;
-        rest = after;
+        (top, rest) = eval_right(0, top, rest, names)?;
     }
-    top
+    Ok(top)
 }
 
-/// From a left operand and how the right one begins to the sign between them: its outcome, and the
-/// items after it. Without such a sign, the outcome of the right operand.
+/// From a left operand and how the right one begins to the sign between them: its value, and the
+/// items after it. Without such a sign, the value of the right operand. Items are taken from the
+/// left, so the first fault is the expression's.
 fn eval_right<'a, N: Names>(
-    left: Result<i32, Fault>,
-    first: Result<i32, Fault>,
+    left: i32,
+    first: i32,
     items: &'a [Item],
     names: &N,
-) -> (Result<i32, Fault>, &'a [Item])
-    ensures value { (under : List Outcome)
-        → last_outcome (N.symbols names.now) (first ∷ left ∷ under) items.now
-        ≡ last_outcome (N.symbols names.now) (result.0 ∷ under) result.1.now }
-    ensures shorter { length result.1.now ≤ length items.now - 1 }
+) -> Result<(i32, &'a [Item]), Fault>
+    ensures value { IfOk result (λ found. (under : List ℤ)
+        → last_value (N.symbols names.now) (first ∷ left ∷ under) items.now
+        ≡ last_value (N.symbols names.now) (found.0 ∷ under) found.1.now) }
+    ensures fault { IfErr result (λ fault. (under : List ℤ)
+        → last_value (N.symbols names.now) (first ∷ left ∷ under) items.now ≡ Err fault) }
+    ensures shorter { IfOk result (λ found. length found.1.now ≤ length items.now - 1) }
 {
     let mut right = first;
     let mut rest = items;
@@ -76,35 +79,16 @@ fn eval_right<'a, N: Names>(
         rest = after;
         match item {
             Item::WithOperand(sign, leaf) => {
-                right = joined(*sign, right, value_of_leaf(names, leaf));
+                right = apply(*sign, right, value_of_leaf(names, leaf)?)?;
             }
-            Item::Unary(sign) => right = after_prefix(*sign, right),
-            Item::Binary(sign) => return (joined(*sign, left, right), after),
+            Item::Unary(sign) => right = apply_prefix(*sign, right)?,
+            Item::Binary(sign) => return Ok((apply(*sign, left, right)?, after)),
             Item::Operand(leaf) => {
-                (right, rest) = eval_right(right, value_of_leaf(names, leaf), after, names);
+                (right, rest) = eval_right(right, value_of_leaf(names, leaf)?, after, names)?;
             }
         }
     }
-    (right, rest)
-}
-
-/// The outcome of a sign before an operand.
-#[inline]
-fn after_prefix(sign: Prefix, operand: Result<i32, Fault>) -> Result<i32, Fault>
-    ensures { result ≡ prefixed_outcome sign operand }
-{
-    let value = operand?;
-    apply_prefix(sign, value)
-}
-
-/// The outcome of a sign between two operands: the left one's fault comes first.
-#[inline]
-fn joined(sign: Operator, left: Result<i32, Fault>, right: Result<i32, Fault>) -> Result<i32, Fault>
-    ensures { result ≡ joined_outcome sign left right }
-{
-    let a = left?;
-    let b = right?;
-    apply(sign, a, b)
+    Ok((right, rest))
 }
 
 /// A table with no names.
@@ -140,6 +124,7 @@ fn apply_prefix(sign: Prefix, value: i32) -> Result<i32, Fault>
     }
 }
 
+#[inline(always)]
 fn apply(sign: Operator, a: i32, b: i32) -> Result<i32, Fault>
     ensures { result ≡ apply sign a b }
 {

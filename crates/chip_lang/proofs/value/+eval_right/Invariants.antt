@@ -1,5 +1,5 @@
-use Rattle.std.proofs.Common.{◌≡◌, ◌≤◌, List, ◌∷◌, length}
-use Rattle.chip_lang.specs.inner.Outcome.{Outcome, last_outcome}
+use Rattle.std.proofs.Common.{◌≡◌, ◌≤◌, ℤ, List, ◌∷◌, length}
+use Rattle.chip_lang.specs.inner.LastValue.{last_value}
 use Rattle.chip_lang.proofs.value.+eval_right.Given as goal
 
 abbrev pub decreases-eval_right : goal.decreases-eval_right
@@ -7,8 +7,8 @@ decreases-eval_right g l = length l.items.now
 
 abbrev pub invariant-loop-item : goal.invariant-loop-item
 invariant-loop-item g l = record {
-  same : (under : List Outcome) → last_outcome (g.N.Names.symbols l.names) (l.fn.first ∷ l.left ∷ under) l.items
-      ≡ last_outcome (g.N.Names.symbols l.names) (l.right ∷ l.left ∷ under) l.rest;
+  same : (under : List ℤ) → last_value (g.N.Names.symbols l.names) (l.fn.first ∷ l.left ∷ under) l.items
+      ≡ last_value (g.N.Names.symbols l.names) (l.right ∷ l.left ∷ under) l.rest;
   within : length l.rest ≤ length l.items;
 }
 
