@@ -1,5 +1,5 @@
 -- The replay after the image has changed.
-use Rattle.std.proofs.Common.{◌≡◌, ℕ, ◌≤◌, ◌++◌, List, length, take, sym, ap, ◌∙◌}
+use Rattle.std.proofs.Common.{◌≡◌, ℕ, ◌≤◌, ◌++◌, List, length, take, Option, Some, refl, sym, subst, ap, ◌∙◌}
 use Rattle.std.proofs.lemmas.List.{take-append-drop}
 use Rattle.chip_lang.specs.declared.limits.TheConstants.{IMAGE_BYTES, IMAGE_START}
 use Rattle.chip_machine.specs.declared.profile.Profile.{Profile}
@@ -8,6 +8,8 @@ use Rattle.chip_machine.specs.Start.{start_of, start_core, start_memory}
 use Rattle.chip_machine.specs.ImageLaw.{ImageAndZeros, SameBelowTheImage}
 use Rattle.chip_replay.specs.History.{History}
 use Rattle.chip_replay.specs.Image.{with_image, padded}
+use Rattle.chip_replay.proofs.Changed.{first_below-le}
+use Rattle.chip_session.specs.Kept.{KeptRun, FollowsImage}
 use Rattle.chip_session.specs.Settings.{SessionSettings}
 use Rattle.chip_session.specs.inner.InStep.{Replays}
 
@@ -35,3 +37,11 @@ replays_next settings old new before after kept there below fits start rate spac
       spacing = spacing ∙ kept.spacing;
       fits = fits;
     }
+
+-- a run whose last image the lines have follows them as it is
+pub follows_same : (image : Option (List ℕ)) (kept : KeptRun) → Some kept.last_image ≡ image → FollowsImage image kept kept
+follows_same image kept there = subst (λ (now : Option (List ℕ)). FollowsImage now kept kept) there (record {
+  last_image = refl;
+  with_image = first_below-le _ kept.reach;
+  without_image = tt;
+})

@@ -1,8 +1,8 @@
 -- The transcript of a script in two parts, and of a line that is cut off where it is too long.
-use Rattle.std.proofs.Common.{◌≡◌, ◌⊎◌, ℕ, ◌+◌, ◌-◌, ◌<◌, ◌≤◌, Bool, true, false, cond, List, [], ◌∷◌, ◌++◌, length, take, refl, sym, ◌∙◌, ap, append_assoc, arith, Ok, Err, Result, IsOkAnd, OnOk, is_ok, inl, inr, ⊎_elim}
+use Rattle.std.proofs.Common.{◌≡◌, ◌⊎◌, ℕ, ◌+◌, ◌-◌, ◌<◌, ◌≤◌, ◌==◌, ◌&&◌, Bool, true, false, cond, List, [], ◌∷◌, ◌++◌, length, take, refl, sym, ◌∙◌, ap, append_assoc, arith, Ok, Err, Result, IsOkAnd, OnOk, is_ok, inl, inr, ⊎_elim}
 use Rattle.std.specs.Str.Lines.{strip_carriage_return}
 use Rattle.std.proofs.lemmas.List.{append-nil, take_all, length-take}
-use Rattle.std.proofs.lemmas.Bool.{cases_lt, cond_below, cond_above}
+use Rattle.std.proofs.lemmas.Bool.{cases_lt, cond_below, cond_above, ne_eqb}
 use Rattle.chip_session.specs.Session.{Session}
 use Rattle.chip_session.specs.declared.command.CommandFault.{CommandFault}
 use Rattle.chip_session.specs.declared.refusal.Refusal.{Refusal}
@@ -93,6 +93,16 @@ not_for_memory (inr q) h = absurd (h q.0)
 pub ask_told : (r : Result (List ℕ) Refusal) (old new : List ℕ) → old ≡ [] → IsOkAnd r (λ bytes. new ≡ old ++ bytes) → new ≡ ask_reply r
 ask_told (Ok bytes) old new e h = h ∙ ap (λ l. l ++ bytes) e
 ask_told (Err why) old new e h = absurd h
+
+-- a text is of spaces alone where nothing is left after them
+pub blank_skipped : (text : List ℕ) → (length (skip_spaces text) == 0) ≡ list_all is_space text
+blank_skipped [] = refl
+blank_skipped (byte ∷ text) = by (is_space byte) (blank_skipped text)
+  where
+    by : (space : Bool) → (length (skip_spaces text) == 0) ≡ list_all is_space text →
+        (length (cond space (skip_spaces text) (byte ∷ text)) == 0) ≡ (space && list_all is_space text)
+    by true others = others
+    by false others = ne_eqb (length (byte ∷ text)) 0 (λ e. omega arith)
 
 pub read_blank : (line : List ℕ) → length line ≤ COMMAND_BYTES → list_all is_space line ≡ true → command_of line ≡ Ok blank
 unfolding command_of

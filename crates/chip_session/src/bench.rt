@@ -140,9 +140,10 @@ impl Bench {
             swap(out, &mut self.room);
             return Ok(());
         }
-        out.extend_from_slice(&self.room)
-            .map_err(|_| Refusal::AnswerMemory)?;
-        Ok(())
+        match out.extend_from_slice(&self.room) {
+            Ok(()) => Ok(()),
+            Err(_) => Err(Refusal::AnswerMemory),
+        }
     }
 
     /// Adds some lines of a trace of the image's run to a text, as `Trace::push_lines`.

@@ -270,10 +270,11 @@ fn key_event(operands: &[u8]) -> Option<(u32, (u32, bool))>
     Some((step, (key, down)))
 }
 
+#[tactic(auto, using(crate::proofs::ScriptLemmas::blank_skipped))]
 fn is_blank(text: &[u8]) -> bool
     ensures { result ≡ list_all is_space text.now }
 {
-    text.iter().all(|byte| *byte == b' ')
+    skip_spaces(text).is_empty()
 }
 
 // What stands before the first space, and what stands after it.

@@ -1,5 +1,5 @@
 //! The run of the last image that the lines had: its settings, its replay, and the image.
-ghost use Rattle.std.specs.Prelude.{◌≡◌, ◌≤◌, ◌<◌, ℕ, slice_index, length, vec_capacity, IfSome, IfOk, OnOk, OnErr, MatchOption, IsOkUnless, Err, Ok, None, [], false};
+ghost use Rattle.std.specs.Prelude.{◌≡◌, ◌≤◌, ◌<◌, ℕ, slice_index, length, vec_capacity, IfSome, IfOk, OnOk, OnErr, MatchOption, IsOkUnless, Err, Ok, None, [], false, IsTrue, ◌+◌};
 ghost use Rattle.std.specs.FinMap as finmap;
 ghost use Rattle.std.specs.Option.{option_copied};
 ghost use Rattle.chip_replay.specs.Image.{AgreeOutside};
@@ -22,6 +22,7 @@ use chip_replay::{AtError, KeyFault, LAST_STEP, Replay};
 use chip_trace::{Difference, Trace, first_difference};
 use std::alloc::{AllocError, Global};
 use std::marker::Model;
+use std::ops::Range;
 
 /// The run of the last image that the lines had, or of the empty one, under the settings of the
 /// session and the key events as edited so far.
@@ -50,38 +51,41 @@ impl Model for ImageRun {
 }
 
 /// How many bytes of two images are compared at once.
-const BLOCK: usize = 128;
+const BLOCK: usize = 256;
 
-/// How many bytes at the front are known to be the same in both, in whole blocks.
-fn same_in_front(old: &[u8], new: &[u8]) -> usize
-    ensures within { result ≤ length old.now }
-    ensures same { (i : ℕ) → i < result → slice_index old.now i ≡ slice_index new.now i }
+/// Whether two images agree in a block.
+fn is_same_block(old: &[u8], new: &[u8], start: usize) -> bool
+    requires old_is_there { start + BLOCK ≤ length old.now }
+    requires new_is_there { start + BLOCK ≤ length new.now }
+    ensures { IsTrue result → (i : ℕ) → start ≤ i → i < start + BLOCK
+        → slice_index old.now i ≡ slice_index new.now i }
 {
-    let shorter = old.len().min(new.len());
-    for block in 0..shorter / BLOCK {
-        let (start, end) = (BLOCK * block, BLOCK * block + BLOCK);
-        if old[start..end] != new[start..end] {
-            return start;
-        }
+    let mut same = true;
+    for place in start..start + BLOCK {
+        same &= old[place] == new[place];
     }
-    shorter / BLOCK * BLOCK
+    same
 }
 
-/// Where the whole blocks at the back begin that are known to be the same in both.
-fn same_from(old: &[u8], new: &[u8]) -> usize
-    ensures { (i : ℕ) → result ≤ i → slice_index old.now i ≡ slice_index new.now i }
+/// The places outside of which two images agree, and `None` where they are the same.
+fn changed_places(old: &[u8], new: &[u8]) -> Option<Range<usize>>
+    ensures { MatchOption result (old.now ≡ new.now)
+        (λ places. AgreeOutside places.start places.end old.now new.now) }
 {
-    let longer = old.len().max(new.len());
-    if old.len() != new.len() {
-        return longer;
-    }
-    for block in 0..longer / BLOCK {
-        let end = longer - BLOCK * block;
-        if old[end - BLOCK..end] != new[end - BLOCK..end] {
-            return end;
+    let blocks = old.len().min(new.len()) / BLOCK;
+    let rest = BLOCK * blocks;
+    let (mut first, mut end) = (rest, 0);
+    for block in 0..blocks {
+        let start = BLOCK * block;
+        if !is_same_block(old, new, start) {
+            first = first.min(start);
+            end = start + BLOCK;
         }
     }
-    longer % BLOCK
+    if old[rest..] != new[rest..] {
+        return Some(first..old.len().max(new.len()));
+    }
+    if end == 0 { None } else { Some(first..end) }
 }
 
 impl ImageRun {
@@ -116,16 +120,16 @@ impl ImageRun {
         ensures keys { self.new.keys ≡ self.old.keys }
         ensures ran { self.new.ran ≡ self.old.ran }
     {
-        if let Some(image) = image {
-            image_at_the_start();
-            let first = same_in_front(&self.last_image, image);
-            let end = same_from(&self.last_image, image);
-            self.replay
-                .image_changed_within(first..end, &self.last_image, image);
-            self.last_image.clear();
-            // The room is there since the start.
-            let _ = self.last_image.extend_from_slice(image);
-        }
+        let Some(image) = image else { return };
+        let Some(places) = changed_places(&self.last_image, image) else {
+            return;
+        };
+        image_at_the_start();
+        self.replay
+            .image_changed_within(places, &self.last_image, image);
+        self.last_image.clear();
+        // The room is there since the start.
+        let _ = self.last_image.extend_from_slice(image);
     }
 
     /// Adds a key event, as `Replay::insert_key`.

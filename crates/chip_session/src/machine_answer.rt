@@ -72,8 +72,7 @@ fn push_register_line(answer: &mut Vec<u8>, machine: &Machine) -> Result<(), All
 {
     answer.extend_from_slice(b"v")?;
     push_spaced_bytes(answer, machine.registers())?;
-    answer.push(b'\n')?;
-    Ok(())
+    answer.extend_from_slice(b"\n")
 }
 
 fn push_place(answer: &mut Vec<u8>, machine: &Machine) -> Result<(), AllocError>
@@ -98,12 +97,9 @@ fn push_condition(answer: &mut Vec<u8>, machine: &Machine) -> Result<(), AllocEr
 {
     answer.extend_from_slice(b" draws ")?;
     push_decimal(answer, machine.draws())?;
-    answer.push(b' ')?;
-    answer.extend_from_slice(size_name(machine.high()))?;
-    answer.push(b' ')?;
+    answer.extend_from_slice(size_word(machine.high()))?;
     push_state_name(answer, machine.stopped())?;
-    answer.push(b'\n')?;
-    Ok(())
+    answer.extend_from_slice(b"\n")
 }
 
 fn push_state_line(answer: &mut Vec<u8>, machine: &Machine) -> Result<(), AllocError>
@@ -121,8 +117,7 @@ fn push_flag_line(answer: &mut Vec<u8>, machine: &Machine) -> Result<(), AllocEr
     push_spaced_bytes(answer, machine.flags())?;
     answer.extend_from_slice(b" stack")?;
     push_spaced_words(answer, machine.frames())?;
-    answer.push(b'\n')?;
-    Ok(())
+    answer.extend_from_slice(b"\n")
 }
 
 fn size_name(high: bool) -> &'static [u8]
@@ -131,14 +126,18 @@ fn size_name(high: bool) -> &'static [u8]
     if high { b"high" } else { b"low" }
 }
 
+/// The name of a size of the screen, between spaces.
+fn size_word(high: bool) -> &'static [u8]
+    ensures { result.now ≡ 32 ∷ size_name high ++ 32 ∷ [] }
+{
+    if high { b" high " } else { b" low " }
+}
+
 fn push_state_name(answer: &mut Vec<u8>, stopped: Option<Stop>) -> Result<(), AllocError>
     ensures { OnOk result (answer.new.items ≡ answer.old.items ++ state_name stopped) }
 {
     match stopped {
-        None => {
-            answer.extend_from_slice(b"run")?;
-            Ok(())
-        }
+        None => answer.extend_from_slice(b"run"),
         Some(stop) => {
             answer.push(b'S')?;
             push_decimal(answer, u64::from(stop.number()))
@@ -162,8 +161,7 @@ pub(crate) fn push_memory(
     let end = start + usize::from(count);
     answer.reserve(2 * usize::from(count) + 1)?;
     push_hex(answer, &machine.memory()[start..end])?;
-    answer.push(b'\n')?;
-    Ok(())
+    answer.extend_from_slice(b"\n")
 }
 
 /// Adds so many words from an address: for each its address, the word, and its source text.
@@ -194,8 +192,7 @@ fn push_word_line(answer: &mut Vec<u8>, machine: &Machine, at: u16) -> Result<()
     let [e, f, g, h] = word_digits(word);
     answer.extend_from_slice(&[a, b, c, d, b' ', e, f, g, h, b' '])?;
     push_shown(answer, word)?;
-    answer.push(b'\n')?;
-    Ok(())
+    answer.extend_from_slice(b"\n")
 }
 
 fn word_at(machine: &Machine, at: u16) -> u16
@@ -240,8 +237,7 @@ fn push_row_line(answer: &mut Vec<u8>, machine: &Machine, row: usize) -> Result<
     push_two_digits(answer, row as u64)?;
     answer.push(b' ')?;
     push_hex(answer, &row_bytes(machine, row))?;
-    answer.push(b'\n')?;
-    Ok(())
+    answer.extend_from_slice(b"\n")
 }
 
 fn push_two_digits(answer: &mut Vec<u8>, number: u64) -> Result<(), AllocError>
