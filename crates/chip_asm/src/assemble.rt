@@ -59,7 +59,7 @@ fn keeps_values(names: &Table, kept: &BoxedLine) -> bool
 
 /// The value of the expression of a line, where it is known: it is constant, or the line was accepted
 /// before and its names keep their values.
-#[inline(never)]
+#[inline(always)]
 fn known_value(names: &Table, kept: &BoxedLine, was: &Placement) -> Option<i32>
     requires info { IsInfo names.now.keys kept.now.info kept.now.several (reading_in kept.now) }
     requires was { is_placed was.now ≡ true
@@ -116,7 +116,7 @@ fn pass_line(
     }
 }
 
-/// The first pass over the lines from a place on.
+/// The first pass over the lines from a place on: lines of which little is asked are passed together.
 pub(crate) fn walk(
     pass: &mut Pass,
     lines: &[BoxedLine],
@@ -135,12 +135,17 @@ pub(crate) fn walk(
         → IsUnderWay e lines.now pass.new placements.new codings.new waiting.new from.now image.new
         (length lines.now) }
 {
-    let mut place = pass.run(lines, placements, codings, waiting, from, image, first);
+    let mut place = first;
     while place < lines.len() {
-        pass_line(
-            pass, lines, placements, codings, waiting, from, image, place,
-        );
-        place = pass.run(lines, placements, codings, waiting, from, image, place + 1);
+        if lines[place].info().is_bare {
+            place = pass.run(lines, placements, codings, waiting, from, image, place);
+        }
+        if place < lines.len() {
+            pass_line(
+                pass, lines, placements, codings, waiting, from, image, place,
+            );
+            place += 1;
+        }
     }
 }
 

@@ -469,6 +469,7 @@ impl Pass {
     }
 
     /// Notes the name that a line gives, where it is accepted.
+    #[inline(always)]
     fn define(
         &mut self,
         accepted: bool,
