@@ -110,19 +110,6 @@ bare-found pass next was lines n size line live here inside within at s walked =
 coded-size : (keys : List Name) (line : Reading) (size : ℕ) (defines : Option NameId) → IsBare keys true line size defines → eqb size 2 ≡ has_code (body_of line)
 coded-size keys line size defines b = ap (λ n. eqb n 2) b.sized ∙ (small-line line b.bare).coded
 
--- it is 2 or 0
-zero-or-two : (body : Body) → is_bare body ≡ true → (own_size body (pos 0) ≡ 2 → ⊥) → own_size body (pos 0) ≡ 0
-zero-or-two empty h other = refl
-zero-or-two (code form operands) h other = absurd (other refl)
-zero-or-two _ h other = cc
-
-zero-line : (line : Reading) → is_bare_line line ≡ true → (own_size (body_of line) (pos 0) ≡ 2 → ⊥) → own_size (body_of line) (pos 0) ≡ 0
-zero-line (bad fault) h other = cc
-zero-line (read label body) h other = zero-or-two body h other
-
-pub bare-zero : (keys : List Name) (line : Reading) (size : ℕ) (defines : Option NameId) → IsBare keys true line size defines → (size ≡ 2 → ⊥) → size ≡ 0
-bare-zero keys line size defines b other = b.sized ∙ zero-line line b.bare (λ two. other (b.sized ∙ two))
-
 -- a line that isn't live, or was not accepted, is noted
 pub bare-noted : (e : Change) (pass : Pass) (was : List Placement) (codings : List Coding) (from image : List ℕ) (n size : ℕ) (kept : KeptLine) (x : Placed) (defines : Option NameId) (live : Bool) (here : ℕ) → Facing e pass was codings from n kept x
     → found-bare here size live ≡ placement_of x → IsBare pass.names.keys live (reading_in kept) size defines → (live ≡ true → is_placed (get_or was n nothing) ≡ false)

@@ -178,8 +178,9 @@ pub(crate) fn copy_two(image: &mut [u8], to: usize, from: &[u8], at: usize)
     ensures { image.new
         ≡ take to image.old ++ (take 2 (drop at from.now) ++ drop (to + 2) image.old) }
 {
-    image[to] = from[at];
-    image[to + 1] = from[at + 1];
+    let (first, second) = (from[at], from[at + 1]);
+    image[to] = first;
+    image[to + 1] = second;
 }
 
 /// Copies the code of a line from where it stood in one image to where it stands in another one, as

@@ -1,5 +1,5 @@
 //! What is kept of a line beside its reading, for steps over all lines.
-ghost use Rattle.std.specs.Prelude.{◌≡◌, ◌++◌, List, IfOk, IfSome, None, OnOk};
+ghost use Rattle.std.specs.Prelude.{◌≡◌, ◌++◌, ◌≤◌, List, IfOk, IfSome, None, OnOk};
 ghost use Rattle.chip_lang.specs.Line.{Reading};
 ghost use Rattle.chip_lang.specs.SeenLine.{seen_line};
 ghost use Rattle.chip_lang.specs.Uses.{name_defined, names_used};
@@ -202,9 +202,11 @@ impl LineInfo {
     /// asks nothing else of it.
     #[inline(always)]
     pub(crate) fn bare(self, live: bool) -> Option<(usize, Option<NameId>)>
-        ensures { (keys : List Name) (several : List NameId) (line : Reading)
+        ensures is { (keys : List Name) (several : List NameId) (line : Reading)
             → IsInfo keys self several line
             → IfSome result (λ made. IsBare keys live line made.0 made.1) }
+        ensures small { IfSome result (λ made. made.0 ≤ 2) }
+        ensures zero { IfSome result (λ made. (made.0 ≡ 2 → ⊥) → made.0 ≡ 0) }
     {
         if !self.is_bare {
             return None;

@@ -357,9 +357,9 @@ impl Pass {
     }
 
     /// Goes on by the lines from a place on, and notes what holds of them, up to the first one of which
-    /// more is asked than its size and its name, or which has a fault. A line that was accepted and
-    /// still is takes its code along from the image before; another one that is accepted waits for
-    /// its code. The place behind the last of them.
+    /// more is asked than its size and its name, or which has a fault, or where an instruction has no
+    /// room. A line that was accepted and still is takes its code along from the image before;
+    /// another one that is accepted waits for its code. The place behind the last of them.
     #[inline(never)]
     pub(crate) fn run(
         &mut self,
@@ -381,14 +381,48 @@ impl Pass {
             → IsUnderWay e lines.now self.new placements.new codings.new waiting.new from.now
             image.new result }
     {
-        let live = self.live;
+        if self.live {
+            self.run_as(
+                true, lines, placements, codings, waiting, from, image, first,
+            )
+        } else {
+            self.run_as(
+                false, lines, placements, codings, waiting, from, image, first,
+            )
+        }
+    }
+
+    /// The same, where the caller knows whether lines are live: there is a loop for each.
+    #[inline(always)]
+    fn run_as(
+        &mut self,
+        live: bool,
+        lines: &[BoxedLine],
+        placements: &mut [Placement],
+        codings: &mut [Coding],
+        waiting: &mut Waiting,
+        from: &[u8],
+        image: &mut [u8],
+        first: usize,
+    ) -> usize
+        requires live { live ≡ self.old.live }
+        requires under_way { (e : Change) × IsUnderWay e lines.now self.old placements.old codings.old
+            waiting.old from.now image.old first }
+        ensures after { first ≤ result }
+        ensures within { result ≤ length lines.now }
+        ensures under_way { (e : Change)
+            → IsUnderWay e lines.now self.old placements.old codings.old waiting.old from.now
+            image.old first
+            → IsUnderWay e lines.now self.new placements.new codings.new waiting.new from.now
+            image.new result }
+    {
         let mut here = self.here;
         let mut place = first;
         while place < lines.len() {
             let Some((size, defines)) = lines[place].info().bare(live) else {
                 break;
             };
-            if size > MEMORY_BYTES - here {
+            if here > MEMORY_BYTES - 2 {
                 break;
             }
             let symbol = Symbol {
@@ -400,11 +434,12 @@ impl Pass {
             }
             let was = placements[place];
             if live && was.is_accepted() {
+                placements[place].here = here as u16;
                 if size == 2 {
                     let at = was.address() - IMAGE_START;
                     copy_two(image, here - IMAGE_START, from, at);
+                    here += 2;
                 }
-                placements[place].here = here as u16;
             } else {
                 placements[place] = Placement {
                     value: 0,
@@ -414,8 +449,8 @@ impl Pass {
                     live,
                 };
                 waiting.wait(codings, place, size == 2);
+                here += size;
             }
-            here += size;
             place += 1;
         }
         self.here = here;
@@ -434,6 +469,7 @@ impl Pass {
     }
 
     /// Notes the name that a line gives, where it is accepted.
+    #[inline(always)]
     fn define(
         &mut self,
         accepted: bool,

@@ -1,6 +1,6 @@
 -- What is kept of a line beside its reading, so that steps over all lines needn't look into most of
 -- them (own).
-use Rattle.std.specs.Prelude.{◌≡◌, ℕ, ◌≤◌, pos, length, slice_get, Bool, true, false, not, if◌then◌else◌, ◌&&◌, List, [], ◌∷◌, All, Option, Some, None}
+use Rattle.std.specs.Prelude.{◌≡◌, ℕ, pos, length, slice_get, Bool, true, false, not, if◌then◌else◌, ◌&&◌, List, [], ◌∷◌, All, Option, Some, None}
 use Rattle.chip_lang.specs.Line.{Body, empty, code, Reading, bad, read}
 use Rattle.chip_lang.specs.Uses.{names_used, name_defined}
 use Rattle.chip_asm.specs.Names.{Name}
@@ -58,7 +58,6 @@ pub record IsBare (keys : List Name) (live : Bool) (line : Reading) (size : ℕ)
     (defines : Option NameId) : Type 0 where
   pub bare : is_bare_line line ≡ true
   pub sized : size ≡ (if live then own_size (body_of line) (pos 0) else 0)
-  pub small : size ≤ 2
   pub named : IsNumberOf keys defines (if live then name_defined line else None)
 
 -- each of these is kept beside the line at its place

@@ -1,7 +1,7 @@
 use Rattle.std.proofs.Common.{◌≡◌, ◌-◌, ◌≤◌, length}
 use Rattle.chip_lang.specs.declared.limits.TheConstants.{MEMORY_BYTES}
 use Rattle.chip_asm.specs.inner.Passes.{Change, IsUnderWay}
-use Rattle.chip_asm.proofs.pass.Pass.run.Given as goal
+use Rattle.chip_asm.proofs.pass.Pass.run_as.Given as goal
 
 abbrev pub invariant-loop-place : goal.invariant-loop-place
 invariant-loop-place l = record {
