@@ -412,26 +412,25 @@ fn is_spelled(text: &[u8], name: &[u8]) -> bool
     upper(*byte) == *letter && is_spelled(text, name)
 }
 
-/// A table, which is asked for the names of a line, mostly one beside another.
+/// A table, which is asked for the names of a line, mostly in their order.
 #[derive(Drop)]
 pub(crate) struct Scope<'a> {
     table: &'a Table,
     /// The numbers of the line's names.
     numbers: &'a [NameId],
-    /// The place among them of the name found last.
+    /// The place among them of the name that is likely to be asked for next.
     place: Cell<usize>,
 }
 
 impl<'a> Scope<'a> {
-    /// A table, and the numbers of the names of which it is going to be asked. An expression asks
-    /// for its names from the last one on.
+    /// A table, and the numbers of the names of which it is going to be asked, mostly in this order.
     pub(crate) fn new(table: &'a Table, numbers: &'a [NameId]) -> Self
         ensures { result.table.now ≡ table.now }
     {
         Scope {
             table,
             numbers,
-            place: Cell::new(numbers.len()),
+            place: Cell::new(0),
         }
     }
 
@@ -446,23 +445,16 @@ impl<'a> Scope<'a> {
         if name != key.as_slice() {
             return None;
         }
-        self.place.set(place);
         Some(*id)
     }
 
-    /// The value of a name that stands elsewhere. Where it is one of the line's, the next one is
-    /// looked for beside it.
+    /// The value of a name that stands elsewhere.
     #[inline(never)]
     fn value_elsewhere(&self, name: &[u8]) -> Option<i32>
         ensures { result ≡ value_among self.now.table.now.symbols name.now }
     {
         let table = self.table;
         let index = table.keys.get_index_of(name)?;
-        for place in 0..self.numbers.len() {
-            if self.numbers[place].number as usize == index {
-                self.place.set(place);
-            }
-        }
         table.current.values[index]
     }
 }
@@ -473,12 +465,10 @@ impl<'a> Names for Scope<'a> {
     fn value(&self, name: &[u8]) -> Option<i32> {
         let table = self.table;
         let place = self.place.get();
-        if let Some(id) = self.number_at(place.wrapping_sub(1), name) {
-            return table.current.values[id.number as usize];
+        self.place.set(place.wrapping_add(1));
+        match self.number_at(place, name) {
+            Some(id) => table.current.values[id.number as usize],
+            None => self.value_elsewhere(name),
         }
-        if let Some(id) = self.number_at(place.saturating_add(1), name) {
-            return table.current.values[id.number as usize];
-        }
-        self.value_elsewhere(name)
     }
 }
