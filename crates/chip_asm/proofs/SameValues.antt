@@ -1,8 +1,8 @@
--- Two tables of values that are made the same at the numbers of entries.
-use Rattle.std.proofs.Common.{◌≡◌, ℕ, ◌-◌, ◌<◌, ℤ, Bool, true, false, eqb, ◌⊎◌, inl, inr, List, [], ◌∷◌, ◌++◌, All, length, take, drop, get_or, refl, ap, sym, subst, length-drop, ◌∙◌, arith, Option, None, option_map, suc, zero}
+-- Two tables of values that are the same at the numbers of entries.
+use Rattle.std.proofs.Common.{◌≡◌, ℕ, ◌-◌, ◌<◌, ℤ, Bool, true, false, eqb, ◌⊎◌, inl, inr, List, [], ◌∷◌, All, length, take, drop, get_or, refl, ap, sym, subst, length-drop, ◌∙◌, arith, Option, None, option_map, suc, zero}
 use Rattle.std.specs.Str.{bytes_eq}
 use Rattle.std.proofs.lemmas.Bool.{eqb-true, eqb-false}
-use Rattle.std.proofs.lemmas.List.{ext_get_or, map-append, take-append-drop, take-append-le, take_all}
+use Rattle.std.proofs.lemmas.List.{map-append, take-append-drop, take_all}
 use Rattle.std.proofs.lemmas.List.Elements.{All-drop}
 use Rattle.chip_asm.specs.declared.table.Definitions.{Definitions}
 use Rattle.chip_asm.specs.declared.table.Entry.{Entry}
@@ -10,11 +10,6 @@ use Rattle.chip_asm.specs.declared.table.Symbol.{Symbol}
 use Rattle.chip_asm.specs.Names.{Name, lookup_name}
 use Rattle.chip_asm.specs.inner.Tables.{AreApart, AreDefined, HaveSame, key_at, symbols_in, value_among}
 use Rattle.chip_asm.proofs.SymbolSteps.{apart-names, lookup-front, same-values}
-
--- a vector whose elements were written through a slice
-pub refilled : {X : Type 0} (count : ℕ) (written old : List X) → length written ≡ count → take count (written ++ drop (length written) old) ≡ written
-refilled count written old e =
-    take-append-le count written (drop (length written) old) (omega arith) ∙ take_all count written (omega arith)
 
 -- what holds at the numbers of the entries in which two tables differ, and where their values are
 -- the same, holds at all numbers
@@ -52,15 +47,6 @@ covered keys now past n apart a b same P keeps were are i h =
     by (inr none) (inl p) = p
     by (inr none) (inr gone) =
         keeps i (front-value keys past n i b h none ∙ ap (λ es. value_among (symbols_in keys es) (key_at keys i)) (sym same) ∙ sym (front-value keys now n i a h gone))
-
--- all values are the same after the copies
-pub caught-up : (keys : List Name) (now past : Definitions) (n : ℕ) (values : List (Option ℤ)) → AreApart keys → AreDefined keys past → AreDefined keys now → take n past.entries.items ≡ take n now.entries.items
-    → length values ≡ length past.values.items → ((i : ℕ) → HaveSame past.values.items now.values.items i → HaveSame values now.values.items i)
-    → All (λ (e : Entry). HaveSame values now.values.items e.id.number) (drop n past.entries.items) → All (λ (e : Entry). HaveSame values now.values.items e.id.number) (drop n now.entries.items)
-    → values ≡ now.values.items
-caught-up keys now past n values apart b a same long keeps were are =
-    ext_get_or None values now.values.items (long ∙ b.long ∙ sym a.long)
-    (λ i h. covered keys now past n apart a b (sym same) (HaveSame values now.values.items) keeps were are i (omega (arith, h, long, b.long)))
 
 -- the same of slices of the entries
 pub same-later : (values old others other : List (Option ℤ)) (es whole : List Entry) (n : ℕ) → values ≡ old → others ≡ other → es ≡ whole

@@ -1,85 +1,102 @@
 -- Symbols of lines past a number, taken back from the last one on.
-use Rattle.std.proofs.Common.{◌≡◌, ℕ, ◌+◌, ◌-◌, ◌<◌, ◌≤◌, ◌⊎◌, inl, inr, List, [], ◌∷◌, ◌++◌, length, take, get_or, refl, ap, sym, subst, ◌∙◌, arith, Some, slice_get, length-append}
+use Rattle.std.proofs.Common.{◌≡◌, ℕ, ◌+◌, ◌-◌, ◌<◌, ◌≤◌, ◌⊎◌, inl, inr, List, [], ◌∷◌, ◌++◌, length, take, get_or, IfSome, None, refl, ap, sym, subst, ◌∙◌, arith, Some, slice_get, length-append, length-take}
 use Rattle.std.proofs.Math.Seq.{get_or-append_seam, take-append_seam}
 use Rattle.std.proofs.lemmas.Bool.{cases_lt}
-use Rattle.std.proofs.lemmas.List.{get_or_append_left, get_or-append_right, get_or-take, take-append-le, take_all, take_more, take-take}
-use Rattle.std.proofs.lemmas.Option.{slice_get_within, get_or_from_slice_get}
+use Rattle.std.proofs.lemmas.List.{get_or_append_left, get_or-append_right, get_or_default, get_or-take, length-map, take-append-le, take-map, take_all, take_more, take-take}
+use Rattle.std.proofs.lemmas.Option.{slice_get-get_or, slice_get_within, get_or_from_slice_get}
 use Rattle.chip_asm.specs.declared.table.Entry.{Entry}
 use Rattle.chip_asm.specs.declared.table.Symbol.{Symbol}
-use Rattle.chip_asm.specs.Names.{Name}
-use Rattle.chip_asm.specs.inner.Tables.{AreOver, AreUpTo, BeginAlike, symbols_in}
+use Rattle.chip_asm.specs.Names.{Name, lookup_name}
+use Rattle.chip_asm.specs.declared.table.Definitions.{Definitions}
+use Rattle.chip_asm.specs.inner.Tables.{AreDefined, AreOver, AreUpTo, BeginAlike, EndsBy, IsFront, IsPastNext, key_at, symbols_in}
 use Rattle.chip_asm.proofs.LinesAfter.{shorter}
-use Rattle.chip_asm.proofs.SymbolSteps.{seen, symbols-push}
-
--- the first symbols of some, among which are all of lines up to a number
-pub record Going (number : ℕ) (whole now : List (Name × Symbol)) : Type 0 where
-  pub first : now ≡ take (length now) whole
-  pub within : length now ≤ length whole
-  pub enough : (early later : List (Name × Symbol)) → whole ≡ early ++ later → AreUpTo number early → AreOver number later → length early ≤ length now
-
--- the last one
-there : (number : ℕ) (whole now : List (Name × Symbol)) (x : Name × Symbol) → Going number whole (now ++ x ∷ []) → get_or whole (length now) x ≡ x
-there number whole now x g =
-    let inside : length now < length (now ++ x ∷ []) = omega (arith, length-append now (x ∷ [])) in
-    sym (get_or-take (length (now ++ x ∷ [])) whole (length now) x inside)
-    ∙ ap (λ xs. get_or xs (length now) x) (sym g.first)
-    ∙ get_or-append_seam now x [] x
-
-pub going-less : (number : ℕ) (whole now : List (Name × Symbol)) (x : Name × Symbol) → Going number whole (now ++ x ∷ []) → number < x.1.line → Going number whole now
-going-less number whole now x g over = record {
-  first = sym (take-append_seam now (x ∷ [])) ∙ ap (take (length now)) g.first ∙ take-take (length now) (length (now ++ x ∷ [])) whole (omega (arith, length-append now (x ∷ [])));
-  within = omega (arith, length-append now (x ∷ []), g.within);
-  enough = λ early later e up past. by early later e up (cases_lt (length now) (length early));
-}
-  where
-    by : (early later : List (Name × Symbol)) → whole ≡ early ++ later → AreUpTo number early → (length now < length early) ⊎ (length early ≤ length now) → length early ≤ length now
-    by early later e up (inl inside) =
-        let mine : get_or early (length now) x ≡ x = sym (get_or_append_left early later x (length now) inside) ∙ ap (λ xs. get_or xs (length now) x) (sym e) ∙ there number whole now x g in
-        let low = up (length now) x inside in
-        absurd (omega (arith, over, low, ap (λ (y : Name × Symbol). y.1.line) mine))
-    by early later e up (inr done) = done
-
-pub going-stops : (number : ℕ) (whole now : List (Name × Symbol)) (x : Name × Symbol) → Going number whole (now ++ x ∷ []) → x.1.line ≤ number
-    → (early later : List (Name × Symbol)) → whole ≡ early ++ later → AreUpTo number early → AreOver number later → now ++ x ∷ [] ≡ early
-going-stops number whole now x g under early later e up over = by (cases_lt (length now) (length early))
-  where
-    by : (length now < length early) ⊎ (length early ≤ length now) → now ++ x ∷ [] ≡ early
-    by (inl inside) =
-        let long : length (now ++ x ∷ []) ≡ length early = omega (arith, inside, length-append now (x ∷ []), g.enough early later e up over) in
-        g.first ∙ ap (take (length (now ++ x ∷ []))) e ∙ ap (λ n. take n (early ++ later)) long ∙ take-append_seam early later
-    by (inr past) =
-        let mine : get_or later (length now - length early) x ≡ x
-        = sym (get_or-append_right early later (length early) (length now) x refl past) ∙ ap (λ xs. get_or xs (length now) x) (sym e) ∙ there number whole now x g in
-        let high = over (length now - length early) x (omega (arith, past, g.within, length-append now (x ∷ []), ap length e, length-append early later)) in
-        absurd (omega (arith, under, high, ap (λ (y : Name × Symbol). y.1.line) mine))
-
--- one step back
+use Rattle.chip_asm.proofs.SymbolSteps.{entry-seen, no-entry, seen}
 
 pub last-of : (es : List Entry) (e : Entry) → Some e ≡ slice_get es (length es - 1) → es ≡ take (length es - 1) es ++ e ∷ []
 last-of es e at =
     let inside : length es - 1 < length es = slice_get_within es (length es - 1) e (sym at) in
     sym (take_all (length es - 1 + 1) es (omega arith)) ∙ take_more es (length es - 1) e inside ∙ ap (λ x. take (length es - 1) es ++ x ∷ []) (get_or_from_slice_get es (length es - 1) e e (sym at))
 
-pub going-back : (number : ℕ) (keys : List Name) (whole : List (Name × Symbol)) (es next : List Entry) (e : Entry) → Going number whole (symbols_in keys es) → es ≡ next ++ e ∷ [] → number < e.symbol.line
-    → Going number whole (symbols_in keys next)
-going-back number keys whole es next e g entries over =
-    going-less number whole (symbols_in keys next) (seen keys e) (subst (Going number whole) (ap (symbols_in keys) entries ∙ symbols-push keys next e) g) over
+-- the first ones stay the first ones
 
-pub going-there : (number : ℕ) (keys : List Name) (whole : List (Name × Symbol)) (es : List Entry) (e : Entry) → Going number whole (symbols_in keys es) → Some e ≡ slice_get es (length es - 1) → e.symbol.line ≤ number
-    → (early later : List (Name × Symbol)) → whole ≡ early ++ later → AreUpTo number early → AreOver number later → symbols_in keys es ≡ early
-going-there number keys whole es e g at under early later is up over =
-    let split : symbols_in keys es ≡ symbols_in keys (take (length es - 1) es) ++ seen keys e ∷ [] = ap (symbols_in keys) (last-of es e at) ∙ symbols-push keys (take (length es - 1) es) e in
-    split ∙ going-stops number whole (symbols_in keys (take (length es - 1) es)) (seen keys e) (subst (Going number whole) split g) under early later is up over
+pub front-less : (es next whole : List Entry) (e : Entry) → es ≡ next ++ e ∷ [] → IsFront es whole → IsFront next whole
+front-less es next whole e is front =
+    sym (take-append_seam next (e ∷ [])) ∙ ap (take (length next)) (sym is ∙ front) ∙ take-take (length next) (length es) whole (omega (arith, ap length is, length-append next (e ∷ [])))
+
+pub front-more : (es next whole : List Entry) (e : Entry) → next ≡ es ++ e ∷ [] → Some e ≡ slice_get whole (length es) → IsFront es whole → IsFront next whole
+front-more es next whole e is at front =
+    let inside : length es < length whole = slice_get_within whole (length es) e (sym at) in
+    is ∙ ap (λ xs. xs ++ e ∷ []) front ∙ ap (λ x. take (length es) whole ++ x ∷ []) (sym (get_or_from_slice_get whole (length es) e e (sym at))) ∙ sym (take_more whole (length es) e inside)
+    ∙ ap (λ n. take n whole) (sym (ap length is ∙ length-append es (e ∷ [])))
+
+pub front-across : (n : ℕ) (es now past : List Entry) → BeginAlike n now past → IsFront es past → length es ≤ n → IsFront es now
+front-across n es now past a front few = front ∙ shorter (length es) n past now few (sym a.same)
+
+pub ends-more : (number : ℕ) (es next : List Entry) (e : Entry) → next ≡ es ++ e ∷ [] → e.symbol.line ≤ number → EndsBy number next
+ends-more number es next e is low =
+    let count : length next ≡ length es + 1 = ap length is ∙ length-append es (e ∷ []) in
+    let at : slice_get next (length next - 1) ≡ Some e
+    = slice_get-get_or next (length next - 1) e (omega (arith, count)) ∙ ap Some (ap (λ k. get_or next k e) (omega (arith, count)) ∙ ap (λ xs. get_or xs (length es) e) is ∙ get_or-append_seam es e [] e) in
+    subst (λ o. IfSome o (λ (x : Entry). x.symbol.line ≤ number)) (sym at) low
+
+-- the next one of others is the first of its name
+pub front-next : (keys : List Name) (es : List Entry) (other : Definitions) (e : Entry) → AreDefined keys other → IsFront es other.entries.items → Some e ≡ slice_get other.entries.items (length es)
+    → (e.id.number < length keys) × (lookup_name (symbols_in keys es) (key_at keys e.id.number) ≡ None)
+front-next keys es other e a front at =
+    let whole : List Entry = other.entries.items in
+    let k : ℕ = length es in
+    let inside : k < length whole = slice_get_within whole k e (sym at) in
+    let own : get_or whole k e ≡ e = get_or_from_slice_get whole k e e (sym at) in
+    let symbols : symbols_in keys es ≡ take k (symbols_in keys whole) = ap (symbols_in keys) front ∙ sym (take-map (seen keys) k whole) in (
+      subst (λ (x : Entry). x.id.number < length keys) own (a.inside k e inside),
+      ap (λ ss. lookup_name ss (key_at keys e.id.number)) symbols ∙ a.once k (seen keys e) inside (sym (entry-seen keys whole (symbols_in keys whole) k e refl inside own).1),
+    )
+
+pub front-alike : (es whole : List Entry) → IsFront es whole → BeginAlike (length es) es whole
+front-alike es whole front = record {
+  within = omega arith;
+  past_within = omega (arith, ap length front, length-take (length es) whole);
+  same = take_all (length es) es (omega arith) ∙ front;
+}
+
+-- where they end at a number, and the next one is past it, their symbols are those of the lines up to
+-- it
+pub front-early : (number : ℕ) (keys : List Name) (es whole : List Entry) → IsFront es whole → EndsBy number es → IsPastNext number es whole
+    → (early later : List (Name × Symbol)) → symbols_in keys whole ≡ early ++ later → AreUpTo number early → AreOver number later → symbols_in keys es ≡ early
+front-early number keys es whole front ends next early later is up over = by (cases_lt (length es) (length early)) (cases_lt (length early) (length es))
+  where
+    named : symbols_in keys es ≡ take (length es) (early ++ later)
+    named = ap (symbols_in keys) front ∙ sym (take-map (seen keys) (length es) whole) ∙ ap (take (length es)) is
+
+    count : length whole ≡ length early + length later
+    count = sym (length-map whole (seen keys)) ∙ ap length is ∙ length-append early later
+
+    within : length es ≤ length whole
+    within = (front-alike es whole front).past_within
+
+    by : (length es < length early) ⊎ (length early ≤ length es) → (length early < length es) ⊎ (length es ≤ length early) → symbols_in keys es ≡ early
+    by (inl less) other =
+        let k : ℕ = length es in
+        let inside : k < length whole = omega (arith, less, count) in
+        let e : Entry = get_or whole k no-entry in
+        let high : number < e.symbol.line = subst (λ o. IfSome o (λ (x : Entry). number < x.symbol.line)) (slice_get-get_or whole k no-entry inside) next in
+        let at = (entry-seen keys whole (early ++ later) k e is inside (get_or_default whole k e no-entry inside)).1 in
+        let low = up k (seen keys e) less in
+        absurd (omega (arith, high, low, ap (λ (x : Name × Symbol). x.1.line) (sym (get_or_append_left early later (seen keys e) k less) ∙ at)))
+    by (inr more) (inl past) =
+        let k : ℕ = length es - 1 in
+        let inside : k < length whole = omega (arith, past, within) in
+        let e : Entry = get_or es k no-entry in
+        let low : e.symbol.line ≤ number = subst (λ o. IfSome o (λ (x : Entry). x.symbol.line ≤ number)) (slice_get-get_or es k no-entry (omega (arith, past))) ends in
+        let own : get_or whole k e ≡ e = sym (get_or-take (length es) whole k e (omega (arith, past))) ∙ ap (λ xs. get_or xs k e) (sym front) ∙ get_or_default es k e no-entry (omega (arith, past)) in
+        let at = (entry-seen keys whole (early ++ later) k e is inside own).1 in
+        let high = over (k - length early) (seen keys e) (omega (arith, past, inside, count)) in
+        absurd (omega (arith, high, low, ap (λ (x : Name × Symbol). x.1.line) (sym (get_or-append_right early later (length early) k (seen keys e) refl (omega (arith, past))) ∙ at)))
+    by (inr more) (inr few) =
+        let same : length es ≡ length early = omega (arith, more, few) in
+        named ∙ ap (λ n. take n (early ++ later)) same ∙ take-append_seam early later
 
 -- which entries are the same as before
-
-pub alike-less : (es next past : List Entry) (e : Entry) → es ≡ next ++ e ∷ [] → BeginAlike (length es) es past → BeginAlike (length next) next past
-alike-less es next past e is a =
-    let count : length es ≡ length next + 1 = ap length is ∙ length-append next (e ∷ []) in record {
-      within = omega arith;
-      past_within = omega (arith, a.past_within, count);
-      same = sym (take-append-le (length next) next (e ∷ []) (omega arith)) ∙ ap (take (length next)) (sym is) ∙ shorter (length next) (length es) es past (omega (arith, count)) a.same;
-    }
 
 pub alike-more : (count : ℕ) (now next past : List Entry) (e : Entry) → next ≡ now ++ e ∷ [] → BeginAlike count now past → BeginAlike count next past
 alike-more count now next past e is a = record {

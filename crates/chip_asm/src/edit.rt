@@ -52,7 +52,8 @@ pub(crate) fn edit_items<T: Copy>(items: &mut Vec<T>, edit: &Edit, new: T)
 {
     match edit {
         Edit::Insert(at, _) => {
-            let _ = items.insert(*at, new);
+            let _ = items.push(new);
+            items[*at..].rotate_right(1);
         }
         Edit::Replace(at, _) => items[*at] = new,
         Edit::Delete(at) => {
@@ -72,7 +73,8 @@ pub(crate) fn make_edit(lines: &mut Vec<BoxedLine>, edit: Edit)
 {
     match edit {
         Edit::Insert(at, added) => {
-            let _ = lines.insert(at, added);
+            let _ = lines.push(added);
+            lines[at..].rotate_right(1);
         }
         Edit::Replace(at, added) => replace_line(lines, at, added),
         Edit::Delete(at) => {

@@ -6,7 +6,7 @@ ghost use Rattle.chip_lang.specs.Line.{upper};
 ghost use Rattle.chip_lang.specs.Uses.{has_same_value};
 ghost use Rattle.chip_asm.specs.Names.{Name, lookup_name, values_of};
 ghost use Rattle.chip_asm.specs.Layout.{is_redefinition};
-ghost use Rattle.chip_asm.specs.inner.Tables.{AreApart, AreDefined, AreOver, AreUpTo, Extends, HaveSame, IsNumber, KeepsBefore, key_at, name_of, names_at, symbols_of, value_among};
+ghost use Rattle.chip_asm.specs.inner.Tables.{AreApart, AreDefined, AreOver, AreUpTo, EndsBy, Extends, HaveSame, IsFront, IsNumber, IsPastNext, KeepsBefore, key_at, name_of, names_at, symbols_of, value_among};
 
 use crate::name_hasher::NameHasher;
 use chip_lang::short_bytes::upper;
@@ -15,6 +15,7 @@ use indexmap::IndexSet;
 use std::alloc::{AllocError, Global};
 use std::cell::Cell;
 use std::marker::Model;
+use std::mem;
 
 /// The value of a name, and the number of the line that gives it.
 #[derive(Clone, Copy, Debug, PartialEq, Eq)]
@@ -56,44 +57,46 @@ impl Definitions {
         }
     }
 
-    /// Makes it the same as another one, which has as many names, and so many first entries in
-    /// common with it. The growth comes first.
-    fn catch_up(&mut self, other: &Definitions, same: usize) -> Result<(), AllocError>
-        requires within { same ≤ length self.old.entries.items }
-        requires other_within { same ≤ length other.now.entries.items }
-        requires same { take same self.old.entries.items ≡ take same other.now.entries.items }
-        requires inside { All (λ e. e.id.number < length self.old.values.items) self.old.entries.items }
-        requires other_inside { All (λ e. e.id.number < length self.old.values.items)
-            other.now.entries.items }
-        requires long { length self.old.values.items ≡ length other.now.values.items }
-        ensures entries { OnOk result (self.new.entries.items ≡ other.now.entries.items) }
-        ensures values { (keys : List Name) → AreApart keys → AreDefined keys self.old
-            → AreDefined keys other.now
-            → OnOk result (self.new.values.items ≡ other.now.values.items) }
-        ensures same_entries { OnErr result (self.new.entries.items ≡ self.old.entries.items) }
-        ensures same_values { OnErr result (self.new.values.items ≡ self.old.values.items) }
+    /// Takes back those past so many first ones, and those of the lines past a number.
+    fn take_back(&mut self, first: usize, number: usize)
+        requires { All (λ e. e.id.number < length self.old.values.items) self.old.entries.items }
+        ensures defined { (keys : List Name) → AreApart keys → AreDefined keys self.old
+            → AreDefined keys self.new }
+        ensures front { IsFront self.new.entries.items self.old.entries.items }
+        ensures few { length self.new.entries.items ≤ first }
+        ensures ends { EndsBy number self.new.entries.items }
     {
-        let later = &other.entries[same..];
-        self.entries.reserve(later.len())?;
-        copy_values(&mut self.values, &other.values, &self.entries[same..]);
-        copy_values(&mut self.values, &other.values, later);
-        self.entries.truncate(same);
-        let _ = self.entries.extend_from_slice(later);
-        Ok(())
+        while let Some(entry) = self.entries.last() {
+            if self.entries.len() <= first && entry.symbol.line <= number {
+                break;
+            }
+            let index = entry.id.number as usize;
+            self.values[index] = None;
+            self.entries.pop();
+        }
     }
-}
 
-/// Copies the values at the numbers of some entries.
-fn copy_values(values: &mut [Option<i32>], from: &[Option<i32>], entries: &[Entry])
-    requires inside { All (λ e. e.id.number < length values.old) entries.now }
-    requires long { length values.old ≡ length from.now }
-    ensures kept { (number : ℕ) → HaveSame values.old from.now number
-        → HaveSame values.new from.now number }
-    ensures copied { All (λ e. HaveSame values.new from.now e.id.number) entries.now }
-{
-    for entry in entries {
-        let index = entry.id.number as usize;
-        values[index] = from[index];
+    /// Adds what other ones, which begin with these, have besides up to the line of a number.
+    fn take_along(&mut self, other: &Definitions, number: usize) -> Result<(), AllocError>
+        requires front { IsFront self.old.entries.items other.now.entries.items }
+        requires ends { EndsBy number self.old.entries.items }
+        requires inside { All (λ e. e.id.number < length self.old.values.items)
+            other.now.entries.items }
+        ensures defined { (keys : List Name) → AreApart keys → AreDefined keys self.old
+            → AreDefined keys other.now → AreDefined keys self.new }
+        ensures front { IsFront self.new.entries.items other.now.entries.items }
+        ensures ends { EndsBy number self.new.entries.items }
+        ensures stops { OnOk result (IsPastNext number self.new.entries.items
+            other.now.entries.items) }
+    {
+        while let Some(entry) = other.entries.get(self.entries.len()) {
+            if entry.symbol.line > number {
+                break;
+            }
+            self.entries.push(*entry)?;
+            self.values[entry.id.number as usize] = Some(entry.symbol.value);
+        }
+        Ok(())
     }
 }
 
@@ -218,18 +221,12 @@ impl Table {
             → self.new.symbols ≡ early) }
         ensures same { OnErr result (self.new.symbols ≡ self.old.symbols) }
     {
-        self.reserve(lines)?;
-        self.past.catch_up(&self.current, self.same)?;
-        self.same = self.current.entries.len();
-        while let Some(entry) = self.current.entries.last() {
-            if entry.symbol.line <= number {
-                break;
-            }
-            let id = entry.id;
-            self.current.values[id.number as usize] = None;
-            self.current.entries.pop();
-            self.same -= 1;
-        }
+        self.past.take_back(self.same, number);
+        self.same = 0;
+        self.past.take_along(&self.current, number)?;
+        self.past.entries.reserve(lines)?;
+        self.same = self.past.entries.len();
+        mem::swap(&mut self.past, &mut self.current);
         Ok(())
     }
 
@@ -412,26 +409,25 @@ fn is_spelled(text: &[u8], name: &[u8]) -> bool
     upper(*byte) == *letter && is_spelled(text, name)
 }
 
-/// A table, which is asked for the names of a line, mostly one beside another.
+/// A table, which is asked for the names of a line, mostly in their order.
 #[derive(Drop)]
 pub(crate) struct Scope<'a> {
     table: &'a Table,
     /// The numbers of the line's names.
     numbers: &'a [NameId],
-    /// The place among them of the name found last.
+    /// The place among them of the name that is likely to be asked for next.
     place: Cell<usize>,
 }
 
 impl<'a> Scope<'a> {
-    /// A table, and the numbers of the names of which it is going to be asked. An expression asks
-    /// for its names from the last one on.
+    /// A table, and the numbers of the names of which it is going to be asked, mostly in this order.
     pub(crate) fn new(table: &'a Table, numbers: &'a [NameId]) -> Self
         ensures { result.table.now ≡ table.now }
     {
         Scope {
             table,
             numbers,
-            place: Cell::new(numbers.len()),
+            place: Cell::new(0),
         }
     }
 
@@ -446,23 +442,16 @@ impl<'a> Scope<'a> {
         if name != key.as_slice() {
             return None;
         }
-        self.place.set(place);
         Some(*id)
     }
 
-    /// The value of a name that stands elsewhere. Where it is one of the line's, the next one is
-    /// looked for beside it.
+    /// The value of a name that stands elsewhere.
     #[inline(never)]
     fn value_elsewhere(&self, name: &[u8]) -> Option<i32>
         ensures { result ≡ value_among self.now.table.now.symbols name.now }
     {
         let table = self.table;
         let index = table.keys.get_index_of(name)?;
-        for place in 0..self.numbers.len() {
-            if self.numbers[place].number as usize == index {
-                self.place.set(place);
-            }
-        }
         table.current.values[index]
     }
 }
@@ -473,12 +462,10 @@ impl<'a> Names for Scope<'a> {
     fn value(&self, name: &[u8]) -> Option<i32> {
         let table = self.table;
         let place = self.place.get();
-        if let Some(id) = self.number_at(place.wrapping_sub(1), name) {
-            return table.current.values[id.number as usize];
+        self.place.set(place.wrapping_add(1));
+        match self.number_at(place, name) {
+            Some(id) => table.current.values[id.number as usize],
+            None => self.value_elsewhere(name),
         }
-        if let Some(id) = self.number_at(place.saturating_add(1), name) {
-            return table.current.values[id.number as usize];
-        }
-        self.value_elsewhere(name)
     }
 }

@@ -1,6 +1,6 @@
 -- What contracts see of the table of symbols: the names that lines use or define, each under a
 -- number that stays, and the symbols, as they are and as they were before the edit (own).
-use Rattle.std.specs.Prelude.{◌≡◌, ℕ, ◌<◌, ◌≤◌, ℤ, List, [], All, length, map, Option, None, option_map, option_to_list, slice_index_or, take}
+use Rattle.std.specs.Prelude.{◌≡◌, ℕ, ◌-◌, ◌<◌, ◌≤◌, ℤ, List, [], All, IfSome, length, map, Option, None, option_map, option_to_list, slice_get, slice_index_or, take}
 use Rattle.chip_asm.specs.Names.{Name, lookup_name}
 use Rattle.chip_asm.specs.declared.table.Symbol.{Symbol}
 use Rattle.chip_asm.specs.declared.table.NameId.{NameId}
@@ -80,6 +80,20 @@ pub record BeginAlike (count : ℕ) (now past : List Entry) : Type 0 where
   pub within : count ≤ length now
   pub past_within : count ≤ length past
   pub same : take count now ≡ take count past
+
+-- some entries are the first of others
+abbrev pub IsFront : List Entry → List Entry → Type 0
+IsFront front whole = front ≡ take (length front) whole
+
+-- the last one, if there is one, is of a line up to a number
+abbrev pub EndsBy : ℕ → List Entry → Type 0
+EndsBy number entries =
+    IfSome (slice_get entries (length entries - 1)) (λ e. e.symbol.line ≤ number)
+
+-- the first of the others that isn't among them, if there is one, is of a line past a number
+abbrev pub IsPastNext : ℕ → List Entry → List Entry → Type 0
+IsPastNext number front whole =
+    IfSome (slice_get whole (length front)) (λ e. number < e.symbol.line)
 
 -- a change leaves the names and the symbols before the edit
 pub record KeepsBefore (old new : Tables) : Type 0 where

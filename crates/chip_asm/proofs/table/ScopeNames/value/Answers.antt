@@ -22,10 +22,5 @@ returns-in-Some c =
     found c.args.self.now.table.now (map (λ (k : Vec ℕ). k.items) c.table.inside.keys.keys) c.table.inside.current c.args.name.now c.in-Some.id c.index.result.now c.table.invariant.1.0
     (ap (λ (t : Tables). t.keys) c.table.view_is) (ap (λ (t : Tables). t.symbols) c.table.view_is) c.in-Some.ensures c.index.ensures
 
-pub returns-in-Some-number_at : goal.returns-in-Some-number_at
-returns-in-Some-number_at c =
-    found c.args.self.now.table.now (map (λ (k : Vec ℕ). k.items) c.table.inside.keys.keys) c.table.inside.current c.args.name.now c.in-Some-number_at.id c.index-in-Some-number_at.result.now c.table.invariant.1.0
-    (ap (λ (t : Tables). t.keys) c.table.view_is) (ap (λ (t : Tables). t.symbols) c.table.view_is) c.in-Some-number_at.ensures c.index-in-Some-number_at.ensures
-
-pub returns : goal.returns
-returns c = c.value_elsewhere.ensures ∙ sym (value-of-name c.args.self.now.table.now.symbols c.args.name.now)
+pub returns-in-None : goal.returns-in-None
+returns-in-None c = c.value_elsewhere.ensures ∙ sym (value-of-name c.args.self.now.table.now.symbols c.args.name.now)

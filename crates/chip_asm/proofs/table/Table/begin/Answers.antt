@@ -1,36 +1,52 @@
-use Rattle.std.proofs.Common.{◌≡◌, ◌∙◌, ◌-◌, ◌++◌, ◌∷◌, [], List, Some, ap, sym, subst, refl, arith, length, length-append, take, slice_get}
+use Rattle.std.proofs.Common.{◌≡◌, ◌∙◌, List, ℕ, ap, arith, length, map, sym, subst, refl}
+use Rattle.std.specs.Global.{Vec}
+use Rattle.chip_asm.specs.Names.{Name}
 use Rattle.chip_asm.specs.declared.table.Definitions.{Definitions}
 use Rattle.chip_asm.specs.declared.table.Entry.{Entry}
-use Rattle.chip_asm.specs.inner.Tables.{BeginAlike, symbols_in}
-use Rattle.chip_asm.proofs.SymbolSteps.{defined-less}
-use Rattle.chip_asm.proofs.TakenBack.{alike-less, last-of, going-back, going-there}
+use Rattle.chip_asm.specs.inner.Tables.{AreDefined, BeginAlike, IsFront, Tables, symbols_in}
+use Rattle.chip_asm.proofs.SymbolSteps.{defined-same}
+use Rattle.chip_asm.proofs.TakenBack.{front-across, front-alike, front-early}
 use Rattle.chip_asm.proofs.table.Table.begin.Goals as goal
+use Rattle.chip_asm.proofs.table.Table.begin.Goals.{After-swap, After-take_along}
 
-pub loop-entry-preserved : goal.loop-entry-preserved
-loop-entry-preserved c =
-    let d : Definitions = c.loop-entry.self-inside.current in
-    let e : Entry = c.in-Some.entry.now in
-    let at : Some e ≡ slice_get d.entries.items (length d.entries.items - 1)
-    = subst (λ (xs : List Entry). Some c.in-Some.entry.now ≡ slice_get xs (length xs - 1)) c.deref.ensures.value c.in-Some.ensures.value in
-    let entries : d.entries.items ≡ c.pop.new.self.items ++ e ∷ []
-    = last-of d.entries.items e at ∙ ap (λ n. take (n - 1) d.entries.items ++ e ∷ []) (sym d.entries.ok.0) ∙ ap (λ (xs : List Entry). xs ++ e ∷ []) (sym c.pop.ensures.rest) in
-    let left : c.loop-entry.self-inside.same - 1 ≡ length c.pop.new.self.items = omega (arith, c.loop-entry.invariant.count, ap length entries, length-append c.pop.new.self.items (e ∷ [])) in record {
-      keys = c.loop-entry.invariant.keys;
-      before = c.loop-entry.invariant.before;
-      apart = c.loop-entry.invariant.apart;
-      past = c.loop-entry.invariant.past;
-      count = left;
-      alike = subst (λ n. BeginAlike n c.pop.new.self.items c.loop-entry.self-inside.past.entries.items) (sym left) (alike-less d.entries.items c.pop.new.self.items c.loop-entry.self-inside.past.entries.items e entries
-          (subst (λ n. BeginAlike n d.entries.items c.loop-entry.self-inside.past.entries.items) c.loop-entry.invariant.count c.loop-entry.invariant.alike));
-      current = defined-less c.args.self.now.keys d _ e c.loop-entry.invariant.apart c.loop-entry.invariant.current entries refl;
-      room = omega (arith, c.loop-entry.invariant.room, left, c.loop-entry.invariant.count, c.pop.ensures.capacity);
-      going = going-back c.args.number c.args.self.now.keys c.args.self.now.symbols d.entries.items c.pop.new.self.items e c.loop-entry.invariant.going entries c.if-entry-number.false;
-    }
+abbrev names : (c : After-take_along) → List Name
+names c = map (λ (k : Vec ℕ). k.items) c.self.inside.keys.keys
 
-pub returns-then-entry-number-clause-symbols : goal.returns-then-entry-number-clause-symbols
-returns-then-entry-number-clause-symbols c = λ early later is up over.
-    let es : List Entry = c.loop-entry.self-inside.current.entries.items in
-    let at : Some c.in-Some.entry.now ≡ slice_get es (length es - 1)
-    = subst (λ (xs : List Entry). Some c.in-Some.entry.now ≡ slice_get xs (length xs - 1)) c.deref.ensures.value c.in-Some.ensures.value in
-    ap (λ ks. symbols_in ks c.loop-entry.self-inside.current.entries.items) c.loop-entry.invariant.keys
-    ∙ going-there c.args.number c.args.self.now.keys c.args.self.now.symbols es c.in-Some.entry.now c.loop-entry.invariant.going at c.if-entry-number.true early later is up over
+none-alike : (now past : List Entry) → BeginAlike 0 now past
+none-alike now past = record { within = omega arith; past_within = omega arith; same = refl }
+
+along : (c : After-take_along) → AreDefined (names c) c.take_along.new.self
+along c = c.take_along.ensures.defined (names c) c.self.invariant.0 (c.take_back.ensures.defined (names c) c.self.invariant.0 c.self.invariant.1.1.0) c.self.invariant.1.0
+
+now : (c : After-swap) → c.swap.new.y.entries.items ≡ c.take_along.new.self.entries.items
+now c = ap (λ (d : Definitions). d.entries.items) c.swap.ensures.y_after ∙ c.reserve.ensures.items
+
+pub take_along-requires-clause-front : goal.take_along-requires-clause-front
+take_along-requires-clause-front c =
+    front-across c.self.inside.same c.take_back.new.self.entries.items c.self.inside.current.entries.items c.self.inside.past.entries.items c.self.invariant.1.1.1 c.take_back.ensures.front c.take_back.ensures.few
+
+pub invariant_of-self : goal.invariant_of-self
+invariant_of-self c = (c.self.invariant.0, (c.self.invariant.1.0, (along (goal.at.invariant_of-self c).After-take_along, none-alike _ _)))
+
+pub invariant_of-self-in_err-reserve : goal.invariant_of-self-in_err-reserve
+invariant_of-self-in_err-reserve c =
+    (c.self.invariant.0, (c.self.invariant.1.0, (defined-same _ c.take_along.new.self _ (along (goal.at.invariant_of-self-in_err-reserve c).After-take_along) c.reserve.ensures.items refl, none-alike _ _)))
+
+pub invariant_of-self-2 : goal.invariant_of-self-2
+invariant_of-self-2 c =
+    let made = along (goal.at.invariant_of-self-2 c).After-take_along in
+    let past : c.self.inside.current ≡ c.swap.new.x = sym c.swap.ensures.x_after in
+    let front : IsFront c.swap.new.y.entries.items c.swap.new.x.entries.items = rw (now c, c.swap.ensures.x_after) c.take_along.ensures.front in
+    let many : length c.swap.new.y.entries.items ≡ c.len-self-inside.result = ap length (now c ∙ sym c.reserve.ensures.items) ∙ sym c.reserve.new.self.ok.0 ∙ sym c.len-self-inside.ensures in (
+      c.self.invariant.0,
+      (
+        defined-same (names (goal.at.invariant_of-self-2 c).After-take_along) c.take_along.new.self _ made (now c) (ap (λ (d : Definitions). d.values.items) c.swap.ensures.y_after),
+        (subst (AreDefined (names (goal.at.invariant_of-self-2 c).After-take_along)) past c.self.invariant.1.0, subst (λ n. BeginAlike n c.swap.new.y.entries.items c.swap.new.x.entries.items) many (front-alike _ _ front)),
+      ),
+    )
+
+pub returns-clause-symbols : goal.returns-clause-symbols
+returns-clause-symbols c = λ early later is up over.
+    ap (symbols_in (names (goal.at.returns-clause-symbols c).After-take_along)) (now c)
+    ∙ front-early c.args.number _ c.take_along.new.self.entries.items c.self.inside.current.entries.items c.take_along.ensures.front c.take_along.ensures.ends c.in_ok-take_along.ensures.stops early later
+    (ap (λ (t : Tables). t.symbols) c.self.view_is ∙ is) up over
