@@ -23,10 +23,16 @@ use std::alloc::{AllocError, Global};
 use std::marker::Model;
 
 /// The lines of a source, with all that is known of them kept under edits.
-#[derive(Drop)]
 pub struct Source {
     kept: Kept,
     meter: Meter,
+}
+
+// It goes by one call, and not part by part in each function that lets one go.
+impl Drop for Source {
+    fn drop(self) {
+        let Source { kept: _, meter: _ } = self;
+    }
 }
 
 impl Model for Source {

@@ -26,10 +26,11 @@ use crate::streams::{Feed, Plan, Sink, each, talk};
 use anyhow::{Error, bail};
 use chip_bench::{Counted, Host, Settings, program, refuse_words, tape_of};
 use std::alloc::Global;
+use std::io;
 use std::io::{BufRead, BufReader, Read, Write};
-use std::{io, mem};
 
-/// What the commands so far made. As its session it has no `Drop`, but a `close`.
+/// What the commands so far made.
+#[derive(Drop)]
 struct Calls {
     source: Vec<u8>,
     script: Vec<u8>,
@@ -45,16 +46,6 @@ impl Calls {
             plan: Plan::PLAIN,
             session: Session::open(alloc, b"", 1000)?,
         })
-    }
-
-    fn close(self) {
-        let Calls {
-            source: _source,
-            script: _script,
-            plan: _plan,
-            session,
-        } = self;
-        session.close();
     }
 
     /// What a command is answered with: lines, or nothing.
@@ -89,8 +80,7 @@ impl Calls {
                     .extend_from_slice(text.repeat(alloc, count.parse::<usize>()?)?.as_bytes())?;
             }
             "open" => {
-                let opened = Session::open(alloc, &self.source, rest.parse::<u32>()?)?;
-                mem::replace(&mut self.session, opened).close();
+                self.session = Session::open(alloc, &self.source, rest.parse::<u32>()?)?;
             }
             "streams" => self.plan = Plan::read(rest)?,
             _ => bail!("no such command"),
@@ -202,7 +192,5 @@ fn answer_all(rt: &HostRuntime, calls: &mut Calls) -> Result<(), Error> {
 
 fn main(rt: HostRuntime) -> Result<(), Error> {
     let mut calls = Calls::new(rt.alloc())?;
-    let answered = answer_all(&rt, &mut calls);
-    calls.close();
-    answered
+    answer_all(&rt, &mut calls)
 }

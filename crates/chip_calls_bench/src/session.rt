@@ -5,8 +5,8 @@ use chip_bench::{Bench, Settings};
 use chip_session::respond;
 use std::alloc::Global;
 
-/// A session, and how many steps it had made before the last command. It has no `Drop`: `close` ends
-/// it, so that the proof need not look at each part of a bench.
+/// A session, and how many steps it had made before the last command.
+#[derive(Drop)]
 pub(crate) struct Session {
     bench: Bench,
     ran_before: u64,
@@ -20,15 +20,6 @@ impl Session {
             bench: Bench::open(alloc, source, settings)?,
             ran_before: 0,
         })
-    }
-
-    /// Ends the session.
-    pub(crate) fn close(self) {
-        let Session {
-            bench,
-            ran_before: _ran_before,
-        } = self;
-        bench.close();
     }
 
     /// Carries out a command, and gives its answer.

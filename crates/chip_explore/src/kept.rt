@@ -19,6 +19,7 @@ pub(crate) struct Base {
     pub(crate) rows: Vec<u128>,
 }
 
+// It goes by one call, and not part by part in each function that lets one go.
 impl Drop for Base {
     fn drop(self) {
         let Base {

@@ -28,6 +28,7 @@ pub(crate) struct Members {
     pub(crate) executed: Executed,
 }
 
+// It goes by one call, and not part by part in each function that lets one go.
 impl Drop for Members {
     fn drop(self) {
         let Members {

@@ -9,7 +9,6 @@ use crate::token::{Kind, Token, USUAL_TOKENS, token_from};
 use std::alloc::{AllocError, Global};
 
 /// A token with its content: a word in upper case, a number, the bytes of a text, or a sign.
-#[derive(Drop)]
 pub enum Lexeme {
     /// A word in upper case.
     Word(ShortBytes),
@@ -21,6 +20,19 @@ pub enum Lexeme {
     Sign(u8),
     /// No token, with its fault.
     Bad(Fault),
+}
+
+// It goes by one call, and not part by part in each function that lets one go.
+impl Drop for Lexeme {
+    fn drop(self) {
+        match self {
+            Lexeme::Word(_)
+            | Lexeme::Number(_)
+            | Lexeme::Text(_)
+            | Lexeme::Sign(_)
+            | Lexeme::Bad(_) => {}
+        }
+    }
 }
 
 /// The tokens of a line with what they hold.

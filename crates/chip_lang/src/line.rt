@@ -66,7 +66,6 @@ pub enum Body {
 
 /// The reading of a line: a label or defined name, if any, and a statement; or the line's reading
 /// fault.
-#[derive(Drop)]
 pub enum Line {
     /// The first fault of the reading.
     Bad(Fault),
@@ -77,6 +76,15 @@ pub enum Line {
         /// The statement.
         body: Body,
     },
+}
+
+// It goes by one call, and not part by part in each function that lets one go.
+impl Drop for Line {
+    fn drop(self) {
+        match self {
+            Line::Bad(_) | Line::Read { label: _, body: _ } => {}
+        }
+    }
 }
 
 /// Reads the text of a line, any bytes at all. Each text has one reading, which uses at most half
@@ -207,7 +215,7 @@ fn first_fault(
 fn begins_with_no_word(statement: &[Lexeme]) -> bool
     ensures { result ≡ begins_with_no_word statement.now }
 {
-    !matches!(statement, [] | [Lexeme::Word(_), ..])
+    !matches!(statement, [] | [Lexeme::Word(..), ..])
 }
 
 /// Whether a statement begins with a word that is not a directive, of which `front` tells, nor an
@@ -219,7 +227,7 @@ fn begins_with_unknown_word(front: Option<Directive>, forms: &[Form], statement:
     ensures { result ≡ begins_with_unknown_word statement.now }
 {
     match (front, statement) {
-        (None, [Lexeme::Word(_), ..]) => forms.is_empty(),
+        (None, [Lexeme::Word(..), ..]) => forms.is_empty(),
         _ => false,
     }
 }

@@ -30,6 +30,7 @@ pub struct Replay<M: Traced> {
     kept: Kept<M>,
 }
 
+// It goes by one call, and not part by part in each function that lets one go.
 impl<M: Traced> Drop for Replay<M> {
     fn drop(self) {
         let Replay {

@@ -29,12 +29,22 @@ use std::marker::Model;
 use std::mem::swap;
 
 /// A bench: a source as edited so far, and the run of the last image that the lines had.
-#[derive(Drop)]
 pub struct Bench {
     source: Source,
     run: ImageRun,
     /// The room of the next answer. What it holds means nothing.
     room: Vec<u8>,
+}
+
+// It goes by one call, and not part by part in each function that lets one go.
+impl Drop for Bench {
+    fn drop(self) {
+        let Bench {
+            source: _,
+            run: _,
+            room: _,
+        } = self;
+    }
 }
 
 impl Model for Bench {
@@ -211,8 +221,4 @@ impl Bench {
     {
         self.run.ran()
     }
-
-    /// Ends the session. That its parts are let go is then proved here, and not in each crate that
-    /// holds a bench.
-    pub fn close(self) {}
 }

@@ -26,12 +26,22 @@ use std::ops::Range;
 
 /// The run of the last image that the lines had, or of the empty one, under the settings of the
 /// session and the key events as edited so far.
-#[derive(Drop)]
 pub(crate) struct ImageRun {
     settings: Settings,
     replay: Replay<Machine>,
     /// It has room for any image.
     last_image: Vec<u8>,
+}
+
+// It goes by one call, and not part by part in each function that lets one go.
+impl Drop for ImageRun {
+    fn drop(self) {
+        let ImageRun {
+            settings: _,
+            replay: _,
+            last_image: _,
+        } = self;
+    }
 }
 
 impl Model for ImageRun {

@@ -105,14 +105,10 @@ pub fn serve<R: Read, W: Write>(
     ensures reader_failed { reader.new.failures ≡ reader_failures result reader.old.failures }
     ensures writer_failed { writer.new.failures ≡ writer_failures result writer.old.failures }
 {
-    let bench = match Bench::open(alloc, source, settings) {
-        Ok(bench) => bench,
-        Err(e) => return Err(ServeError::Source(e)),
-    };
-    let mut conversation = Conversation::new(alloc, bench);
-    let served = converse(alloc, &mut conversation, reader, writer);
-    conversation.close();
-    served
+    match Bench::open(alloc, source, settings) {
+        Ok(bench) => converse(alloc, &mut Conversation::new(alloc, bench), reader, writer),
+        Err(e) => Err(ServeError::Source(e)),
+    }
 }
 
 // Carries out the script that the reader gives.
@@ -171,11 +167,6 @@ impl Conversation {
             complete: 0,
             taken: 0,
         }
-    }
-
-    // Ends the session.
-    fn close(self) {
-        self.bench.close();
     }
 
     // Takes the next bytes, as far as the bound on bytes allows.
