@@ -34,20 +34,6 @@ front-value keys d n i a h none =
     ∙ ap (λ ss. value_among ss (key_at keys i)) (map-append (λ (e : Entry). (key_at keys e.id.number, e.symbol)) (take n d.entries.items) (drop n d.entries.items))
     ∙ ap (option_map (λ (s : Symbol). s.value)) (lookup-front (symbols_in keys (take n d.entries.items)) (symbols_in keys (drop n d.entries.items)) (key_at keys i) none)
 
-pub covered : (keys : List Name) (now past : Definitions) (n : ℕ) → AreApart keys → AreDefined keys now → AreDefined keys past → take n now.entries.items ≡ take n past.entries.items
-    → (P : ℕ → Type 0) → ((i : ℕ) → HaveSame past.values.items now.values.items i → P i)
-    → All (λ (e : Entry). P e.id.number) (drop n past.entries.items) → All (λ (e : Entry). P e.id.number) (drop n now.entries.items)
-    → (i : ℕ) → i < length keys → P i
-covered keys now past n apart a b same P keeps were are i h =
-    by (number-of keys (drop n past.entries.items) P i apart h (All-drop (λ (e : Entry). e.id.number < length keys) n past.entries.items b.inside) were)
-    (number-of keys (drop n now.entries.items) P i apart h (All-drop (λ (e : Entry). e.id.number < length keys) n now.entries.items a.inside) are)
-  where
-    by : P i ⊎ (lookup_name (symbols_in keys (drop n past.entries.items)) (key_at keys i) ≡ None) → P i ⊎ (lookup_name (symbols_in keys (drop n now.entries.items)) (key_at keys i) ≡ None) → P i
-    by (inl p) other = p
-    by (inr none) (inl p) = p
-    by (inr none) (inr gone) =
-        keeps i (front-value keys past n i b h none ∙ ap (λ es. value_among (symbols_in keys es) (key_at keys i)) (sym same) ∙ sym (front-value keys now n i a h gone))
-
 -- the same of slices of the entries
 pub same-later : (values old others other : List (Option ℤ)) (es whole : List Entry) (n : ℕ) → values ≡ old → others ≡ other → es ≡ whole
     → All (λ (e : Entry). HaveSame values others e.id.number) (take (length es - n) (drop n es)) → All (λ (e : Entry). HaveSame old other e.id.number) (drop n whole)
@@ -64,4 +50,15 @@ pub all-same : (keys : List Name) (now past : Definitions) (n : ℕ) → AreApar
     → All (λ (e : Entry). HaveSame past.values.items now.values.items e.id.number) (drop n past.entries.items) → All (λ (e : Entry). HaveSame past.values.items now.values.items e.id.number) (drop n now.entries.items)
     → (name : Name) → value_among (symbols_in keys past.entries.items) name ≡ value_among (symbols_in keys now.entries.items) name
 all-same keys now past n apart a b same were are =
-    same-values keys past now b a (covered keys now past n apart a b same (HaveSame past.values.items now.values.items) (λ i h. h) were are)
+    same-values keys past now b a
+    (λ i h. by i h (number-of keys (drop n past.entries.items) HasSame i apart h (All-drop (λ (e : Entry). e.id.number < length keys) n past.entries.items b.inside) were)
+    (number-of keys (drop n now.entries.items) HasSame i apart h (All-drop (λ (e : Entry). e.id.number < length keys) n now.entries.items a.inside) are))
+  where
+    HasSame : ℕ → Type 0
+    HasSame = HaveSame past.values.items now.values.items
+
+    by : (i : ℕ) → i < length keys → HasSame i ⊎ (lookup_name (symbols_in keys (drop n past.entries.items)) (key_at keys i) ≡ None) → HasSame i ⊎ (lookup_name (symbols_in keys (drop n now.entries.items)) (key_at keys i) ≡ None)
+        → HasSame i
+    by i h (inl p) other = p
+    by i h (inr none) (inl p) = p
+    by i h (inr none) (inr gone) = front-value keys past n i b h none ∙ ap (λ es. value_among (symbols_in keys es) (key_at keys i)) (sym same) ∙ sym (front-value keys now n i a h gone)
