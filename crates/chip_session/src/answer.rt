@@ -15,7 +15,8 @@ pub(crate) fn push_hex_line(text: &mut Vec<u8>, bytes: &[u8]) -> Result<(), Allo
     ensures { OnOk result (text.new.items ≡ text.old.items ++ hex_line bytes.now) }
 {
     push_hex(text, bytes)?;
-    text.extend_from_slice(b"\n")
+    text.push(b'\n')?;
+    Ok(())
 }
 
 /// A line for each name, with its value and its line.

@@ -72,7 +72,8 @@ fn push_register_line(answer: &mut Vec<u8>, machine: &Machine) -> Result<(), All
 {
     answer.extend_from_slice(b"v")?;
     push_spaced_bytes(answer, machine.registers())?;
-    answer.extend_from_slice(b"\n")
+    answer.push(b'\n')?;
+    Ok(())
 }
 
 fn push_place(answer: &mut Vec<u8>, machine: &Machine) -> Result<(), AllocError>
@@ -99,7 +100,8 @@ fn push_condition(answer: &mut Vec<u8>, machine: &Machine) -> Result<(), AllocEr
     push_decimal(answer, machine.draws())?;
     answer.extend_from_slice(size_word(machine.high()))?;
     push_state_name(answer, machine.stopped())?;
-    answer.extend_from_slice(b"\n")
+    answer.push(b'\n')?;
+    Ok(())
 }
 
 fn push_state_line(answer: &mut Vec<u8>, machine: &Machine) -> Result<(), AllocError>
@@ -117,7 +119,8 @@ fn push_flag_line(answer: &mut Vec<u8>, machine: &Machine) -> Result<(), AllocEr
     push_spaced_bytes(answer, machine.flags())?;
     answer.extend_from_slice(b" stack")?;
     push_spaced_words(answer, machine.frames())?;
-    answer.extend_from_slice(b"\n")
+    answer.push(b'\n')?;
+    Ok(())
 }
 
 fn size_name(high: bool) -> &'static [u8]
@@ -161,7 +164,8 @@ pub(crate) fn push_memory(
     let end = start + usize::from(count);
     answer.reserve(2 * usize::from(count) + 1)?;
     push_hex(answer, &machine.memory()[start..end])?;
-    answer.extend_from_slice(b"\n")
+    answer.push(b'\n')?;
+    Ok(())
 }
 
 /// Adds so many words from an address: for each its address, the word, and its source text.
@@ -192,7 +196,8 @@ fn push_word_line(answer: &mut Vec<u8>, machine: &Machine, at: u16) -> Result<()
     let [e, f, g, h] = word_digits(word);
     answer.extend_from_slice(&[a, b, c, d, b' ', e, f, g, h, b' '])?;
     push_shown(answer, word)?;
-    answer.extend_from_slice(b"\n")
+    answer.push(b'\n')?;
+    Ok(())
 }
 
 fn word_at(machine: &Machine, at: u16) -> u16
@@ -237,7 +242,8 @@ fn push_row_line(answer: &mut Vec<u8>, machine: &Machine, row: usize) -> Result<
     push_two_digits(answer, row as u64)?;
     answer.push(b' ')?;
     push_hex(answer, &row_bytes(machine, row))?;
-    answer.extend_from_slice(b"\n")
+    answer.push(b'\n')?;
+    Ok(())
 }
 
 fn push_two_digits(answer: &mut Vec<u8>, number: u64) -> Result<(), AllocError>
