@@ -51,7 +51,7 @@ fn keeps_values(names: &Table, kept: &BoxedLine) -> bool
         (reading_in kept.now) }
 {
     match kept.info().uses {
-        Uses::Nothing => true,
+        Uses::Nothing | Uses::Asked(_) => true,
         Uses::One(id) => names.keeps_value(id),
         Uses::Several => names.keep_values(kept.numbers()),
     }
@@ -105,7 +105,8 @@ fn pass_line(
     let was = placements[place];
     let known = known_value(&pass.names, kept, &was);
     let (line, defines, numbers) = (kept.line(), kept.info().defines, kept.numbers());
-    pass.step(placements, place, known, line, defines, numbers);
+    let asked = kept.info().uses.asked();
+    pass.step(placements, place, known, line, defines, asked, numbers);
     let now = placements[place];
     if !now.is_accepted() {
         waiting.set(codings, place, Coding::of(now.fault));
@@ -117,6 +118,7 @@ fn pass_line(
 }
 
 /// The first pass over the lines from a place on: lines of which little is asked are passed together.
+#[inline(never)]
 pub(crate) fn walk(
     pass: &mut Pass,
     lines: &[BoxedLine],
