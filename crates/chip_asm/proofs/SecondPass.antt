@@ -4,7 +4,7 @@
 use Rattle.std.proofs.Common.{◌≡◌, ℕ, ◌+◌, ◌-◌, ◌<◌, ◌≤◌, ◌⊎◌, inl, inr, Bool, true, false, cond, not, ◌&&◌, ◌||◌, is_none, List, [], map, reverse, length, take, get_or, slice_get, refl, ap, sym, subst, ◌∙◌, arith, below_more, Option, Some, None}
 use Rattle.std.specs.List.{enumerate_from}
 use Rattle.std.specs.Option.{option_map_or}
-use Rattle.std.proofs.lemmas.Bool.{and_cases, and_from, and_left, and_parts, and_right, cases_eq, cases_lt, false_from_ne_true, false≢true, not-false, or_parts}
+use Rattle.std.proofs.lemmas.Bool.{and_cases, and_left, and_parts, and_right, cases_eq, cases_lt, false_from_ne_true, false≢true, not-false, or_parts}
 use Rattle.std.proofs.lemmas.List.{get_or-map, length-map, same_lists, take-take, take_all}
 use Rattle.std.proofs.lemmas.Option.{get_or_from_slice_get, same_Some, slice_get-get_or, slice_get_within}
 use Rattle.chip_lang.specs.declared.fault.Fault.{Fault}
@@ -15,7 +15,7 @@ use Rattle.chip_lang.specs.Line.{Reading, bad}
 use Rattle.chip_lang.specs.Uses.{agree_on, has_same_value}
 use Rattle.chip_lang.specs.Value.{Symbols}
 use Rattle.chip_asm.specs.declared.codes.Coding.{Coding}
-use Rattle.chip_asm.specs.declared.codes.Coding.TheVariants.{Faulty, Pending}
+use Rattle.chip_asm.specs.declared.codes.Coding.TheVariants.{Done, Faulty, Pending}
 use Rattle.chip_asm.specs.declared.pass.Pass.{Pass}
 use Rattle.chip_asm.specs.declared.placement.Placement.{Placement}
 use Rattle.chip_asm.specs.declared.waiting.Waiting.{Waiting}
@@ -117,29 +117,35 @@ alike-agreed : SameCode → (e : Change) (names : Tables) (lines : List KeptLine
 alike-agreed law e names lines line u agree =
     rw (← u.before, ← u.symbols) (same-bytes line (values_of names.before) (values_of names.symbols) (law line (values_of names.before) (values_of names.symbols) agree))
 
-done-now : (e : Change) (place : ℕ) (x : Placed) (c : Coding) (image : List ℕ) → (c ≡ Pending → has_code (body_of x.line) ≡ true → ⊥) → (is_accepted_in (placed e.now) x ≡ true → AlikeIn e x.line) → IsHalfDone e place x c image → IsDone e x c image
+done-now : (e : Change) (place : ℕ) (x : Placed) (c : Coding) (image : List ℕ) → is_pending c ≡ false → (is_accepted_in (placed e.now) x ≡ true → AlikeIn e x.line) → IsHalfDone e place x c image → IsDone e x c image
 done-now e place x c image settled same half = record { refused = half.refused; accepted = λ taken. by (half.accepted taken) (same taken) }
   where
     by : IsCarried e place x c image → AlikeIn e x.line → HasCode (code_under (placed e.now) x) x.here x.size c image
-    by (inl w) alike = absurd (settled w.pending w.coded)
+    by (inl w) alike = absurd (false≢true (sym settled ∙ ap is_pending w.pending))
     by (inr h) alike = subst (λ code. HasCode code x.here x.size c image) alike h
 
 -- a line that isn't to be encoded has its code
 pub coded-still : SameCode → (e : Change) (names : Tables) (lines : List KeptLine) (place : ℕ) (kept : KeptLine) (q : Placement) (codings : List Coding) (image : List ℕ) → IsEncodedUnder e names lines → Stands e.now place kept q
     → AreCoded e codings image place → slice_get codings place ≡ Some (get_or codings place Pending)
-    → (has_code (body_of (reading_in kept)) && (is_pending (get_or codings place Pending) || (not (agree_on (values_of names.before) (values_of names.symbols) (reading_in kept)) && is_placed q))) ≡ false → AreCoded e codings image (place + 1)
+    → (is_pending (get_or codings place Pending) || (not (agree_on (values_of names.before) (values_of names.symbols) (reading_in kept)) && is_coded kept q)) ≡ false → AreCoded e codings image (place + 1)
 coded-still law e names lines place kept q codings image u s a there still =
     next-coded e codings codings image image place s.at.x (get_or codings place Pending) s.at.at a (noted-same codings place there) refl (λ k out. refl)
-    (done-now e place s.at.x (get_or codings place Pending) image
-    (λ waits has. false≢true (sym still ∙ (rw (ap (λ line. has_code (body_of line)) s.line ∙ has, waits) refl)))
-    (λ taken. subst (AlikeIn e) s.line (by (ap is_placed s.at.placement ∙ taken) (and_cases _ _ still)))
+    (done-now e place s.at.x (get_or codings place Pending) image (or_parts _ _ still).0
+    (λ taken. subst (AlikeIn e) s.line (by (ap is_placed s.at.placement ∙ taken) (and_cases _ _ (or_parts _ _ still).1)))
     (a.half place s.at.x (get_or codings place Pending) (omega arith) s.at.at there))
   where
-    by : is_placed q ≡ true → (has_code (body_of (reading_in kept)) ≡ false) ⊎ ((is_pending (get_or codings place Pending) || (not (agree_on (values_of names.before) (values_of names.symbols) (reading_in kept)) && is_placed q)) ≡ false) → AlikeIn e (reading_in kept)
-    by accepted (inl bare) = no-code (body_of (reading_in kept)) (values_of (names_of_lines e.was)) bare ∙ sym (no-code (body_of (reading_in kept)) (values_of (names_of_lines e.now)) bare)
-    by accepted (inr settled) = alike-agreed law e names lines (reading_in kept) u (not-false _ (false_from_ne_true _ (λ differ. false≢true (sym (or_parts _ _ settled).1 ∙ and_from _ _ differ accepted))))
+    by : is_placed q ≡ true → (not (agree_on (values_of names.before) (values_of names.symbols) (reading_in kept)) ≡ false) ⊎ (is_coded kept q ≡ false) → AlikeIn e (reading_in kept)
+    by accepted (inl agree) = alike-agreed law e names lines (reading_in kept) u (not-false _ agree)
+    by accepted (inr none) =
+        let bare : has_code (body_of (reading_in kept)) ≡ false = rw accepted at none in
+        no-code (body_of (reading_in kept)) (values_of (names_of_lines e.was)) bare ∙ sym (no-code (body_of (reading_in kept)) (values_of (names_of_lines e.now)) bare)
 
 -- lines whose names keep their values, and which don't wait, have their codes
+
+settled-coding : (c : Coding) → (c ≡ Pending → ⊥) → is_pending c ≡ false
+settled-coding Pending h = absurd (h refl)
+settled-coding Done h = refl
+settled-coding (Faulty f) h = refl
 
 pub names-kept : SameCode → (e : Change) (names : Tables) (lines : List KeptLine) → IsEncodedUnder e names lines → ((name : Name) → has_same_value (values_of names.before) (values_of names.symbols) name ≡ true)
     → (codings : List Coding) (image : List ℕ) (start end : ℕ) → AreCoded e codings image start → ((j : ℕ) → start ≤ j → j < end → slice_get codings j ≡ Some Pending → ⊥) → start ≤ end → AreCoded e codings image end
@@ -154,7 +160,7 @@ names-kept law e names lines u same codings image start end a none ordered = rec
     done : (j : ℕ) (x : Placed) (c : Coding) → j < end → placed_at e j ≡ Some x → slice_get codings j ≡ Some c → (j < start) ⊎ (start ≤ j) → IsDone e x c image
     done j x c below there coded (inl before) = a.done j x c before there coded
     done j x c below there coded (inr from) =
-        done-now e j x c image (λ waits has. none j from below (coded ∙ ap Some waits))
+        done-now e j x c image (settled-coding c (λ waits. none j from below (coded ∙ ap Some waits)))
         (λ taken. alike-agreed law e names lines x.line u (all-agree (values_of names.before) (values_of names.symbols) same x.line)) (a.half j x c from there coded)
 
 -- how many lines are encoded again
@@ -182,7 +188,7 @@ keeps-is e place line = by (e.origin place)
 -- a line that is to be encoded doesn't keep its code, so it is encoded again if it has one and is accepted
 pub again-more : (e : Change) (names : Tables) (lines : List KeptLine) (place : ℕ) (kept : KeptLine) (q : Placement) (codings : List Coding) (image : List ℕ) (c : Coding) → IsEncodedUnder e names lines → Stands e.now place kept q
     → AreCoded e codings image place → slice_get codings place ≡ Some c
-    → (has_code (body_of (reading_in kept)) && (is_pending c || (not (agree_on (values_of names.before) (values_of names.symbols) (reading_in kept)) && is_placed q))) ≡ true
+    → (is_pending c || (not (agree_on (values_of names.before) (values_of names.symbols) (reading_in kept)) && is_coded kept q)) ≡ true
     → (before now : ℕ) → now ≤ before + cond (is_coded kept q) 1 0 → now + again_up_to e place ≤ before + again_up_to e (place + 1)
 unfolding is_encoded_again
 again-more e names lines place kept q codings image c u s a there again before now few =
@@ -190,7 +196,7 @@ again-more e names lines place kept q codings image c u s a there again before n
     let counted = count-step (is_coded kept q) (is_encoded_again e.was e.now e.origin (place, reading_in kept)) (λ coded. anew (and_parts _ _ coded)) in
     omega arith
   where
-    by : is_placed q ≡ true → (p b : Bool) → is_pending c ≡ p → (p || (not b && is_placed q)) ≡ true → (stood e place && b) ≡ false
+    by : is_placed q ≡ true → (p b : Bool) → is_pending c ≡ p → (p || (not b && is_coded kept q)) ≡ true → (stood e place && b) ≡ false
     by accepted true b pending h = and_left _ b (waits-new e place s.at.x c image pending ((a.half place s.at.x c (omega arith) s.at.at there).accepted (ap is_placed (sym s.at.placement) ∙ accepted)))
     by accepted false true pending h = cc
     by accepted false false pending h = and_right (stood e place) false refl
@@ -199,7 +205,7 @@ again-more e names lines place kept q codings image c u s a there again before n
     anew h =
         let placed_there : is_placed_at (placements_of e.now) place ≡ true
         = placed-at e.now place ∙ ap (λ o. option_map_or (is_accepted_in (placed e.now)) o false) s.at.at ∙ ap is_placed (sym s.at.placement) ∙ h.0 in
-        let lost : keeps_code e.was e.now e.origin (place, reading_in kept) ≡ false = keeps-is e place (reading_in kept) ∙ (rw (← u.before, ← u.symbols) (by h.0 (is_pending c) _ refl (and_parts _ _ again).1)) in
+        let lost : keeps_code e.was e.now e.origin (place, reading_in kept) ≡ false = keeps-is e place (reading_in kept) ∙ (rw (← u.before, ← u.symbols) (by h.0 (is_pending c) _ refl again)) in
         rw (h.1, placed_there, lost) refl
 
 -- the second pass is over

@@ -4,12 +4,12 @@ ghost use Rattle.chip_lang.specs.Uses.{agree_on};
 ghost use Rattle.chip_asm.specs.Layout.{body_of, value_at};
 ghost use Rattle.chip_asm.specs.Names.{values_of};
 ghost use Rattle.chip_lang.specs.declared.limits.TheConstants.{IMAGE_BYTES};
+ghost use Rattle.chip_asm.specs.inner.Codes.{is_coded};
 ghost use Rattle.chip_asm.specs.inner.HeldLine.{IsKnownUnder};
 ghost use Rattle.chip_asm.specs.inner.Infos.{AreInfos, IsInfo};
 ghost use Rattle.chip_asm.specs.inner.Layouts.{placements_of};
 ghost use Rattle.chip_asm.specs.inner.Passes.{AreCoded, Change, IsEncodedUnder, IsTally, IsUnderWay, again_up_to, is_pending};
 ghost use Rattle.chip_asm.specs.inner.Placements.{is_placed};
-ghost use Rattle.chip_asm.specs.inner.Recode.{has_code};
 ghost use Rattle.chip_asm.specs.inner.Records.{reading_in, readings_in};
 ghost use Rattle.chip_asm.specs.inner.Resume.{AreSteady};
 
@@ -51,7 +51,7 @@ fn keeps_values(names: &Table, kept: &BoxedLine) -> bool
         (reading_in kept.now) }
 {
     match kept.info().uses {
-        Uses::Nothing | Uses::Asked(_) => true,
+        Uses::Nothing => true,
         Uses::One(id) => names.keeps_value(id),
         Uses::Several => names.keep_values(kept.numbers()),
     }
@@ -59,7 +59,7 @@ fn keeps_values(names: &Table, kept: &BoxedLine) -> bool
 
 /// The value of the expression of a line, where it is known: it is constant, or the line was accepted
 /// before and its names keep their values.
-#[inline(always)]
+#[inline(never)]
 fn known_value(names: &Table, kept: &BoxedLine, was: &Placement) -> Option<i32>
     requires info { IsInfo names.now.keys kept.now.info kept.now.several (reading_in kept.now) }
     requires was { is_placed was.now ≡ true
@@ -105,8 +105,7 @@ fn pass_line(
     let was = placements[place];
     let known = known_value(&pass.names, kept, &was);
     let (line, defines, numbers) = (kept.line(), kept.info().defines, kept.numbers());
-    let asked = kept.info().uses.asked();
-    pass.step(placements, place, known, line, defines, asked, numbers);
+    pass.step(placements, place, known, line, defines, numbers);
     let now = placements[place];
     if !now.is_accepted() {
         waiting.set(codings, place, Coding::of(now.fault));
@@ -117,8 +116,7 @@ fn pass_line(
     }
 }
 
-/// The first pass over the lines from a place on: lines of which little is asked are passed together.
-#[inline(never)]
+/// The first pass over the lines from a place on.
 pub(crate) fn walk(
     pass: &mut Pass,
     lines: &[BoxedLine],
@@ -137,36 +135,28 @@ pub(crate) fn walk(
         → IsUnderWay e lines.now pass.new placements.new codings.new waiting.new from.now image.new
         (length lines.now) }
 {
-    let mut place = first;
+    let mut place = pass.run(lines, placements, codings, waiting, from, image, first);
     while place < lines.len() {
-        if lines[place].info().is_bare {
-            place = pass.run(lines, placements, codings, waiting, from, image, place);
-        }
-        if place < lines.len() {
-            pass_line(
-                pass, lines, placements, codings, waiting, from, image, place,
-            );
-            place += 1;
-        }
+        pass_line(
+            pass, lines, placements, codings, waiting, from, image, place,
+        );
+        place = pass.run(lines, placements, codings, waiting, from, image, place + 1);
     }
 }
 
-/// Whether a line is to be encoded. One without bytes of its own isn't, whatever became of it.
+/// Whether a line is to be encoded.
 #[inline(always)]
 fn is_again(names: &Table, kept: &BoxedLine, placement: &Placement, coding: Coding) -> bool
     requires { IsInfo names.now.keys kept.now.info kept.now.several (reading_in kept.now) }
     ensures { result
-        ≡ (has_code (body_of (reading_in kept.now)) && (is_pending coding
+        ≡ (is_pending coding
         || (not (agree_on (values_of names.now.before) (values_of names.now.symbols)
-        (reading_in kept.now)) && is_placed placement.now))) }
+        (reading_in kept.now)) && is_coded kept.now placement.now)) }
 {
-    if !kept.info().is_coded {
-        return false;
-    }
     if let Coding::Pending = coding {
         return true;
     }
-    !keeps_values(names, kept) && placement.is_accepted()
+    !keeps_values(names, kept) && placement.is_accepted() && kept.info().is_coded
 }
 
 /// The second pass, over the lines of some places. A line is encoded if it waits for its code, or if

@@ -1,12 +1,12 @@
 //! What is kept of a line beside its reading, for steps over all lines.
-ghost use Rattle.std.specs.Prelude.{◌≡◌, ◌++◌, ◌≤◌, List, IfOk, IfSome, None, OnOk, option_copied};
+ghost use Rattle.std.specs.Prelude.{◌≡◌, ◌++◌, ◌≤◌, List, IfOk, IfSome, None, OnOk};
 ghost use Rattle.chip_lang.specs.Line.{Reading};
 ghost use Rattle.chip_lang.specs.SeenLine.{seen_line};
 ghost use Rattle.chip_lang.specs.Uses.{name_defined, names_used};
 ghost use Rattle.chip_asm.specs.Layout.{body_of};
 ghost use Rattle.chip_asm.specs.Names.{Name};
 ghost use Rattle.chip_asm.specs.inner.HeldText.{SaysNothing};
-ghost use Rattle.chip_asm.specs.inner.Infos.{AreInfosOf, IsBare, IsInfo, IsNumberOf, is_bare_line, is_steady, name_asked, number_asked, numbers_used};
+ghost use Rattle.chip_asm.specs.inner.Infos.{AreInfosOf, IsBare, IsInfo, IsNumberOf, is_bare_line, is_steady, numbers_used};
 ghost use Rattle.chip_asm.specs.inner.Records.{readings_in};
 ghost use Rattle.chip_asm.specs.inner.Recode.{has_code};
 ghost use Rattle.chip_asm.specs.inner.Tables.{AreNumbers, Extends};
@@ -26,20 +26,6 @@ pub(crate) enum Uses {
     One(NameId),
     /// There are several.
     Several,
-    /// There is none, but the line is an IF, which asks whether this one has a symbol.
-    Asked(NameId),
-}
-
-impl Uses {
-    /// The name of which the line asks whether it has a symbol.
-    pub(crate) fn asked(self) -> Option<NameId>
-        ensures { result ≡ number_asked self }
-    {
-        match self {
-            Uses::Asked(id) => Some(id),
-            _ => None,
-        }
-    }
 }
 
 /// What steps over all lines ask of a line.
@@ -135,19 +121,6 @@ fn push_numbers(
     Ok(())
 }
 
-/// The name of which an IF line asks whether it has a symbol.
-fn name_asked(line: &Line) -> Option<&[u8]>
-    ensures { option_copied result ≡ name_asked (body_of (seen_line line.now)) }
-{
-    match line {
-        Line::Bad(_) => None,
-        Line::Read { body, .. } => match body {
-            Body::Ifdef(name) | Body::Ifund(name) => Some(name.get()),
-            _ => None,
-        },
-    }
-}
-
 /// What is known of the names that a line uses, and the numbers of several.
 fn uses_of(alloc: Global, table: &mut Table, line: &Line) -> Result<(Uses, Vec<NameId>), AllocError>
     ensures keys { Extends table.old.keys table.new.keys }
@@ -155,14 +128,8 @@ fn uses_of(alloc: Global, table: &mut Table, line: &Line) -> Result<(Uses, Vec<N
     ensures before { table.new.before ≡ table.old.before }
     ensures are { IfOk result (λ used. AreNumbers table.new.keys
         (numbers_used used.0 used.1.items) (names_used (seen_line line.now))) }
-    ensures asked { IfOk result (λ used. IsNumberOf table.new.keys (number_asked used.0)
-        (name_asked (body_of (seen_line line.now)))) }
 {
     let mut numbers = Vec::new(alloc);
-    if let Some(name) = name_asked(line) {
-        let id = table.number(alloc, name)?;
-        return Ok((Uses::Asked(id), numbers));
-    }
     let mut names = used_names(line);
     let Some(name) = names.next() else {
         return Ok((Uses::Nothing, numbers));

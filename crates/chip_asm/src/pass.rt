@@ -80,7 +80,7 @@ pub(crate) fn is_data(body: &Body) -> bool
 impl Pass {
     ghost use Rattle.chip_asm.specs.Layout.{Placed, has_ended};
     ghost use Rattle.chip_asm.specs.computed.Walk.{address, is_aligning, enclosing, is_live, is_misplaced, first_fault, symbols, place, placed};
-    ghost use Rattle.chip_asm.specs.inner.Infos.{AreInfos, IsNumberOf, name_asked};
+    ghost use Rattle.chip_asm.specs.inner.Infos.{AreInfos, IsNumberOf};
     ghost use Rattle.chip_asm.specs.inner.Placements.{is_placed};
     ghost use Rattle.chip_asm.specs.inner.Follows.{Follows, placement_of, next_address, next_aligning};
     ghost use Rattle.chip_asm.specs.inner.Layouts.{HasPassed};
@@ -295,7 +295,7 @@ impl Pass {
 
     /// Goes on by the line at a place, and notes what holds of it. The value of its expression may be
     /// known; it is found fastest where the numbers are those of the names that the line uses.
-    #[inline(always)]
+    #[inline(never)]
     pub(crate) fn step(
         &mut self,
         placements: &mut [Placement],
@@ -303,15 +303,12 @@ impl Pass {
         known: Option<i32>,
         line: &Line,
         defines: Option<NameId>,
-        asked: Option<NameId>,
         numbers: &[NameId],
     )
         requires place { place < length placements.old }
         requires known { IsKnownUnder self.old.names.symbols known (seen_line line.now) }
         requires defines { IsNumberOf self.old.names.keys defines
             (name_defined (seen_line line.now)) }
-        requires asked { IsNumberOf self.old.names.keys asked
-            (name_asked (body_of (seen_line line.now))) }
         requires room { HasRoom self.old 1 }
         ensures keeps { KeepsBefore self.old.names self.new.names }
         ensures room { (left : ℕ) → HasRoom self.old (left + 1) → HasRoom self.new left }
@@ -329,7 +326,7 @@ impl Pass {
         let opened = Block {
             number,
             live: placement.live,
-            holds: self.condition(body, asked),
+            holds: self.condition(body),
             has_else: false,
         };
         self.define(accepted, number, line, defines, placement.value);
@@ -461,19 +458,17 @@ impl Pass {
     }
 
     /// Whether the condition of an IF line holds.
-    fn condition(&self, body: &Body, asked: Option<NameId>) -> bool
-        requires { IsNumberOf self.now.names.keys asked (name_asked (seen_body body.now)) }
+    fn condition(&self, body: &Body) -> bool
         ensures { result ≡ condition_of self.now.names.symbols (seen_body body.now) }
     {
-        match (body, asked) {
-            (Body::Ifdef(_), Some(id)) => self.names.is_defined(id),
-            (Body::Ifund(_), Some(id)) => !self.names.is_defined(id),
+        match body {
+            Body::Ifdef(name) => self.names.is_given(name.get()),
+            Body::Ifund(name) => !self.names.is_given(name.get()),
             _ => false,
         }
     }
 
     /// Notes the name that a line gives, where it is accepted.
-    #[inline(always)]
     fn define(
         &mut self,
         accepted: bool,

@@ -1,14 +1,14 @@
 -- What is kept of a line beside its reading, so that steps over all lines needn't look into most of
 -- them (own).
 use Rattle.std.specs.Prelude.{◌≡◌, ℕ, pos, length, slice_get, Bool, true, false, not, if◌then◌else◌, ◌&&◌, List, [], ◌∷◌, All, Option, Some, None}
-use Rattle.chip_lang.specs.Line.{Body, empty, code, ifdef, ifund, Reading, bad, read}
+use Rattle.chip_lang.specs.Line.{Body, empty, code, Reading, bad, read}
 use Rattle.chip_lang.specs.Uses.{names_used, name_defined}
 use Rattle.chip_asm.specs.Names.{Name}
 use Rattle.chip_asm.specs.inner.KeptLine.{KeptLine}
 use Rattle.chip_asm.specs.declared.line_info.LineInfo.{LineInfo}
 use Rattle.chip_asm.specs.declared.line_info.Numbered.{Numbered}
 use Rattle.chip_asm.specs.declared.line_info.Uses.{Uses}
-use Rattle.chip_asm.specs.declared.line_info.Uses.TheVariants.{Asked, Nothing, One, Several}
+use Rattle.chip_asm.specs.declared.line_info.Uses.TheVariants.{Nothing, One, Several}
 use Rattle.chip_asm.specs.declared.table.NameId.{NameId}
 use Rattle.chip_asm.specs.inner.Recode.{has_code}
 use Rattle.chip_asm.specs.inner.Records.{reading_in}
@@ -40,17 +40,6 @@ abbrev pub numbers_used : Uses → (several : List NameId) → List NameId
 numbers_used Nothing several = []
 numbers_used (One id) several = id ∷ []
 numbers_used Several several = several
-numbers_used (Asked id) several = []
-
--- the number of the name that an IF asks for, and that name
-abbrev pub number_asked : Uses → Option NameId
-number_asked (Asked id) = Some id
-number_asked _ = None
-
-abbrev pub name_asked : Body → Option Name
-name_asked (ifdef name) = Some name
-name_asked (ifund name) = Some name
-name_asked _ = None
 
 abbrev pub numbers_in : KeptLine → List NameId
 numbers_in kept = numbers_used kept.info.uses kept.several
@@ -63,7 +52,6 @@ pub record IsInfo (keys : List Name) (info : LineInfo) (several : List NameId)
   pub steady : info.is_steady ≡ is_steady (body_of line)
   pub defines : IsNumberOf keys info.defines (name_defined line)
   pub uses : AreNumbers keys (numbers_used info.uses several) (names_used line)
-  pub asked : IsNumberOf keys (number_asked info.uses) (name_asked (body_of line))
 
 -- an instruction or no statement, which takes this size, live or not, and gives this name then
 pub record IsBare (keys : List Name) (live : Bool) (line : Reading) (size : ℕ)

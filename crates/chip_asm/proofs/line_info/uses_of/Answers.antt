@@ -1,12 +1,9 @@
 use Rattle.std.proofs.Common.{◌≡◌, ◌∙◌, ◌<◌, [], ◌∷◌, List, length, Option, option_copied, None, Some, ap, drop, sym, subst, refl, is_some, false, not, slice_get}
 use Rattle.std.specs.Borrow.{Bor}
 use Rattle.std.proofs.lemmas.List.Elements.{All-cons, All-nil}
-use Rattle.chip_lang.specs.Line.{Reading, bad, ifdef, ifund, read}
 use Rattle.chip_lang.specs.SeenLine.{seen_line}
 use Rattle.chip_lang.specs.Uses.{names_used}
-use Rattle.chip_asm.specs.Layout.{body_of}
 use Rattle.chip_asm.specs.Names.{Name}
-use Rattle.chip_asm.specs.inner.Infos.{name_asked}
 use Rattle.chip_asm.specs.inner.Tables.{AreNumbers, IsNumber}
 use Rattle.chip_asm.specs.declared.table.NameId.{NameId}
 use Rattle.chip_asm.proofs.InfoSteps.{no-numbers}
@@ -25,33 +22,21 @@ copied-none : {X : Type 0} (r : Option (Bor X)) → is_some r ≡ false → None
 copied-none None h = refl
 copied-none (Some x) h = cc
 
-none-used : (line : Reading) (name : Name) → Some name ≡ name_asked (body_of line) → [] ≡ names_used line
-none-used (bad fault) name h = refl
-none-used (read label (ifdef asked)) name h = refl
-none-used (read label (ifund asked)) name h = refl
-none-used (read label _) name h = cc
-
-pub returns-in-Some-clause-are : goal.returns-in-Some-clause-are
-returns-in-Some-clause-are c = record {
-  within = All-nil (λ (id : NameId). id.number < length c.number.new.self.keys);
-  named = none-used (seen_line c.args.line.now) c.in-Some.name.now c.in-Some.ensures;
-}
-
-pub returns-in_default-next-clause-are : goal.returns-in_default-next-clause-are
-returns-in_default-next-clause-are c = record {
+pub returns-in_default-clause-are : goal.returns-in_default-clause-are
+returns-in_default-clause-are c = record {
   within = All-nil (λ (id : NameId). id.number < length c.args.table.now.keys);
-  named = no-first c.used_names-names.result (names_used (seen_line c.args.line.now)) c.used_names-names.ensures c.in_default-next.ensures.next;
+  named = no-first c.used_names-names.result (names_used (seen_line c.args.line.now)) c.used_names-names.ensures c.in_default.ensures.next;
 }
 
 pub returns-then-is_none-clause-are : goal.returns-then-is_none-clause-are
 returns-then-is_none-clause-are c =
-    let keys : List Name = c.number-then-is_none.new.self.keys in
-    let one : IsNumber keys c.in_ok-id-2.id c.in-Some-next.name.now = c.in_ok-id-2.ensures.id in
-    let only : c.in-Some-next.name.now ∷ [] ≡ names_used (seen_line c.args.line.now)
-    = one-use c.used_names-names.result (names_used (seen_line c.args.line.now)) c.next.new.self c.in-Some-next.name.now c.used_names-names.ensures c.in-Some-next.ensures.next c.next.ensures.rest
+    let keys : List Name = c.number.new.self.keys in
+    let one : IsNumber keys c.in_ok-id.id c.in-Some.name.now = c.in_ok-id.ensures.id in
+    let only : c.in-Some.name.now ∷ [] ≡ names_used (seen_line c.args.line.now)
+    = one-use c.used_names-names.result (names_used (seen_line c.args.line.now)) c.next.new.self c.in-Some.name.now c.used_names-names.ensures c.in-Some.ensures.next c.next.ensures.rest
     (copied-none c.next-2.result (c.is_none.ensures ∙ ap not c.if-is_none.true) ∙ c.next-2.ensures.next) in
     record {
-      within = All-cons (λ (id : NameId). id.number < length keys) c.in_ok-id-2.id [] one.within (All-nil (λ (id : NameId). id.number < length keys));
+      within = All-cons (λ (id : NameId). id.number < length keys) c.in_ok-id.id [] one.within (All-nil (λ (id : NameId). id.number < length keys));
       named = ap (λ (n : Name). n ∷ []) one.named ∙ only;
     }
 
