@@ -28,8 +28,7 @@ pub mod FormedLine
 pub mod Lookup
 pub mod Misfit
 pub mod FaultSpan
-pub mod LongWords
-pub mod LastDigits
+pub mod Keywords
 pub mod FewTokens
 pub mod Fields
 pub mod LastValue

@@ -3,8 +3,8 @@
 pub mod Atom
 pub mod ByDigits
 pub mod LastValue
+pub mod Keywords
 pub mod NamedForms
-pub mod NamedRow
 pub mod Postfix
 pub mod Scanned
 pub mod Seen

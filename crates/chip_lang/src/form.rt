@@ -2,11 +2,10 @@
 
 ghost use Rattle.std.specs.Prelude.{◌≡◌, map, Option, ◌<◌, ◌≤◌, ◌+◌, ◌^◌, length};
 ghost use Rattle.chip_lang.specs.Operand.{operand_of};
-ghost use Rattle.chip_lang.specs.inner.NamedForms.{from_name};
+ghost use Rattle.chip_lang.specs.inner.NamedForms.{forms_of, first_fit};
 ghost use Rattle.std.specs.List.{list_any};
 ghost use Rattle.std.specs.Option.{option_copied};
 ghost use Rattle.std.specs.Str.{bytes_eq};
-ghost use Rattle.chip_lang.specs.Reserved.{is_mnemonic};
 ghost use Rattle.chip_lang.specs.Table.{Row, forms as all_forms};
 ghost use Rattle.chip_lang.specs.Form.{row_of_form, option_row, is_special, matches, all_match, fits, find_form, form_of};
 
@@ -94,81 +93,106 @@ pub struct Form {
     pub base: u16,
 }
 
-pub(crate) const FORMS: [Form; 46] = [
-    Form {
-        name: "SCD",
-        patterns: &[Pattern::Nibble],
-        base: 0x00C0,
-    },
-    Form {
-        name: "CLS",
-        patterns: &[],
-        base: 0x00E0,
-    },
-    Form {
-        name: "RET",
-        patterns: &[],
-        base: 0x00EE,
-    },
-    Form {
-        name: "SCR",
-        patterns: &[],
-        base: 0x00FB,
-    },
-    Form {
-        name: "SCL",
-        patterns: &[],
-        base: 0x00FC,
-    },
-    Form {
-        name: "EXIT",
-        patterns: &[],
-        base: 0x00FD,
-    },
-    Form {
-        name: "LOW",
-        patterns: &[],
-        base: 0x00FE,
-    },
-    Form {
-        name: "HIGH",
-        patterns: &[],
-        base: 0x00FF,
-    },
+// The forms of each instruction, in the order of the table.
+
+pub(crate) const SCD: &[Form] = &[Form {
+    name: "SCD",
+    patterns: &[Pattern::Nibble],
+    base: 0x00C0,
+}];
+
+pub(crate) const CLS: &[Form] = &[Form {
+    name: "CLS",
+    patterns: &[],
+    base: 0x00E0,
+}];
+
+pub(crate) const RET: &[Form] = &[Form {
+    name: "RET",
+    patterns: &[],
+    base: 0x00EE,
+}];
+
+pub(crate) const SCR: &[Form] = &[Form {
+    name: "SCR",
+    patterns: &[],
+    base: 0x00FB,
+}];
+
+pub(crate) const SCL: &[Form] = &[Form {
+    name: "SCL",
+    patterns: &[],
+    base: 0x00FC,
+}];
+
+pub(crate) const EXIT: &[Form] = &[Form {
+    name: "EXIT",
+    patterns: &[],
+    base: 0x00FD,
+}];
+
+pub(crate) const LOW: &[Form] = &[Form {
+    name: "LOW",
+    patterns: &[],
+    base: 0x00FE,
+}];
+
+pub(crate) const HIGH: &[Form] = &[Form {
+    name: "HIGH",
+    patterns: &[],
+    base: 0x00FF,
+}];
+
+pub(crate) const JP: &[Form] = &[
     Form {
         name: "JP",
         patterns: &[Pattern::Address],
         base: 0x1000,
     },
     Form {
-        name: "CALL",
-        patterns: &[Pattern::Address],
-        base: 0x2000,
+        name: "JP",
+        patterns: &[Pattern::V0, Pattern::Address],
+        base: 0xB000,
     },
+];
+
+pub(crate) const CALL: &[Form] = &[Form {
+    name: "CALL",
+    patterns: &[Pattern::Address],
+    base: 0x2000,
+}];
+
+pub(crate) const SE: &[Form] = &[
     Form {
         name: "SE",
         patterns: &[Pattern::Vx, Pattern::Byte],
         base: 0x3000,
     },
     Form {
+        name: "SE",
+        patterns: &[Pattern::Vx, Pattern::Vy],
+        base: 0x5000,
+    },
+];
+
+pub(crate) const SNE: &[Form] = &[
+    Form {
         name: "SNE",
         patterns: &[Pattern::Vx, Pattern::Byte],
         base: 0x4000,
     },
     Form {
-        name: "SE",
+        name: "SNE",
         patterns: &[Pattern::Vx, Pattern::Vy],
-        base: 0x5000,
+        base: 0x9000,
     },
+];
+
+pub(crate) const LD: &[Form] = &[
     Form {
         name: "LD",
         patterns: &[Pattern::Vx, Pattern::Byte],
         base: 0x6000,
-    },
-    Form {
-        name: "ADD",
-        patterns: &[Pattern::Vx, Pattern::Byte],
-        base: 0x7000,
     },
     Form {
         name: "LD",
@@ -176,89 +200,9 @@ pub(crate) const FORMS: [Form; 46] = [
         base: 0x8000,
     },
     Form {
-        name: "OR",
-        patterns: &[Pattern::Vx, Pattern::Vy],
-        base: 0x8001,
-    },
-    Form {
-        name: "AND",
-        patterns: &[Pattern::Vx, Pattern::Vy],
-        base: 0x8002,
-    },
-    Form {
-        name: "XOR",
-        patterns: &[Pattern::Vx, Pattern::Vy],
-        base: 0x8003,
-    },
-    Form {
-        name: "ADD",
-        patterns: &[Pattern::Vx, Pattern::Vy],
-        base: 0x8004,
-    },
-    Form {
-        name: "SUB",
-        patterns: &[Pattern::Vx, Pattern::Vy],
-        base: 0x8005,
-    },
-    Form {
-        name: "SHR",
-        patterns: &[Pattern::Vx],
-        base: 0x8006,
-    },
-    Form {
-        name: "SHR",
-        patterns: &[Pattern::Vx, Pattern::Vy],
-        base: 0x8006,
-    },
-    Form {
-        name: "SUBN",
-        patterns: &[Pattern::Vx, Pattern::Vy],
-        base: 0x8007,
-    },
-    Form {
-        name: "SHL",
-        patterns: &[Pattern::Vx],
-        base: 0x800E,
-    },
-    Form {
-        name: "SHL",
-        patterns: &[Pattern::Vx, Pattern::Vy],
-        base: 0x800E,
-    },
-    Form {
-        name: "SNE",
-        patterns: &[Pattern::Vx, Pattern::Vy],
-        base: 0x9000,
-    },
-    Form {
         name: "LD",
         patterns: &[Pattern::Index, Pattern::Address],
         base: 0xA000,
-    },
-    Form {
-        name: "JP",
-        patterns: &[Pattern::V0, Pattern::Address],
-        base: 0xB000,
-    },
-    Form {
-        name: "RND",
-        patterns: &[Pattern::Vx, Pattern::Byte],
-        base: 0xC000,
-    },
-    Form {
-        name: "DRW",
-        patterns: &[Pattern::Vx, Pattern::Vy, Pattern::Nibble],
-        base: 0xD000,
-    },
-    Form {
-        name: "SKP",
-        patterns: &[Pattern::Vx],
-        base: 0xE09E,
-    },
-    Form {
-        name: "SKNP",
-        patterns: &[Pattern::Vx],
-        base: 0xE0A1,
     },
     Form {
         name: "LD",
@@ -279,11 +223,6 @@ pub(crate) const FORMS: [Form; 46] = [
         name: "LD",
         patterns: &[Pattern::SoundTimer, Pattern::Vx],
         base: 0xF018,
-    },
-    Form {
-        name: "ADD",
-        patterns: &[Pattern::Index, Pattern::Vx],
-        base: 0xF01E,
     },
     Form {
         name: "LD",
@@ -320,66 +259,132 @@ pub(crate) const FORMS: [Form; 46] = [
         patterns: &[Pattern::Vx, Pattern::Flags],
         base: 0xF085,
     },
+];
+
+pub(crate) const ADD: &[Form] = &[
     Form {
-        name: "SYS",
-        patterns: &[Pattern::Address],
-        base: 0x0000,
+        name: "ADD",
+        patterns: &[Pattern::Vx, Pattern::Byte],
+        base: 0x7000,
+    },
+    Form {
+        name: "ADD",
+        patterns: &[Pattern::Vx, Pattern::Vy],
+        base: 0x8004,
+    },
+    Form {
+        name: "ADD",
+        patterns: &[Pattern::Index, Pattern::Vx],
+        base: 0xF01E,
     },
 ];
 
-/// The form that a name and operands are, if they are one, where the forms of the name are known.
+pub(crate) const OR: &[Form] = &[Form {
+    name: "OR",
+    patterns: &[Pattern::Vx, Pattern::Vy],
+    base: 0x8001,
+}];
+
+pub(crate) const AND: &[Form] = &[Form {
+    name: "AND",
+    patterns: &[Pattern::Vx, Pattern::Vy],
+    base: 0x8002,
+}];
+
+pub(crate) const XOR: &[Form] = &[Form {
+    name: "XOR",
+    patterns: &[Pattern::Vx, Pattern::Vy],
+    base: 0x8003,
+}];
+
+pub(crate) const SUB: &[Form] = &[Form {
+    name: "SUB",
+    patterns: &[Pattern::Vx, Pattern::Vy],
+    base: 0x8005,
+}];
+
+pub(crate) const SHR: &[Form] = &[
+    Form {
+        name: "SHR",
+        patterns: &[Pattern::Vx],
+        base: 0x8006,
+    },
+    Form {
+        name: "SHR",
+        patterns: &[Pattern::Vx, Pattern::Vy],
+        base: 0x8006,
+    },
+];
+
+pub(crate) const SUBN: &[Form] = &[Form {
+    name: "SUBN",
+    patterns: &[Pattern::Vx, Pattern::Vy],
+    base: 0x8007,
+}];
+
+pub(crate) const SHL: &[Form] = &[
+    Form {
+        name: "SHL",
+        patterns: &[Pattern::Vx],
+        base: 0x800E,
+    },
+    Form {
+        name: "SHL",
+        patterns: &[Pattern::Vx, Pattern::Vy],
+        base: 0x800E,
+    },
+];
+
+pub(crate) const RND: &[Form] = &[Form {
+    name: "RND",
+    patterns: &[Pattern::Vx, Pattern::Byte],
+    base: 0xC000,
+}];
+
+pub(crate) const DRW: &[Form] = &[Form {
+    name: "DRW",
+    patterns: &[Pattern::Vx, Pattern::Vy, Pattern::Nibble],
+    base: 0xD000,
+}];
+
+pub(crate) const SKP: &[Form] = &[Form {
+    name: "SKP",
+    patterns: &[Pattern::Vx],
+    base: 0xE09E,
+}];
+
+pub(crate) const SKNP: &[Form] = &[Form {
+    name: "SKNP",
+    patterns: &[Pattern::Vx],
+    base: 0xE0A1,
+}];
+
+pub(crate) const SYS: &[Form] = &[Form {
+    name: "SYS",
+    patterns: &[Pattern::Address],
+    base: 0x0000,
+}];
+
+/// The form that operands are, where the forms of the instruction are known.
 #[tactic(auto, using(crate::proofs::NamedForms::form_among))]
 pub(crate) fn find_form<'a>(
     forms: &'a [Form],
     name: &[u8],
     operands: &[Operand],
 ) -> Option<&'a Form>
-    requires forms { map row_of_form forms.now ≡ from_name name.now all_forms }
+    requires forms { map row_of_form forms.now ≡ forms_of name.now }
     ensures { option_row (option_copied result) ≡ form_of name.now (map operand_of operands.now) }
 {
-    find_in(forms, name, operands)
+    find_in(forms, operands)
 }
 
-// No mnemonic has more bytes, so that most names need no search.
-const LONGEST_MNEMONIC: usize = 4;
-
-/// Whether some form has this name, given in upper case.
-#[tactic(auto, using(crate::proofs::NamedForms::some_among, crate::proofs::LongWords::no_long_mnemonic))]
-pub(crate) fn is_mnemonic(word: &[u8]) -> bool
-    ensures { result ≡ is_mnemonic word.now }
-{
-    if word.len() > LONGEST_MNEMONIC {
-        return false;
-    }
-    !forms_of(word).is_empty()
-}
-
-/// All forms from the first of a name on, given in upper case; none where no form has it.
-pub(crate) fn forms_of(name: &[u8]) -> &'static [Form]
-    ensures { map row_of_form result.now ≡ from_name name.now all_forms }
-{
-    from_first(&FORMS, name)
-}
-
-/// Some forms from the first of a name on.
-#[inline(never)]
-fn from_first<'a>(forms: &'a [Form], name: &[u8]) -> &'a [Form]
-    ensures { map row_of_form result.now ≡ from_name name.now (map row_of_form forms.now) }
-{
-    for (index, form) in forms.iter().enumerate() {
-        if form.name.as_bytes() == name {
-            return &forms[index..];
-        }
-    }
-    &[]
-}
-
-fn find_in<'a>(forms: &'a [Form], name: &[u8], operands: &[Operand]) -> Option<&'a Form>
+/// The first form of some that operands fit.
+fn find_in<'a>(forms: &'a [Form], operands: &[Operand]) -> Option<&'a Form>
     ensures { option_row (option_copied result)
-        ≡ find_form (map row_of_form forms.now) name.now (map operand_of operands.now) }
+        ≡ first_fit (map row_of_form forms.now) (map operand_of operands.now) }
 {
     for form in forms {
-        if form.name.as_bytes() == name && all_match(form.patterns, operands) {
+        if all_match(form.patterns, operands) {
             return Some(form);
         }
     }

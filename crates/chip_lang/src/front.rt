@@ -11,8 +11,7 @@ ghost use Rattle.chip_lang.specs.Keyword.{register_of};
 
 use crate::bytes::Bytes;
 use crate::expr::{Operator, Prefix};
-use crate::form::is_mnemonic;
-use crate::keyword::{directive_of, register_of, special_of};
+use crate::keyword::{keyword_of, register_of};
 use crate::lexeme::Lexeme;
 use std::alloc::{AllocError, Global};
 
@@ -130,34 +129,13 @@ pub fn free_name(alloc: Global, word: &[u8]) -> Result<Option<Bytes>, AllocError
     Ok(Some(Bytes::from_slice(alloc, word)?))
 }
 
-// No reserved word has more bytes, so that most names need no search.
-const LONGEST_RESERVED: usize = 7;
-
-/// Whether a word in upper case is reserved only if it is a register, as its last byte shows: no
-/// other reserved word ends in a digit.
-#[tactic(auto, using(crate::proofs::LastDigits::only_registers))]
-fn is_at_most_a_register(word: &[u8]) -> bool
-    ensures { result ≡ true → is_reserved word.now ≡ is_some (register_of word.now) }
-{
-    match word.last() {
-        Some(last) => b'0' <= *last && *last <= b'9',
-        None => false,
-    }
-}
-
 /// Whether a word in upper case is reserved.
-#[tactic(auto, unfolding(crate::specs::Reserved::is_reserved), using(crate::proofs::LongWords::no_long_word))]
+#[tactic(auto, using(crate::proofs::Keywords::free_word))]
 pub fn is_reserved(word: &[u8]) -> bool
     ensures { result ≡ is_reserved word.now }
 {
-    if word.len() > LONGEST_RESERVED {
-        return false;
+    match keyword_of(word) {
+        Some(_) => true,
+        None => register_of(word).is_some(),
     }
-    if is_at_most_a_register(word) {
-        return register_of(word).is_some();
-    }
-    is_mnemonic(word)
-        || directive_of(word).is_some()
-        || special_of(word).is_some()
-        || register_of(word).is_some()
 }

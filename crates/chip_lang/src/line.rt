@@ -14,11 +14,11 @@ use crate::bytes::Bytes;
 use crate::directive::Directive;
 use crate::expr::Expr;
 use crate::fault::Fault;
-use crate::form::{Form, Operand, forms_of};
+use crate::form::{Form, Operand};
 use crate::lexeme::{Lexeme, is_sign_of, lexemes};
 use crate::limits::OPEN_PARENTHESES;
 use crate::meter::Meter;
-use crate::shape::{Shape, defines_bad_name, first_name, front_directive, shape_of, statement_of};
+use crate::shape::{Shape, defines_bad_name, first_name, front_of, shape_of, statement_of};
 use crate::short_bytes::ShortBytes;
 use crate::statement::{body_of_shape, is_outside, is_skipped};
 use std::alloc::{AllocError, Global};
@@ -154,8 +154,7 @@ fn reading_of_tokens(alloc: Global, tokens: &[Lexeme]) -> Result<Line, AllocErro
     ensures { IfOk result (λ line. seen_line line ≡ reading_of_tokens tokens.now) }
 {
     let shape = shape_of(tokens);
-    let front = front_directive(&shape);
-    let forms = front_forms(front, statement_of(&shape));
+    let (front, forms) = front_of(statement_of(&shape));
     if let Some(fault) = first_fault(tokens, &shape, front, forms) {
         return Ok(Line::Bad(fault));
     }
@@ -163,16 +162,6 @@ fn reading_of_tokens(alloc: Global, tokens: &[Lexeme]) -> Result<Line, AllocErro
     match body_of_shape(alloc, &shape, front, forms)? {
         Some(body) => Ok(Line::Read { label, body }),
         None => Ok(Line::Bad(Fault::WrongOperands)),
-    }
-}
-
-/// The forms of an instruction at the front of a statement; none where it begins otherwise.
-fn front_forms(front: Option<Directive>, statement: &[Lexeme]) -> &'static [Form]
-    ensures { map row_of_form result.now ≡ front_forms front statement.now }
-{
-    match (front, statement) {
-        (None, [Lexeme::Word(word), ..]) => forms_of(word.get()),
-        _ => &[],
     }
 }
 
@@ -185,8 +174,7 @@ fn first_fault(
     forms: &'static [Form],
 ) -> Option<Fault>
     requires front { front ≡ front_directive (statement_of (seen_shape shape.now)) }
-    requires forms { map row_of_form forms.now
-        ≡ front_forms front (statement_of (seen_shape shape.now)) }
+    requires forms { map row_of_form forms.now ≡ front_forms (statement_of (seen_shape shape.now)) }
     ensures { result ≡ first_that_holds (faults_in_order tokens.now (seen_shape shape.now)) }
 {
     if let Some(fault) = bad_token(tokens) {
@@ -223,7 +211,7 @@ fn begins_with_no_word(statement: &[Lexeme]) -> bool
 fn begins_with_unknown_word(front: Option<Directive>, forms: &[Form], statement: &[Lexeme]) -> bool
     requires word { begins_with_no_word statement.now ≡ false }
     requires front { front ≡ front_directive statement.now }
-    requires forms { map row_of_form forms.now ≡ front_forms front statement.now }
+    requires forms { map row_of_form forms.now ≡ front_forms statement.now }
     ensures { result ≡ begins_with_unknown_word statement.now }
 {
     match (front, statement) {

@@ -1,14 +1,17 @@
 //! The parts of a line: the name that it defines, and its statement.
 
-ghost use Rattle.std.specs.Prelude.{◌≡◌, length, option_to_list};
+ghost use Rattle.std.specs.Prelude.{◌≡◌, length, map, option_to_list};
 ghost use Rattle.std.specs.List.{list_any};
 ghost use Rattle.std.specs.Option.{option_copied};
 ghost use Rattle.chip_lang.specs.Line.{is_equ, after_label, shape_of, is_bad_name, statement_of, front_directive, by_define, names_of, first_name};
+ghost use Rattle.chip_lang.specs.Form.{row_of_form};
+ghost use Rattle.chip_lang.specs.inner.NamedForms.{front_forms};
 ghost use Rattle.chip_lang.specs.inner.SeenShape.{seen_shape};
 
 use crate::directive::Directive;
+use crate::form::Form;
 use crate::front::is_reserved;
-use crate::keyword::directive_of;
+use crate::keyword::front_named;
 use crate::lexeme::{Lexeme, is_sign_of, is_the};
 use crate::limits::NAME_BYTES;
 use crate::short_bytes::ShortBytes;
@@ -71,16 +74,14 @@ pub(crate) fn is_bad_name(word: &[u8]) -> bool
     is_reserved(word) || word.len() > NAME_BYTES
 }
 
-/// The directive at the front of a line's statement.
-pub(crate) fn front_directive(shape: &Shape) -> Option<Directive>
-    ensures { result ≡ front_directive (statement_of (seen_shape shape.now)) }
+/// The directive at the front of a statement, and the forms of the instruction there.
+pub(crate) fn front_of(statement: &[Lexeme]) -> (Option<Directive>, &'static [Form])
+    ensures directive { result.0 ≡ front_directive statement.now }
+    ensures forms { map row_of_form result.1.now ≡ front_forms statement.now }
 {
-    match shape {
-        Shape::Statement { tokens, .. } => match tokens {
-            [Lexeme::Word(word), ..] => directive_of(word.get()),
-            _ => None,
-        },
-        Shape::Definition { .. } => None,
+    match statement {
+        [Lexeme::Word(word), ..] => front_named(word.get()),
+        _ => (None, &[]),
     }
 }
 

@@ -20,15 +20,6 @@ pub fn upper(byte: u8) -> u8
     }
 }
 
-/// Puts each byte in upper case.
-fn make_upper(bytes: &mut [u8])
-    ensures { bytes.new ≡ map upper bytes.old }
-{
-    for index in 0..bytes.len() {
-        bytes[index] = upper(bytes[index]);
-    }
-}
-
 /// Bytes, which contracts see as a list. Up to 16, as of most words and codes, stand in the value
 /// itself.
 #[derive(Drop)]
@@ -66,8 +57,10 @@ impl ShortBytes {
     pub fn in_upper_case(alloc: Global, word: &[u8]) -> Result<ShortBytes, AllocError>
         ensures { IfOk result (λ bytes. bytes ≡ map upper word.now) }
     {
-        let mut bytes = SmallVec::from_slice(alloc, word)?;
-        make_upper(bytes.as_mut_slice());
+        let mut bytes = SmallVec::new(alloc);
+        for byte in word {
+            bytes.push(upper(*byte))?;
+        }
         Ok(ShortBytes { bytes })
     }
 

@@ -4,9 +4,8 @@ ghost use Rattle.std.specs.Prelude.{◌≡◌, ℕ, Bool, List, Some, None, IfOk
 ghost use Rattle.std.specs.Option.{option_copied};
 ghost use Rattle.chip_lang.specs.Line.{one_text, one_name, one_switch, is_known_option, directive_body, takes_label, is_outside, is_skipped, instruction_body, statement_of, front_directive, statement_body, body_of_shape};
 ghost use Rattle.chip_lang.specs.Form.{row_of_form};
-ghost use Rattle.chip_lang.specs.Table.{forms as all_forms};
 ghost use Rattle.chip_lang.specs.SeenLine.{seen_statement};
-ghost use Rattle.chip_lang.specs.inner.NamedForms.{from_name, front_forms};
+ghost use Rattle.chip_lang.specs.inner.NamedForms.{forms_of, front_forms};
 ghost use Rattle.chip_lang.specs.inner.SeenShape.{seen_shape};
 
 use crate::bytes::Bytes;
@@ -29,8 +28,7 @@ pub(crate) fn body_of_shape(
     forms: &'static [Form],
 ) -> Result<Option<Body>, AllocError>
     requires front { front ≡ front_directive (statement_of (seen_shape shape.now)) }
-    requires forms { map row_of_form forms.now
-        ≡ front_forms front (statement_of (seen_shape shape.now)) }
+    requires forms { map row_of_form forms.now ≡ front_forms (statement_of (seen_shape shape.now)) }
     ensures { IfOk result (λ body. seen_statement body ≡ body_of_shape (seen_shape shape.now)) }
 {
     match shape {
@@ -50,7 +48,7 @@ fn statement_body(
     tokens: &[Lexeme],
 ) -> Result<Option<Body>, AllocError>
     requires front { front ≡ front_directive tokens.now }
-    requires forms { map row_of_form forms.now ≡ front_forms front tokens.now }
+    requires forms { map row_of_form forms.now ≡ front_forms tokens.now }
     ensures { IfOk result (λ body. seen_statement body ≡ statement_body labelled tokens.now) }
 {
     match tokens {
@@ -71,7 +69,7 @@ fn instruction_body(
     name: &[u8],
     tokens: &[Lexeme],
 ) -> Result<Option<Body>, AllocError>
-    requires forms { map row_of_form forms.now ≡ from_name name.now all_forms }
+    requires forms { map row_of_form forms.now ≡ forms_of name.now }
     ensures { IfOk result (λ body. seen_statement body ≡ instruction_body name.now tokens.now) }
 {
     let Some(operands) = operands_of(alloc, tokens)? else {

@@ -246,6 +246,7 @@ fn text_at(quote: u8, bytes: &[u8]) -> (Kind, usize)
 }
 
 /// The kind and the length of the token that begins with a byte.
+#[inline(always)]
 #[tactic(auto, unfolding(crate::specs::Token::token_at))]
 fn token_at(first: u8, bytes: &[u8]) -> (Kind, usize)
     requires { length bytes.now + 1 < 2 ^ 64 }

@@ -1,17 +1,27 @@
--- From which form on those of a name stand (own).
-use Rattle.std.specs.Prelude.{ℕ, if◌then◌else◌, List, [], ◌∷◌, Option, None}
+-- The forms of one name (own).
+use Rattle.std.specs.Prelude.{ℕ, if◌then◌else◌, List, [], ◌∷◌, Option, Some, None}
 use Rattle.std.specs.Str.{bytes_eq}
-use Rattle.chip_lang.specs.declared.directive.Directive.{Directive}
 use Rattle.chip_lang.specs.declared.lexeme.Lexeme.{Lexeme}
 use Rattle.chip_lang.specs.declared.lexeme.Lexeme.TheVariants.{Word}
 use Rattle.chip_lang.specs.Table.{Row, forms}
+use Rattle.chip_lang.specs.Operand.{Operand}
+use Rattle.chip_lang.specs.Form.{all_match}
 
--- some forms from the first of a name on
-abbrev pub from_name : List ℕ → List Row → List Row
-from_name name [] = []
-from_name name (r ∷ rs) = if bytes_eq r.name name then r ∷ rs else from_name name rs
+-- those of a table that have a name
+abbrev pub named_forms : List ℕ → List Row → List Row
+named_forms name [] = []
+named_forms name (r ∷ rs) = if bytes_eq r.name name then r ∷ named_forms name rs else named_forms name rs
 
--- all forms from the first of the name at the front of a statement on, where that isn't a directive
-abbrev pub front_forms : Option Directive → List Lexeme → List Row
-front_forms None (Word name ∷ rest) = from_name name forms
-front_forms front statement = []
+-- all of a name
+unfoldable pub forms_of : List ℕ → List Row
+forms_of name = named_forms name forms
+
+-- those of the name at the front of a statement
+abbrev pub front_forms : List Lexeme → List Row
+front_forms (Word name ∷ rest) = forms_of name
+front_forms statement = []
+
+-- the first one that operands fit
+abbrev pub first_fit : List Row → List Operand → Option Row
+first_fit [] os = None
+first_fit (r ∷ rs) os = if all_match r.patterns os then Some r else first_fit rs os

@@ -1,7 +1,7 @@
 use Rattle.std.proofs.Common.{◌≡◌, drop, map}
 use Rattle.chip_lang.specs.Named.{find_word}
-use Rattle.chip_lang.specs.inner.NamedRow.{row_of}
+use Rattle.chip_lang.specs.inner.Keywords.{row_of}
 use Rattle.chip_lang.proofs.keyword.find_in.Given as goal
 
 abbrev pub invariant-loop-row : goal.invariant-loop-row
-invariant-loop-row g l = find_word (map row_of (drop l.row-index l.rows)) l.word ≡ find_word (map row_of l.rows) l.word
+invariant-loop-row l = find_word (map row_of (drop l.row-index l.rows)) l.word ≡ find_word (map row_of l.rows) l.word
