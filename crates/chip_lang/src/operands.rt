@@ -28,6 +28,15 @@ fn piece_length(tokens: &[Lexeme]) -> usize
     tokens.len()
 }
 
+/// How many pieces tokens have, for the room that they take: one more than commas.
+fn piece_count(tokens: &[Lexeme]) -> usize {
+    tokens
+        .iter()
+        .filter(|token| is_sign_of(b',', token))
+        .count()
+        .saturating_add(1)
+}
+
 // No instruction takes more operands, so that most lines need no more room.
 const USUAL_OPERANDS: usize = 3;
 
@@ -55,7 +64,7 @@ pub(crate) fn values_of(alloc: Global, tokens: &[Lexeme]) -> Result<Option<Vec<E
     ensures { IfOk result (λ found. option_map (λ values. map tree_of values.items) found
         ≡ listed_values tokens.now) }
 {
-    let mut values = Vec::new(alloc);
+    let mut values = Vec::with_capacity(alloc, piece_count(tokens))?;
     let mut rest = Some(tokens);
     while let Some(tokens) = rest {
         let (piece, more) = first_piece(tokens);

@@ -30,8 +30,7 @@ pub fn parse_expression(alloc: Global, tokens: &[Lexeme]) -> Result<Option<Expr>
     if let [token] = tokens {
         return expression_of_token(alloc, token);
     }
-    // Room for a sum of names and numbers, which has one item for each operand.
-    let mut builder = Builder::new(alloc, tokens.len() / 2 + 1)?;
+    let mut builder = Builder::new(alloc, operand_count(tokens))?;
     let Some(rest) = parse_level(&mut builder, tokens, 7)? else {
         return Ok(None);
     };
@@ -40,6 +39,15 @@ pub fn parse_expression(alloc: Global, tokens: &[Lexeme]) -> Result<Option<Expr>
     } else {
         Ok(None)
     }
+}
+
+/// How many tokens are no signs. As many items has an expression, unless a sign stands before an
+/// operand or parentheses after a sign.
+fn operand_count(tokens: &[Lexeme]) -> usize {
+    tokens
+        .iter()
+        .filter(|token| !matches!(token, Lexeme::Sign(_)))
+        .count()
 }
 
 /// The expression that one token is, if it is one: most expressions have no more.
