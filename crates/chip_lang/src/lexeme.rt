@@ -26,11 +26,8 @@ pub enum Lexeme {
 impl Drop for Lexeme {
     fn drop(self) {
         match self {
-            Lexeme::Word(_)
-            | Lexeme::Number(_)
-            | Lexeme::Text(_)
-            | Lexeme::Sign(_)
-            | Lexeme::Bad(_) => {}
+            Lexeme::Word(_bytes) | Lexeme::Text(_bytes) => {}
+            Lexeme::Number(_) | Lexeme::Sign(_) | Lexeme::Bad(_) => {}
         }
     }
 }

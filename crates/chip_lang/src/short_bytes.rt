@@ -20,11 +20,14 @@ pub fn upper(byte: u8) -> u8
     }
 }
 
+// How many bytes stand in the value itself.
+const INLINE_BYTES: usize = 16;
+
 /// Bytes, which contracts see as a list. Up to 16, as of most words and codes, stand in the value
 /// itself.
 #[derive(Drop)]
 pub struct ShortBytes {
-    bytes: SmallVec<u8, 16>,
+    bytes: SmallVec<u8, INLINE_BYTES>,
 }
 
 impl Model for ShortBytes {
@@ -57,6 +60,15 @@ impl ShortBytes {
     pub fn in_upper_case(alloc: Global, word: &[u8]) -> Result<ShortBytes, AllocError>
         ensures { IfOk result (λ bytes. bytes ≡ map upper word.now) }
     {
+        if word.len() <= INLINE_BYTES {
+            let mut bytes = [0; INLINE_BYTES];
+            for (index, byte) in word.iter().enumerate() {
+                bytes[index] = upper(*byte);
+            }
+            return Ok(ShortBytes {
+                bytes: SmallVec::from_buf_and_len(alloc, bytes, word.len()),
+            });
+        }
         let mut bytes = SmallVec::new(alloc);
         for byte in word {
             bytes.push(upper(*byte))?;
