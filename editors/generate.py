@@ -4,7 +4,7 @@
     editors/generate.py           writes the files
     editors/generate.py --check   writes nothing; the status is 1 where a file isn't what the tables give
 
-The words of the language come from crates/chip_lang/src (form.rt, keyword.rt, statement.rt), those of the
+The words of the language come from crates/chip_lang (src/form.rt, specs/Keyword.antt, src/statement.rt), those of the
 command line from crates/chip_arguments/src (arguments.rt, commands.rt), the names of the profiles from
 crates/chip_machine/src (profile.rt).
 """
@@ -43,13 +43,13 @@ class Language:
     """The reserved words, and the words of OPTION and ALIGN."""
 
     def __init__(self):
-        keywords = read("chip_lang/src/keyword.rt")
-        texts = dict.fromkeys(("DIRECTIVES", "SPECIALS"))
+        keywords = read("chip_lang/specs/Keyword.antt")
+        texts = dict.fromkeys(("directives", "specials"))
         for name in texts:
-            table = re.search(rf"const {name}: .*?\n\];", keywords, re.S).group(0)
-            texts[name] = re.findall(r'text: b"(\w+)"', table)
-        self.directives = texts["DIRECTIVES"]
-        self.parts = texts["SPECIALS"]
+            table = re.search(rf"^{name} =\n.*?\[\]$", keywords, re.S | re.M).group(0)
+            texts[name] = re.findall(r'codes "(\w+)"', table)
+        self.directives = texts["directives"]
+        self.parts = texts["specials"]
         self.mnemonics = in_order(re.findall(r'name: "(\w+)"', read("chip_lang/src/form.rt")))
         options = read("chip_lang/src/statement.rt")
         options = re.search(r"fn is_known_option.*?\n}", options, re.S).group(0)

@@ -5,7 +5,7 @@
     python/generate_tables.py --check   writes nothing; the status is 1 where the file isn't what the documents give
 
 Instructions come from the tables of docs/MACHINE.md (with SYS, which docs/LANGUAGE.md alone has), directives and faults from
-docs/LANGUAGE.md, stops from docs/MACHINE.md, the reserved words from crates/chip_lang/src/keyword.rt.
+docs/LANGUAGE.md, stops from docs/MACHINE.md, the reserved words from crates/chip_lang/specs/Keyword.antt.
 """
 
 from __future__ import annotations
@@ -69,10 +69,10 @@ def directives(language: str, words: list[str]) -> dict[str, dict[str, Any]]:
 
 def reserved(keywords: str) -> dict[str, list[str]]:
     found = {}
-    for name in ("DIRECTIVES", "SPECIALS"):
-        table = re.search(rf"const {name}: .*?\n\];", keywords, re.DOTALL)
+    for name in ("directives", "specials"):
+        table = re.search(rf"^{name} =\n.*?\[\]$", keywords, re.DOTALL | re.MULTILINE)
         assert table is not None
-        found[name.lower()] = re.findall(r'text: b"(\w+)"', table.group(0))
+        found[name] = re.findall(r'codes "(\w+)"', table.group(0))
     return found
 
 
@@ -83,7 +83,7 @@ def options(language: str) -> list[str]:
 
 def tables() -> dict[str, Any]:
     machine, language = read("docs/MACHINE.md"), read("docs/LANGUAGE.md")
-    words = reserved(read("crates/chip_lang/src/keyword.rt"))
+    words = reserved(read("crates/chip_lang/specs/Keyword.antt"))
     return {
         "instructions": instructions(machine),
         "directives": directives(language, words["directives"]),
