@@ -13,7 +13,7 @@ use Rattle.chip_lang.specs.declared.keyword.Named.{Named}
 use Rattle.chip_lang.specs.Table.{Row, forms}
 use Rattle.chip_lang.specs.Named.{find_word}
 use Rattle.chip_lang.specs.Keyword.{directives, specials, directive_of, special_of, register_of}
-use Rattle.chip_lang.specs.Reserved.{is_mnemonic, is_reserved}
+use Rattle.chip_lang.specs.Reserved.{is_reserved}
 use Rattle.chip_lang.specs.inner.Keywords.{Meaning, meaning, meaning_of, meaning_in, row_of, row, words, rows_ending_in}
 use Rattle.chip_lang.specs.inner.NamedForms.{named_forms, forms_of}
 

@@ -28,7 +28,7 @@ fn piece_length(tokens: &[Lexeme]) -> usize
     tokens.len()
 }
 
-/// How many pieces tokens have, for the room that they take: one more than commas.
+/// How many pieces between commas some tokens are.
 fn piece_count(tokens: &[Lexeme]) -> usize {
     tokens
         .iter()

@@ -41,8 +41,8 @@ pub fn parse_expression(alloc: Global, tokens: &[Lexeme]) -> Result<Option<Expr>
     }
 }
 
-/// How many tokens are no signs. As many items has an expression, unless a sign stands before an
-/// operand or parentheses after a sign.
+/// How many tokens are no sign. An expression has as many items, and more only where a sign stands
+/// before an operand, or parentheses after a sign.
 fn operand_count(tokens: &[Lexeme]) -> usize {
     tokens
         .iter()

@@ -1,5 +1,5 @@
 -- What a reserved word means that isn't a register (own).
-use Rattle.std.specs.Prelude.{ℕ, ◌-◌, Bool, true, false, List, [], ◌∷◌, Option, Some, None, map, codes, length, slice_get, slice_index}
+use Rattle.std.specs.Prelude.{ℕ, ◌-◌, Bool, true, false, List, [], ◌∷◌, Option, Some, None, map, codes, slice_get}
 use Rattle.std.specs.Option.{unwrap_or}
 use Rattle.chip_lang.specs.declared.directive.Directive.{Directive as Directive_name}
 use Rattle.chip_lang.specs.declared.form.Special.{Special as Special_word}
