@@ -5,6 +5,7 @@ ghost use Rattle.chip_lang.specs.SeenLine.{seen_body, seen_line};
 ghost use Rattle.chip_lang.specs.Meter.{one_more};
 ghost use Rattle.chip_asm.specs.Layout.{body_of, value_at};
 ghost use Rattle.chip_asm.specs.Names.{Name};
+ghost use Rattle.chip_asm.specs.declared.line_info.Uses.TheVariants.{Several};
 ghost use Rattle.chip_asm.specs.declared.table.Symbol.{Symbol};
 ghost use Rattle.chip_asm.specs.inner.HeldLine.{IsKnown};
 ghost use Rattle.chip_asm.specs.inner.HeldText.{SaysNothing, part_from};
@@ -28,7 +29,8 @@ pub(crate) struct ReadLine {
     pub(crate) line: Line,
     /// The value of its expression, where that is constant.
     pub(crate) constant: Option<i32>,
-    /// The numbers of the names that it uses, where there are several.
+    /// The numbers of the names that it uses, where there are several, or of the one that it asks
+    /// for.
     pub(crate) several: Vec<NameId>,
 }
 
@@ -126,14 +128,14 @@ impl BoxedLine {
         self.info
     }
 
-    /// The numbers of the names that it uses.
+    /// The numbers of the names that it uses, or else of the one that it asks for.
     #[inline]
     pub(crate) fn numbers(&self) -> &[NameId]
-        ensures { result.now ≡ numbers_in self.now }
+        ensures { self.now.info.uses ≡ Several → result.now ≡ numbers_in self.now }
     {
         match (&self.info.uses, &self.held) {
             (Uses::One(id), _) => slice::from_ref(id),
-            (Uses::Several, HeldLine::Boxed(kept)) => &kept.several,
+            (_, HeldLine::Boxed(kept)) => &kept.several,
             _ => &[],
         }
     }

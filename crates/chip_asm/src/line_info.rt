@@ -121,7 +121,19 @@ fn push_numbers(
     Ok(())
 }
 
-/// What is known of the names that a line uses, and the numbers of several.
+/// The name that an IF line asks for.
+fn asked_name(line: &Line) -> Option<&[u8]> {
+    match line {
+        Line::Read {
+            body: Body::Ifdef(name) | Body::Ifund(name),
+            ..
+        } => Some(name.get()),
+        _ => None,
+    }
+}
+
+/// What is known of the names that a line uses, and the numbers of several, or of the one that it
+/// asks for.
 fn uses_of(alloc: Global, table: &mut Table, line: &Line) -> Result<(Uses, Vec<NameId>), AllocError>
     ensures keys { Extends table.old.keys table.new.keys }
     ensures symbols { table.new.symbols ≡ table.old.symbols }
@@ -132,6 +144,10 @@ fn uses_of(alloc: Global, table: &mut Table, line: &Line) -> Result<(Uses, Vec<N
     let mut numbers = Vec::new(alloc);
     let mut names = used_names(line);
     let Some(name) = names.next() else {
+        if let Some(asked) = asked_name(line) {
+            let id = table.number(alloc, asked)?;
+            numbers.push(id)?;
+        }
         return Ok((Uses::Nothing, numbers));
     };
     if names.next().is_none() {
@@ -146,7 +162,8 @@ fn uses_of(alloc: Global, table: &mut Table, line: &Line) -> Result<(Uses, Vec<N
 #[derive(Drop)]
 pub(crate) struct Numbered {
     pub(crate) info: LineInfo,
-    /// The numbers of the names that it uses, where there are several.
+    /// The numbers of the names that it uses, where there are several, or of the one that it asks
+    /// for.
     pub(crate) several: Vec<NameId>,
 }
 

@@ -20,7 +20,7 @@ use crate::placement::{Placement, is_passed};
 use crate::table::{NameId, Scope, Symbol, Table};
 use crate::waiting::Waiting;
 use chip_lang::limits::{IMAGE_START, MEMORY_BYTES};
-use chip_lang::{Body, Fault, Line, eval};
+use chip_lang::{Body, Fault, Line, Names, eval};
 
 /// The state of the pass between two lines.
 #[derive(Drop)]
@@ -294,7 +294,8 @@ impl Pass {
     }
 
     /// Goes on by the line at a place, and notes what holds of it. The value of its expression may be
-    /// known; it is found fastest where the numbers are those of the names that the line uses.
+    /// known; it is found fastest where the numbers are those of the names that the line uses or asks
+    /// for.
     #[inline(never)]
     pub(crate) fn step(
         &mut self,
@@ -326,7 +327,7 @@ impl Pass {
         let opened = Block {
             number,
             live: placement.live,
-            holds: self.condition(body),
+            holds: self.condition(body, numbers),
             has_else: false,
         };
         self.define(accepted, number, line, defines, placement.value);
@@ -458,12 +459,13 @@ impl Pass {
     }
 
     /// Whether the condition of an IF line holds.
-    fn condition(&self, body: &Body) -> bool
+    fn condition(&self, body: &Body, numbers: &[NameId]) -> bool
         ensures { result ≡ condition_of self.now.names.symbols (seen_body body.now) }
     {
+        let names = Scope::new(&self.names, numbers);
         match body {
-            Body::Ifdef(name) => self.names.is_given(name.get()),
-            Body::Ifund(name) => !self.names.is_given(name.get()),
+            Body::Ifdef(name) => names.value(name.get()).is_some(),
+            Body::Ifund(name) => names.value(name.get()).is_none(),
             _ => false,
         }
     }

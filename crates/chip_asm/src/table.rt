@@ -239,16 +239,6 @@ impl Table {
         self.current.values[id.number as usize].is_some()
     }
 
-    /// Whether a name has a symbol.
-    pub(crate) fn is_given(&self, name: &[u8]) -> bool
-        ensures { result ≡ is_some (lookup_name self.now.symbols name.now) }
-    {
-        match self.keys.get_index_of(name) {
-            Some(index) => self.current.values[index].is_some(),
-            None => false,
-        }
-    }
-
     /// Whether the name of a number has the value, or none, that it had before the edit.
     pub(crate) fn keeps_value(&self, id: NameId) -> bool
         requires { id.number < length self.now.keys }

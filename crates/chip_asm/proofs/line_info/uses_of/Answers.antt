@@ -24,19 +24,19 @@ copied-none (Some x) h = cc
 
 pub returns-in_default-clause-are : goal.returns-in_default-clause-are
 returns-in_default-clause-are c = record {
-  within = All-nil (λ (id : NameId). id.number < length c.args.table.now.keys);
+  within = All-nil (λ (id : NameId). id.number < length c.match-asked_name.table.keys);
   named = no-first c.used_names-names.result (names_used (seen_line c.args.line.now)) c.used_names-names.ensures c.in_default.ensures.next;
 }
 
 pub returns-then-is_none-clause-are : goal.returns-then-is_none-clause-are
 returns-then-is_none-clause-are c =
-    let keys : List Name = c.number.new.self.keys in
-    let one : IsNumber keys c.in_ok-id.id c.in-Some.name.now = c.in_ok-id.ensures.id in
+    let keys : List Name = c.number-then-is_none.new.self.keys in
+    let one : IsNumber keys c.in_ok-id-2.id c.in-Some.name.now = c.in_ok-id-2.ensures.id in
     let only : c.in-Some.name.now ∷ [] ≡ names_used (seen_line c.args.line.now)
     = one-use c.used_names-names.result (names_used (seen_line c.args.line.now)) c.next.new.self c.in-Some.name.now c.used_names-names.ensures c.in-Some.ensures.next c.next.ensures.rest
     (copied-none c.next-2.result (c.is_none.ensures ∙ ap not c.if-is_none.true) ∙ c.next-2.ensures.next) in
     record {
-      within = All-cons (λ (id : NameId). id.number < length keys) c.in_ok-id.id [] one.within (All-nil (λ (id : NameId). id.number < length keys));
+      within = All-cons (λ (id : NameId). id.number < length keys) c.in_ok-id-2.id [] one.within (All-nil (λ (id : NameId). id.number < length keys));
       named = ap (λ (n : Name). n ∷ []) one.named ∙ only;
     }
 
