@@ -1,6 +1,7 @@
 //! A session: edits of the source and of the key events, and questions about both.
-ghost use Rattle.std.specs.Prelude.{◌≡◌, ◌≢◌, ◌≤◌, ◌⊎◌, [], false, is_none, None, Some, Ok, OnOk, OnErr, IfOk, IfErr, length, unwrap_or};
+ghost use Rattle.std.specs.Prelude.{◌≡◌, ◌≢◌, ◌<◌, ◌≤◌, ◌⊎◌, [], false, is_none, max, Err, None, Some, Ok, OnOk, OnErr, IfOk, IfErr, length, unwrap_or};
 ghost use Rattle.std.specs.Str.Lines.{lines};
+ghost use Rattle.chip_replay.specs.declared.limits.TheConstants.{LAST_STEP};
 ghost use Rattle.chip_session.specs.Answers.{answer_to, machine_of, step_asked};
 ghost use Rattle.chip_trace.specs.Difference.{IsComparison};
 ghost use Rattle.chip_trace.specs.Lines.{TakesLines, remaining};
@@ -189,6 +190,8 @@ impl Bench {
         requires { is_none (image_of self.old.session.lines) ≡ false }
         ensures found { IfOk result (IsComparison (remaining (machine_of self.old.session)
             trace.old) (lines theirs.now)) }
+        ensures step_too_large { result ≡ Err AtError.StepTooLarge
+            → LAST_STEP < max trace.old.next trace.old.to }
         ensures session { self.new.session ≡ self.old.session }
     {
         self.run.first_difference(alloc, trace, theirs)

@@ -1,5 +1,5 @@
 //! The run of the last image that the lines had: its settings, its replay, and the image.
-ghost use Rattle.std.specs.Prelude.{◌≡◌, ◌≤◌, ◌<◌, ℕ, slice_index, length, vec_capacity, IfSome, IfOk, OnOk, OnErr, MatchOption, IsOkUnless, Err, Ok, None, [], false, IsTrue, ◌+◌};
+ghost use Rattle.std.specs.Prelude.{◌≡◌, ◌≤◌, ◌<◌, ℕ, max, slice_index, length, vec_capacity, IfSome, IfOk, OnOk, OnErr, MatchOption, IsOkUnless, Err, Ok, None, [], false, IsTrue, ◌+◌};
 ghost use Rattle.std.specs.FinMap as finmap;
 ghost use Rattle.std.specs.Option.{option_copied};
 ghost use Rattle.chip_replay.specs.Image.{AgreeOutside};
@@ -235,6 +235,8 @@ impl ImageRun {
     ) -> Result<Option<Difference>, AtError>
         ensures found { IfOk result (IsComparison (remaining (machine_after self.old) trace.old)
             (lines theirs.now)) }
+        ensures step_too_large { result ≡ Err AtError.StepTooLarge
+            → LAST_STEP < max trace.old.next trace.old.to }
         ensures runs { RunsOnly self.old self.new }
     {
         first_difference(alloc, &mut self.replay, trace, theirs)

@@ -1,8 +1,9 @@
 //! Where a trace differs from another one first.
 
-ghost use Rattle.std.specs.Prelude.{◌≡◌, ◌↔◌, ◌+◌, ◌<◌, ◌≤◌, ◌++◌, ◌∷◌, length, map, IsTrue, IfOk, OnOk, vec_len};
+ghost use Rattle.std.specs.Prelude.{◌≡◌, ◌↔◌, ◌+◌, ◌<◌, ◌≤◌, ◌++◌, ◌∷◌, length, map, max, IsTrue, IfErr, IfOk, OnOk, Err, vec_len};
 ghost use Rattle.std.specs.Str.{str_to_ascii_lowercase};
 ghost use Rattle.std.specs.Str.Lines.{lines};
+ghost use Rattle.chip_replay.specs.declared.limits.TheConstants.{LAST_STEP};
 ghost use Rattle.chip_trace.specs.Lines.{states_of, remaining, SameRun};
 ghost use Rattle.chip_trace.specs.Difference.{bytes_of, IsComparison};
 ghost use Rattle.chip_trace.specs.inner.Comparing.{with_line};
@@ -42,6 +43,8 @@ pub fn first_difference(
 ) -> Result<Option<Difference>, AtError>
     ensures found { IfOk result (λ found.
         IsComparison (remaining (states_of replay.old) trace.old) (lines theirs.now) found) }
+    ensures step_too_large { result ≡ Err AtError.StepTooLarge
+        → LAST_STEP < max trace.old.next trace.old.to }
     ensures run { SameRun replay.old replay.new }
 {
     let mut left = theirs;
@@ -101,15 +104,17 @@ fn are_alike(ours: &[u8], theirs: &[u8]) -> bool
 
 /// The same bytes.
 fn copied(alloc: Global, line: &[u8]) -> Result<Vec<u8>, AtError>
-    ensures { IfOk result (λ copy. copy.items ≡ line.now) }
+    ensures copy { IfOk result (λ copy. copy.items ≡ line.now) }
+    ensures err { IfErr result (λ e. e ≡ AtError.OutOfMemory) }
 {
     Vec::from_slice(alloc, line).map_err(|_| AtError::OutOfMemory)
 }
 
 /// Keeps a line as the last one, and gives an empty one that has the room of an earlier one.
 fn keep(alloc: Global, kept: &mut Vec<Vec<u8>>, line: Vec<u8>) -> Result<Vec<u8>, AtError>
-    ensures { OnOk result (map bytes_of kept.new.items
+    ensures kept { OnOk result (map bytes_of kept.new.items
         ≡ with_line (map bytes_of kept.old.items) line.items) }
+    ensures err { IfErr result (λ e. e ≡ AtError.OutOfMemory) }
 {
     let mut room = if kept.len() == LINES_BEFORE {
         kept.remove(0)

@@ -1,6 +1,6 @@
 //! The lines of a trace, one after another.
 
-ghost use Rattle.std.specs.Prelude.{◌≡◌, ◌<◌, ◌++◌, ◌↔◌, ℕ, false, IfOk, OnErr, OnOk, Err};
+ghost use Rattle.std.specs.Prelude.{◌≡◌, ◌<◌, ◌≤◌, ◌++◌, ◌↔◌, ℕ, false, max, IfOk, OnErr, OnOk, Err};
 ghost use Rattle.chip_machine.specs.State.{State};
 ghost use Rattle.chip_trace.specs.Form.{row_of};
 ghost use Rattle.chip_trace.specs.Lines.{states_of, remaining, trace_lines, SameRun, TakesLine, TakesLines, IsLineAt};
@@ -83,6 +83,8 @@ impl<'a> Trace<'a> {
             ↔ ((self.old.is_done ≡ false) × (LAST_STEP < self.old.next)) }
         ensures run { SameRun replay.old replay.new }
         ensures err { OnErr result (self.new ≡ self.old) }
+        ensures to { self.new.to ≡ self.old.to }
+        ensures next { self.new.next ≤ max self.old.next self.old.to }
     {
         if self.is_done {
             return Ok(false);
@@ -143,6 +145,7 @@ fn push_line_at(
 ) -> Result<bool, AtError>
     ensures line { IfOk result (λ is_last. IsLineAt form columns.now (states_of replay.old)
         step to is_last text.old.items text.new.items) }
+    ensures last { IfOk result (λ is_last. is_last ≡ false → step < to) }
     ensures step_too_large { (result ≡ Err AtError.StepTooLarge) ↔ (LAST_STEP < step) }
     ensures run { SameRun replay.old replay.new }
 {
