@@ -1,6 +1,6 @@
 //! The screen as 64 rows of 128 bits, the leftmost column the highest bit.
 
-ghost use Rattle.std.specs.Prelude.{◌≡◌, ℕ, ◌+◌, ◌-◌, ◌*◌, ◌/◌, ◌%◌, ◌<◌, ◌≤◌, Bool, true, false, ◌&&◌, ◌||◌, ◌==◌, length, slice_index, slice_index_or, IfOk, ◌^◌, IsTrue, ◌↔◌};
+ghost use Rattle.std.specs.Prelude.{◌≡◌, ℕ, ◌+◌, ◌-◌, ◌*◌, ◌/◌, ◌%◌, ◌<◌, ◌≤◌, Bool, true, false, not, ◌&&◌, ◌||◌, ◌==◌, length, slice_index, slice_index_or, IfOk, ◌^◌, IsTrue, ◌↔◌};
 ghost use Rattle.std.specs.FinSet as set;
 ghost use Rattle.chip_machine.specs.Points.{Points, points_code, is_lit, IsOnScreen, symmetric_difference, meets, lights};
 ghost use Rattle.chip_machine.specs.inner.Stored.{in_rows, differ, any_below};
@@ -180,8 +180,9 @@ fn to_the_left(rows: &mut [u128])
     }
 }
 
-/// Turns the points of a stripe of columns in so many rows, and says whether one of them was lit.
-fn turn(rows: &mut [u128], from: usize, count: usize, stripe: u128) -> bool
+/// Turns the points of a stripe of columns in so many rows, and gives the columns in which one of
+/// them was lit.
+fn turn(rows: &mut [u128], from: usize, count: usize, stripe: u128) -> u128
     requires { from + count ≤ length rows.old }
     ensures turned { (row column : ℕ) → from ≤ row → row < from + count → column < 128
         → lights (slice_index rows.new row) column
@@ -194,14 +195,14 @@ fn turn(rows: &mut [u128], from: usize, count: usize, stripe: u128) -> bool
         → ((row : ℕ) → from ≤ row → row < from + count
         → test row ≡ any_below
         (λ column. lights (slice_index rows.old row) column && lights stripe column) 128)
-        → (any_below test from || result) ≡ any_below test (from + count) }
+        → (any_below test from || not (result == 0)) ≡ any_below test (from + count) }
 {
-    let mut hit = false;
+    let mut met = 0;
     for row in from..from + count {
-        hit |= rows[row] & stripe != 0;
+        met |= rows[row] & stripe;
         rows[row] ^= stripe;
     }
-    hit
+    met
 }
 
 /// Turns each point that a sprite covers, and says whether one of them was lit.
@@ -261,11 +262,11 @@ fn toggle_lines(rows: &mut [u128], high: bool, half: Half, x: u8, y: u8, sprite:
         && covers_by_length high x y sprite.now column row) 128) 64 }
 {
     let scale = scale_of(high);
-    let (first, end) = lines_under(high, y, sprite);
-    let mut hit = false;
-    for line in first..end {
-        let stripe = covered_bits(high, half, x, y, sprite, line);
-        hit |= turn(rows, scale * line, scale, stripe);
+    let (first, count) = lines_under(high, y, sprite);
+    let mut met = 0;
+    for row in 0..count {
+        let stripe = covered_bits(high, half, x, sprite, row);
+        met |= turn(rows, scale * (first + row), scale, stripe);
     }
-    hit
+    met != 0
 }
