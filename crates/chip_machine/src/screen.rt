@@ -119,6 +119,7 @@ impl Screen {
     }
 
     /// Draws a sprite, and answers whether it covers a point that was lit.
+    #[inline(always)]
     pub(crate) fn draw(&mut self, high: bool, x: u8, y: u8, sprite: &[u8]) -> bool
         ensures lit { self.new
             ≡ symmetric_difference self.old (covered_by_length high x y sprite.now) }
@@ -205,7 +206,9 @@ fn turn(rows: &mut [u128], from: usize, count: usize, stripe: u128) -> u128
     met
 }
 
-/// Turns each point that a sprite covers, and says whether one of them was lit.
+/// Turns each point that a sprite covers, and says whether one of them was lit. The same call stands
+/// twice, since each is compiled for its own width.
+#[inline(always)]
 fn toggle(rows: &mut [u128], high: bool, x: u8, y: u8, sprite: &[u8]) -> bool
     requires { length rows.old ≡ 64 }
     ensures turned { (row column : ℕ) → row < 64 → column < 128
@@ -216,21 +219,21 @@ fn toggle(rows: &mut [u128], high: bool, x: u8, y: u8, sprite: &[u8]) -> bool
         (λ row. any_below (λ column. lights (slice_index rows.old row) column
         && covers_by_length high x y sprite.now column row) 128) 64 }
 {
-    // A loop for each half, size and width: there all are constants, which is faster than one for
+    // A loop for each size, width and half: there all are constants, which is faster than one for
     // all.
-    match half_of(high, x) {
-        Half::Left => toggle_in(rows, high, Half::Left, x, y, sprite),
-        Half::Middle => toggle_in(rows, high, Half::Middle, x, y, sprite),
-        Half::Right => toggle_in(rows, high, Half::Right, x, y, sprite),
+    if !high {
+        toggle_in(rows, false, x, y, sprite)
+    } else if sprite.len() == SPRITE_BYTES {
+        toggle_in(rows, true, x, y, sprite)
+    } else {
+        toggle_in(rows, true, x, y, sprite)
     }
 }
 
-/// Turns them, for a sprite whose columns lie in this half. The same call stands twice, since each
-/// is compiled for its own width.
+/// Turns them by the loop for the half in which the sprite's columns lie.
 #[inline(always)]
-fn toggle_in(rows: &mut [u128], high: bool, half: Half, x: u8, y: u8, sprite: &[u8]) -> bool
-    requires size { length rows.old ≡ 64 }
-    requires half { LiesIn half (first_column high x) }
+fn toggle_in(rows: &mut [u128], high: bool, x: u8, y: u8, sprite: &[u8]) -> bool
+    requires { length rows.old ≡ 64 }
     ensures turned { (row column : ℕ) → row < 64 → column < 128
         → lights (slice_index rows.new row) column
         ≡ differ (lights (slice_index rows.old row) column)
@@ -239,12 +242,10 @@ fn toggle_in(rows: &mut [u128], high: bool, half: Half, x: u8, y: u8, sprite: &[
         (λ row. any_below (λ column. lights (slice_index rows.old row) column
         && covers_by_length high x y sprite.now column row) 128) 64 }
 {
-    if !high {
-        toggle_lines(rows, false, half, x, y, sprite)
-    } else if sprite.len() == SPRITE_BYTES {
-        toggle_lines(rows, true, half, x, y, sprite)
-    } else {
-        toggle_lines(rows, true, half, x, y, sprite)
+    match half_of(high, x) {
+        Half::Left => toggle_lines(rows, high, Half::Left, x, y, sprite),
+        Half::Middle => toggle_lines(rows, high, Half::Middle, x, y, sprite),
+        Half::Right => toggle_lines(rows, high, Half::Right, x, y, sprite),
     }
 }
 
