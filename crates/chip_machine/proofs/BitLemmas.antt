@@ -1,8 +1,9 @@
 -- Rows of bits: what a shift, an exclusive or and a mask do to each bit.
-use Rattle.std.proofs.Common.{◌≡◌, ℕ, ◌+◌, ◌-◌, ◌*◌, ◌/◌, ◌%◌, ◌^◌, ◌<◌, ◌≤◌, Bool, true, false, not, ◌&&◌, ◌==◌, nat_eq, min, refl, sym, ap, ◌∙◌, arith, add-zero, subst, ◌⊎◌, inl, inr, nat_le, ⊎_elim, bit_and, get_or}
+use Rattle.std.proofs.Common.{◌≡◌, ℕ, ◌+◌, ◌-◌, ◌*◌, ◌/◌, ◌%◌, ◌^◌, ◌<◌, ◌≤◌, Bool, true, false, not, ◌&&◌, ◌||◌, ◌==◌, ◌≢◌, nat_eq, min, refl, sym, ap, ◌∙◌, arith, add-zero, subst, ◌⊎◌, inl, inr, nat_le, ⊎_elim, bit_and, get_or}
 use Rattle.std.specs.Int.{bit_at}
-use Rattle.std.specs.Prelude.{bit_xor}
-use Rattle.std.proofs.lemmas.Nat.{shr-shr, shl-shr, shl_whole, and_le_r, pow_pos, pow-add, shr_split}
+use Rattle.std.specs.Prelude.{bit_or, bit_xor}
+use Rattle.std.specs.Int.Bits.{or_zero_l}
+use Rattle.std.proofs.lemmas.Nat.{shr-shr, shl-shr, shl_whole, and_le_r, le_or_l, pow_pos, pow-add, shr_split}
 use Rattle.std.proofs.Math.Nat.{mul_assoc}
 use Rattle.std.proofs.lemmas.Nat.Bits.{bit_at_and, bit_at_xor, bit_at-zero, bit_at-lt, bit_at_above, bit_at_cat_low, bit_at_cat_high, same_from_bits_below}
 use Rattle.std.proofs.lemmas.Bool.{false≢true, cases_lt, cases_Bool, eqb-true, eqb-false, eq-eqb, ne_eqb, not-false, cases_eq, and_left, lt-leb, le-leb}
@@ -127,6 +128,18 @@ pub common_column : (a b : ℕ) → b < 2 ^ 128 → not (nat_eq (bit_and a b) 0)
 common_column a b fits =
     some_lit (bit_and a b) (omega (arith, and_le_r a b))
     ∙ any_below_same (lights (bit_and a b)) (λ column. lights a column && lights b column) 128 (λ column h. lights-bit_and a b column)
+
+-- two rows together are not zero exactly where one of them is not
+pub either_some : (a b : ℕ) → not (nat_eq (bit_or a b) 0) ≡ (not (nat_eq a 0) || not (nat_eq b 0))
+either_some a b =
+    ⊎_elim
+    (λ (zero_a : a ≡ 0).
+    ap (λ n. not (nat_eq (bit_or n b) 0)) zero_a ∙ ap (λ n. not (nat_eq n 0)) (or_zero_l b)
+    ∙ ap (λ dark. not dark || not (nat_eq b 0)) (sym (eq-eqb a 0 zero_a)))
+    (λ (some_a : a ≢ 0).
+    ap not (ne_eqb (bit_or a b) 0 (λ none. some_a (omega (arith, none, le_or_l a b))))
+    ∙ ap (λ dark. not dark || not (nat_eq b 0)) (sym (ne_eqb a 0 some_a)))
+    (cases_eq a 0)
 
 -- ---- a shift by whole columns
 

@@ -1,5 +1,5 @@
 -- Which points a sprite covers, as the code finds them.
-use Rattle.std.proofs.Common.{◌≡◌, ℕ, ◌+◌, ◌-◌, ◌*◌, ◌/◌, ◌%◌, ◌<◌, ◌≤◌, Bool, true, false, ◌&&◌, ◌==◌, nat_eq, nat_lt, nat_le, min, List, length, get_or, refl, sym, ap, ◌∙◌, arith, ◌≢◌, ⊎_elim}
+use Rattle.std.proofs.Common.{◌≡◌, ℕ, ◌+◌, ◌-◌, ◌*◌, ◌/◌, ◌%◌, ◌<◌, ◌≤◌, Bool, true, false, ◌&&◌, ◌==◌, nat_eq, nat_lt, nat_le, min, List, length, get_or, refl, sym, ap, subst, ◌∙◌, arith, ◌≢◌, ⊎_elim}
 use Rattle.std.specs.Int.{bit_at}
 use Rattle.std.proofs.lemmas.Bool.{cond-true, cond-false, cases_eq, eq-eqb, ne_eqb, le-ltb, lt-ltb, le-leb, lt-leb, and_left, and_right}
 use Rattle.std.proofs.lemmas.Nat.Bits.{bit_at-zero}
@@ -67,15 +67,25 @@ covers_before true x y sprite column row before = covers_above true x y sprite c
 covers_before false x y sprite column row before = covers_above false x y sprite column row 2 refl (omega arith)
 
 -- nor from the line on where its n rows or the screen end
-pub covers_after : (high : Bool) (x y : ℕ) (sprite : List ℕ) (column row end n : ℕ) → row < 64 → length sprite ≤ row_bytes_by_length high sprite * n → end ≡ min (y % (64 / scale high) + min n 64) (64 / scale high) → scale high * end ≤ row → covers_by_length high x y sprite column row ≡ false
-covers_after true x y sprite column row end n on_screen few e after =
-    covers_below true x y sprite column row 1 n refl few (omega arith)
-covers_after false x y sprite column row end n on_screen few e after =
-    covers_below false x y sprite column row 2 n refl few (omega arith)
+pub covers_after : (high : Bool) (x y : ℕ) (sprite : List ℕ) (column row count n s : ℕ) → row < 64 → length sprite ≤ row_bytes_by_length high sprite * n → s ≡ scale high → count ≡ min n (64 / s - y % (64 / s)) → scale high * (y % (64 / s) + count) ≤ row → covers_by_length high x y sprite column row ≡ false
+covers_after true x y sprite column row count n s on_screen few scaled e after =
+    let e1 : count ≡ min n (64 / 1 - y % (64 / 1)) = subst (λ s. count ≡ min n (64 / s - y % (64 / s))) scaled e in
+    let after1 : 1 * (y % (64 / 1) + count) ≤ row = subst (λ s. 1 * (y % (64 / s) + count) ≤ row) scaled after in
+    covers_below true x y sprite column row 1 n refl few (omega (arith, e1, after1))
+covers_after false x y sprite column row count n s on_screen few scaled e after =
+    let e2 : count ≡ min n (64 / 2 - y % (64 / 2)) = subst (λ s. count ≡ min n (64 / s - y % (64 / s))) scaled e in
+    let after2 : 2 * (y % (64 / 2) + count) ≤ row = subst (λ s. 2 * (y % (64 / s) + count) ≤ row) scaled after in
+    covers_below false x y sprite column row 2 n refl few (omega (arith, e2, after2))
 
-pub lines_on_screen : (high : Bool) (end n : ℕ) → end ≡ min n (64 / scale high) → scale high * end ≤ 64
-lines_on_screen true end n e = omega arith
-lines_on_screen false end n e = omega arith
+pub lines_on_screen : (high : Bool) (y count n s : ℕ) → s ≡ scale high → count ≡ min n (64 / s - y % (64 / s)) → scale high * (y % (64 / s) + count) ≤ 64
+lines_on_screen true y count n s scaled e =
+    let e1 : count ≡ min n (64 / 1 - y % (64 / 1)) = subst (λ s. count ≡ min n (64 / s - y % (64 / s))) scaled e in
+    let within : 1 * (y % (64 / 1) + count) ≤ 64 = omega (arith, e1) in
+    subst (λ s. 1 * (y % (64 / s) + count) ≤ 64) (sym scaled) within
+lines_on_screen false y count n s scaled e =
+    let e2 : count ≡ min n (64 / 2 - y % (64 / 2)) = subst (λ s. count ≡ min n (64 / s - y % (64 / s))) scaled e in
+    let within : 2 * (y % (64 / 2) + count) ≤ 64 = omega (arith, e2) in
+    subst (λ s. 2 * (y % (64 / s) + count) ≤ 64) (sym scaled) within
 
 -- the line of a row
 pub line_of : (high : Bool) (line row : ℕ) → scale high * line ≤ row → row < scale high * line + scale high → row / scale high ≡ line

@@ -1,6 +1,6 @@
 //! The screen as 64 rows of 128 bits, the leftmost column the highest bit.
 
-ghost use Rattle.std.specs.Prelude.{◌≡◌, ℕ, ◌+◌, ◌-◌, ◌*◌, ◌/◌, ◌%◌, ◌<◌, ◌≤◌, Bool, true, false, ◌&&◌, ◌||◌, ◌==◌, length, slice_index, slice_index_or, IfOk, ◌^◌, IsTrue, ◌↔◌};
+ghost use Rattle.std.specs.Prelude.{◌≡◌, ℕ, ◌+◌, ◌-◌, ◌*◌, ◌/◌, ◌%◌, ◌<◌, ◌≤◌, Bool, true, false, not, ◌&&◌, ◌||◌, ◌==◌, length, slice_index, slice_index_or, IfOk, ◌^◌, IsTrue, ◌↔◌};
 ghost use Rattle.std.specs.FinSet as set;
 ghost use Rattle.chip_machine.specs.Points.{Points, points_code, is_lit, IsOnScreen, symmetric_difference, meets, lights};
 ghost use Rattle.chip_machine.specs.inner.Stored.{in_rows, differ, any_below};
@@ -119,6 +119,7 @@ impl Screen {
     }
 
     /// Draws a sprite, and answers whether it covers a point that was lit.
+    #[inline(always)]
     pub(crate) fn draw(&mut self, high: bool, x: u8, y: u8, sprite: &[u8]) -> bool
         ensures lit { self.new
             ≡ symmetric_difference self.old (covered_by_length high x y sprite.now) }
@@ -180,8 +181,9 @@ fn to_the_left(rows: &mut [u128])
     }
 }
 
-/// Turns the points of a stripe of columns in so many rows, and says whether one of them was lit.
-fn turn(rows: &mut [u128], from: usize, count: usize, stripe: u128) -> bool
+/// Turns the points of a stripe of columns in so many rows, and gives the columns in which one of
+/// them was lit.
+fn turn(rows: &mut [u128], from: usize, count: usize, stripe: u128) -> u128
     requires { from + count ≤ length rows.old }
     ensures turned { (row column : ℕ) → from ≤ row → row < from + count → column < 128
         → lights (slice_index rows.new row) column
@@ -194,17 +196,19 @@ fn turn(rows: &mut [u128], from: usize, count: usize, stripe: u128) -> bool
         → ((row : ℕ) → from ≤ row → row < from + count
         → test row ≡ any_below
         (λ column. lights (slice_index rows.old row) column && lights stripe column) 128)
-        → (any_below test from || result) ≡ any_below test (from + count) }
+        → (any_below test from || not (result == 0)) ≡ any_below test (from + count) }
 {
-    let mut hit = false;
+    let mut met = 0;
     for row in from..from + count {
-        hit |= rows[row] & stripe != 0;
+        met |= rows[row] & stripe;
         rows[row] ^= stripe;
     }
-    hit
+    met
 }
 
-/// Turns each point that a sprite covers, and says whether one of them was lit.
+/// Turns each point that a sprite covers, and says whether one of them was lit. The same call stands
+/// twice, since each is compiled for its own width.
+#[inline(always)]
 fn toggle(rows: &mut [u128], high: bool, x: u8, y: u8, sprite: &[u8]) -> bool
     requires { length rows.old ≡ 64 }
     ensures turned { (row column : ℕ) → row < 64 → column < 128
@@ -215,21 +219,21 @@ fn toggle(rows: &mut [u128], high: bool, x: u8, y: u8, sprite: &[u8]) -> bool
         (λ row. any_below (λ column. lights (slice_index rows.old row) column
         && covers_by_length high x y sprite.now column row) 128) 64 }
 {
-    // A loop for each half, size and width: there all are constants, which is faster than one for
+    // A loop for each size, width and half: there all are constants, which is faster than one for
     // all.
-    match half_of(high, x) {
-        Half::Left => toggle_in(rows, high, Half::Left, x, y, sprite),
-        Half::Middle => toggle_in(rows, high, Half::Middle, x, y, sprite),
-        Half::Right => toggle_in(rows, high, Half::Right, x, y, sprite),
+    if !high {
+        toggle_in(rows, false, x, y, sprite)
+    } else if sprite.len() == SPRITE_BYTES {
+        toggle_in(rows, true, x, y, sprite)
+    } else {
+        toggle_in(rows, true, x, y, sprite)
     }
 }
 
-/// Turns them, for a sprite whose columns lie in this half. The same call stands twice, since each
-/// is compiled for its own width.
+/// Turns them by the loop for the half in which the sprite's columns lie.
 #[inline(always)]
-fn toggle_in(rows: &mut [u128], high: bool, half: Half, x: u8, y: u8, sprite: &[u8]) -> bool
-    requires size { length rows.old ≡ 64 }
-    requires half { LiesIn half (first_column high x) }
+fn toggle_in(rows: &mut [u128], high: bool, x: u8, y: u8, sprite: &[u8]) -> bool
+    requires { length rows.old ≡ 64 }
     ensures turned { (row column : ℕ) → row < 64 → column < 128
         → lights (slice_index rows.new row) column
         ≡ differ (lights (slice_index rows.old row) column)
@@ -238,12 +242,10 @@ fn toggle_in(rows: &mut [u128], high: bool, half: Half, x: u8, y: u8, sprite: &[
         (λ row. any_below (λ column. lights (slice_index rows.old row) column
         && covers_by_length high x y sprite.now column row) 128) 64 }
 {
-    if !high {
-        toggle_lines(rows, false, half, x, y, sprite)
-    } else if sprite.len() == SPRITE_BYTES {
-        toggle_lines(rows, true, half, x, y, sprite)
-    } else {
-        toggle_lines(rows, true, half, x, y, sprite)
+    match half_of(high, x) {
+        Half::Left => toggle_lines(rows, high, Half::Left, x, y, sprite),
+        Half::Middle => toggle_lines(rows, high, Half::Middle, x, y, sprite),
+        Half::Right => toggle_lines(rows, high, Half::Right, x, y, sprite),
     }
 }
 
@@ -261,11 +263,11 @@ fn toggle_lines(rows: &mut [u128], high: bool, half: Half, x: u8, y: u8, sprite:
         && covers_by_length high x y sprite.now column row) 128) 64 }
 {
     let scale = scale_of(high);
-    let (first, end) = lines_under(high, y, sprite);
-    let mut hit = false;
-    for line in first..end {
-        let stripe = covered_bits(high, half, x, y, sprite, line);
-        hit |= turn(rows, scale * line, scale, stripe);
+    let (first, count) = lines_under(high, y, sprite);
+    let mut met = 0;
+    for row in 0..count {
+        let stripe = covered_bits(high, half, x, sprite, row);
+        met |= turn(rows, scale * (first + row), scale, stripe);
     }
-    hit
+    met != 0
 }

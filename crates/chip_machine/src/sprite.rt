@@ -56,21 +56,19 @@ fn rows_of(high: bool, sprite: &[u8]) -> usize
     }
 }
 
-/// The lines that a sprite may cover: the first of them, and the first past them. A line is a row
-/// of points of the size.
+/// The lines that a sprite may cover: the first of them, and how many they are. A line is a row of
+/// points of the size.
 pub(crate) fn lines_under(high: bool, y: u8, sprite: &[u8]) -> (usize, usize)
     ensures first { result.0 ≡ y % (64 / scale high) }
-    ensures ordered { result.0 ≤ result.1 }
-    ensures on_screen { scale high * result.1 ≤ 64 }
+    ensures on_screen { scale high * (result.0 + result.1) ≤ 64 }
     ensures above { (x column row : ℕ) → row < scale high * result.0
         → covers_by_length high x y sprite.now column row ≡ false }
-    ensures below { (x column row : ℕ) → scale high * result.1 ≤ row → row < 64
+    ensures below { (x column row : ℕ) → scale high * (result.0 + result.1) ≤ row → row < 64
         → covers_by_length high x y sprite.now column row ≡ false }
 {
     let height = HEIGHT / scale_of(high);
     let first = y as usize % height;
-    let end = first + rows_of(high, sprite).min(HEIGHT);
-    (first, end.min(height))
+    (first, rows_of(high, sprite).min(height - first))
 }
 
 /// Where the sixteen columns that a row of a sprite has at most lie among the stored ones: a loop
@@ -100,19 +98,17 @@ pub(crate) fn half_of(high: bool, x: u8) -> Half
     }
 }
 
-/// The bits that a sprite, whose columns lie in this half, covers in each row of a line.
-pub(crate) fn covered_bits(high: bool, half: Half, x: u8, y: u8, sprite: &[u8], line: usize) -> u128
+/// The bits that a row of a sprite, whose columns lie in this half, covers in each row of its line.
+pub(crate) fn covered_bits(high: bool, half: Half, x: u8, sprite: &[u8], row: usize) -> u128
     requires half { LiesIn half (first_column high x) }
-    requires below_the_top { y % (64 / scale high) ≤ line }
-    requires on_screen { line < 64 }
-    ensures { (column row : ℕ) → column < 128 → scale high * line ≤ row
-        → row < scale high * line + scale high
-        → lights result column ≡ covers_by_length high x y sprite.now column row }
+    requires few { row < 64 }
+    ensures { (y column at : ℕ) → column < 128 → scale high * (y % (64 / scale high) + row) ≤ at
+        → at < scale high * (y % (64 / scale high) + row) + scale high
+        → lights result column ≡ covers_by_length high x y sprite.now column at }
 {
     let scale = scale_of(high);
     let left = x as usize % (WIDTH / scale);
-    let top = y as usize % (HEIGHT / scale);
-    let pattern = pattern_at(high, sprite, line - top);
+    let pattern = pattern_at(high, sprite, row);
     placed(pattern, half, scale * left)
 }
 

@@ -2,7 +2,7 @@ use Rattle.std.proofs.Common.{◌≡◌, ◌≤◌, Bool, true, false, not, ◌&
 use Rattle.chip_machine.specs.inner.Stored.{any_below}
 use Rattle.chip_machine.specs.Points.{lights}
 use Rattle.chip_machine.proofs.PointLemmas.{any_below_more}
-use Rattle.chip_machine.proofs.BitLemmas.{common_column}
+use Rattle.chip_machine.proofs.BitLemmas.{common_column, either_some}
 use Rattle.chip_machine.proofs.RowLemmas.{turned_more}
 use Rattle.chip_machine.proofs.screen.turn.Goals as goal
 
@@ -21,8 +21,9 @@ loop-row-preserved c =
       before = λ row h. get_or-set_other l.rows l.row row _ 0 (omega arith) ∙ l.invariant.before row h;
       ahead = λ row h. get_or-set_other l.rows l.row row _ 0 (omega arith) ∙ l.invariant.ahead row (omega arith);
       hit = λ test same.
-          let found = not (nat_eq (bit_and (get_or l.rows l.row 0) c.args.stripe) 0) in
-          or_groups (any_below test from) l.hit found
+          let here_met = bit_and (get_or l.rows l.row 0) c.args.stripe in
+          ap (λ b. any_below test from || b) (either_some l.met here_met)
+          ∙ or_groups (any_below test from) (not (nat_eq l.met 0)) (not (nat_eq here_met 0))
           ∙ (λ i. l.invariant.hit test (λ row low up. same row low (omega arith)) i || (common_column _ _ c.ranges.stripe.fits
           ∙ ap (λ bits. any_below (λ column. lights bits column && lights c.args.stripe column) 128) here
           ∙ sym (same l.row low (omega arith))) i)

@@ -1,4 +1,4 @@
-use Rattle.std.proofs.Common.{◌+◌, ◌*◌, ◌%◌, ◌/◌, ◌<◌, min, ap, subst, ◌∙◌}
+use Rattle.std.proofs.Common.{◌*◌, ◌%◌, ◌/◌, ◌<◌, ap, subst}
 use Rattle.chip_machine.specs.Sprite.{scale}
 use Rattle.chip_machine.proofs.SpriteLemmas.{covers_before, covers_after, lines_on_screen}
 use Rattle.chip_machine.proofs.sprite.lines_under.Goals as goal
@@ -8,7 +8,7 @@ returns-clause-first c = ap (λ s. c.args.y % (64 / s)) c.scale_of-height.ensure
 
 pub returns-clause-on_screen : goal.returns-clause-on_screen
 returns-clause-on_screen c =
-    lines_on_screen c.args.high c.min-2.result _ (c.min-2.ensures ∙ ap (λ s. min (c.args.y % (64 / c.scale_of-height.result) + c.min.result) (64 / s)) c.scale_of-height.ensures.value)
+    lines_on_screen c.args.high c.args.y _ _ c.scale_of-height.result c.scale_of-height.ensures.value c.min.ensures
 
 pub returns-clause-above : goal.returns-clause-above
 returns-clause-above c = λ x column row before.
@@ -16,6 +16,5 @@ returns-clause-above c = λ x column row before.
 
 pub returns-clause-below : goal.returns-clause-below
 returns-clause-below c = λ x column row after on_screen.
-    covers_after c.args.high x c.args.y c.args.sprite.now column row c.min-2.result c.rows_of.result on_screen c.rows_of.ensures
-    (c.min-2.ensures ∙ (λ i. min (c.args.y % (64 / c.scale_of-height.ensures.value i) + c.min.ensures i) (64 / c.scale_of-height.ensures.value i)))
-    after
+    covers_after c.args.high x c.args.y c.args.sprite.now column row _ c.rows_of.result c.scale_of-height.result on_screen c.rows_of.ensures
+    c.scale_of-height.ensures.value c.min.ensures after

@@ -1,4 +1,4 @@
-use Rattle.std.proofs.Common.{◌≡◌, ◌∙◌, ℤ, Bool, List, Option, ap, false, is_some, not, refl, sym, true}
+use Rattle.std.proofs.Common.{◌≡◌, ◌∙◌, ℤ, Bool, List, Option, ap, false, is_some, not, sym, true}
 use Rattle.chip_lang.specs.SeenLine.{seen_body}
 use Rattle.chip_lang.specs.Value.{value_of_name}
 use Rattle.chip_asm.specs.Layout.{condition_of}
