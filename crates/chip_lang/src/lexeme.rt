@@ -33,6 +33,7 @@ impl Drop for Lexeme {
 }
 
 /// The tokens of a line with what they hold.
+#[inline(always)]
 pub fn lexemes(alloc: Global, line: &[u8]) -> Result<Vec<Lexeme>, AllocError>
     ensures { IfOk result (λ lexemes. lexemes.items ≡ lexemes_of line.now) }
 {

@@ -103,6 +103,7 @@ pub(crate) fn operands_of(
 }
 
 /// The operand that some tokens are, if they are one.
+#[inline(always)]
 pub(crate) fn operand_of(alloc: Global, tokens: &[Lexeme]) -> Result<Option<Operand>, AllocError>
     ensures { IfOk result (λ found. option_map operand_of found ≡ operand_of_tokens tokens.now) }
 {
@@ -116,6 +117,7 @@ pub(crate) fn operand_of(alloc: Global, tokens: &[Lexeme]) -> Result<Option<Oper
 }
 
 /// A register, a word for a part of the machine, or `[I]`.
+#[inline(always)]
 fn part_of_machine(tokens: &[Lexeme]) -> Option<Operand>
     ensures { option_map operand_of result ≡ part_of_machine tokens.now }
 {

@@ -39,6 +39,7 @@ fn is_equ(token: &Lexeme) -> bool
 }
 
 /// The parts of a line.
+#[inline(always)]
 pub(crate) fn shape_of(tokens: &[Lexeme]) -> Shape<'_>
     ensures { seen_shape result ≡ shape_of tokens.now }
 {

@@ -57,18 +57,25 @@ impl ShortBytes {
     }
 
     /// A copy of a word, in upper case.
+    #[inline(always)]
     pub fn in_upper_case(alloc: Global, word: &[u8]) -> Result<ShortBytes, AllocError>
         ensures { IfOk result (λ bytes. bytes ≡ map upper word.now) }
     {
-        if word.len() <= INLINE_BYTES {
-            let mut bytes = [0; INLINE_BYTES];
-            for (index, byte) in word.iter().enumerate() {
-                bytes[index] = upper(*byte);
-            }
-            return Ok(ShortBytes {
-                bytes: SmallVec::from_buf_and_len(alloc, bytes, word.len()),
-            });
+        if word.len() > INLINE_BYTES {
+            return ShortBytes::long_in_upper_case(alloc, word);
         }
+        let mut bytes = SmallVec::new(alloc);
+        for byte in word {
+            bytes.push_reserved(upper(*byte));
+        }
+        Ok(ShortBytes { bytes })
+    }
+
+    /// A copy of a word of any length, in upper case.
+    #[inline(never)]
+    fn long_in_upper_case(alloc: Global, word: &[u8]) -> Result<ShortBytes, AllocError>
+        ensures { IfOk result (λ bytes. bytes ≡ map upper word.now) }
+    {
         let mut bytes = SmallVec::new(alloc);
         for byte in word {
             bytes.push(upper(*byte))?;
