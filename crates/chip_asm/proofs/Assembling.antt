@@ -47,6 +47,7 @@ begun-way e kept first start pass lines placements codings w from image x lines_
   from_long = omega (arith, ap length from_is, x.image_long, kept.codes.image.ok.0);
   image_long = long;
   infos = rw (lines_is, names) x.infos;
+  keys = ap (λ (t : Tables). t.keys) names ∙ x.keys;
   before = ap (λ (t : Tables). t.before) names ∙ x.before;
   walked = record { placements = ap (λ n. take n placements) many ∙ ap (take first) placements_is ∙ x.front; follows = follows (placed (take first e.now)) x.at_address (omega (arith, x.at_address, end-high (take first e.now))) s.aligning s.ended s.open_blocks x.symbols };
   room = room (length lines - first) (omega (arith, x.blocks_room, ap length lines_is)) (omega (arith, x.names_room, ap length lines_is));

@@ -83,6 +83,7 @@ next-under-way e lines pass next was now codings later w tally from old new n x 
   from_long = u.from_long;
   image_long = long ∙ u.image_long;
   infos = rw keys u.infos;
+  keys = keys ∙ u.keys;
   before = before ∙ u.before;
   walked = walked;
   room = room;

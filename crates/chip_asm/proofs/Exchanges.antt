@@ -21,7 +21,7 @@ use Rattle.chip_asm.specs.Names.{Name, values_of}
 use Rattle.chip_asm.specs.Program.{bytes_in_code, code_under, fault_in_code, fault_of, names_of_lines}
 use Rattle.chip_asm.specs.computed.Walk.{address, placed}
 use Rattle.chip_asm.specs.inner.Codes.{AreCodesOf, IsCounted, coding_of, line_faults, right_byte}
-use Rattle.chip_asm.specs.inner.Kept.{IsExchanged, IsKept, MayEdit, change_of, lines_kept, lines_then}
+use Rattle.chip_asm.specs.inner.Kept.{HasChangesRoom, IsExchanged, IsKept, MayEdit, change_of, lines_kept, lines_then}
 use Rattle.chip_asm.specs.inner.Infos.{is_steady}
 use Rattle.chip_asm.specs.inner.Layouts.{IsLayoutOf, final_placement, first_placements, placements_of}
 use Rattle.chip_asm.specs.inner.Passes.{HasCode, IsHeld, IsSlot, is_byte_of, placed_at}
@@ -82,6 +82,7 @@ pub record IsMade (old new : Kept) (edit : Edit) (first here : ℕ) : Type 0 whe
   pub symbols : (early later : List (Name × Symbol)) → old.names.symbols ≡ early ++ later → AreUpTo first early → AreOver first later → new.names.symbols ≡ early
   pub names_room : length new.names.symbols + count_after (length old.lines.items) edit ≤ new.names.room
   pub blocks_room : count_after (length old.lines.items) edit ≤ vec_capacity new.blocks
+  pub changed : HasChangesRoom new
 
 -- what was kept of each line
 
@@ -209,10 +210,12 @@ exchanged old new edit first here m =
       image_long = m.image_long;
       spare_long = m.spare_long;
       infos = rw (m.keys, m.lines) m.may.infos;
+      keys = m.keys;
       symbols = begun-symbols (lines_kept old) (lines_then old edit) first b.long b.same old.names.symbols new.names.symbols m.may.kept.symbols m.symbols;
       before = m.before ∙ m.may.kept.symbols;
       names_room = omega (arith, m.names_room, count);
       blocks_room = omega (arith, m.blocks_room, count);
+      changed = m.changed;
       steady = rw m.lines b.stay;
       front = sym (shorter first (first_changed edit) old.layout.placements.items new.layout.placements.items m.stays m.placements.front)
           ∙ first-laid old.layout (lines_kept old) first m.may.kept.laid_out b.long (subst AllSteady (sym b.same) b.steady) ∙ ap first_placements b.same;

@@ -1,6 +1,6 @@
 -- What the functions inside say: of the first pass in Turns, Follows, Placements, Marks,
--- Layouts and Resume; of symbols in Tables; of kept lines in HeldText, HeldLine, KeptLine, Infos,
--- Records and Effect; of their codes in Recode and Codes; of both passes in Passes; of all of it in Kept.
+-- Layouts and Resume; of symbols in Tables; of kept lines in HeldText, HeldLine, KeptLine,
+-- PackedUses, Infos, Records and Effect; of their codes in Recode and Codes; of both passes in Passes; of all of it in Kept.
 pub mod Codes
 pub mod Effect
 pub mod Follows
@@ -11,6 +11,7 @@ pub mod Kept
 pub mod KeptLine
 pub mod Layouts
 pub mod Marks
+pub mod PackedUses
 pub mod Passes
 pub mod Placements
 pub mod Recode

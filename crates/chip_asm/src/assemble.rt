@@ -1,5 +1,5 @@
 //! The two passes over the lines after an edit.
-ghost use Rattle.std.specs.Prelude.{◌≡◌, ◌+◌, ◌<◌, ◌≤◌, ◌&&◌, ◌||◌, not, true, length, Ok};
+ghost use Rattle.std.specs.Prelude.{◌≡◌, ◌+◌, ◌<◌, ◌≤◌, ◌&&◌, ◌||◌, not, true, false, length, Ok};
 ghost use Rattle.chip_lang.specs.Uses.{agree_on};
 ghost use Rattle.chip_asm.specs.Layout.{body_of, value_at};
 ghost use Rattle.chip_asm.specs.Names.{values_of};
@@ -12,6 +12,7 @@ ghost use Rattle.chip_asm.specs.inner.Passes.{AreCoded, Change, IsEncodedUnder, 
 ghost use Rattle.chip_asm.specs.inner.Placements.{is_placed};
 ghost use Rattle.chip_asm.specs.inner.Records.{reading_in, readings_in};
 ghost use Rattle.chip_asm.specs.inner.Resume.{AreSteady};
+ghost use Rattle.chip_asm.specs.inner.Tables.{AreChanges};
 
 use crate::codes::{Coding, copy_code, write_line};
 use crate::kept_line::BoxedLine;
@@ -50,7 +51,7 @@ fn keeps_values(names: &Table, kept: &BoxedLine) -> bool
         ≡ agree_on (values_of names.now.before) (values_of names.now.symbols)
         (reading_in kept.now) }
 {
-    match kept.info().uses {
+    match kept.info().uses.get() {
         Uses::Nothing => true,
         Uses::One(id) => names.keeps_value(id),
         Uses::Several => names.keep_values(kept.numbers()),
@@ -144,6 +145,23 @@ pub(crate) fn walk(
     }
 }
 
+/// Whether a line is plainly not to be encoded: it doesn't wait for its code, and none of its names
+/// has another value than before the edit.
+#[inline(always)]
+fn is_settled(names: &Table, changed: &[bool], kept: &BoxedLine, coding: Coding) -> bool
+    requires info { IsInfo names.now.keys kept.now.info kept.now.several (reading_in kept.now) }
+    requires changed { AreChanges names.now changed.now }
+    ensures done { result ≡ true → is_pending coding ≡ false }
+    ensures same { result ≡ true
+        → agree_on (values_of names.now.before) (values_of names.now.symbols)
+        (reading_in kept.now) ≡ true }
+{
+    match coding {
+        Coding::Pending => false,
+        _ => !changed[kept.info().uses.place()],
+    }
+}
+
 /// Whether a line is to be encoded.
 #[inline(always)]
 fn is_again(names: &Table, kept: &BoxedLine, placement: &Placement, coding: Coding) -> bool
@@ -165,6 +183,7 @@ fn is_again(names: &Table, kept: &BoxedLine, placement: &Placement, coding: Codi
 pub(crate) fn encode_lines(
     meter: &mut Meter,
     names: &Table,
+    changed: &[bool],
     lines: &[BoxedLine],
     placements: &[Placement],
     codings: &mut [Coding],
@@ -175,6 +194,7 @@ pub(crate) fn encode_lines(
     requires ordered { places.start ≤ places.end }
     requires within { places.end ≤ length lines.now }
     requires infos { AreInfos names.now.keys lines.now }
+    requires changed { AreChanges names.now changed.now }
     requires laid { placements.now ≡ placements_of (readings_in lines.now) }
     requires many { length codings.old ≡ length lines.now }
     requires long { length image.old ≡ IMAGE_BYTES }
@@ -195,8 +215,12 @@ pub(crate) fn encode_lines(
     same_code();
     for place in places.start..places.end {
         let kept = &lines[place];
+        let coding = codings[place];
+        if is_settled(names, changed, kept, coding) {
+            continue;
+        }
         let placement = &placements[place];
-        if is_again(names, kept, placement, codings[place]) {
+        if is_again(names, kept, placement, coding) {
             let fault = write_line(meter, names, kept, placement, image);
             waiting.set(codings, place, Coding::of(fault));
         }

@@ -29,7 +29,7 @@ use crate::layout::{Layout, mark_unclosed};
 use crate::line_info::{LineInfo, Numbered};
 use crate::pass::Pass;
 use crate::placement::Placement;
-use crate::table::Table;
+use crate::table::{NAMES_FROM, Table};
 use crate::waiting::Waiting;
 use chip_lang::laws::same_code;
 use chip_lang::limits::{IMAGE_BYTES, IMAGE_START};
@@ -66,6 +66,8 @@ pub(crate) struct Kept {
     /// Room for the image after an edit, and for the open blocks of a pass.
     spare_image: Vec<u8>,
     blocks: Vec<Block>,
+    /// Room to note which names change in an edit.
+    changed: Vec<bool>,
     /// So many first lines are steady.
     settled: usize,
 }
@@ -85,6 +87,7 @@ impl Kept {
             codes: Codes::new(alloc),
             spare_image: Vec::new(alloc),
             blocks: Vec::new(alloc),
+            changed: Vec::new(alloc),
             settled: 0,
         }
     }
@@ -272,6 +275,9 @@ impl Kept {
         self.codes.codings.reserve(count)?;
         self.codes.image.resize(IMAGE_BYTES, 0)?;
         self.spare_image.resize(IMAGE_BYTES, 0)?;
+        let places = self.names.count().checked_add(NAMES_FROM);
+        self.changed.resize(places.ok_or(AllocError)?, false)?;
+        self.changed[1] = true;
         self.blocks.clear();
         self.blocks.reserve(count)
     }
@@ -316,6 +322,7 @@ impl Kept {
         ensures spare { self.new.spare_image ≡ self.old.spare_image }
         ensures names { self.new.names ≡ self.old.names }
         ensures blocks { self.new.blocks ≡ self.old.blocks }
+        ensures changed { self.new.changed ≡ self.old.changed }
         ensures settled { self.new.settled ≡ self.old.settled }
     {
         if let Edit::Replace(at, _) | Edit::Delete(at) = &edit {
@@ -332,6 +339,7 @@ impl Kept {
         requires { (e : Change) × IsExchanged e self.old first here }
         ensures lines { self.new.lines ≡ self.old.lines }
         ensures settled { self.new.settled ≡ self.old.settled }
+        ensures changed { self.new.changed ≡ self.old.changed }
         ensures passed { (e : Change) → IsExchanged e self.old first here
             → IsUnderWay e self.new.lines.items result.0 self.new.layout.placements.items
             self.new.codes.codings.items result.1 self.new.spare_image.items
@@ -379,7 +387,7 @@ impl Kept {
         let placements = self.layout.placements.as_mut_slice();
         let codings = self.codes.codings.as_mut_slice();
         mark_unclosed(placements, codings, &mut waiting, pass.ended, &pass.blocks);
-        let places = if pass.names.keeps_all_values() {
+        let places = if pass.names.note_changes(&mut self.changed) {
             waiting.range()
         } else {
             0..self.lines.len()
@@ -387,6 +395,7 @@ impl Kept {
         encode_lines(
             meter,
             &pass.names,
+            &self.changed,
             &self.lines,
             placements,
             codings,

@@ -10,10 +10,11 @@ ghost use Rattle.chip_asm.specs.declared.table.Symbol.{Symbol};
 ghost use Rattle.chip_asm.specs.inner.HeldLine.{IsKnown};
 ghost use Rattle.chip_asm.specs.inner.HeldText.{SaysNothing, part_from};
 ghost use Rattle.chip_asm.specs.inner.Infos.{IsInfo, numbers_in};
+ghost use Rattle.chip_asm.specs.inner.PackedUses.{unpacked};
 ghost use Rattle.chip_asm.specs.inner.Records.{reading_in};
 ghost use Rattle.chip_asm.specs.inner.Tables.{Extends};
 
-use crate::line_info::{LineInfo, Numbered, Uses};
+use crate::line_info::{LineInfo, Numbered};
 use crate::line_text::{LineText, SharedSource};
 use crate::table::{NameId, Table};
 use chip_lang::{Body, Line, Meter, constant, read_line, read_nothing};
@@ -39,7 +40,7 @@ pub(crate) struct ReadLine {
 pub(crate) enum HeldLine {
     /// A line that is blank or only a comment, as so many bytes of those that were read together,
     /// from a place on.
-    Nothing(Rc<SharedSource>, u32, u16),
+    Nothing(u16, u32, Rc<SharedSource>),
     /// Any line.
     Boxed(Box<ReadLine>),
 }
@@ -94,7 +95,7 @@ impl BoxedLine {
         ensures { result.now ≡ self.now.text }
     {
         match &self.held {
-            HeldLine::Nothing(source, start, count) => source.part(*start, *count),
+            HeldLine::Nothing(count, start, source) => source.part(*start, *count),
             HeldLine::Boxed(kept) => kept.text.get(),
         }
     }
@@ -104,7 +105,7 @@ impl BoxedLine {
         ensures { result.now ≡ self.now.line }
     {
         match &self.held {
-            HeldLine::Nothing(source, _, _) => &source.nothing,
+            HeldLine::Nothing(_, _, source) => &source.nothing,
             HeldLine::Boxed(kept) => &kept.line,
         }
     }
@@ -131,12 +132,14 @@ impl BoxedLine {
     /// The numbers of the names that it uses, or else of the one that it asks for.
     #[inline]
     pub(crate) fn numbers(&self) -> &[NameId]
-        ensures { self.now.info.uses ≡ Several → result.now ≡ numbers_in self.now }
+        ensures { unpacked self.now.info.uses ≡ Several → result.now ≡ numbers_in self.now }
     {
-        match (&self.info.uses, &self.held) {
-            (Uses::One(id), _) => slice::from_ref(id),
-            (_, HeldLine::Boxed(kept)) => &kept.several,
-            _ => &[],
+        if let Some(id) = self.info.uses.one_name() {
+            return slice::from_ref(id);
+        }
+        match &self.held {
+            HeldLine::Boxed(kept) => &kept.several,
+            HeldLine::Nothing(_, _, _) => &[],
         }
     }
 
@@ -203,7 +206,7 @@ pub(crate) fn read_part(
     if read_nothing(meter, text) {
         let source = Rc::clone(source)?;
         return Ok(BoxedLine {
-            held: HeldLine::Nothing(source, start, count),
+            held: HeldLine::Nothing(count, start, source),
             info: LineInfo::NOTHING,
         });
     }

@@ -6,7 +6,7 @@ ghost use Rattle.chip_lang.specs.Line.{upper};
 ghost use Rattle.chip_lang.specs.Uses.{has_same_value};
 ghost use Rattle.chip_asm.specs.Names.{Name, lookup_name, values_of};
 ghost use Rattle.chip_asm.specs.Layout.{is_redefinition};
-ghost use Rattle.chip_asm.specs.inner.Tables.{AreApart, AreDefined, AreOver, AreUpTo, EndsBy, Extends, HaveSame, IsFront, IsNumber, IsPastNext, KeepsBefore, key_at, name_of, names_at, symbols_of, value_among};
+ghost use Rattle.chip_asm.specs.inner.Tables.{AreApart, AreChanges, AreDefined, AreOver, AreUpTo, EndsBy, Extends, HaveSame, IsFront, IsNumber, IsPastNext, KeepsBefore, key_at, name_of, names_at, symbols_of, value_among};
 
 use crate::name_hasher::NameHasher;
 use chip_lang::short_bytes::upper;
@@ -16,6 +16,10 @@ use std::alloc::{AllocError, Global};
 use std::cell::Cell;
 use std::marker::Model;
 use std::mem;
+
+/// Where it is noted of names whether they changed, the names begin at this place: place 0 is of
+/// lines that use no name, and place 1 of lines that use several.
+pub(crate) const NAMES_FROM: usize = 2;
 
 /// The value of a name, and the number of the line that gives it.
 #[derive(Clone, Copy, Debug, PartialEq, Eq)]
@@ -116,6 +120,21 @@ fn have_same(values: &[Option<i32>], others: &[Option<i32>], entries: &[Entry]) 
     true
 }
 
+/// Notes of each number, behind two places for lines without a name and for lines with several,
+/// whether the values at it differ.
+fn note_values(values: &[Option<i32>], others: &[Option<i32>], changed: &mut [bool])
+    requires alike { length values.now ≡ length others.now }
+    requires long { length changed.old ≡ length values.now + 2 }
+    ensures several { slice_get changed.new 1 ≡ slice_get changed.old 1 }
+    ensures noted { (number : ℕ) → number < length values.now
+        → slice_get changed.new (number + 2) ≡ Some false
+        → HaveSame values.now others.now number }
+{
+    for number in 0..values.len() {
+        changed[number + NAMES_FROM] = values[number] != others[number];
+    }
+}
+
 /// The table of symbols. Names are in upper case. Each has a number as soon as a line uses or
 /// defines it, which stays. The symbols are those now, and those before the edit.
 #[derive(Drop)]
@@ -130,7 +149,7 @@ pub(crate) struct Table {
 
 impl Model for Table {
     ghost use Rattle.std.specs.Prelude.{map, vec_capacity};
-    ghost use Rattle.chip_asm.specs.inner.Tables.{AreApart, AreDefined, BeginAlike, Tables, symbols_in};
+    ghost use Rattle.chip_asm.specs.inner.Tables.{AreApart, AreChanges, AreDefined, BeginAlike, Tables, symbols_in};
 
     ghost Value = { Tables };
 
@@ -251,13 +270,29 @@ impl Table {
     }
 
     /// Whether all names have the values, or none, that they had before the edit.
-    pub(crate) fn keeps_all_values(&self) -> bool
+    fn keeps_all_values(&self) -> bool
         ensures { result ≡ true → (name : Name)
             → has_same_value (values_of self.now.before) (values_of self.now.symbols) name ≡ true }
     {
         let (past, current) = (&self.past, &self.current);
         have_same(&past.values, &current.values, &past.entries[self.same..])
             && have_same(&past.values, &current.values, &current.entries[self.same..])
+    }
+
+    /// Notes of each name whether it has another value, or none, than before the edit. True where
+    /// none has.
+    pub(crate) fn note_changes(&self, changed: &mut [bool]) -> bool
+        requires long { length changed.old ≡ length self.now.keys + 2 }
+        requires several { slice_get changed.old 1 ≡ Some true }
+        ensures same { result ≡ true → (name : Name)
+            → has_same_value (values_of self.now.before) (values_of self.now.symbols) name ≡ true }
+        ensures noted { AreChanges self.now changed.new }
+    {
+        if self.keeps_all_values() {
+            return true;
+        }
+        note_values(&self.past.values, &self.current.values, changed);
+        false
     }
 
     /// Whether the names of these numbers have the values, or none, that they had before the edit.

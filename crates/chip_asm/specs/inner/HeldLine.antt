@@ -21,7 +21,7 @@ abbrev pub IsKnown : Option ℤ → Reading → Type 0
 IsKnown known line = (names : List (Name × Symbol)) → IsKnownUnder names known line
 
 abbrev pub kept_held : HeldLine → LineInfo → KeptLine
-kept_held (Nothing source start count) info =
+kept_held (Nothing count start source) info =
     record {
       text = part_from source.value.bytes start count;
       line = source.value.nothing;
@@ -39,6 +39,6 @@ kept_held (Boxed read) info =
     }
 
 abbrev pub IsLineHeld : HeldLine → Type 0
-IsLineHeld (Nothing source start count) =
+IsLineHeld (Nothing count start source) =
     (start + count ≤ length source.value.bytes) × SaysNothing source.value.nothing
 IsLineHeld (Boxed read) = IsKnown read.value.constant (seen_line read.value.line)

@@ -7,9 +7,11 @@ use Rattle.chip_asm.specs.Names.{Name}
 use Rattle.chip_asm.specs.inner.KeptLine.{KeptLine}
 use Rattle.chip_asm.specs.declared.line_info.LineInfo.{LineInfo}
 use Rattle.chip_asm.specs.declared.line_info.Numbered.{Numbered}
+use Rattle.chip_asm.specs.declared.line_info.PackedUses.{PackedUses}
 use Rattle.chip_asm.specs.declared.line_info.Uses.{Uses}
 use Rattle.chip_asm.specs.declared.line_info.Uses.TheVariants.{Nothing, One, Several}
 use Rattle.chip_asm.specs.declared.table.NameId.{NameId}
+use Rattle.chip_asm.specs.inner.PackedUses.{unpacked}
 use Rattle.chip_asm.specs.inner.Recode.{has_code}
 use Rattle.chip_asm.specs.inner.Records.{reading_in}
 use Rattle.chip_asm.specs.inner.Tables.{AreNumbers, IsNumber}
@@ -36,10 +38,13 @@ IsNumberOf keys (Some id) None = ⊥
 IsNumberOf keys (Some id) (Some name) = IsNumber keys id name
 
 -- the numbers of the names that a line uses, where those of several are kept apart
-abbrev pub numbers_used : Uses → (several : List NameId) → List NameId
-numbers_used Nothing several = []
-numbers_used (One id) several = id ∷ []
-numbers_used Several several = several
+abbrev pub numbers_of : Uses → (several : List NameId) → List NameId
+numbers_of Nothing several = []
+numbers_of (One id) several = id ∷ []
+numbers_of Several several = several
+
+abbrev pub numbers_used : PackedUses → (several : List NameId) → List NameId
+numbers_used uses several = numbers_of (unpacked uses) several
 
 abbrev pub numbers_in : KeptLine → List NameId
 numbers_in kept = numbers_used kept.info.uses kept.several

@@ -1,5 +1,5 @@
 -- What a source keeps beside the texts of its lines, and what an edit of it needs (own).
-use Rattle.std.specs.Prelude.{◌≡◌, ℕ, ◌+◌, ◌<◌, ◌≤◌, false, List, length, map, Some, slice_get, slice_index, take, vec_len, vec_capacity}
+use Rattle.std.specs.Prelude.{◌≡◌, ℕ, ◌+◌, ◌<◌, ◌≤◌, true, false, List, length, map, Some, slice_get, slice_index, take, vec_len, vec_capacity}
 use Rattle.chip_asm.specs.declared.limits.TheConstants.{MOST_LINES}
 use Rattle.chip_lang.specs.Line.{Reading, reading_of}
 use Rattle.chip_asm.specs.declared.edit.Edit.{Edit}
@@ -54,7 +54,17 @@ needed_by kept edit = needs_count (lines_kept kept) (lines_then kept edit) (plac
 -- an edit, as the two passes see it
 abbrev pub change_of : Kept → Edit → Change
 change_of kept edit =
-    record { was = lines_kept kept; now = lines_then kept edit; origin = place_before edit }
+    record {
+      was = lines_kept kept;
+      now = lines_then kept edit;
+      origin = place_before edit;
+      keys = kept.names.keys;
+    }
+
+-- there is room to note which names change
+pub record HasChangesRoom (kept : Kept) : Type 0 where
+  pub long : vec_len kept.changed ≡ length kept.names.keys + 2
+  pub several : slice_get kept.changed.items 1 ≡ Some true
 
 -- the same is kept, with room for an edit after which there are so many lines
 pub record HasRoomFor (old new : Kept) (count : ℕ) : Type 0 where
@@ -69,6 +79,7 @@ pub record HasRoomFor (old new : Kept) (count : ℕ) : Type 0 where
   pub placements_room : vec_len new.layout.placements + count ≤ vec_capacity new.layout.placements
   pub codings_room : vec_len new.codes.codings + count ≤ vec_capacity new.codes.codings
   pub blocks_room : count ≤ vec_capacity new.blocks
+  pub changed : HasChangesRoom new
 
 -- the edit is made in the lines and in what is kept of each, and the first lines, after which stands
 -- an address, stay: all is ready for the two passes
@@ -82,10 +93,12 @@ pub record IsExchanged (e : Change) (kept : Kept) (first start : ℕ) : Type 0 w
   pub image_long : vec_len kept.codes.image ≡ IMAGE_BYTES
   pub spare_long : vec_len kept.spare_image ≡ IMAGE_BYTES
   pub infos : AreInfos kept.names.keys kept.lines.items
+  pub keys : kept.names.keys ≡ e.keys
   pub symbols : kept.names.symbols ≡ symbols (placed (take first e.now))
   pub before : kept.names.before ≡ names_of_lines e.was
   pub names_room : length kept.names.symbols + length kept.lines.items ≤ kept.names.room
   pub blocks_room : length kept.lines.items ≤ vec_capacity kept.blocks
+  pub changed : HasChangesRoom kept
   pub steady : AreSteady kept.lines.items first
   pub front : take first kept.layout.placements.items ≡ first_placements (take first e.now)
   pub at_address : start ≡ address (placed (take first e.now))

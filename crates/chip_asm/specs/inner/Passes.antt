@@ -12,7 +12,7 @@ use Rattle.chip_asm.specs.declared.pass.Pass.{Pass}
 use Rattle.chip_asm.specs.declared.placement.Placement.{Placement}
 use Rattle.chip_asm.specs.declared.waiting.Waiting.{Waiting}
 use Rattle.chip_asm.specs.Layout.{Placed, body_of, takes_effect}
-use Rattle.chip_asm.specs.Names.{values_of}
+use Rattle.chip_asm.specs.Names.{Name, values_of}
 use Rattle.chip_asm.specs.Program.{bytes_in_code, code_under, fault_in_code, fault_of, names_of_lines}
 use Rattle.chip_asm.specs.Work.{is_accepted_in}
 use Rattle.chip_asm.specs.computed.Walk.{placed}
@@ -26,11 +26,13 @@ use Rattle.chip_asm.specs.inner.Records.{readings_in}
 use Rattle.chip_asm.specs.inner.Resume.{IsWalked}
 use Rattle.chip_asm.specs.inner.Tables.{Tables}
 
--- an edit: the lines before and after it, and where the line at a place stood
+-- an edit: the lines before and after it, where the line at a place stood, and the names that have
+-- numbers
 pub record Change : Type 0 where
   pub was : List Reading
   pub now : List Reading
   pub origin : ℕ → Option ℕ
+  pub keys : List Name
 
 -- a line that stood somewhere is the same
 abbrev pub IsChange : Change → Type 0
@@ -115,6 +117,7 @@ pub record IsUnderWay (e : Change) (lines : List KeptLine) (pass : Pass) (placem
   pub from_long : length from ≡ IMAGE_BYTES
   pub image_long : length image ≡ IMAGE_BYTES
   pub infos : AreInfos pass.names.keys lines
+  pub keys : pass.names.keys ≡ e.keys
   pub before : pass.names.before ≡ names_of_lines e.was
   pub walked : IsWalked placements pass e.now place
   pub room : HasRoom pass (length lines - place)

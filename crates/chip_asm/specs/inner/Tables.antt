@@ -1,7 +1,8 @@
 -- What contracts see of the table of symbols: the names that lines use or define, each under a
 -- number that stays, and the symbols, as they are and as they were before the edit (own).
-use Rattle.std.specs.Prelude.{◌≡◌, ℕ, ◌-◌, ◌<◌, ◌≤◌, ℤ, List, [], All, IfSome, length, map, Option, None, option_map, option_to_list, slice_get, slice_index_or, take}
-use Rattle.chip_asm.specs.Names.{Name, lookup_name}
+use Rattle.std.specs.Prelude.{◌≡◌, ℕ, ◌+◌, ◌-◌, ◌<◌, ◌≤◌, ℤ, List, [], All, IfSome, length, map, Bool, true, false, Option, Some, None, option_map, option_to_list, slice_get, slice_index_or, take}
+use Rattle.chip_lang.specs.Uses.{has_same_value}
+use Rattle.chip_asm.specs.Names.{Name, lookup_name, values_of}
 use Rattle.chip_asm.specs.declared.table.Symbol.{Symbol}
 use Rattle.chip_asm.specs.declared.table.NameId.{NameId}
 use Rattle.chip_asm.specs.declared.table.Entry.{Entry}
@@ -74,6 +75,14 @@ pub record AreDefined (keys : List Name) (d : Definitions) : Type 0 where
 abbrev pub HaveSame : List (Option ℤ) → List (Option ℤ) → ℕ → Type 0
 HaveSame values others number =
     slice_index_or values number None ≡ slice_index_or others number None
+
+-- it is noted of each name whether it has another value, or none, than before: behind the notes of
+-- no name, of which nothing is known, and of several, which always tells to look at each
+pub record AreChanges (t : Tables) (changed : List Bool) : Type 0 where
+  pub long : length changed ≡ length t.keys + 2
+  pub several : slice_get changed 1 ≡ Some true
+  pub names : (number : ℕ) → number < length t.keys → slice_get changed (number + 2) ≡ Some false
+      → has_same_value (values_of t.before) (values_of t.symbols) (key_at t.keys number) ≡ true
 
 -- so many first entries are the same in both
 pub record BeginAlike (count : ℕ) (now past : List Entry) : Type 0 where

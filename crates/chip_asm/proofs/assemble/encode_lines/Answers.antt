@@ -68,6 +68,29 @@ loop-place-preserved c =
       }
     ]
 
+pub loop-place-preserved-then-is_settled : goal.loop-place-preserved-then-is_settled
+loop-place-preserved-then-is_settled c =
+    let i = c.loop-place.invariant in
+    let place = c.loop-place.place in
+    let names = c.args.names.now in
+    let lines = c.args.lines.now in
+    let kept = c.index-lines-place.result in
+    let codings = c.loop-place.codings in
+    let inside : place < length lines = omega (arith, c.loop-place-test.true, c.requires.within) in
+    let many : place < length codings = omega (arith, c.requires.many, c.loop-place.auto.codings) in
+    let there = slice_get-get_or codings place Pending many in
+    record {
+      tally = i.tally;
+      start = i.start;
+      end = i.end;
+      coded = λ e u a.
+          coded-still c.same_code.ensures.code e names lines place kept _ codings c.loop-place.image u (stands e.now lines c.args.placements.now place kept nothing u.now c.requires.laid inside c.index-lines-place.is) (i.coded e u a) there
+          (rw (c.is_settled.ensures.done c.if-is_settled.true, c.is_settled.ensures.same c.if-is_settled.true) refl);
+      encoded = λ e u a. omega (arith, i.encoded e u a, again-later e place);
+      not_lowered = i.not_lowered;
+      parsed = i.parsed;
+    }
+
 pub returns-clause-coded : goal.returns-clause-coded
 returns-clause-coded c = λ e u a.
     (let there : c.loop-place.place ≡ c.args.places.end = omega (arith, c.loop-place-test.false, c.loop-place.auto.place-end c.requires.ordered) in

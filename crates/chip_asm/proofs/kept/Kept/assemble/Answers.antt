@@ -14,7 +14,7 @@ use Rattle.chip_asm.proofs.Assembling.{ArePlaces, codes-made, encoded-under, fin
 use Rattle.chip_asm.proofs.CodeSteps.{count_by-take}
 use Rattle.chip_asm.proofs.MarkSteps.{all-among}
 use Rattle.chip_asm.proofs.SecondPass.{half-done}
-use Rattle.chip_asm.proofs.kept.Kept.assemble.Goals.{else-keeps_all_values, then-keeps_all_values}
+use Rattle.chip_asm.proofs.kept.Kept.assemble.Goals.{else-note_changes, then-note_changes}
 use Rattle.chip_asm.proofs.kept.Kept.assemble.Goals as goal
 
 pub mark_unclosed-requires-clause-among : goal.mark_unclosed-requires-clause-among
@@ -42,7 +42,7 @@ encode_lines-requires-clause-laid c =
     let half = half-done e kept.lines.items pass c.as_mut_slice-placements.result.now c.mark_unclosed.new.placements c.as_mut_slice-codings.result.now c.mark_unclosed.new.codings w kept.spare_image.items kept.codes.image.items u
     c.mark_unclosed.auto.placements (subst (λ bs. AreMarked pass.ended bs c.as_mut_slice-placements.result.now c.mark_unclosed.new.placements) c.deref.ensures.value c.mark_unclosed.ensures.marked)
     c.mark_unclosed.auto.codings (subst (λ bs. AreNoted pass.ended bs c.as_mut_slice-codings.result.now c.mark_unclosed.new.codings) c.deref.ensures.value c.mark_unclosed.ensures.codings) in
-    rw c.deref-2.ensures.value (half.laid ∙ ap placements_of u.now)
+    rw c.deref-3.ensures.value (half.laid ∙ ap placements_of u.now)
 
 pub returns-clause-assembled : goal.returns-clause-assembled
 returns-clause-assembled c = λ e x.
@@ -54,34 +54,34 @@ returns-clause-assembled c = λ e x.
     let half = half-done e kept.lines.items pass c.as_mut_slice-placements.result.now c.mark_unclosed.new.placements c.as_mut_slice-codings.result.now c.mark_unclosed.new.codings w kept.spare_image.items kept.codes.image.items u
     c.mark_unclosed.auto.placements (subst (λ bs. AreMarked pass.ended bs c.as_mut_slice-placements.result.now c.mark_unclosed.new.placements) c.deref.ensures.value c.mark_unclosed.ensures.marked)
     c.mark_unclosed.auto.codings (subst (λ bs. AreNoted pass.ended bs c.as_mut_slice-codings.result.now c.mark_unclosed.new.codings) c.deref.ensures.value c.mark_unclosed.ensures.codings) in
-    let under : IsEncodedUnder e pass.names c.deref-2.result.now = rw c.deref-2.ensures.value (encoded-under e kept.lines.items pass _ _ w kept.spare_image.items kept.codes.image.items u) in
+    let under : IsEncodedUnder e pass.names c.deref-3.result.now = rw c.deref-3.ensures.value (encoded-under e kept.lines.items pass _ _ w kept.spare_image.items kept.codes.image.items u) in
     let many : length e.now ≡ length kept.lines.items = ap length u.now ∙ length-map kept.lines.items reading_in in
-    let places : ArePlaces c.mark_unclosed.new.waiting (length e.now) c.if-keeps_all_values.places.start c.if-keeps_all_values.places.end c.keeps_all_values.result
-    = elim c.if-keeps_all_values.branch [
-      | then-keeps_all_values v ↦ record {
+    let places : ArePlaces c.mark_unclosed.new.waiting (length e.now) c.if-note_changes.places.start c.if-note_changes.places.end c.note_changes.result
+    = elim c.if-note_changes.branch [
+      | then-note_changes v ↦ record {
         ordered = omega (arith, v.range-places.ensures.ordered, ap (λ p. p.start) v.places-is, ap (λ p. p.end) v.places-is);
         within = omega (arith, v.range-places.ensures.within, ap (λ p. p.end) v.places-is, c.mark_unclosed.ensures.tally.within, c.mark_unclosed.auto.codings, u.coded_many, many);
         low = λ same less. ap (λ p. p.start) v.places-is ∙ v.range-places.ensures.low less;
         high = λ same less. ap (λ p. p.end) v.places-is ∙ v.range-places.ensures.high less;
-        all_low = λ changed. absurd (let never : true ≡ false = sym v.if-keeps_all_values.true ∙ changed in cc);
-        all_high = λ changed. absurd (let never : true ≡ false = sym v.if-keeps_all_values.true ∙ changed in cc);
+        all_low = λ changed. absurd (let never : true ≡ false = sym v.if-note_changes.true ∙ changed in cc);
+        all_high = λ changed. absurd (let never : true ≡ false = sym v.if-note_changes.true ∙ changed in cc);
       }
-      | else-keeps_all_values v ↦ record {
+      | else-note_changes v ↦ record {
         ordered = omega (arith, ap (λ p. p.start) v.places-is, ap (λ p. p.end) v.places-is);
         within = omega (arith, ap (λ p. p.end) v.places-is, many, v.len.ensures, kept.lines.ok.0);
-        low = λ same. absurd (let never : true ≡ false = sym same ∙ v.if-keeps_all_values.false in cc);
-        high = λ same. absurd (let never : true ≡ false = sym same ∙ v.if-keeps_all_values.false in cc);
+        low = λ same. absurd (let never : true ≡ false = sym same ∙ v.if-note_changes.false in cc);
+        high = λ same. absurd (let never : true ≡ false = sym same ∙ v.if-note_changes.false in cc);
         all_low = λ changed. ap (λ p. p.start) v.places-is;
         all_high = λ changed. omega (arith, ap (λ p. p.end) v.places-is, many, v.len.ensures, kept.lines.ok.0);
       }
     ] in
-    let start : AreCoded e c.mark_unclosed.new.codings c.deref_mut.result.now c.if-keeps_all_values.places.start
-    = rw c.deref_mut.ensures.value (ready c.same_code.ensures.code e pass.names c.deref-2.result.now c.mark_unclosed.new.codings kept.codes.image.items c.mark_unclosed.new.waiting _ _ c.keeps_all_values.result under c.mark_unclosed.ensures.tally places c.keeps_all_values.ensures half.coded) in
+    let start : AreCoded e c.mark_unclosed.new.codings c.deref_mut-2.result.now c.if-note_changes.places.start
+    = rw c.deref_mut-2.ensures.value (ready c.same_code.ensures.code e pass.names c.deref-3.result.now c.mark_unclosed.new.codings kept.codes.image.items c.mark_unclosed.new.waiting _ _ c.note_changes.result under c.mark_unclosed.ensures.tally places c.note_changes.ensures.same half.coded) in
     let f = followed e kept.lines.items pass _ _ w kept.spare_image.items kept.codes.image.items u in
-    let done = finished c.same_code.ensures.code e pass.names c.deref-2.result.now c.encode_lines.new.codings c.encode_lines.new.image c.encode_lines.new.waiting _ _ c.keeps_all_values.result under c.encode_lines.ensures.tally
-    (same-places c.mark_unclosed.new.waiting c.encode_lines.new.waiting _ _ _ c.keeps_all_values.result c.encode_lines.ensures.start c.encode_lines.ensures.end places) c.keeps_all_values.ensures (c.encode_lines.ensures.coded e under start) in
+    let done = finished c.same_code.ensures.code e pass.names c.deref-3.result.now c.encode_lines.new.codings c.encode_lines.new.image c.encode_lines.new.waiting _ _ c.note_changes.result under c.encode_lines.ensures.tally
+    (same-places c.mark_unclosed.new.waiting c.encode_lines.new.waiting _ _ _ c.note_changes.result c.encode_lines.ensures.start c.encode_lines.ensures.end places) c.note_changes.ensures.same (c.encode_lines.ensures.coded e under start) in
     let made : Codes = record { image = with_items kept.codes.image c.encode_lines.new.image; codings = with_items kept.codes.codings c.encode_lines.new.codings; count = c.encode_lines.new.waiting.count } in
-    let image : made.image.items ≡ c.encode_lines.new.image = with_items_is kept.codes.image c.encode_lines.new.image (omega (arith, c.encode_lines.auto.image, c.deref_mut.ensures.len)) in
+    let image : made.image.items ≡ c.encode_lines.new.image = with_items_is kept.codes.image c.encode_lines.new.image (omega (arith, c.encode_lines.auto.image, c.deref_mut-2.ensures.len)) in
     let codings : made.codings.items ≡ c.encode_lines.new.codings
     = with_items_is kept.codes.codings c.encode_lines.new.codings (omega (arith, c.encode_lines.auto.codings, c.mark_unclosed.auto.codings, c.as_mut_slice-codings.ensures.len)) in
     record {
@@ -105,28 +105,35 @@ returns-clause-encoded c = λ e x.
     let half = half-done e kept.lines.items pass c.as_mut_slice-placements.result.now c.mark_unclosed.new.placements c.as_mut_slice-codings.result.now c.mark_unclosed.new.codings w kept.spare_image.items kept.codes.image.items u
     c.mark_unclosed.auto.placements (subst (λ bs. AreMarked pass.ended bs c.as_mut_slice-placements.result.now c.mark_unclosed.new.placements) c.deref.ensures.value c.mark_unclosed.ensures.marked)
     c.mark_unclosed.auto.codings (subst (λ bs. AreNoted pass.ended bs c.as_mut_slice-codings.result.now c.mark_unclosed.new.codings) c.deref.ensures.value c.mark_unclosed.ensures.codings) in
-    let under : IsEncodedUnder e pass.names c.deref-2.result.now = rw c.deref-2.ensures.value (encoded-under e kept.lines.items pass _ _ w kept.spare_image.items kept.codes.image.items u) in
+    let under : IsEncodedUnder e pass.names c.deref-3.result.now = rw c.deref-3.ensures.value (encoded-under e kept.lines.items pass _ _ w kept.spare_image.items kept.codes.image.items u) in
     let many : length e.now ≡ length kept.lines.items = ap length u.now ∙ length-map kept.lines.items reading_in in
-    let places : ArePlaces c.mark_unclosed.new.waiting (length e.now) c.if-keeps_all_values.places.start c.if-keeps_all_values.places.end c.keeps_all_values.result
-    = elim c.if-keeps_all_values.branch [
-      | then-keeps_all_values v ↦ record {
+    let places : ArePlaces c.mark_unclosed.new.waiting (length e.now) c.if-note_changes.places.start c.if-note_changes.places.end c.note_changes.result
+    = elim c.if-note_changes.branch [
+      | then-note_changes v ↦ record {
         ordered = omega (arith, v.range-places.ensures.ordered, ap (λ p. p.start) v.places-is, ap (λ p. p.end) v.places-is);
         within = omega (arith, v.range-places.ensures.within, ap (λ p. p.end) v.places-is, c.mark_unclosed.ensures.tally.within, c.mark_unclosed.auto.codings, u.coded_many, many);
         low = λ same less. ap (λ p. p.start) v.places-is ∙ v.range-places.ensures.low less;
         high = λ same less. ap (λ p. p.end) v.places-is ∙ v.range-places.ensures.high less;
-        all_low = λ changed. absurd (let never : true ≡ false = sym v.if-keeps_all_values.true ∙ changed in cc);
-        all_high = λ changed. absurd (let never : true ≡ false = sym v.if-keeps_all_values.true ∙ changed in cc);
+        all_low = λ changed. absurd (let never : true ≡ false = sym v.if-note_changes.true ∙ changed in cc);
+        all_high = λ changed. absurd (let never : true ≡ false = sym v.if-note_changes.true ∙ changed in cc);
       }
-      | else-keeps_all_values v ↦ record {
+      | else-note_changes v ↦ record {
         ordered = omega (arith, ap (λ p. p.start) v.places-is, ap (λ p. p.end) v.places-is);
         within = omega (arith, ap (λ p. p.end) v.places-is, many, v.len.ensures, kept.lines.ok.0);
-        low = λ same. absurd (let never : true ≡ false = sym same ∙ v.if-keeps_all_values.false in cc);
-        high = λ same. absurd (let never : true ≡ false = sym same ∙ v.if-keeps_all_values.false in cc);
+        low = λ same. absurd (let never : true ≡ false = sym same ∙ v.if-note_changes.false in cc);
+        high = λ same. absurd (let never : true ≡ false = sym same ∙ v.if-note_changes.false in cc);
         all_low = λ changed. ap (λ p. p.start) v.places-is;
         all_high = λ changed. omega (arith, ap (λ p. p.end) v.places-is, many, v.len.ensures, kept.lines.ok.0);
       }
     ] in
-    let start : AreCoded e c.mark_unclosed.new.codings c.deref_mut.result.now c.if-keeps_all_values.places.start
-    = rw c.deref_mut.ensures.value (ready c.same_code.ensures.code e pass.names c.deref-2.result.now c.mark_unclosed.new.codings kept.codes.image.items c.mark_unclosed.new.waiting _ _ c.keeps_all_values.result under c.mark_unclosed.ensures.tally places c.keeps_all_values.ensures half.coded) in
+    let start : AreCoded e c.mark_unclosed.new.codings c.deref_mut-2.result.now c.if-note_changes.places.start
+    = rw c.deref_mut-2.ensures.value (ready c.same_code.ensures.code e pass.names c.deref-3.result.now c.mark_unclosed.new.codings kept.codes.image.items c.mark_unclosed.new.waiting _ _ c.note_changes.result under c.mark_unclosed.ensures.tally places c.note_changes.ensures.same half.coded) in
     let more = c.encode_lines.ensures.encoded e under start in
-    omega (arith, more, count_by-take (is_encoded_again e.was e.now e.origin) (enumerate_from 0 e.now) c.if-keeps_all_values.places.end))
+    omega (arith, more, count_by-take (is_encoded_again e.was e.now e.origin) (enumerate_from 0 e.now) c.if-note_changes.places.end))
+
+pub encode_lines-requires-clause-changed : goal.encode_lines-requires-clause-changed
+encode_lines-requires-clause-changed c =
+    let kept = c.first_pass-pass.new.self in
+    let noted : c.deref-2.result.now ≡ c.note_changes.new.changed
+    = c.deref-2.ensures.value ∙ with_items_is kept.changed c.note_changes.new.changed (omega (arith, c.note_changes.auto.changed, c.deref_mut.ensures.len)) in
+    rw noted c.note_changes.ensures.noted

@@ -1,4 +1,4 @@
-use Rattle.std.proofs.Common.{◌≡◌, ℕ, ◌≤◌, ◌∙◌, Global, List, Vec, ap, arith, get_or, length, subst, take, vec_capacity, vec_len}
+use Rattle.std.proofs.Common.{◌≡◌, ℕ, ◌+◌, ◌≤◌, ◌∙◌, Bool, Global, List, Vec, slice_get, sym, ap, arith, get_or, length, subst, take, vec_capacity, vec_len}
 use Rattle.std.proofs.lemmas.List.{length-map}
 use Rattle.chip_asm.specs.computed.Walk.{address, placed}
 use Rattle.chip_asm.specs.declared.block.Block.{Block}
@@ -78,6 +78,11 @@ ready c =
           ap (λ (t : Tables). t.symbols) c.exchange.ensures.names ∙ c.in_ok-begin.ensures.symbols early later (ap (λ (t : Tables). t.symbols) has.names ∙ split) up over;
       names_room = rw c.exchange.ensures.names (omega (arith, c.in_ok-begin.ensures.room, count));
       blocks_room = omega (arith, ap (λ (v : Vec Block Global). vec_capacity v) c.exchange.ensures.blocks, has.blocks_room, count);
+      changed = record {
+        long = ap (λ (v : Vec Bool Global). vec_len v) c.exchange.ensures.changed ∙ has.changed.long
+            ∙ ap (λ ks. length ks + 2) (sym (ap (λ (t : Tables). t.keys) c.exchange.ensures.names ∙ c.begin.ensures.keys));
+        several = ap (λ (v : Vec Bool Global). slice_get v.items 1) c.exchange.ensures.changed ∙ has.changed.several;
+      };
     })
 
 pub assemble-requires : goal.assemble-requires
