@@ -118,6 +118,8 @@ impl<'a> Trace<'a> {
     ) -> Result<bool, AtError>
         ensures lines { IfOk result (TakesLines (states_of replay.old) most self.old self.new
             text.old.items text.new.items) }
+        ensures step_too_large { result ≡ Err AtError.StepTooLarge
+            → LAST_STEP < max self.old.next self.old.to }
         ensures run { SameRun replay.old replay.new }
     {
         for _made in 0..most {

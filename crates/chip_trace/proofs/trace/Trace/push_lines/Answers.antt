@@ -6,7 +6,7 @@ use Rattle.chip_trace.proofs.TraceLemmas.{same_states}
 use Rattle.chip_trace.proofs.trace.Trace.push_lines.Goals as goal
 
 pub loop-made-init : goal.loop-made-init
-loop-made-init c = record { added = sym (append-nil c.args.text.now.items); left = refl; run = same_run c.args.replay.now }
+loop-made-init c = record { added = sym (append-nil c.args.text.now.items); left = refl; run = same_run c.args.replay.now; to = refl; next = omega arith }
 
 pub loop-made-preserved : goal.loop-made-preserved
 loop-made-preserved c =
@@ -18,6 +18,8 @@ loop-made-preserved c =
       added = added ∙ more.0;
       left = more.1;
       run = same_runs _ _ _ c.loop-made.invariant.run c.in_ok-has_line.ensures.run;
+      to = c.next_line.ensures.to ∙ c.loop-made.invariant.to;
+      next = omega (arith, c.next_line.ensures.next, c.loop-made.invariant.to, c.loop-made.invariant.next);
     }
 
 pub returns-in_err-has_line-clause-run : goal.returns-in_err-has_line-clause-run
