@@ -38,6 +38,7 @@ pub mod KeptSteps
 pub mod KeptRoom
 pub mod EditNeeds
 pub mod KeptSwapped
+pub mod WrittenPlaces
 pub mod KeptEdits
 pub mod Exchanges
 pub mod NeededLines

@@ -1,5 +1,5 @@
 -- The names, the faults and the image of a whole source (Chipper manual; own where it is silent).
-use Rattle.std.specs.Prelude.{ℕ, ◌+◌, ◌-◌, Bool, not, ◌&&◌, List, [], ◌∷◌, reverse, map, Option, Some, None, is_some, Result, Ok, Err, if◌then◌else◌, nat_eq, nat_lt, nat_le, find, filter_map, option_map, option_and_then, slice_get, slice_index}
+use Rattle.std.specs.Prelude.{◌≡◌, ◌<◌, ◌≤◌, ◌⊎◌, ℕ, ◌+◌, ◌-◌, Bool, not, ◌&&◌, List, [], ◌∷◌, reverse, map, Option, Some, None, is_some, Result, Ok, Err, if◌then◌else◌, nat_eq, nat_lt, nat_le, find, filter_map, option_map, option_and_then, slice_get, slice_index}
 use Rattle.std.specs.List.{list_any, range_with_len}
 use Rattle.std.specs.Option.{option_map_or}
 use Rattle.chip_lang.specs.declared.limits.TheConstants.{IMAGE_START}
@@ -97,3 +97,11 @@ fault_at texts number = fault_of_line (map reading_of texts) number
 -- the image, where no line has a fault
 unfoldable pub image_of : List (List ℕ) → Option (List ℕ)
 image_of texts = image_of_lines (map reading_of texts)
+
+-- there was an image, and that after it, if there is one, agrees with it outside the places from
+-- first up to end, zeros after each
+abbrev pub AgreesOutside : (first end : ℕ) → (before after : Option (List ℕ)) → Type 0
+AgreesOutside first end None after = ⊥
+AgreesOutside first end (Some old) None = Unit
+AgreesOutside first end (Some old) (Some new) =
+    (k : ℕ) → (k < first) ⊎ (end ≤ k) → slice_index old k ≡ slice_index new k

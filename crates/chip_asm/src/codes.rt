@@ -1,5 +1,5 @@
 //! The second pass, as it is kept: the image, and what became of the code of each line.
-ghost use Rattle.std.specs.Prelude.{◌≡◌, ℕ, true, ◌+◌, ◌-◌, ◌<◌, ◌≤◌, ◌++◌, [], drop, if◌then◌else◌, length, slice_index, slice_set, sum_by, take, vec_capacity, vec_len};
+ghost use Rattle.std.specs.Prelude.{◌≡◌, ℕ, true, ◌+◌, ◌-◌, ◌<◌, ◌≤◌, ◌++◌, [], IfSome, drop, if◌then◌else◌, length, slice_index, slice_set, sum_by, take, vec_capacity, vec_len};
 ghost use Rattle.chip_lang.specs.Code.{code_length};
 ghost use Rattle.chip_asm.specs.inner.Codes.{AreCodesOf, IsCopied, IsCounted, IsWritten, coding_of, count_of, fault_noted, is_coded, kept_bytes, kept_fault};
 ghost use Rattle.chip_asm.specs.inner.Infos.{IsInfo};
@@ -12,6 +12,7 @@ use crate::table::{Scope, Table};
 use chip_lang::limits::{IMAGE_BYTES, IMAGE_START, MEMORY_BYTES};
 use chip_lang::{Fault, Meter, encode_into};
 use std::alloc::Global;
+use std::ops::Range;
 
 /// What became of the code of a line.
 #[derive(Clone, Copy)]
@@ -79,6 +80,20 @@ impl Codes {
         ensures counted { IsCounted self.new }
     {
         self.count = set_coding(&mut self.codings, self.count, at, coding);
+    }
+
+    /// The places of the bytes of a line in the image, if no line has a fault.
+    pub(crate) fn places_of(&self, placement: &Placement) -> Option<Range<usize>>
+        requires { IMAGE_START ≤ placement.now.here }
+        ensures { IfSome result (λ places. (self.now.count ≡ 0)
+            × (places.start ≡ placement.now.here - IMAGE_START)
+            × (places.end ≡ placement.now.here - IMAGE_START + placement.now.size)) }
+    {
+        if self.count > 0 {
+            return None;
+        }
+        let first = placement.address() - IMAGE_START;
+        Some(first..first + placement.size as usize)
     }
 
     /// The bytes of a line that stand in the listing.

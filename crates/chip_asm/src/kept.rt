@@ -4,7 +4,7 @@ ghost use Rattle.std.specs.Option.{option_copied};
 ghost use Rattle.chip_lang.specs.Line.{reading_of};
 ghost use Rattle.chip_lang.specs.SeenLine.{seen_line};
 ghost use Rattle.chip_asm.specs.Edits.{before_replace};
-ghost use Rattle.chip_asm.specs.Program.{fault_of_line, faults_of_lines, image_of_lines};
+ghost use Rattle.chip_asm.specs.Program.{AgreesOutside, fault_of_line, faults_of_lines, image_of, image_of_lines};
 ghost use Rattle.chip_asm.specs.Work.{accepted_lines, needs_count};
 ghost use Rattle.chip_asm.specs.declared.limits.TheConstants.{MOST_LINES};
 ghost use Rattle.chip_lang.specs.declared.limits.TheConstants.{IMAGE_BYTES};
@@ -36,6 +36,7 @@ use chip_lang::limits::{IMAGE_BYTES, IMAGE_START};
 use chip_lang::{Fault, Line, Meter};
 use std::alloc::{AllocError, Global};
 use std::mem;
+use std::ops::Range;
 
 /// Names are numbered anew where more than so many have a number, for each line and for so many
 /// lines more.
@@ -155,13 +156,14 @@ impl Kept {
         Ok(faults)
     }
 
-    /// Makes an edit, and then numbers the names anew where there are many without a line.
+    /// Makes an edit, and then numbers the names anew where there are many without a line. The
+    /// places that it wrote in the image, if they are known.
     pub(crate) fn edit(
         &mut self,
         alloc: Global,
         meter: &mut Meter,
         edit: Edit,
-    ) -> Result<(), AllocError>
+    ) -> Result<Option<Range<usize>>, AllocError>
         requires { MayEdit self.old edit }
         ensures ok { OnOk result (texts_kept self.new
             ≡ texts_in (lines_after self.old.lines.items edit)) }
@@ -170,10 +172,13 @@ impl Kept {
         ensures encoded { meter.new.encoded ≤ meter.old.encoded + needed_by self.old edit }
         ensures not_lowered { meter.old.encoded ≤ meter.new.encoded }
         ensures parsed { meter.new.parsed ≡ meter.old.parsed }
+        ensures written { IfOk result (λ written. IfSome written (λ places.
+            AgreesOutside places.start places.end (image_of (texts_kept self.old))
+            (image_of (texts_kept self.new)))) }
     {
-        self.make(alloc, meter, edit)?;
+        let written = self.make(alloc, meter, edit)?;
         self.renumber(alloc);
-        Ok(())
+        Ok(written)
     }
 
     /// Numbers the names anew, where most of those with a number stand in no line any more. Where
@@ -204,8 +209,14 @@ impl Kept {
         Ok((names, infos))
     }
 
-    /// Makes an edit. Each growth comes before the first change.
-    fn make(&mut self, alloc: Global, meter: &mut Meter, edit: Edit) -> Result<(), AllocError>
+    /// Makes an edit. Each growth comes before the first change. The places that it wrote in the
+    /// image, if they are known.
+    fn make(
+        &mut self,
+        alloc: Global,
+        meter: &mut Meter,
+        edit: Edit,
+    ) -> Result<Option<Range<usize>>, AllocError>
         requires { MayEdit self.old edit }
         ensures ok { OnOk result (texts_kept self.new
             ≡ texts_in (lines_after self.old.lines.items edit)) }
@@ -214,17 +225,23 @@ impl Kept {
         ensures encoded { meter.new.encoded ≤ meter.old.encoded + needed_by self.old edit }
         ensures not_lowered { meter.old.encoded ≤ meter.new.encoded }
         ensures parsed { meter.new.parsed ≡ meter.old.parsed }
+        ensures written { IfOk result (λ written. IfSome written (λ places.
+            AgreesOutside places.start places.end (image_of (texts_kept self.old))
+            (image_of (texts_kept self.new)))) }
     {
         match edit {
             Edit::Replace(at, added) => {
                 if self.has_same_effect(at, added.line()) {
-                    self.rewrite(meter, at, added);
-                    Ok(())
+                    Ok(self.rewrite(meter, at, added))
                 } else {
-                    self.remake(alloc, meter, Edit::Replace(at, added))
+                    self.remake(alloc, meter, Edit::Replace(at, added))?;
+                    Ok(None)
                 }
             }
-            edit => self.remake(alloc, meter, edit),
+            edit => {
+                self.remake(alloc, meter, edit)?;
+                Ok(None)
+            }
         }
     }
 
@@ -240,8 +257,8 @@ impl Kept {
     }
 
     /// Puts a line in the place of one with the same effect: its bytes, and whether it has a fault,
-    /// are all that changes.
-    fn rewrite(&mut self, meter: &mut Meter, at: usize, added: BoxedLine)
+    /// are all that changes. The places of its bytes in the image, if there was one.
+    fn rewrite(&mut self, meter: &mut Meter, at: usize, added: BoxedLine) -> Option<Range<usize>>
         requires kept { IsKept self.old }
         requires inside { at < vec_len self.old.lines }
         requires is_read { reading_in added ≡ reading_of added.text }
@@ -254,13 +271,17 @@ impl Kept {
             (slice_set (lines_kept self.old) at (reading_in added)) (before_replace at) }
         ensures not_lowered { meter.old.encoded ≤ meter.new.encoded }
         ensures parsed { meter.new.parsed ≡ meter.old.parsed }
+        ensures written { IfSome result (λ places. AgreesOutside places.start places.end
+            (image_of (texts_kept self.old)) (image_of (texts_kept self.new))) }
     {
         let placement = self.layout.placements[at];
+        let written = self.codes.places_of(&placement);
         let image = &mut self.codes.image;
         let fault = write_line(meter, &self.names, &added, &placement, image);
         self.codes.set(at, Coding::of(fault));
         self.settled = self.settled.min(at);
         replace_line(&mut self.lines, at, added);
+        written
     }
 
     /// Takes the room for an edit after which there are so many lines.

@@ -206,7 +206,11 @@ fn asked_name(line: &Line) -> Option<&[u8]> {
 
 /// What is known of the names that a line uses, and the numbers of several, or of the one that it
 /// asks for.
-fn uses_of(alloc: Global, table: &mut Table, line: &Line) -> Result<(PackedUses, Vec<NameId>), AllocError>
+fn uses_of(
+    alloc: Global,
+    table: &mut Table,
+    line: &Line,
+) -> Result<(PackedUses, Vec<NameId>), AllocError>
     ensures keys { Extends table.old.keys table.new.keys }
     ensures symbols { table.new.symbols ≡ table.old.symbols }
     ensures before { table.new.before ≡ table.old.before }

@@ -7,7 +7,7 @@ ghost use Rattle.chip_asm.specs.Edits.{insert_refusal, replace_refusal, delete_r
 ghost use Rattle.chip_asm.specs.Work.{lines_to_encode, accepted_of};
 ghost use Rattle.chip_asm.specs.Names.{lookup_name};
 ghost use Rattle.chip_asm.specs.Listing.{listing_of};
-ghost use Rattle.chip_asm.specs.Program.{symbols_of, fault_at, faults_of, image_of};
+ghost use Rattle.chip_asm.specs.Program.{AgreesOutside, symbols_of, fault_at, faults_of, image_of};
 
 use crate::cut::read_lines;
 use crate::edit::Edit;
@@ -21,6 +21,7 @@ use chip_lang::limits::IMAGE_BYTES;
 use chip_lang::{Bytes, Fault, Meter};
 use std::alloc::{AllocError, Global};
 use std::marker::Model;
+use std::ops::Range;
 
 /// The lines of a source, with all that is known of them kept under edits.
 pub struct Source {
@@ -220,9 +221,15 @@ impl Source {
         Ok(())
     }
 
-    /// Puts a text in the place of line `number`, counted from 1. A refused edit changes nothing
-    /// but the work, where memory ran out.
-    pub fn replace(&mut self, alloc: Global, number: usize, text: &[u8]) -> Result<(), Refusal>
+    /// Puts a text in the place of line `number`, counted from 1. The answer is which places of the
+    /// image it wrote, if they are known. A refused edit changes nothing but the work, where memory
+    /// ran out.
+    pub fn replace(
+        &mut self,
+        alloc: Global,
+        number: usize,
+        text: &[u8],
+    ) -> Result<Option<Range<usize>>, Refusal>
         ensures ok { OnOk result ((replace_refusal (length self.old.lines) number text.now ≡ None)
             × (self.new.lines ≡ slice_set self.old.lines (number - 1) text.now)) }
         ensures err { IfErr result
@@ -239,14 +246,17 @@ impl Source {
             + lines_to_encode self.old.lines (slice_set self.old.lines (number - 1) text.now)
             (before_replace (number - 1)) }
         ensures not_lowered { self.old.work.encoded ≤ self.new.work.encoded }
+        ensures written { IfOk result (λ written. IfSome written (λ places. AgreesOutside
+            places.start places.end (image_of self.old.lines) (image_of self.new.lines))) }
     {
         if let Some(refusal) = replace_refusal(self.kept.lines.len(), number, text) {
             return Err(refusal);
         }
         let added = read_kept(alloc, &mut self.meter, &mut self.kept.names, text)?;
-        self.kept
-            .edit(alloc, &mut self.meter, Edit::Replace(number - 1, added))?;
-        Ok(())
+        Ok(
+            self.kept
+                .edit(alloc, &mut self.meter, Edit::Replace(number - 1, added))?,
+        )
     }
 
     /// Takes out line `number`, counted from 1. A refused edit changes nothing but the work, where

@@ -40,7 +40,10 @@ pub(crate) fn edited(
 ) -> Result<(), Refusal> {
     match word {
         "ins" => source.insert(alloc, line, text),
-        "rep" => source.replace(alloc, line, text),
+        "rep" => {
+            let _written = source.replace(alloc, line, text)?;
+            Ok(())
+        }
         _ => source.delete(alloc, line),
     }
 }

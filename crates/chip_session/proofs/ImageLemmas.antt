@@ -1,15 +1,17 @@
 -- The replay after the image has changed.
-use Rattle.std.proofs.Common.{◌≡◌, ℕ, ◌≤◌, ◌++◌, List, length, take, Option, Some, refl, sym, subst, ap, ◌∙◌}
+use Rattle.std.proofs.Common.{◌≡◌, ℕ, ◌≤◌, ◌++◌, List, length, take, Option, Some, None, inl, inr, refl, sym, subst, ap, ◌∙◌, IfSome}
+use Rattle.std.specs.declared.ops.Range.{Range}
 use Rattle.std.proofs.lemmas.List.{take-append-drop}
+use Rattle.chip_asm.specs.Program.{AgreesOutside}
 use Rattle.chip_lang.specs.declared.limits.TheConstants.{IMAGE_BYTES, IMAGE_START}
 use Rattle.chip_machine.specs.declared.profile.Profile.{Profile}
 use Rattle.chip_machine.specs.State.{State, with_memory, memory_of}
 use Rattle.chip_machine.specs.Start.{start_of, start_core, start_memory}
 use Rattle.chip_machine.specs.ImageLaw.{ImageAndZeros, SameBelowTheImage}
 use Rattle.chip_replay.specs.History.{History}
-use Rattle.chip_replay.specs.Image.{with_image, padded}
+use Rattle.chip_replay.specs.Image.{AgreeOutside, with_image, padded}
 use Rattle.chip_replay.proofs.Changed.{first_below-le}
-use Rattle.chip_session.specs.Kept.{KeptRun, FollowsImage}
+use Rattle.chip_session.specs.Kept.{KeptRun, FollowsImage, IsLastImage}
 use Rattle.chip_session.specs.Settings.{SessionSettings}
 use Rattle.chip_session.specs.inner.InStep.{Replays}
 
@@ -45,3 +47,13 @@ follows_same image kept there = subst (λ (now : Option (List ℕ)). FollowsImag
   with_image = first_below-le _ kept.reach;
   without_image = tt;
 })
+
+-- what is told of the places that an edit wrote, told of the last image
+pub outside_written : (before after : Option (List ℕ)) (last : List ℕ) (written : Option (Range ℕ)) → IsLastImage before last
+    → IfSome written (λ places. AgreesOutside places.start places.end before after)
+    → IfSome written (λ places. IfSome after (AgreeOutside places.start places.end last))
+outside_written before after last None is told = tt
+outside_written None after last (Some places) is told = absurd told
+outside_written (Some old) None last (Some places) is told = tt
+outside_written (Some old) (Some new) last (Some places) is told =
+    rw (is old refl) (record { before = λ i front. told i (inl front); after = λ i behind. told i (inr behind) })

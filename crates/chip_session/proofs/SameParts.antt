@@ -1,8 +1,9 @@
 -- Two lists of which the rest, from a place on, was compared.
-use Rattle.std.proofs.Common.{◌≡◌, ◌≤◌, ◌<◌, ◌+◌, ◌-◌, ◌⊎◌, inl, inr, ℕ, Bool, true, false, not, List, length, get_or, take, drop, refl, ap, sym, ◌∙◌, arith}
+use Rattle.std.proofs.Common.{◌≡◌, ◌≤◌, ◌<◌, ◌+◌, ◌-◌, ◌⊎◌, ◌++◌, min, inl, inr, ℕ, Bool, true, false, not, List, length, get_or, take, drop, refl, ap, sym, ◌∙◌, arith}
 use Rattle.std.specs.Str.{bytes_eq}
+use Rattle.chip_replay.specs.Image.{AgreeOutside}
 use Rattle.std.proofs.lemmas.Bool.{cases_lt}
-use Rattle.std.proofs.lemmas.List.{get_or-drop, ext_get_or, length-drop, take_all}
+use Rattle.std.proofs.lemmas.List.{get_or-drop, get_or-take, get_or_past, ext_get_or, length-drop, length-take-le, take-append-drop, take_all}
 use Rattle.std.proofs.lemmas.Slice.Eq.{bytes_eq-Decides}
 
 told : (b : Bool) → false ≡ not b → b ≡ true
@@ -13,12 +14,12 @@ told false e = e
 abbrev pub part : ℕ → List ℕ → List ℕ
 part rest all = take (length all - rest) (drop rest all)
 
+whole : (rest : ℕ) (all : List ℕ) → part rest all ≡ drop rest all
+whole rest all = let long = length-drop rest all in take_all (length all - rest) (drop rest all) (omega (arith, long))
+
 module _ (old new : List ℕ) (rest : ℕ) (test : false ≡ not (bytes_eq (part rest old) (part rest new))) where
   same : drop rest old ≡ drop rest new
-  same = sym (whole old) ∙ (bytes_eq-Decides (part rest old) (part rest new)).0 (told (bytes_eq (part rest old) (part rest new)) test) ∙ whole new
-    where
-      whole : (all : List ℕ) → part rest all ≡ drop rest all
-      whole all = let long = length-drop rest all in take_all (length all - rest) (drop rest all) (omega (arith, long))
+  same = sym (whole rest old) ∙ (bytes_eq-Decides (part rest old) (part rest new)).0 (told (bytes_eq (part rest old) (part rest new)) test) ∙ whole rest new
 
   -- where the rest is the same in both, so is each item in it
   pub same_in_rest : (i : ℕ) → rest ≤ i → get_or old i 0 ≡ get_or new i 0
@@ -40,3 +41,45 @@ module _ (old new : List ℕ) (rest : ℕ) (test : false ≡ not (bytes_eq (part
       by : (i : ℕ) → (i < rest) ⊎ (rest ≤ i) → get_or old i 0 ≡ get_or new i 0
       by i (inl front) = before i front
       by i (inr behind) = same_in_rest i behind
+
+-- where lists of one length agree outside some places, they do outside those within the length
+pub within_length : (old new : List ℕ) (first end low high : ℕ) → length old ≡ length new → AgreeOutside first end old new → high ≡ min end (length old) → low ≡ min first high
+    → AgreeOutside low high old new
+within_length old new first end low high long alike is_high is_low = record {
+  before = λ i front. alike.before i (omega (arith, is_low));
+  after = λ i behind. by i behind (cases_lt i (length old));
+}
+  where
+    by : (i : ℕ) → high ≤ i → (i < length old) ⊎ (length old ≤ i) → get_or old i 0 ≡ get_or new i 0
+    by i behind (inl inside) = alike.after i (omega (arith, is_high))
+    by i behind (inr past) = get_or_past old i 0 past ∙ sym (get_or_past new i 0 (omega (arith, long)))
+
+-- and where they are the same between those, they are the same
+pub same_between : (old new : List ℕ) (low high : ℕ) → length old ≡ length new → AgreeOutside low high old new
+    → take (high - low) (drop low old) ≡ take (high - low) (drop low new) → old ≡ new
+same_between old new low high long alike between = ext_get_or 0 old new long (λ i inside. by i (cases_lt i low) (cases_lt i high))
+  where
+    at : (all : List ℕ) (i : ℕ) → low ≤ i → i < high → get_or (take (high - low) (drop low all)) (i - low) 0 ≡ get_or all i 0
+    at all i from to = get_or-take (high - low) (drop low all) (i - low) 0 (omega arith) ∙ get_or-drop low all (i - low) 0 ∙ ap (λ k. get_or all k 0) back
+      where
+        back : low + (i - low) ≡ i
+        back = omega arith
+
+    by : (i : ℕ) → (i < low) ⊎ (low ≤ i) → (i < high) ⊎ (high ≤ i) → get_or old i 0 ≡ get_or new i 0
+    by i (inl front) _ = alike.before i front
+    by i (inr from) (inr behind) = alike.after i behind
+    by i (inr from) (inl to) = sym (at old i from to) ∙ ap (λ (items : List ℕ). get_or items (i - low) 0) between ∙ at new i from to
+
+-- a list up to a place before which it agrees with another one, and the rest of that
+pub renewed : (old new : List ℕ) (first : ℕ) → first ≤ min (length old) (length new) → ((i : ℕ) → i < first → get_or old i 0 ≡ get_or new i 0)
+    → take first old ++ part first new ≡ new
+renewed old new first start alike =
+    ap (λ front. front ++ part first new) fronts ∙ ap (λ rest. take first new ++ rest) (whole first new) ∙ take-append-drop first new
+  where
+    count : (all : List ℕ) → first ≤ length all → length (take first all) ≡ first
+    count all long = length-take-le first all long
+
+    fronts : take first old ≡ take first new
+    fronts = ext_get_or 0 (take first old) (take first new) (count old (omega arith) ∙ sym (count new (omega arith))) (λ i inside.
+        let front : i < first = omega (arith, count old (omega arith)) in
+        get_or-take first old i 0 front ∙ alike i front ∙ sym (get_or-take first new i 0 front))

@@ -84,7 +84,7 @@ impl Bench {
         let bytes = Vec::from_slice(alloc, source)?;
         let source = Source::open_hashed(alloc, settings.names(), bytes)?;
         let mut run = ImageRun::new(alloc, settings)?;
-        run.follow(source.image());
+        run.follow(None, source.image());
         Ok(Bench {
             source,
             run,
@@ -109,10 +109,16 @@ impl Bench {
             self.old.work self.new.work }
         ensures ran { self.new.ran ≡ self.old.ran }
     {
-        match *change {
-            Change::Insert { line, text } => self.source.insert(alloc, line as usize, text)?,
+        let written = match *change {
+            Change::Insert { line, text } => {
+                self.source.insert(alloc, line as usize, text)?;
+                None
+            }
             Change::Replace { line, text } => self.source.replace(alloc, line as usize, text)?,
-            Change::Delete { line } => self.source.delete(alloc, line as usize)?,
+            Change::Delete { line } => {
+                self.source.delete(alloc, line as usize)?;
+                None
+            }
             Change::InsertKey { step, key, down } => {
                 return Ok(self.run.insert_key(step, key, down)?);
             }
@@ -120,8 +126,8 @@ impl Bench {
                 return Ok(self.run.replace_key(step, key, down)?);
             }
             Change::DeleteKey { step, key } => return Ok(self.run.delete_key(step, key)?),
-        }
-        self.run.follow(self.source.image());
+        };
+        self.run.follow(written, self.source.image());
         Ok(())
     }
 

@@ -1,5 +1,5 @@
 //! The run of the last image that the lines had: its settings, its replay, and the image.
-ghost use Rattle.std.specs.Prelude.{◌≡◌, ◌≤◌, ◌<◌, ℕ, max, slice_index, length, vec_capacity, IfSome, IfOk, OnOk, OnErr, MatchOption, IsOkUnless, Err, Ok, None, [], false, IsTrue, ◌+◌};
+ghost use Rattle.std.specs.Prelude.{◌≡◌, ◌≤◌, ◌<◌, ℕ, max, min, slice_index, length, vec_capacity, IfSome, IfOk, OnOk, OnErr, MatchOption, IsOkUnless, Err, Ok, None, [], false, IsTrue, ◌+◌};
 ghost use Rattle.std.specs.FinMap as finmap;
 ghost use Rattle.std.specs.Option.{option_copied};
 ghost use Rattle.chip_replay.specs.Image.{AgreeOutside};
@@ -77,10 +77,42 @@ fn is_same_block(old: &[u8], new: &[u8], start: usize) -> bool
     same
 }
 
-/// The places outside of which two images agree, and `None` where they are the same.
-fn changed_places(old: &[u8], new: &[u8]) -> Option<Range<usize>>
-    ensures { MatchOption result (old.now ≡ new.now)
+/// The places outside of which two images agree, and `None` where they are the same. Only those that
+/// were written are compared, if they are known and both images have one length.
+fn changed_places(written: Option<Range<usize>>, old: &[u8], new: &[u8]) -> Option<Range<usize>>
+    requires { IfSome written (λ places. AgreeOutside places.start places.end old.now new.now) }
+    ensures places { MatchOption result (old.now ≡ new.now)
         (λ places. AgreeOutside places.start places.end old.now new.now) }
+    ensures start { IfSome result (λ places. places.start ≤ min (length old.now) (length new.now)) }
+{
+    match written {
+        Some(places) if old.len() == new.len() => changed_part(places, old, new),
+        _ => changed_blocks(old, new),
+    }
+}
+
+/// The same for images of one length that agree outside some places.
+fn changed_part(places: Range<usize>, old: &[u8], new: &[u8]) -> Option<Range<usize>>
+    requires lengths { length old.now ≡ length new.now }
+    requires alike { AgreeOutside places.start places.end old.now new.now }
+    ensures places { MatchOption result (old.now ≡ new.now)
+        (λ places. AgreeOutside places.start places.end old.now new.now) }
+    ensures start { IfSome result (λ places. places.start ≤ min (length old.now) (length new.now)) }
+{
+    let end = places.end.min(old.len());
+    let first = places.start.min(end);
+    if old[first..end] == new[first..end] {
+        None
+    } else {
+        Some(first..end)
+    }
+}
+
+/// The same for images of which nothing is known.
+fn changed_blocks(old: &[u8], new: &[u8]) -> Option<Range<usize>>
+    ensures places { MatchOption result (old.now ≡ new.now)
+        (λ places. AgreeOutside places.start places.end old.now new.now) }
+    ensures start { IfSome result (λ places. places.start ≤ min (length old.now) (length new.now)) }
 {
     let blocks = old.len().min(new.len()) / BLOCK;
     let rest = BLOCK * blocks;
@@ -96,6 +128,20 @@ fn changed_places(old: &[u8], new: &[u8]) -> Option<Range<usize>>
         return Some(first..old.len().max(new.len()));
     }
     if end == 0 { None } else { Some(first..end) }
+}
+
+/// Puts a new image in the place of an old one with the same bytes before a place.
+#[tactic(auto, using(crate::proofs::SameParts::renewed))]
+fn copy_from(first: usize, old: &mut Vec<u8>, new: &[u8])
+    requires start { first ≤ min (length old.old.items) (length new.now) }
+    requires alike { (i : ℕ) → i < first → slice_index old.old.items i ≡ slice_index new.now i }
+    requires room { length new.now ≤ vec_capacity old.old }
+    ensures image { old.new.items ≡ new.now }
+    ensures room { vec_capacity old.old ≤ vec_capacity old.new }
+{
+    old.truncate(first);
+    // There is room for it.
+    let _ = old.extend_from_slice(&new[first..]);
 }
 
 impl ImageRun {
@@ -122,24 +168,25 @@ impl ImageRun {
     }
 
     /// Puts the image of the lines in the place of the last one. Where the lines have none, all
-    /// stays.
-    pub(crate) fn follow(&mut self, image: Option<&[u8]>)
+    /// stays. It agrees with the last one outside the places that were written, if they are known.
+    pub(crate) fn follow(&mut self, written: Option<Range<usize>>, image: Option<&[u8]>)
         requires fits { IfSome image (λ bytes. length bytes.now ≤ IMAGE_BYTES) }
+        requires alike { IfSome written (λ places. IfSome (option_copied image)
+            (AgreeOutside places.start places.end self.old.last_image)) }
         ensures follows { FollowsImage (option_copied image.entry) self.old self.new }
         ensures settings { self.new.settings ≡ self.old.settings }
         ensures keys { self.new.keys ≡ self.old.keys }
         ensures ran { self.new.ran ≡ self.old.ran }
     {
         let Some(image) = image else { return };
-        let Some(places) = changed_places(&self.last_image, image) else {
+        let Some(places) = changed_places(written, &self.last_image, image) else {
             return;
         };
         image_at_the_start();
+        let first = places.start;
         self.replay
             .image_changed_within(places, &self.last_image, image);
-        self.last_image.clear();
-        // The room is there since the start.
-        let _ = self.last_image.extend_from_slice(image);
+        copy_from(first, &mut self.last_image, image);
     }
 
     /// Adds a key event, as `Replay::insert_key`.

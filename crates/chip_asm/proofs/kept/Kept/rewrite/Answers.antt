@@ -13,6 +13,7 @@ use Rattle.chip_asm.proofs.KeptSwapped.{code-swapped, encoded-kept, exchange-kep
 use Rattle.chip_asm.proofs.LinesByPlace.{code-fits, high, low}
 use Rattle.chip_asm.proofs.Resumed.{length-laid}
 use Rattle.chip_asm.proofs.WholeImage.{length-codings}
+use Rattle.chip_asm.proofs.WrittenPlaces.{written-places}
 use Rattle.chip_asm.proofs.kept.Kept.rewrite.Goals as goal
 
 pub index-requires : goal.index-requires
@@ -60,6 +61,23 @@ returns-clause-kept c =
     (λ k. ap (λ v. get_or v.items k 0) c.set.ensures.image ∙ ap (λ l. get_or l k 0) image ∙ c.write_line-fault.ensures.written k
     ∙ ap (λ l. cond (covers_byte q k) (get_or (kept_bytes old.names c.args.added q) (IMAGE_START + k - q.here) 0) (get_or l k 0)) c.deref_mut.ensures.value)
     (ap (λ v. v.len) c.set.ensures.image) (c.set.ensures.codings ∙ ap (set old.codes.codings.items c.args.at) (c.of.ensures ∙ ap coding_of c.write_line-fault.ensures.fault)) c.set.ensures.counted)
+
+pub places_of-written-requires : goal.places_of-written-requires
+places_of-written-requires c =
+    low (readings_in c.args.self.now.lines.items) c.args.at c.index.result.now
+    (exchange-kept c.args.self.now c.args.at c.args.added c.index.result.now c.requires.kept c.requires.inside c.index.ensures c.requires.same).was
+
+pub returns-clause-written : goal.returns-clause-written
+returns-clause-written c =
+    let lines : List Reading = readings_in c.args.self.now.lines.items in
+    let old = c.args.self.now in
+    let q = c.index.result.now in
+    let e : Exchange lines c.args.at (reading_in c.args.added) q = exchange-kept old c.args.at c.args.added q c.requires.kept c.requires.inside c.index.ensures c.requires.same in
+    let long : length c.write_line-fault.new.image ≡ old.codes.image.len = c.write_line-fault.auto.image ∙ c.deref_mut.ensures.len in
+    let image = refilled old.codes.image.len c.write_line-fault.new.image old.codes.image.items long in
+    written-places old _ q _ c.requires.kept (returns-clause-kept c) refl (low lines c.args.at q e.was)
+    (λ k. ap (λ v. get_or v.items k 0) c.set.ensures.image ∙ ap (λ l. get_or l k 0) image ∙ c.write_line-fault.ensures.written k
+    ∙ ap (λ l. cond (covers_byte q k) (get_or (kept_bytes old.names c.args.added q) (IMAGE_START + k - q.here) 0) (get_or l k 0)) c.deref_mut.ensures.value) _ c.places_of-written.ensures
 
 pub returns-clause-encoded : goal.returns-clause-encoded
 returns-clause-encoded c =

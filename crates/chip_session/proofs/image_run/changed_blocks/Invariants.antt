@@ -1,5 +1,5 @@
 use Rattle.std.proofs.Common.{◌≡◌, ◌≤◌, ◌<◌, ◌*◌, ℕ, get_or}
-use Rattle.chip_session.proofs.image_run.changed_places.Given as goal
+use Rattle.chip_session.proofs.image_run.changed_blocks.Given as goal
 
 -- the blocks so far agree before the first place and from the end on
 abbrev pub invariant-loop-block : goal.invariant-loop-block
