@@ -30,9 +30,10 @@ use std::rc::RcSlice;
 /// The registers, and what else is not memory.
 #[derive(Drop)]
 pub(crate) struct Processor {
-    registers: [u8; 16],
-    index: u16,
+    // before the registers, so that the compiler knows that a store to those leaves them alone
     pc: u16,
+    index: u16,
+    registers: [u8; 16],
     frames: [u16; FRAMES],
     depth: usize,
     delay: u8,
