@@ -1,24 +1,22 @@
 -- What the first pass finds of a line of which it asks only the size and the name.
-use Rattle.std.proofs.Common.{◌≡◌, ℕ, ◌+◌, ◌<◌, ◌≤◌, ℤ, pos, Bool, true, false, cond, ◌&&◌, ◌||◌, nat_lt, List, [], ◌∷◌, ◌++◌, length, set, get_or, subst, refl, ap, sym, ◌∙◌, reverse, Option, None, Some, option_map, option_to_list, IfSome, if◌then◌else◌, unsigned_abs}
+use Rattle.std.proofs.Common.{◌≡◌, ℕ, ◌+◌, ◌<◌, ◌≤◌, ℤ, pos, Bool, true, false, cond, ◌&&◌, ◌||◌, nat_lt, List, [], ◌∷◌, ◌++◌, length, get_or, subst, refl, ap, sym, ◌∙◌, reverse, Option, None, Some, option_map, option_to_list, IfSome, if◌then◌else◌, unsigned_abs}
 use Rattle.std.proofs.lemmas.Bool.{le-ltb}
 use Rattle.chip_lang.specs.declared.limits.TheConstants.{MEMORY_BYTES}
 use Rattle.chip_lang.specs.Line.{Body, empty, code, Reading, bad, read}
 use Rattle.chip_asm.specs.Names.{Name}
 use Rattle.chip_asm.specs.declared.block.Block.{Block}
 use Rattle.chip_asm.specs.declared.pass.Pass.{Pass}
-use Rattle.chip_asm.specs.declared.placement.Placement.{Placement}
 use Rattle.chip_asm.specs.declared.table.NameId.{NameId}
-use Rattle.chip_asm.specs.inner.Follows.{placement_of}
+use Rattle.chip_asm.specs.inner.Follows.{Follows, placement_of}
 use Rattle.chip_asm.specs.inner.Infos.{AreInfos, IsBare, IsInfo, IsNumberOf, is_bare}
 use Rattle.chip_asm.specs.inner.KeptLine.{KeptLine}
+use Rattle.chip_asm.specs.inner.Placements.{Found}
 use Rattle.chip_asm.specs.inner.Records.{reading_in}
-use Rattle.chip_asm.specs.inner.Layouts.{HasPassed}
 use Rattle.chip_asm.specs.inner.Tables.{Tables, name_of, symbols_of}
 use Rattle.chip_asm.specs.inner.Turns.{moved}
 use Rattle.chip_asm.specs.Layout.{Placed, full_size, own_size, is_redefinition, is_side_or_end, symbol_given}
 use Rattle.chip_asm.specs.computed.Walk.{place, placed, first_fault, symbols, is_aligning, address}
 use Rattle.chip_asm.proofs.BlockSteps.{live_here}
-use Rattle.chip_asm.proofs.LayoutSteps.{one-more}
 use Rattle.chip_asm.proofs.NextLine.{placement-at, follows-push}
 use Rattle.chip_asm.proofs.QuietLines.{Calm, Plain, calm-idle, plain}
 
@@ -54,22 +52,25 @@ given number here value body None p = refl
 given number here value body (Some name) p = ap (λ v. Some (name, record { value = v; line = number })) (sym (p.given here value))
 
 -- where it has no fault it is passed, live or not
-pub passed-bare : (found : List Placement) (pass : Pass) (names : Tables) (lines : List Reading) (line : Reading) (at size : ℕ) (defines : Option NameId) (live : Bool) → pass.live ≡ live → HasPassed found pass lines → at ≡ length lines → at < length found
+abbrev pub found-bare : ℕ → ℕ → Bool → Found
+found-bare here size live = record { value = pos 0; here = here; size = size; fault = None; live = live }
+
+pub passed-bare : (pass : Pass) (names : Tables) (lines : List Reading) (line : Reading) (at size : ℕ) (defines : Option NameId) (live : Bool) → pass.live ≡ live → Follows pass (placed lines) → at ≡ length lines
     → IsBare pass.names.keys live line size defines → (fits : pass.here + size ≤ MEMORY_BYTES) → is_redefinition pass.names.symbols (name_of pass.names.keys defines) ≡ false
     → names.symbols ≡ pass.names.symbols ++ symbols_of pass.names.keys defines (record { value = pos pass.here; line = at + 1 })
-    → HasPassed (set found at (record { value = pos 0; here = pass.here; size = size; fault = None; live = live })) (record pass { here = pass.here + size; within = fits; names = names }) (lines ++ line ∷ [])
-passed-bare found pass names lines (bad fault) at size defines live same h is inside b fits new given_now = absurd (let never : false ≡ true = b.bare in cc)
-passed-bare found pass names lines (read name body) at size defines live same h is inside b fits new given_now = record {
-  placements = one-more found lines line at q h.placements is inside found_now;
-  follows = follows-push pass (record pass { here = pass.here + size; within = fits; names = names }) lines line (at + 1) q (ap (λ n. n + 1) is) h.follows found_now (record {
+    → (found-bare pass.here size live ≡ placement_of (place (placed lines) line)) × Follows (record pass { here = pass.here + size; within = fits; names = names }) (placed (lines ++ line ∷ []))
+passed-bare pass names lines (bad fault) at size defines live same f is b fits new given_now = absurd (let never : false ≡ true = b.bare in cc)
+passed-bare pass names lines (read name body) at size defines live same f is b fits new given_now = (
+  found_now,
+  follows-push pass (record pass { here = pass.here + size; within = fits; names = names }) lines line (at + 1) q (ap (λ n. n + 1) is) f found_now (record {
     at_address = rw e.plain.no_org (no-jump (q.live && true));
     aligning = sym (e.plain.no_align (q.live && true) pass.aligning);
     ended = rw e.plain.no_end (no-end q.live);
     names = given_now ∙ ap (λ s. pass.names.symbols ++ option_to_list s) (adds live b.named);
     open_blocks = λ nearest opened. opened ∙ ap reverse (e.stays _ nearest);
-    live = λ nearest opened nested. h.follows.live;
-  });
-}
+    live = λ nearest opened nested. f.live;
+  }),
+)
   where
     line : Reading
     line = read name body
@@ -80,8 +81,8 @@ passed-bare found pass names lines (read name body) at size defines live same h 
     before : List Placed
     before = placed lines
 
-    q : Placement
-    q = record { value = pos 0; here = pass.here; size = size; fault = None; live = live }
+    q : Found
+    q = found-bare pass.here size live
 
     no-jump : (a : Bool) → pass.here + size ≡ cond (a && false) (unsigned_abs (pos 0)) (pass.here + size)
     no-jump true = refl
@@ -99,9 +100,9 @@ passed-bare found pass names lines (read name body) at size defines live same h 
     faultless : (live : Bool) → IsNumberOf pass.names.keys defines (if live then name else None) → size ≡ (if live then own_size body (pos 0) else 0) → None ≡ (if live then first_fault before line else None)
     faultless false n s = refl
     faultless true n s =
-        let once : is_redefinition (symbols before) name ≡ false = rw (← h.follows.names, ← named-so pass.names.keys defines name n) new in
+        let once : is_redefinition (symbols before) name ≡ false = rw (← f.names, ← named-so pass.names.keys defines name n) new in
         let room : nat_lt MEMORY_BYTES (address before + full_size (is_aligning before) (address before) body (pos 0)) ≡ false
-        = ap (λ n. nat_lt MEMORY_BYTES (address before + n)) (e.unpadded (is_aligning before) (address before) ∙ sym s) ∙ ap (λ a. nat_lt MEMORY_BYTES (a + size)) (sym h.follows.at_address) ∙ le-ltb MEMORY_BYTES (pass.here + size) fits in
+        = ap (λ n. nat_lt MEMORY_BYTES (address before + n)) (e.unpadded (is_aligning before) (address before) ∙ sym s) ∙ ap (λ a. nat_lt MEMORY_BYTES (a + size)) (sym f.at_address) ∙ le-ltb MEMORY_BYTES (pass.here + size) fits in
         sym (e.plain.first before name ∙ (rw (once, room) refl))
 
     sizes : (live : Bool) → size ≡ (if live then own_size body (pos 0) else 0) → size ≡ (if live && true then full_size (is_aligning before) pass.here body (pos 0) else 0)
@@ -110,7 +111,7 @@ passed-bare found pass names lines (read name body) at size defines live same h 
 
     found_now : q ≡ placement_of (place before line)
     found_now =
-        placement-at before line live pass.here None (pos 0) size (sym same ∙ live_here pass before body e.side h.follows) h.follows.at_address (rw e.calm.value refl) (faultless live b.named b.sized) (sizes live b.sized)
+        placement-at before line live pass.here None (pos 0) size (sym same ∙ live_here pass before body e.side f) f.at_address (rw e.calm.value refl) (faultless live b.named b.sized) (sizes live b.sized)
 
 -- what is kept beside the line at a place
 pub info-here : (keys : List Name) (lines : List KeptLine) (place : ℕ) (kept : KeptLine) → AreInfos keys lines → place < length lines → kept ≡ get_or lines place kept → IsInfo keys kept.info kept.several (reading_in kept)

@@ -21,4 +21,4 @@ begun-kept kept edit first m stays steady = begun kept.names.keys kept.lines.ite
 pub kept-edited : (old new : Kept) (edit : Edit) (first : ℕ) → MayEdit old edit → Begun old.lines.items edit first → new.lines.items ≡ lines_after old.lines.items edit
     → new.settled ≡ first → IsAssembled (change_of old edit) new → IsKept new
 kept-edited old new edit first m b lines settled a =
-    kept-by new (lines_after old.lines.items edit) lines m.few m.are_read (subst (λ (ls : List KeptLine). AreInfos new.names.keys ls) lines a.infos) a.symbols a.laid_out a.codes (rw settled b.stay)
+    kept-by new (lines_after old.lines.items edit) lines m.few m.are_read (subst (λ (ls : List KeptLine). AreInfos new.names.keys ls) lines a.infos) a.symbols a.laid_out a.image (rw settled b.stay)

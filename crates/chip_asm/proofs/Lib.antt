@@ -7,6 +7,7 @@ pub mod NestedBlocks
 pub mod NextLine
 pub mod LinesApart
 pub mod LayoutSteps
+pub mod TallySteps
 pub mod MarkSteps
 pub mod Bounds
 pub mod LinesAfter
@@ -18,9 +19,9 @@ pub mod NamesDiffer
 pub mod LastLine
 pub mod PlacesAgree
 pub mod UnclosedByPlace
+pub mod ValueSteps
 pub mod SymbolSteps
 pub mod CutSteps
-pub mod SameValues
 pub mod TakenBack
 pub mod InfoSteps
 pub mod QuietLines
@@ -29,7 +30,6 @@ pub mod SwappedLine
 pub mod SwappedFacts
 pub mod NeedsSteps
 pub mod FoundLines
-pub mod CodesSwapped
 pub mod WholeImage
 pub mod EditTexts
 pub mod Views
@@ -44,6 +44,7 @@ pub mod Exchanges
 pub mod NeededLines
 pub mod ImageSteps
 pub mod LinesByPlace
+pub mod ImageByPlace
 pub mod CodeSteps
 pub mod CarrySteps
 pub mod PassSteps

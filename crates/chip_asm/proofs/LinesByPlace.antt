@@ -15,11 +15,11 @@ use Rattle.chip_lang.specs.Code.{code_length}
 use Rattle.chip_lang.specs.Line.{Body, ifdef, ifund, Reading, bad}
 use Rattle.chip_asm.specs.Names.{values_of}
 use Rattle.chip_asm.specs.declared.layout.Layout.{Layout}
-use Rattle.chip_asm.specs.declared.placement.Placement.{Placement}
 use Rattle.chip_asm.specs.Layout.{Placed, body_of, full_size, is_if, is_if_body, own_size, takes_effect}
 use Rattle.chip_asm.specs.computed.Walk.{place, placed, address, symbols}
 use Rattle.chip_asm.specs.inner.Layouts.{IsLayoutOf, placements_of, final_placement}
-use Rattle.chip_asm.specs.inner.Placements.{is_placed}
+use Rattle.chip_asm.specs.inner.Placements.{Found, found, is_found}
+use Rattle.chip_asm.specs.declared.placement.Placement.{Placement}
 use Rattle.chip_asm.specs.Program.{code_under, bytes_in_code, fault_in_code, covers, byte_at, fault_of, first_pass_fault, is_unclosed}
 use Rattle.chip_asm.proofs.Bounds.{IsWithinMemory, within-memory}
 use Rattle.chip_asm.proofs.FirstLines.{same-placed}
@@ -48,8 +48,8 @@ find-one c (x ∷ xs) (suc i) p h e t few = by (c x) few (find-one c xs i p (ome
     by true few later = absurd (omega (arith, length-filter c xs, get_or-le-sum_by (λ y. cond (c y) 1 0) xs i p (omega arith), ap {B = ℕ} (λ b. cond b 1 0) (ap c e ∙ t)))
     by false few later = later few
 
-found : (lines : List Reading) (n : ℕ) (x : Placed) → slice_get (reverse (placed lines)) n ≡ Some x → (address : ℕ) → covers address x ≡ true → find (covers address) (placed lines) ≡ Some x
-found lines n x at address c =
+found-line : (lines : List Reading) (n : ℕ) (x : Placed) → slice_get (reverse (placed lines)) n ≡ Some x → (address : ℕ) → covers address x ≡ true → find (covers address) (placed lines) ≡ Some x
+found-line lines n x at address c =
     let t = turned (placed lines) n x at in
     find-one (covers address) (placed lines) (length (placed lines) - 1 - n) x t.0 t.1 c (one-covers lines address)
 
@@ -57,7 +57,7 @@ found lines n x at address c =
 pub apart : (lines : List Reading) (i j : ℕ) (x y : Placed) → (i ≡ j → ⊥) → slice_get (reverse (placed lines)) i ≡ Some x → slice_get (reverse (placed lines)) j ≡ Some y → (address : ℕ) → covers address x ≡ true
     → covers address y ≡ false
 apart lines i j x y other first second address c = false_from_ne_true (covers address y) (λ d.
-    (let same : x ≡ y = same_Some x y (sym (found lines i x first address c) ∙ found lines j y second address d) in
+    (let same : x ≡ y = same_Some x y (sym (found-line lines i x first address c) ∙ found-line lines j y second address d) in
     other (omega (arith, number-at lines i x first, number-at lines j y second, ap (λ (p : Placed). p.number) same))))
 
 -- where no line covers an address stands a zero
@@ -81,7 +81,7 @@ byte-outside lines address none =
 -- of lines that are laid out
 
 -- the line at a place, and what the layout has of it
-pub record AtPlace (lines : List Reading) (n : ℕ) (q : Placement) : Type 0 where
+pub record AtPlace (lines : List Reading) (n : ℕ) (q : Found) : Type 0 where
   pub x : Placed
   pub at : slice_get (reverse (placed lines)) n ≡ Some x
   pub placement : q ≡ final_placement (placed lines) x
@@ -107,7 +107,7 @@ at-line lines n x at = record {
   within = subst IsWithinMemory (get_or_from_slice_get (reverse (placed lines)) n x x at) (within-memory lines n x (slice_get_within (reverse (placed lines)) n x at));
 }
 
-pub at-place-of : (lines : List Reading) (n : ℕ) (q : Placement) → slice_get (placements_of lines) n ≡ Some q → AtPlace lines n q
+pub at-place-of : (lines : List Reading) (n : ℕ) (q : Found) → slice_get (placements_of lines) n ≡ Some q → AtPlace lines n q
 unfolding placements_of
 at-place-of lines n q there = by (slice_get (reverse (placed lines)) n) refl (sym (slice_get-map (final_placement (placed lines)) (reverse (placed lines)) n) ∙ there)
   where
@@ -115,43 +115,40 @@ at-place-of lines n q there = by (slice_get (reverse (placed lines)) n) refl (sy
     by None at e = cc
     by (Some x) at e = subst (AtPlace lines n) (same_Some (final_placement (placed lines) x) q e) (at-line lines n x at)
 
-pub at-place : (lines : List Reading) (layout : Layout) → IsLayoutOf layout lines → (n : ℕ) (q : Placement) → slice_get layout.placements.items n ≡ Some q → AtPlace lines n q
-at-place lines layout laid n q there = at-place-of lines n q (ap (λ ps. slice_get ps n) (sym laid.placements) ∙ there)
+pub found-there : (lines : List Reading) (layout : Layout) → IsLayoutOf layout lines → (n : ℕ) (q : Placement) → slice_get layout.placements.items n ≡ Some q → slice_get (placements_of lines) n ≡ Some (found q)
+found-there lines layout laid n q there = ap (λ ps. slice_get ps n) (sym laid.placements) ∙ slice_get-map found layout.placements.items n ∙ ap (option_map found) there
 
-abbrev pub covered_by : Placement → ℕ → Bool
+pub at-place : (lines : List Reading) (layout : Layout) → IsLayoutOf layout lines → (n : ℕ) (q : Placement) → slice_get layout.placements.items n ≡ Some q → AtPlace lines n (found q)
+at-place lines layout laid n q there = at-place-of lines n (found q) (found-there lines layout laid n q there)
+
+-- it stands at the address after the lines before it
+pub here-at : (lines : List Reading) (n : ℕ) (q : Found) → AtPlace lines n q → q.here ≡ address (placed (take n lines))
+here-at lines n q a = ap (λ (f : Found). f.here) a.placement ∙ ap (λ (x : Placed). x.here) a.follows ∙ (parts (placed (take n lines)) a.x.line).here
+
+abbrev pub covered_by : Found → ℕ → Bool
 covered_by q address = leb q.here address && ltb address (q.here + q.size)
 
 -- its byte at an address that it covers
-pub byte-line : (lines : List Reading) (n : ℕ) (q : Placement) (a : AtPlace lines n q) (address : ℕ) → covered_by q address ≡ true
+pub byte-line : (lines : List Reading) (n : ℕ) (q : Found) (a : AtPlace lines n q) (address : ℕ) → covered_by q address ≡ true
     → byte_at (placed lines) address ≡ get_or (bytes_in_code (code_under (placed lines) a.x)) (address - q.here) 0
 unfolding byte_at
 byte-line lines n q a address c =
     ap (λ o. option_map_or (λ p. get_or (bytes_in_code (code_under (placed lines) p)) (address - p.here) 0) o 0)
-    (found lines n a.x a.at address (ap (λ (p : Placement). covered_by p address) (sym a.placement) ∙ c))
-    ∙ ap (λ (p : Placement). get_or (bytes_in_code (code_under (placed lines) a.x)) (address - p.here) 0) (sym a.placement)
+    (found-line lines n a.x a.at address (ap (λ (p : Found). covered_by p address) (sym a.placement) ∙ c))
+    ∙ ap (λ (p : Found). get_or (bytes_in_code (code_under (placed lines) a.x)) (address - p.here) 0) (sym a.placement)
 
--- where no line of a layout covers an address stands a zero
-pub byte-nowhere : (lines : List Reading) (layout : Layout) → IsLayoutOf layout lines → (address : ℕ)
-    → ((n : ℕ) (q : Placement) → slice_get layout.placements.items n ≡ Some q → covered_by q address ≡ false) → byte_at (placed lines) address ≡ 0
+-- where no line covers an address stands a zero
+pub byte-nowhere : (lines : List Reading) (address : ℕ) → ((n : ℕ) (q : Found) → slice_get (placements_of lines) n ≡ Some q → covered_by q address ≡ false) → byte_at (placed lines) address ≡ 0
 unfolding placements_of
-byte-nowhere lines layout laid address none =
+byte-nowhere lines address none =
     byte-outside lines address (λ n x at. none n (final_placement (placed lines) x)
-    (ap (λ ps. slice_get ps n) laid.placements ∙ slice_get-map (final_placement (placed lines)) (reverse (placed lines)) n ∙ ap (option_map (final_placement (placed lines))) at))
-
--- a line ends before a later one begins
-pub lines-ordered : (lines : List Reading) (layout : Layout) → IsLayoutOf layout lines → (i j : ℕ) (p q : Placement) → i < j
-    → slice_get layout.placements.items i ≡ Some p → slice_get layout.placements.items j ≡ Some q → p.here + p.size ≤ q.here
-lines-ordered lines layout laid i j p q h first second =
-    let a : AtPlace lines i p = at-place lines layout laid i p first in
-    let b : AtPlace lines j q = at-place lines layout laid j q second in
-    let here : b.x.here ≡ address (placed (take j lines)) = ap (λ (y : Placed). y.here) b.follows ∙ (parts (placed (take j lines)) b.x.line).here in
-    rw (a.placement, b.placement, here) (ends-before lines j i a.x h a.at)
+    (slice_get-map (final_placement (placed lines)) (reverse (placed lines)) n ∙ ap (option_map (final_placement (placed lines))) at))
 
 -- each line stands in memory
-pub low : (lines : List Reading) (n : ℕ) (q : Placement) → AtPlace lines n q → IMAGE_START ≤ q.here
+pub low : (lines : List Reading) (n : ℕ) (q : Found) → AtPlace lines n q → IMAGE_START ≤ q.here
 low lines n q a = rw a.placement a.within.0
 
-pub high : (lines : List Reading) (n : ℕ) (q : Placement) → AtPlace lines n q → q.here + q.size ≤ MEMORY_BYTES
+pub high : (lines : List Reading) (n : ℕ) (q : Found) → AtPlace lines n q → q.here + q.size ≤ MEMORY_BYTES
 high lines n q a = rw a.placement a.within.1
 
 -- a line that isn't accepted has no room
@@ -164,11 +161,11 @@ if-room false here (ifund n) value h = refl
 if-room aligning here body value h = cc
 
 -- an IF without ENDIF is a live IF line
-unclosed-parts : (all : List Placed) (x : Placed) → is_unclosed all x ≡ true → (is_if x ≡ true) × (x.live ≡ true)
+pub unclosed-parts : (all : List Placed) (x : Placed) → is_unclosed all x ≡ true → (is_if x ≡ true) × (x.live ≡ true)
 unclosed-parts all x h = and_parts (is_if x) x.live (and_parts _ _ (and_parts _ _ h).0).0
 
-refused-size : (lines : List Reading) (n : ℕ) (q : Placement) (a : AtPlace lines n q) → is_placed q ≡ false → a.x.size ≡ 0
-refused-size lines n q a refused = by (is_unclosed (placed lines) a.x) refl (ap is_placed (sym a.placement) ∙ refused)
+refused-size : (lines : List Reading) (n : ℕ) (q : Found) (a : AtPlace lines n q) → is_found q ≡ false → a.x.size ≡ 0
+refused-size lines n q a refused = by (is_unclosed (placed lines) a.x) refl (ap is_found (sym a.placement) ∙ refused)
   where
     p : Parts (placed (take n lines)) a.x.line
     p = parts (placed (take n lines)) a.x.line
@@ -180,16 +177,16 @@ refused-size lines n q a refused = by (is_unclosed (placed lines) a.x) refl (ap 
         ∙ cond_both (takes_effect (place (placed (take n lines)) a.x.line)) _ 0 (λ s. s ≡ 0) (λ e. if-room _ _ (body_of a.x.line) _ (unclosed-parts (placed lines) a.x unclosed_is).0) (λ e. refl)
 
 -- so one that has a byte is
-pub covers-accepted : (lines : List Reading) (n : ℕ) (q : Placement) (a : AtPlace lines n q) (address : ℕ) → covered_by q address ≡ true → is_placed q ≡ true
-covers-accepted lines n q a address c = true_from_ne_false (is_placed q) (λ refused.
+pub covers-accepted : (lines : List Reading) (n : ℕ) (q : Found) (a : AtPlace lines n q) (address : ℕ) → covered_by q address ≡ true → is_found q ≡ true
+covers-accepted lines n q a address c = true_from_ne_false (is_found q) (λ refused.
     (let both = and_parts (leb q.here address) (ltb address (q.here + q.size)) c in
-    omega (arith, leb-true q.here address both.0, ltb-true address (q.here + q.size) both.1, refused-size lines n q a refused, ap (λ (p : Placement). p.size) a.placement)))
+    omega (arith, leb-true q.here address both.0, ltb-true address (q.here + q.size) both.1, refused-size lines n q a refused, ap (λ (p : Found). p.size) a.placement)))
 
 -- the fault of an accepted line is that of its code, and that of another one is that of the first pass
-pub line-fault : (lines : List Reading) (n : ℕ) (q : Placement) (a : AtPlace lines n q) → fault_of (placed lines) a.x ≡ cond (is_placed q) (fault_in_code (code_under (placed lines) a.x)) q.fault
+pub line-fault : (lines : List Reading) (n : ℕ) (q : Found) (a : AtPlace lines n q) → fault_of (placed lines) a.x ≡ cond (is_found q) (fault_in_code (code_under (placed lines) a.x)) q.fault
 line-fault lines n q a =
     by a.x.live (first_pass_fault (placed lines) a.x) (fault_in_code (code_under (placed lines) a.x)) none
-    ∙ ap (λ (p : Placement). cond (is_placed p) (fault_in_code (code_under (placed lines) a.x)) p.fault) (sym a.placement)
+    ∙ ap (λ (p : Found). cond (is_found p) (fault_in_code (code_under (placed lines) a.x)) p.fault) (sym a.placement)
   where
     by : (live : Bool) (fault code : Option Fault) → (live ≡ false → fault ≡ None) → cond live (cond (is_some fault) fault code) None ≡ cond (live && is_none fault) code fault
     by true None code h = refl
@@ -202,30 +199,30 @@ line-fault lines n q a =
         let before : List Placed = placed (take n lines) in
         rw closed (subst (λ (y : Placed). y.live ≡ false → y.fault ≡ None) (sym a.follows) (λ e. (parts before a.x.line).fault ∙ (rw e refl)) dead)
 
-pub refused-fault : (lines : List Reading) (n : ℕ) (q : Placement) (a : AtPlace lines n q) → is_placed q ≡ false → q.fault ≡ fault_of (placed lines) a.x
+pub refused-fault : (lines : List Reading) (n : ℕ) (q : Found) (a : AtPlace lines n q) → is_found q ≡ false → q.fault ≡ fault_of (placed lines) a.x
 refused-fault lines n q a refused = sym (line-fault lines n q a ∙ (rw refused refl))
 
-pub accepted-fault : (lines : List Reading) (n : ℕ) (q : Placement) (a : AtPlace lines n q) → is_placed q ≡ true → fault_of (placed lines) a.x ≡ fault_in_code (code_under (placed lines) a.x)
+pub accepted-fault : (lines : List Reading) (n : ℕ) (q : Found) (a : AtPlace lines n q) → is_found q ≡ true → fault_of (placed lines) a.x ≡ fault_in_code (code_under (placed lines) a.x)
 accepted-fault lines n q a accepted = line-fault lines n q a ∙ (rw accepted refl)
 
 -- an accepted line has room for its bytes
 
-pub accepted-effect : (all : List Placed) (x : Placed) → is_placed (final_placement all x) ≡ true → takes_effect x ≡ true
+pub accepted-effect : (all : List Placed) (x : Placed) → is_found (final_placement all x) ≡ true → takes_effect x ≡ true
 accepted-effect all x accepted = by (is_unclosed all x) accepted
   where
     by : (u : Bool) → (x.live && is_none (cond u (Some UnclosedIf) x.fault)) ≡ true → takes_effect x ≡ true
     by true h = absurd (false≢true (and_parts x.live false h).1)
     by false h = h
 
-own-room : (lines : List Reading) (n : ℕ) (q : Placement) (a : AtPlace lines n q) → is_placed q ≡ true → own_size (body_of a.x.line) (place (placed (take n lines)) a.x.line).value ≤ q.size
+own-room : (lines : List Reading) (n : ℕ) (q : Found) (a : AtPlace lines n q) → is_found q ≡ true → own_size (body_of a.x.line) (place (placed (take n lines)) a.x.line).value ≤ q.size
 own-room lines n q a accepted =
-    let effect : takes_effect (place (placed (take n lines)) a.x.line) ≡ true = ap takes_effect (sym a.follows) ∙ accepted-effect (placed lines) a.x (ap is_placed (sym a.placement) ∙ accepted) in
+    let effect : takes_effect (place (placed (take n lines)) a.x.line) ≡ true = ap takes_effect (sym a.follows) ∙ accepted-effect (placed lines) a.x (ap is_found (sym a.placement) ∙ accepted) in
     let size = (parts (placed (take n lines)) a.x.line).size in
     let room : own_size (body_of a.x.line) (place (placed (take n lines)) a.x.line).value ≤ (place (placed (take n lines)) a.x.line).size = rw (size, effect) (omega arith) in
-    omega (arith, ap (λ (p : Placed). p.size) a.follows, ap (λ (p : Placement). p.size) a.placement)
+    omega (arith, ap (λ (p : Placed). p.size) a.follows, ap (λ (p : Found). p.size) a.placement)
 
-pub bytes-fit : (lines : List Reading) (n : ℕ) (q : Placement) (a : AtPlace lines n q) → is_placed q ≡ true → length (bytes_in_code (code_under (placed lines) a.x)) ≤ q.size
+pub bytes-fit : (lines : List Reading) (n : ℕ) (q : Found) (a : AtPlace lines n q) → is_found q ≡ true → length (bytes_in_code (code_under (placed lines) a.x)) ≤ q.size
 bytes-fit lines n q a accepted = omega (arith, own-room lines n q a accepted, own-short (body_of a.x.line) (values_of (symbols (placed lines))) (place (placed (take n lines)) a.x.line).value)
 
-pub code-fits : (lines : List Reading) (n : ℕ) (q : Placement) (a : AtPlace lines n q) → is_placed q ≡ true → code_length a.x.line ≤ q.size
+pub code-fits : (lines : List Reading) (n : ℕ) (q : Found) (a : AtPlace lines n q) → is_found q ≡ true → code_length a.x.line ≤ q.size
 code-fits lines n q a accepted = omega (arith, own-room lines n q a accepted, code-short a.x.line (place (placed (take n lines)) a.x.line).value)

@@ -12,7 +12,7 @@ use Rattle.chip_lang.specs.declared.fault.Fault.{Fault}
 use Rattle.chip_lang.specs.Show.{two_hex_digits}
 use Rattle.chip_lang.specs.Line.{Body}
 use Rattle.chip_asm.specs.inner.KeptLine.{KeptLine}
-use Rattle.chip_asm.specs.declared.placement.Placement.{Placement}
+use Rattle.chip_asm.specs.inner.Placements.{Found}
 use Rattle.chip_asm.specs.Layout.{Placed, body_of}
 use Rattle.chip_asm.specs.computed.Walk.{placed}
 use Rattle.chip_asm.specs.Listing.{bytes_shown, field_shown, more_shown, shown, line_shown, lines_shown}
@@ -100,12 +100,12 @@ field-by None true body here value size kept own k =
     rw same refl
 
 -- what is kept of a line gives its line of the listing
-same-line : (lines : List KeptLine) (q : Placement) (kept : KeptLine) (i : ℕ) (a : AtPlace (readings_in lines) i q) (fault : Option Fault) (bytes : List ℕ) → fault ≡ fault_of (placed (readings_in lines)) a.x
+same-line : (lines : List KeptLine) (q : Found) (kept : KeptLine) (i : ℕ) (a : AtPlace (readings_in lines) i q) (fault : Option Fault) (bytes : List ℕ) → fault ≡ fault_of (placed (readings_in lines)) a.x
     → ((k : ℕ) → k < a.x.size → get_or bytes k 0 ≡ get_or (bytes_in_code (code_under (placed (readings_in lines)) a.x)) k 0)
     → reading_in kept ≡ a.x.line → shown (i + 1) q.live q.here (field_shown fault q.live (body_of (reading_in kept)) q.here q.value q.size bytes) (more_shown fault q.size) kept.text
     ≡ line_shown (placed (readings_in lines)) a.x kept.text
 same-line lines q kept i a fault bytes f own read =
-    ap (λ (p : Placement). shown (i + 1) p.live p.here (field_shown fault p.live (body_of (reading_in kept)) p.here p.value p.size bytes) (more_shown fault p.size) kept.text) a.placement
+    ap (λ (p : Found). shown (i + 1) p.live p.here (field_shown fault p.live (body_of (reading_in kept)) p.here p.value p.size bytes) (more_shown fault p.size) kept.text) a.placement
     ∙ ap (λ n. shown n a.x.live a.x.here (field_shown fault a.x.live (body_of (reading_in kept)) a.x.here a.x.value a.x.size bytes) (more_shown fault a.x.size) kept.text) (sym (number-at (readings_in lines) i a.x a.at))
     ∙ ap (λ g. shown a.x.number a.x.live a.x.here (field_shown g a.x.live (body_of (reading_in kept)) a.x.here a.x.value a.x.size bytes) (more_shown g a.x.size) kept.text) f
     ∙ ap (λ r. shown a.x.number a.x.live a.x.here (field_shown (fault_of (placed (readings_in lines)) a.x) a.x.live (body_of r) a.x.here a.x.value a.x.size bytes) (more_shown (fault_of (placed (readings_in lines)) a.x) a.x.size) kept.text) read
@@ -125,7 +125,7 @@ zip-more (p ∷ xs) (t ∷ ys) (suc i) x y a b = ap (λ l. (p, t) ∷ l) (zip-mo
 abbrev pub listed : List KeptLine → ℕ → List ℕ
 listed lines n = flat_map (λ e. line_shown (placed (readings_in lines)) e.0 e.1) (take n (zip (reverse (placed (readings_in lines))) (texts_in lines)))
 
-pub listed-more : (lines : List KeptLine) (q : Placement) (kept : KeptLine) (i : ℕ) (a : AtPlace (readings_in lines) i q) (fault : Option Fault) (bytes : List ℕ) → i < length lines → kept ≡ get_or lines i kept
+pub listed-more : (lines : List KeptLine) (q : Found) (kept : KeptLine) (i : ℕ) (a : AtPlace (readings_in lines) i q) (fault : Option Fault) (bytes : List ℕ) → i < length lines → kept ≡ get_or lines i kept
     → fault ≡ fault_of (placed (readings_in lines)) a.x
     → ((k : ℕ) → k < a.x.size → get_or bytes k 0 ≡ get_or (bytes_in_code (code_under (placed (readings_in lines)) a.x)) k 0)
     → reading_in kept ≡ a.x.line → listed lines (i + 1)

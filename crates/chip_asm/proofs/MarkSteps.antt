@@ -5,6 +5,7 @@ use Rattle.std.proofs.lemmas.Bool.{lt-ltb}
 use Rattle.std.proofs.lemmas.List.{get_or-map, length-map, same_lists}
 use Rattle.std.proofs.lemmas.List.Folds.{list_all-map, list_any-append}
 use Rattle.std.proofs.lemmas.Option.{get_or_from_slice_get, slice_get_within}
+use Rattle.chip_lang.specs.declared.fault.Fault.TheVariants.{UnclosedIf}
 use Rattle.chip_lang.specs.Line.{Reading}
 use Rattle.chip_asm.specs.declared.block.Block.{Block}
 use Rattle.chip_asm.specs.declared.placement.Placement.{Placement}
@@ -14,9 +15,11 @@ use Rattle.chip_asm.specs.computed.Walk.{placed, enclosing}
 use Rattle.chip_asm.specs.Program.{is_unclosed}
 use Rattle.chip_asm.specs.inner.Follows.{block_of, placement_of}
 use Rattle.chip_asm.specs.inner.Layouts.{first_placements, placements_of, final_placement}
+use Rattle.chip_asm.specs.inner.Placements.{Found, found, nothing}
 use Rattle.chip_asm.specs.inner.Marks.{AreMarked, is_among, is_opened_at, marked, unclosed}
 use Rattle.chip_asm.proofs.BlockSteps.{reverse-cons, list_all-reverse}
 use Rattle.chip_asm.proofs.LastLine.{enclosing-all}
+use Rattle.chip_asm.proofs.LinesByPlace.{unclosed-parts}
 use Rattle.chip_asm.proofs.Placing.{length-numbered}
 use Rattle.chip_asm.proofs.UnclosedByPlace.{number-at, open-at, opens_at, past-end}
 
@@ -34,9 +37,9 @@ list_any-blocks : (all : List Placed) (place : ℕ) (os : List Placed) → list_
 list_any-blocks all place [] = refl
 list_any-blocks all place (o ∷ os) = ap (λ b. opens_at place o || b) (list_any-blocks all place os)
 
-by_mark : (u : Bool) (all : List Placed) (p : Placed) → is_unclosed all p ≡ u → (if u then unclosed (placement_of p) else placement_of p) ≡ final_placement all p
-by_mark true all p e = rw e refl
-by_mark false all p e = rw e refl
+by_mark : (u : Bool) (all : List Placed) (p : Placed) (q : Placement) → is_unclosed all p ≡ u → found q ≡ placement_of p → found (if u then unclosed q else q) ≡ final_placement all p
+by_mark true all p q e is = ap (λ (f : Found). record f { fault = Some UnclosedIf; live = true }) is ∙ (let live = (unclosed-parts all p e).1 in rw (e, live) refl)
+by_mark false all p q e is = rw e is
 
 -- a line whose block is open at the end is marked, and no other
 pub is-marked : (lines : List Reading) (i : ℕ) (p : Placed) (ended : Bool) (blocks : List Block) → slice_get (reverse (placed lines)) i ≡ Some p → ended ≡ has_ended (placed lines)
@@ -47,27 +50,35 @@ is-marked lines i p ended blocks there e b =
     = ap (list_any (is_opened_at i)) b ∙ list_any-reverse (is_opened_at i) (map (block_of all) (enclosing all)) ∙ list_any-blocks all i (enclosing all) in
     rw (found, e) (open-at lines i p there)
 
-marked-final : (lines : List Reading) (i : ℕ) (p : Placed) (ended : Bool) (blocks : List Block) → slice_get (reverse (placed lines)) i ≡ Some p → ended ≡ has_ended (placed lines)
-    → blocks ≡ reverse (map (block_of (placed lines)) (enclosing (placed lines))) → marked ended blocks i (placement_of p) ≡ final_placement (placed lines) p
-marked-final lines i p ended blocks there e b =
-    rw (is-marked lines i p ended blocks there e b) (by_mark (is_unclosed (placed lines) p) (placed lines) p refl)
+marked-final : (lines : List Reading) (i : ℕ) (p : Placed) (q : Placement) (ended : Bool) (blocks : List Block) → slice_get (reverse (placed lines)) i ≡ Some p → ended ≡ has_ended (placed lines)
+    → blocks ≡ reverse (map (block_of (placed lines)) (enclosing (placed lines))) → found q ≡ placement_of p → found (marked ended blocks i q) ≡ final_placement (placed lines) p
+marked-final lines i p q ended blocks there e b is =
+    rw (is-marked lines i p ended blocks there e b) (by_mark (is_unclosed (placed lines) p) (placed lines) p q refl is)
 
-pub marked-placements : (lines : List Reading) (ended : Bool) (blocks : List Block) (now : List Placement) → ended ≡ has_ended (placed lines) → blocks ≡ reverse (map (block_of (placed lines)) (enclosing (placed lines)))
-    → length now ≡ length lines → AreMarked ended blocks (first_placements lines) now → now ≡ placements_of lines
+pub marked-placements : (lines : List Reading) (ended : Bool) (blocks : List Block) (old now : List Placement) → ended ≡ has_ended (placed lines) → blocks ≡ reverse (map (block_of (placed lines)) (enclosing (placed lines)))
+    → length now ≡ length old → map found old ≡ first_placements lines → AreMarked ended blocks old now → map found now ≡ placements_of lines
 unfolding first_placements placements_of
-marked-placements lines ended blocks now e b long each =
-    same_lists now (map (final_placement (placed lines)) ps) (long ∙ sym (length-map ps (final_placement (placed lines)) ∙ length-numbered lines))
-    (λ i other lt. (let inside : i < length ps = omega (arith, lt, long, length-numbered lines) in by i other inside (slice_get ps i) refl))
+marked-placements lines ended blocks old now e b long first each =
+    same_lists (map found now) (map (final_placement (placed lines)) ps) (many ∙ sym (length-map ps (final_placement (placed lines)))) (λ i other lt. (let inside : i < length ps = omega (arith, lt, many) in by i other inside (slice_get ps i) refl))
   where
     ps : List Placed
     ps = reverse (placed lines)
 
-    by : (i : ℕ) (other : Placement) → i < length ps → (o : Option Placed) → slice_get ps i ≡ o → get_or now i other ≡ get_or (map (final_placement (placed lines)) ps) i other
+    many_old : length old ≡ length ps
+    many_old = sym (length-map old found) ∙ ap length first ∙ length-map ps placement_of
+
+    many : length (map found now) ≡ length ps
+    many = length-map now found ∙ long ∙ many_old
+
+    by : (i : ℕ) (other : Found) → i < length ps → (o : Option Placed) → slice_get ps i ≡ o → get_or (map found now) i other ≡ get_or (map (final_placement (placed lines)) ps) i other
     by i other inside None there = absurd (omega (arith, inside, past-end ps i there))
     by i other inside (Some p) there =
-        each i other (omega (arith, inside, length-map ps placement_of))
-        ∙ ap (marked ended blocks i) (get_or-map placement_of ps i p other inside ∙ ap placement_of (get_or_from_slice_get ps i p p there))
-        ∙ marked-final lines i p ended blocks there e b
+        let q : Placement = get_or old i nothing in
+        let was : found q ≡ placement_of p
+        = sym (get_or-map found old i nothing other (omega (arith, inside, many_old))) ∙ ap (λ fs. get_or fs i other) first
+        ∙ get_or-map placement_of ps i p other inside ∙ ap placement_of (get_or_from_slice_get ps i p p there) in
+        get_or-map found now i nothing other (omega (arith, inside, long, many_old)) ∙ ap found (each i nothing (omega (arith, inside, many_old)))
+        ∙ marked-final lines i p q ended blocks there e b was
         ∙ sym (get_or-map (final_placement (placed lines)) ps i p other inside ∙ ap (final_placement (placed lines)) (get_or_from_slice_get ps i p p there))
 
 -- each block was opened by one of the lines

@@ -11,7 +11,7 @@ use Rattle.chip_asm.specs.Names.{values_of}
 use Rattle.chip_asm.specs.Layout.{Placed}
 use Rattle.chip_asm.specs.computed.Walk.{placed}
 use Rattle.chip_asm.specs.inner.Layouts.{placements_of, final_placement}
-use Rattle.chip_asm.specs.inner.Placements.{is_placed}
+use Rattle.chip_asm.specs.inner.Placements.{is_found}
 use Rattle.chip_asm.specs.Program.{names_of_lines}
 use Rattle.chip_asm.specs.Work.{needs, needs_count, is_accepted_at, is_accepted_in, accepted_lines}
 use Rattle.chip_asm.specs.inner.Recode.{count_again, is_encoded_again, is_placed_at}
@@ -28,7 +28,7 @@ pub placed-at : (lines : List Reading) (i : ℕ) → is_placed_at (placements_of
 unfolding placements_of
 placed-at lines i = rw (slice_get-map (final_placement (placed lines)) (reverse (placed lines)) i) (inner (slice_get (reverse (placed lines)) i))
   where
-    inner : (o : Option Placed) → option_map_or is_placed (option_map (final_placement (placed lines)) o) false ≡ option_map_or (is_accepted_in (placed lines)) o false
+    inner : (o : Option Placed) → option_map_or is_found (option_map (final_placement (placed lines)) o) false ≡ option_map_or (is_accepted_in (placed lines)) o false
     inner None = refl
     inner (Some p) = refl
 

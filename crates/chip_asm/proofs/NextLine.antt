@@ -5,11 +5,10 @@ use Rattle.chip_lang.specs.declared.fault.Fault.{Fault}
 use Rattle.chip_lang.specs.Line.{Body, Reading}
 use Rattle.chip_asm.specs.declared.block.Block.{Block}
 use Rattle.chip_asm.specs.declared.pass.Pass.{Pass}
-use Rattle.chip_asm.specs.declared.placement.Placement.{Placement}
 use Rattle.chip_asm.specs.Layout.{Placed, body_of, full_size, value_at, value_or_zero, is_end_body, condition_of, symbol_given, has_ended}
 use Rattle.chip_asm.specs.computed.Walk.{place, placed, is_live, first_fault, symbols, is_aligning, address, fault_of_value, enclosing}
 use Rattle.chip_asm.specs.inner.Follows.{Follows, block_of, placement_of, next_address, next_aligning}
-use Rattle.chip_asm.specs.inner.Placements.{is_placed}
+use Rattle.chip_asm.specs.inner.Placements.{Found, is_found}
 use Rattle.chip_asm.specs.inner.Turns.{moved, AreNested}
 use Rattle.chip_asm.proofs.Numbers.{IsNumbered, blocks-cons}
 use Rattle.chip_asm.proofs.NestedBlocks.{Nests, nested-placed}
@@ -22,16 +21,16 @@ pub placement-at : (before : List Placed) (line : Reading) (live : Bool) (here :
     → value ≡ value_or_zero (value_at (symbols before) (body_of line))
     → fault ≡ (if live then first_fault before line else None)
     → size ≡ (if live && is_none fault then full_size (is_aligning before) here (body_of line) value else 0)
-    → (let made : Placement = record { live = live; here = here; fault = fault; value = value; size = size } in made ≡ placement_of (place before line))
+    → (let made : Found = record { live = live; here = here; fault = fault; value = value; size = size } in made ≡ placement_of (place before line))
 unfolding place
 placement-at before line live here fault value size l h v f s = rw (s, f, v, h, l) refl
 
 -- what the state is after a line of which this holds
-pub record Advances (pass next : Pass) (line : Reading) (q : Placement) (number : ℕ) : Type 0 where
-  pub at_address : next.here ≡ next_address (is_placed q) pass.here (body_of line) q.value q.size
-  pub aligning : next.aligning ≡ next_aligning (is_placed q) pass.aligning (body_of line)
+pub record Advances (pass next : Pass) (line : Reading) (q : Found) (number : ℕ) : Type 0 where
+  pub at_address : next.here ≡ next_address (is_found q) pass.here (body_of line) q.value q.size
+  pub aligning : next.aligning ≡ next_aligning (is_found q) pass.aligning (body_of line)
   pub ended : next.ended ≡ ((q.live && is_end_body (body_of line)) || pass.ended)
-  pub names : next.names.symbols ≡ pass.names.symbols ++ option_to_list (if is_placed q then symbol_given number pass.here q.value line else None)
+  pub names : next.names.symbols ≡ pass.names.symbols ++ option_to_list (if is_found q then symbol_given number pass.here q.value line else None)
   pub open_blocks : (nearest : List Block) → pass.blocks.items ≡ reverse nearest
       → next.blocks.items ≡ reverse (moved (body_of line) (record { number = number; live = q.live; holds = condition_of pass.names.symbols (body_of line); has_else = false }) nearest)
   pub live : (nearest : List Block) → next.blocks.items ≡ reverse nearest → (next.ended ≡ false → AreNested nearest)
@@ -74,10 +73,10 @@ follows-next pass next before p number numbered nests at_here at_condition is_nu
     }
 
 -- a whole list of lines, and one line more
-pub follows-push : (pass next : Pass) (lines : List Reading) (line : Reading) (number : ℕ) (q : Placement) → number ≡ length lines + 1
+pub follows-push : (pass next : Pass) (lines : List Reading) (line : Reading) (number : ℕ) (q : Found) → number ≡ length lines + 1
     → Follows pass (placed lines) → q ≡ placement_of (place (placed lines) line) → Advances pass next line q number → Follows next (placed (lines ++ line ∷ []))
 follows-push pass next lines line number q n f e a =
-    let found : Advances pass next line (placement_of (place (placed lines) line)) number = subst (λ (r : Placement). Advances pass next line r number) e a in
+    let found : Advances pass next line (placement_of (place (placed lines) line)) number = subst (λ (r : Found). Advances pass next line r number) e a in
     let here : Advances pass next (place (placed lines) line).line (placement_of (place (placed lines) line)) number
     = subst (λ (l : Reading). Advances pass next l (placement_of (place (placed lines) line)) number) (sym (line-at (placed lines) line)) found in
     rw placed-push

@@ -77,7 +77,7 @@ is_on j align = not (is_align_off_body (body_of align.line))
 abbrev number_in : ℕ → Placed → Option ℕ
 number_in j o = Some o.number
 
-address-of : (r : List Placed) → IsFromLast (Passes is_origin (reverse r)) (after_org (reverse r)) (IMAGE_START + sizes (reverse r)) (address r)
+pub address-of : (r : List Placed) → IsFromLast (Passes is_origin (reverse r)) (after_org (reverse r)) (IMAGE_START + sizes (reverse r)) (address r)
 unfolding address
 address-of r = by (search-last is_origin r)
   where

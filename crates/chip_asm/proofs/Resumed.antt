@@ -2,17 +2,16 @@
 use Rattle.std.proofs.Common.{◌≡◌, ℕ, ◌+◌, ◌<◌, ◌≤◌, Bool, true, false, cond, not, ◌&&◌, ◌||◌, List, [], ◌∷◌, ◌++◌, map, reverse, length, take, drop, fold, get_or, filter_map, refl, ap, sym, subst, ◌∙◌, arith, Option, Some, None, option_map, option_to_list, append_assoc, All}
 use Rattle.std.specs.List.{cons_option}
 use Rattle.std.proofs.Math.Seq.{take-append_seam, get_or-append_seam}
-use Rattle.std.proofs.lemmas.List.{append-nil, map-append, length-map, take-append-drop, length-take-le, take_at, take_more, get_or-map, get_or_default}
+use Rattle.std.proofs.lemmas.List.{append-nil, map-append, length-map, take-append-drop, length-take-le, take_at, take_more}
 use Rattle.std.proofs.lemmas.List.Elements.{filter_map-append, All-nil, All-cons, All-head, All-tail, All-append, All-weaker}
-use Rattle.chip_lang.specs.declared.fault.Fault.TheVariants.{UnclosedIf}
-use Rattle.chip_lang.specs.Line.{Body, align, Reading, bad}
+use Rattle.chip_lang.specs.Line.{Body, align, Reading}
 use Rattle.chip_lang.specs.Uses.{name_defined}
+use Rattle.chip_asm.specs.inner.Placements.{Found, found}
 use Rattle.chip_asm.specs.Names.{Name}
 use Rattle.chip_asm.specs.declared.layout.Layout.{Layout}
-use Rattle.chip_asm.specs.declared.placement.Placement.{Placement}
 use Rattle.chip_asm.specs.declared.table.Symbol.{Symbol}
 use Rattle.chip_asm.specs.Layout.{Placed, body_of, is_if, is_if_body, is_end_body, is_align_body, is_endif, takes_effect, has_ended, symbol_of, value_given}
-use Rattle.chip_asm.specs.computed.Walk.{place, placed, address, is_aligning, enclosing, symbols}
+use Rattle.chip_asm.specs.computed.Walk.{place, placed, is_aligning, enclosing, symbols}
 use Rattle.chip_asm.specs.Program.{names_of_lines}
 use Rattle.chip_asm.specs.inner.Follows.{placement_of, next_aligning}
 use Rattle.chip_asm.specs.inner.Layouts.{IsLayoutOf, first_placements, final_placement, placements_of}
@@ -37,10 +36,6 @@ record Begins (before all : List Placed) : Type 0 where
 number-next : (before : List Placed) (line : Reading) → (place before line).number ≡ length before + 1
 unfolding place
 number-next before line = refl
-
-here-next : (before : List Placed) (line : Reading) → (place before line).here ≡ address before
-unfolding place
-here-next before line = refl
 
 line-next : (before : List Placed) (line : Reading) → (place before line).line ≡ line
 unfolding place
@@ -143,7 +138,7 @@ still-aligning (p ∷ before) s = aligning-cons p before ∙ aligning-kept (take
 
 -- placements
 
-map-reverse : (f : Placed → Placement) (xs : List Placed) → map f (reverse xs) ≡ reverse (map f xs)
+map-reverse : (f : Placed → Found) (xs : List Placed) → map f (reverse xs) ≡ reverse (map f xs)
 map-reverse f [] = refl
 map-reverse f (x ∷ xs) = ap (map f) (reverse-cons x xs) ∙ map-append f (reverse xs) (x ∷ []) ∙ ap (λ l. l ++ f x ∷ []) (map-reverse f xs) ∙ sym (reverse-cons (f x) (map f xs))
 
@@ -159,13 +154,13 @@ unfolding placements_of first_placements
 placements-before lines n h s =
     let b : Begins (placed (take n lines)) (placed lines) = begins lines n in
     let before : List Placed = placed (take n lines) in
-    let f : Placed → Placement = final_placement (placed lines) in
+    let f : Placed → Found = final_placement (placed lines) in
     let whole : map f (reverse (placed lines)) ≡ map f (reverse before) ++ map f b.rest = ap (map f) b.is ∙ map-append f (reverse before) b.rest in
     let long : n ≡ length (map f (reverse before)) = sym (length-map (reverse before) f ∙ length-first lines n h) in
     ap (take n) whole ∙ ap (λ k. take k (map f (reverse before) ++ map f b.rest)) long ∙ take-append_seam (map f (reverse before)) (map f b.rest)
     ∙ map-reverse f before ∙ ap reverse (map-steady (placed lines) before s) ∙ sym (map-reverse placement_of before)
 
--- addresses
+-- the line at a place
 
 pub next-placed : (lines : List Reading) (n : ℕ) (line : Reading) (d : Placed) → n < length lines → get_or lines n line ≡ line → get_or (reverse (placed lines)) n d ≡ place (placed (take n lines)) line
 next-placed lines n line d h e =
@@ -176,16 +171,6 @@ next-placed lines n line d h e =
     = b.is ∙ ap (λ ps. reverse ps ++ b.rest) first ∙ ap (λ xs. xs ++ b.rest) (reverse-cons (place before line) before) ∙ append_assoc (reverse before) (place before line ∷ []) b.rest in
     let long : n ≡ length (reverse before) = sym (length-first lines n (omega arith)) in
     ap (λ xs. get_or xs n d) whole ∙ ap (λ k. get_or (reverse before ++ place before line ∷ b.rest) k d) long ∙ get_or-append_seam (reverse before) (place before line) b.rest d
-
-pub address-before : (lines : List Reading) (n : ℕ) (q : Placement) → n < length lines → q ≡ get_or (placements_of lines) n q → q.here ≡ address (placed (take n lines))
-unfolding placements_of
-address-before lines n q h is =
-    let line : Reading = get_or lines n (bad UnclosedIf) in
-    let same : get_or lines n line ≡ line = get_or_default lines n line (bad UnclosedIf) h in
-    let d : Placed = place [] line in
-    let there : n < length (reverse (placed lines)) = omega (arith, length-numbered lines) in
-    ap (λ p. p.here) (is ∙ get_or-map (final_placement (placed lines)) (reverse (placed lines)) n d q there)
-    ∙ ap (λ (p : Placed). p.here) (next-placed lines n line d h same) ∙ here-next (placed (take n lines)) line
 
 -- symbols
 
@@ -252,7 +237,7 @@ names-split lines n h =
 
 pub length-laid : (layout : Layout) (lines : List Reading) → IsLayoutOf layout lines → length layout.placements.items ≡ length lines
 unfolding placements_of
-length-laid layout lines laid = ap length laid.placements ∙ length-map (reverse (placed lines)) (final_placement (placed lines)) ∙ length-numbered lines
+length-laid layout lines laid = sym (length-map layout.placements.items found) ∙ ap length laid.placements ∙ length-map (reverse (placed lines)) (final_placement (placed lines)) ∙ length-numbered lines
 
 -- the state in which the pass stands after steady lines
 pub record Resumes (before : List Placed) : Type 0 where
@@ -266,5 +251,5 @@ resumes lines h =
     record { aligning = still-aligning (placed lines) s; ended = not-ended (placed lines) s; open_blocks = no-blocks (placed lines) s }
 
 -- an old layout has the placements of its first lines, where they are steady
-pub first-laid : (layout : Layout) (lines : List Reading) (n : ℕ) → IsLayoutOf layout lines → n ≤ length lines → AllSteady (take n lines) → take n layout.placements.items ≡ first_placements (take n lines)
+pub first-laid : (layout : Layout) (lines : List Reading) (n : ℕ) → IsLayoutOf layout lines → n ≤ length lines → AllSteady (take n lines) → take n (map found layout.placements.items) ≡ first_placements (take n lines)
 first-laid layout lines n laid h steady = ap (take n) laid.placements ∙ placements-before lines n h (steady-placed (take n lines) steady)

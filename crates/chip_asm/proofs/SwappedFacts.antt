@@ -1,16 +1,14 @@
--- What a line in the place of one with the same effect changes: its bytes, and whether it has a
--- fault.
+-- What a line in the place of one with the same effect changes: its bytes.
 use Rattle.std.proofs.Common.{◌≡◌, ℕ, ◌+◌, ◌-◌, ◌<◌, ◌≤◌, Bool, true, false, cond, ◌&&◌, ltb, leb, List, [], ◌∷◌, ◌++◌, length, map, reverse, set, get_or, find, refl, ap, sym, ◌∙◌, arith, Option, Some, None}
 use Rattle.std.specs.Option.{option_map_or}
 use Rattle.std.proofs.lemmas.Bool.Decides.{nat_tests}
 use Rattle.std.proofs.Math.Seq.{map-set_same, set-append_seam}
-use Rattle.std.proofs.lemmas.List.{length-reverse, map-set}
+use Rattle.std.proofs.lemmas.List.{length-reverse}
 use Rattle.chip_lang.specs.Line.{Reading}
 use Rattle.chip_asm.specs.Layout.{Placed}
 use Rattle.chip_asm.specs.computed.Walk.{placed, address, symbols}
-use Rattle.chip_asm.specs.inner.Codes.{line_faults}
 use Rattle.chip_asm.specs.inner.Layouts.{placements_of, final_placement}
-use Rattle.chip_asm.specs.Program.{names_of_lines, code_under, bytes_in_code, fault_of, covers, byte_at}
+use Rattle.chip_asm.specs.Program.{names_of_lines, code_under, bytes_in_code, covers, byte_at}
 use Rattle.chip_asm.proofs.QuietLines.{Same, Quiet, with_line, quiet-old, quiet-new}
 use Rattle.chip_asm.proofs.SwappedLine.{AreAbove, Swapped, at-middle, reverse-middle}
 
@@ -22,15 +20,14 @@ end-swapped lines at new s = ap address s.now ∙ sym s.same.at ∙ ap address (
 
 -- the first pass
 
-final-same : (xs ys : List Placed) (p : Placed) → Same xs ys → final_placement xs p ≡ final_placement ys p
+pub final-same : (xs ys : List Placed) (p : Placed) → Same xs ys → final_placement xs p ≡ final_placement ys p
 final-same xs ys p s = rw (s.ended, s.open_ifs) refl
 
 final-swapped : (xs ys : List Placed) (x : Placed) (new : Reading) → Quiet x → Quiet (with_line x new) → final_placement xs x ≡ final_placement ys (with_line x new)
 final-swapped xs ys x new a b = rw (a.no_if, b.no_if) refl
 
 maps : {Y : Type 0} (f g : Placed → Y) → ((p : Placed) → f p ≡ g p) → (ps : List Placed) → map f ps ≡ map g ps
-maps f g same [] = refl
-maps f g same (p ∷ ps) = rw (same p, maps f g same ps) refl
+maps f g same ps = λ i. map (λ p. same p i) ps
 
 -- the line comes in the place of the other one
 pub line-swapped : (lines : List Reading) (at : ℕ) (new : Reading) (s : Swapped lines at new) → reverse (placed (set lines at new)) ≡ set (reverse (placed lines)) at (with_line s.x new)
@@ -44,7 +41,7 @@ line-swapped lines at new s =
 pub line-was : (lines : List Reading) (at : ℕ) (new : Reading) (s : Swapped lines at new) (d : Placed) → get_or (reverse (placed lines)) at d ≡ s.x
 line-was lines at new s d = ap (λ ps. get_or (reverse ps) at d) s.was ∙ at-middle s.later s.before s.x d at s.count
 
-alike : (lines : List Reading) (at : ℕ) (new : Reading) (s : Swapped lines at new) → Same (placed lines) (placed (set lines at new))
+pub alike : (lines : List Reading) (at : ℕ) (new : Reading) (s : Swapped lines at new) → Same (placed lines) (placed (set lines at new))
 alike lines at new s = rw (s.was, s.now) s.same
 
 pub placements-swapped : (lines : List Reading) (at : ℕ) (new : Reading) → Swapped lines at new → placements_of (set lines at new) ≡ placements_of lines
@@ -54,19 +51,6 @@ placements-swapped lines at new s =
     ∙ sym (maps (final_placement (placed lines)) (final_placement (placed (set lines at new))) (λ p. final-same (placed lines) (placed (set lines at new)) p (alike lines at new s)) (set (reverse (placed lines)) at (with_line s.x new)))
     ∙ map-set_same (final_placement (placed lines)) (reverse (placed lines)) at (with_line s.x new) s.x
     (sym (final-swapped (placed lines) (placed lines) s.x new (quiet-old s.x new s.effect) (quiet-new s.x new s.effect)) ∙ ap (final_placement (placed lines)) (sym (line-was lines at new s s.x)))
-
--- faults
-
-fault-same : (xs ys : List Placed) (p : Placed) → Same xs ys → fault_of xs p ≡ fault_of ys p
-fault-same xs ys p s = rw (s.ended, s.open_ifs, s.names) refl
-
-pub line_faults-swapped : (lines : List Reading) (at : ℕ) (new : Reading) (s : Swapped lines at new) → line_faults (set lines at new) ≡ set (line_faults lines) at (fault_of (placed (set lines at new)) (with_line s.x new))
-unfolding line_faults
-line_faults-swapped lines at new s =
-    ap (map (fault_of (placed (set lines at new)))) (line-swapped lines at new s)
-    ∙ map-set (fault_of (placed (set lines at new))) (reverse (placed lines)) at (with_line s.x new)
-    ∙ ap (λ fs. set fs at (fault_of (placed (set lines at new)) (with_line s.x new)))
-    (sym (maps (fault_of (placed lines)) (fault_of (placed (set lines at new))) (λ p. fault-same (placed lines) (placed (set lines at new)) p (alike lines at new s)) (reverse (placed lines))))
 
 -- bytes
 

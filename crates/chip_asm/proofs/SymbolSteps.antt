@@ -15,10 +15,9 @@ use Rattle.std.proofs.lemmas.List.Sums.{fails_before_first}
 use Rattle.std.proofs.lemmas.Option.{slice_get-map, get_or_from_slice_get}
 use Rattle.std.proofs.lemmas.Slice.Eq.{bytes_eq-Decides}
 use Rattle.chip_asm.specs.declared.table.Entry.{Entry}
-use Rattle.chip_asm.specs.declared.table.Definitions.{Definitions}
 use Rattle.chip_asm.specs.declared.table.Symbol.{Symbol}
 use Rattle.chip_asm.specs.Names.{Name, lookup_name}
-use Rattle.chip_asm.specs.inner.Tables.{AreApart, AreDefined, Extends, Tables, key_at, symbols_in, value_among}
+use Rattle.chip_asm.specs.inner.Tables.{AreApart, AreDefined, Extends, Tables, key_at, symbols_in, value_among, valued_in}
 
 -- looking a name up
 
@@ -32,7 +31,7 @@ lookup-last : (names : List (Name × Symbol)) (e : Name × Symbol) (name : Name)
 lookup-last names e name none = lookup-append names (e ∷ []) name ∙ ap (λ o. option_or o (lookup_name (e ∷ []) name)) none
 
 -- later symbols of other names change nothing
-pub lookup-front : (names later : List (Name × Symbol)) (name : Name) → lookup_name later name ≡ None → lookup_name (names ++ later) name ≡ lookup_name names name
+lookup-front : (names later : List (Name × Symbol)) (name : Name) → lookup_name later name ≡ None → lookup_name (names ++ later) name ≡ lookup_name names name
 lookup-front [] later name h = h
 lookup-front (x ∷ xs) later name h = ap (cond (bytes_eq name x.0) (Some x.1)) (lookup-front xs later name h)
 
@@ -90,50 +89,48 @@ valued-set keys vs i v was now apart inside long all other own number h = by (ca
         get_or-set_other vs i number v None differ ∙ all number h ∙ other (key_at keys number) (apart-names (key_at keys number) (key_at keys i) (λ same. differ (apart.each number i h inside same)))
 
 -- one definition more
-pub defined-more : (keys : List Name) (d next : Definitions) (e : Entry) → AreApart keys → AreDefined keys d → e.id.number < length keys → lookup_name (symbols_in keys d.entries.items) (key_at keys e.id.number) ≡ None
-    → next.entries.items ≡ d.entries.items ++ e ∷ [] → next.values.items ≡ set d.values.items e.id.number (Some e.symbol.value) → AreDefined keys next
-defined-more keys d next e apart a inside none entries values =
-    let ss : List (Name × Symbol) = symbols_in keys d.entries.items in
-    let symbols : symbols_in keys next.entries.items ≡ ss ++ seen keys e ∷ [] = ap (symbols_in keys) entries ∙ symbols-push keys d.entries.items e in
-    let firsts : AreFirst ss = λ place x h is. a.once place x (omega (arith, h, length-map d.entries.items (seen keys))) is in
+pub defined-more : (keys : List Name) (es : List Entry) (vs : List (Option ℤ)) (e : Entry) → AreApart keys → AreDefined keys es vs → e.id.number < length keys → lookup_name (symbols_in keys es) (key_at keys e.id.number) ≡ None
+    → AreDefined keys (es ++ e ∷ []) (set vs e.id.number (Some e.symbol.value))
+defined-more keys es vs e apart a inside none =
+    let ss : List (Name × Symbol) = symbols_in keys es in
+    let symbols : symbols_in keys (es ++ e ∷ []) ≡ ss ++ seen keys e ∷ [] = symbols-push keys es e in
+    let firsts : AreFirst ss = λ place x h is. a.once place x (omega (arith, h, length-map es (seen keys))) is in
     record {
-      inside = rw entries (All-push (λ (e : Entry). e.id.number < length keys) d.entries.items e a.inside inside);
-      once = λ place x h is. subst AreFirst (sym symbols) (first-more ss (seen keys e) firsts none) place x (omega (arith, h, length-map next.entries.items (seen keys))) is;
-      long = ap length values ∙ length-set d.values.items e.id.number (Some e.symbol.value) ∙ a.long;
-      valued = rw (values, symbols) (valued-set keys d.values.items e.id.number (Some e.symbol.value) ss (ss ++ seen keys e ∷ []) apart inside a.long a.valued
+      inside = All-push (λ (e : Entry). e.id.number < length keys) es e a.inside inside;
+      once = λ place x h is. subst AreFirst (sym symbols) (first-more ss (seen keys e) firsts none) place x (omega (arith, h, length-map (es ++ e ∷ []) (seen keys))) is;
+      long = length-set vs e.id.number (Some e.symbol.value) ∙ a.long;
+      valued = rw symbols (valued-set keys vs e.id.number (Some e.symbol.value) ss (ss ++ seen keys e ∷ []) apart inside a.long a.valued
           (λ name other. sym (value-other ss (seen keys e) name other)) (sym (value-own ss (seen keys e) none)));
     }
 
 -- the last definition is taken back
-pub defined-less : (keys : List Name) (d next : Definitions) (e : Entry) → AreApart keys → AreDefined keys d → d.entries.items ≡ next.entries.items ++ e ∷ [] → next.values.items ≡ set d.values.items e.id.number None
-    → AreDefined keys next
-defined-less keys d next e apart a entries values =
-    let ss : List (Name × Symbol) = symbols_in keys next.entries.items in
-    let symbols : symbols_in keys d.entries.items ≡ ss ++ seen keys e ∷ [] = ap (symbols_in keys) entries ∙ symbols-push keys next.entries.items e in
-    let firsts : AreFirst (ss ++ seen keys e ∷ []) = subst AreFirst symbols (λ place x h is. a.once place x (omega (arith, h, length-map d.entries.items (seen keys))) is) in
-    let all : All (λ (e : Entry). e.id.number < length keys) (next.entries.items ++ e ∷ []) = rw (← entries) a.inside in
-    let count : length (next.entries.items ++ e ∷ []) ≡ length next.entries.items + 1 = length-append next.entries.items (e ∷ []) in
-    let within : e.id.number < length keys = (let last = all (length next.entries.items) e (omega arith) in rw get_or-append_seam at last) in
+pub defined-less : (keys : List Name) (es : List Entry) (vs : List (Option ℤ)) (e : Entry) → AreApart keys → AreDefined keys (es ++ e ∷ []) vs → AreDefined keys es (set vs e.id.number None)
+defined-less keys es vs e apart a =
+    let ss : List (Name × Symbol) = symbols_in keys es in
+    let symbols : symbols_in keys (es ++ e ∷ []) ≡ ss ++ seen keys e ∷ [] = symbols-push keys es e in
+    let firsts : AreFirst (ss ++ seen keys e ∷ []) = subst AreFirst symbols (λ place x h is. a.once place x (omega (arith, h, length-map (es ++ e ∷ []) (seen keys))) is) in
+    let count : length (es ++ e ∷ []) ≡ length es + 1 = length-append es (e ∷ []) in
+    let within : e.id.number < length keys = (let last = a.inside (length es) e (omega arith) in rw get_or-append_seam at last) in
     let none : lookup_name ss (key_at keys e.id.number) ≡ None
     = ap (λ ts. lookup_name ts (key_at keys e.id.number)) (sym (take-append_seam ss (seen keys e ∷ [])))
     ∙ firsts (length ss) (seen keys e) (omega (arith, length-append ss (seen keys e ∷ []))) (sym (get_or-append_seam ss (seen keys e) [] (seen keys e))) in
     record {
-      inside = λ k x h. (let low = all k x (omega arith) in rw (get_or_append_left next.entries.items (e ∷ []) x k h) at low);
-      once = λ place x h is. first-less ss (seen keys e) firsts place x (omega (arith, h, length-map next.entries.items (seen keys))) is;
-      long = ap length values ∙ length-set d.values.items e.id.number None ∙ a.long;
-      valued = rw values (valued-set keys d.values.items e.id.number None (ss ++ seen keys e ∷ []) ss apart within a.long (rw (← symbols) a.valued)
-          (λ name other. value-other ss (seen keys e) name other) (sym (ap (option_map (λ (s : Symbol). s.value)) none)));
+      inside = λ k x h. (let low = a.inside k x (omega arith) in rw (get_or_append_left es (e ∷ []) x k h) at low);
+      once = λ place x h is. first-less ss (seen keys e) firsts place x (omega (arith, h, length-map es (seen keys))) is;
+      long = length-set vs e.id.number None ∙ a.long;
+      valued = valued-set keys vs e.id.number None (ss ++ seen keys e ∷ []) ss apart within a.long (rw (← symbols) a.valued)
+          (λ name other. value-other ss (seen keys e) name other) (sym (ap (option_map (λ (s : Symbol). s.value)) none));
     }
 
 -- a name by its number
 
 -- where a key is found by its bytes
-found-key : (keys : List Name) (name : Name) (i : ℕ) → position (bytes_eq name) keys ≡ Some i → (i < length keys) × (key_at keys i ≡ name)
+pub found-key : (keys : List Name) (name : Name) (i : ℕ) → position (bytes_eq name) keys ≡ Some i → (i < length keys) × (key_at keys i ≡ name)
 found-key keys name i h =
     let p = position-Some (bytes_eq name) keys i [] h in
     (p.0, sym ((bytes_eq-Decides name (key_at keys i)).0 p.1))
 
-absent-key : (keys : List Name) (name : Name) → position (bytes_eq name) keys ≡ None → (i : ℕ) → i < length keys → key_at keys i ≡ name → ⊥
+pub absent-key : (keys : List Name) (name : Name) → position (bytes_eq name) keys ≡ None → (i : ℕ) → i < length keys → key_at keys i ≡ name → ⊥
 absent-key keys name h i inside same =
     let far : length keys ≤ position_or_len (bytes_eq name) keys = grind (arith, nat_tests) in
     let no : bytes_eq name (key_at keys i) ≡ false = fails_before_first (bytes_eq name) keys i [] (omega arith) in
@@ -141,7 +138,7 @@ absent-key keys name h i inside same =
     cc
 
 -- symbols are of names among the keys
-pub lookup-missing : (keys : List Name) (es : List Entry) (name : Name) → All (λ (e : Entry). e.id.number < length keys) es → ((i : ℕ) → i < length keys → key_at keys i ≡ name → ⊥) → lookup_name (symbols_in keys es) name ≡ None
+lookup-missing : (keys : List Name) (es : List Entry) (name : Name) → All (λ (e : Entry). e.id.number < length keys) es → ((i : ℕ) → i < length keys → key_at keys i ≡ name → ⊥) → lookup_name (symbols_in keys es) name ≡ None
 lookup-missing keys [] name inside none = refl
 lookup-missing keys (e ∷ es) name inside none =
     let apart : bytes_eq name (key_at keys e.id.number) ≡ false = apart-names name (key_at keys e.id.number) (λ same. none e.id.number (inside zero e (omega arith)) (sym same)) in
@@ -209,43 +206,40 @@ symbols-more was now name (e ∷ es) o inside =
     let rest : symbols_in now es ≡ symbols_in was es = symbols-more was now name es o (λ k d h. inside (suc k) d (omega (arith, h))) in
     λ j. (here j, e.symbol) ∷ rest j
 
-pub defined-under : (was now : List Name) (name : Name) (d next : Definitions) → OneMore was now name → AreDefined was d → next.entries.items ≡ d.entries.items → next.values.items ≡ d.values.items ++ None ∷ []
-    → AreDefined now next
-defined-under was now name d next o a entries values = record {
-  inside = rw entries (λ k x h. let low = a.inside k x h in omega (arith, low, count));
-  once = λ place x h is. ap (λ ss. lookup_name (take place ss) x.0) symbols ∙ a.once place x (omega (arith, ap length entries)) (is ∙ ap (λ ss. get_or ss place x) symbols);
-  long = omega (arith, ap length values, length-append d.values.items (None ∷ []), a.long, count);
-  valued = λ number h. ap (λ vs. get_or vs number None) values ∙ valued number h (cases_lt number (length was)) ∙ sym (ap (λ ss. value_among ss (key_at now number)) symbols);
+pub defined-under : (was now : List Name) (name : Name) (es : List Entry) (vs : List (Option ℤ)) → OneMore was now name → AreDefined was es vs → AreDefined now es (vs ++ None ∷ [])
+defined-under was now name es vs o a = record {
+  inside = λ k x h. (let low = a.inside k x h in omega (arith, low, count));
+  once = λ place x h is. ap (λ ss. lookup_name (take place ss) x.0) symbols ∙ a.once place x h (is ∙ ap (λ ss. get_or ss place x) symbols);
+  long = omega (arith, length-append vs (None ∷ []), a.long, count);
+  valued = λ number h. valued number h (cases_lt number (length was)) ∙ sym (ap (λ ss. value_among ss (key_at now number)) symbols);
 }
   where
     count : length now ≡ length was + 1
     count = ap length o.is ∙ length-append was (name ∷ [])
 
-    symbols : symbols_in now next.entries.items ≡ symbols_in was d.entries.items
-    symbols = ap (symbols_in now) entries ∙ symbols-more was now name d.entries.items o a.inside
+    symbols : symbols_in now es ≡ symbols_in was es
+    symbols = symbols-more was now name es o a.inside
 
-    valued : (number : ℕ) → number < length now → (number < length was) ⊎ (length was ≤ number) → get_or (d.values.items ++ None ∷ []) number None ≡ value_among (symbols_in was d.entries.items) (key_at now number)
+    valued : (number : ℕ) → number < length now → (number < length was) ⊎ (length was ≤ number) → get_or (vs ++ None ∷ []) number None ≡ value_among (symbols_in was es) (key_at now number)
     valued number h (inl low) =
-        get_or_append_left d.values.items (None ∷ []) None number (omega (arith, a.long)) ∙ a.valued number low
-        ∙ ap (value_among (symbols_in was d.entries.items)) (sym (key-kept was now name number o low))
+        get_or_append_left vs (None ∷ []) None number (omega (arith, a.long)) ∙ a.valued number low ∙ ap (value_among (symbols_in was es)) (sym (key-kept was now name number o low))
     valued number h (inr past) =
         let l = key-last was now name number o h past in
-        ap (λ i. get_or (d.values.items ++ None ∷ []) i None) (l.0 ∙ sym a.long) ∙ get_or-append_seam d.values.items None [] None
-        ∙ sym (ap (value_among (symbols_in was d.entries.items)) l.1 ∙ ap (option_map (λ (s : Symbol). s.value)) (lookup-missing was d.entries.items name a.inside o.none))
+        ap (λ i. get_or (vs ++ None ∷ []) i None) (l.0 ∙ sym a.long) ∙ get_or-append_seam vs None [] None
+        ∙ sym (ap (value_among (symbols_in was es)) l.1 ∙ ap (option_map (λ (s : Symbol). s.value)) (lookup-missing was es name a.inside o.none))
+
+-- the values before an edit, among which the new name has none
+pub valued-more : (keys : List Name) (vs : List (Option ℤ)) (name : Name) → length vs ≡ length keys → valued_in (keys ++ name ∷ []) (vs ++ None ∷ []) ≡ valued_in keys vs
+valued-more [] [] name e = refl
+valued-more [] (v ∷ vs) name e = absurd (omega (arith, e))
+valued-more (k ∷ ks) [] name e = absurd (omega (arith, e))
+valued-more (k ∷ ks) (None ∷ vs) name e = valued-more ks vs name (omega (arith, e))
+valued-more (k ∷ ks) (Some v ∷ vs) name e = ap (λ es. (k, v) ∷ es) (valued-more ks vs name (omega (arith, e)))
 
 -- a key that the set has changes none
 pub same-keys : (keys later : List (Vec ℕ)) (key : Vec ℕ) (new : Bool) → new ≡ false → new ≡ not (list_any (λ (k : Vec ℕ). bytes_eq key.items k.items) keys)
     → later ≡ cond (list_any (λ (k : Vec ℕ). bytes_eq key.items k.items) keys) keys (keys ++ key ∷ []) → later ≡ keys
 same-keys keys later key new sure is then = grind arith
-
--- the same definitions in other room
-pub defined-same : (keys : List Name) (d next : Definitions) → AreDefined keys d → next.entries.items ≡ d.entries.items → next.values.items ≡ d.values.items → AreDefined keys next
-defined-same keys d next a entries values = record {
-  inside = rw entries a.inside;
-  once = rw entries a.once;
-  long = rw values a.long;
-  valued = rw (values, entries) a.valued;
-}
 
 -- the key that stands at an index
 pub key-there : (keys : List (Vec ℕ)) (i : ℕ) (name : Name) → ((k : Vec ℕ) × (slice_get keys i ≡ Some k) × (bytes_eq name k.items ≡ true)) → key_at (names_of keys) i ≡ name
@@ -254,28 +248,11 @@ key-there keys i name s =
     ∙ sym ((bytes_eq-Decides name s.0.items).0 s.2)
 
 -- a name's value stands at its number
-pub value-found : (keys : List Name) (d : Definitions) (name : Name) (i : ℕ) → AreDefined keys d → i < length keys → key_at keys i ≡ name → get_or d.values.items i None ≡ value_among (symbols_in keys d.entries.items) name
-value-found keys d name i a h same = a.valued i h ∙ ap (value_among (symbols_in keys d.entries.items)) same
+pub value-found : (keys : List Name) (es : List Entry) (vs : List (Option ℤ)) (name : Name) (i : ℕ) → AreDefined keys es vs → (i < length keys) × (key_at keys i ≡ name) → get_or vs i None ≡ value_among (symbols_in keys es) name
+value-found keys es vs name i a f = a.valued i f.0 ∙ ap (value_among (symbols_in keys es)) f.1
 
-pub value-at : (keys : List Name) (d : Definitions) (name : Name) (i : ℕ) (x : Option ℤ) → AreDefined keys d → (i < length keys) × (key_at keys i ≡ name) → x ≡ get_or d.values.items i x
-    → x ≡ value_among (symbols_in keys d.entries.items) name
-value-at keys d name i x a f at =
-    let inside : i < length d.values.items = omega (arith, f.0, a.long) in
-    at ∙ get_or_default d.values.items i x None inside ∙ value-found keys d name i a f.0 f.1
-
-pub value-missing : (keys : List Name) (d : Definitions) (name : Name) → AreDefined keys d → ((i : ℕ) → i < length keys → key_at keys i ≡ name → ⊥) → value_among (symbols_in keys d.entries.items) name ≡ None
-value-missing keys d name a none = ap (option_map (λ (s : Symbol). s.value)) (lookup-missing keys d.entries.items name a.inside none)
-
--- tables with the same values at all numbers give all names the same values
-pub same-values : (keys : List Name) (past current : Definitions) → AreDefined keys past → AreDefined keys current → ((i : ℕ) → i < length keys → get_or past.values.items i None ≡ get_or current.values.items i None)
-    → (name : Name) → value_among (symbols_in keys past.entries.items) name ≡ value_among (symbols_in keys current.entries.items) name
-same-values keys past current a b same name = by (position (bytes_eq name) keys) refl
-  where
-    by : (o : Option ℕ) → position (bytes_eq name) keys ≡ o → value_among (symbols_in keys past.entries.items) name ≡ value_among (symbols_in keys current.entries.items) name
-    by None e = value-missing keys past name a (absent-key keys name e) ∙ sym (value-missing keys current name b (absent-key keys name e))
-    by (Some i) e =
-        let f = found-key keys name i e in
-        sym (value-found keys past name i a f.0 f.1) ∙ same i f.0 ∙ value-found keys current name i b f.0 f.1
+pub value-missing : (keys : List Name) (es : List Entry) (vs : List (Option ℤ)) (name : Name) → AreDefined keys es vs → ((i : ℕ) → i < length keys → key_at keys i ≡ name → ⊥) → value_among (symbols_in keys es) name ≡ None
+value-missing keys es vs name a none = ap (option_map (λ (s : Symbol). s.value)) (lookup-missing keys es name a.inside none)
 
 -- symbols one by one
 
@@ -311,12 +288,12 @@ entry-listed t u es items k same listed view h =
     entry-seen t.keys items t.symbols k (get_or items k no-entry) symbols h (get_or_default items k (get_or items k no-entry) no-entry h)
 
 -- none of the symbols before it has its name
-pub once-listed : (t u : Tables) (d : Definitions) (items : List Entry) (k : ℕ) → u ≡ t → items ≡ d.entries.items → u.symbols ≡ symbols_in u.keys d.entries.items → AreDefined u.keys d → k < length items
+pub once-listed : (t u : Tables) (es items : List Entry) (vs : List (Option ℤ)) (k : ℕ) → u ≡ t → items ≡ es → u.symbols ≡ symbols_in u.keys es → AreDefined u.keys es vs → k < length items
     → lookup_name (take k t.symbols) (key_at t.keys (get_or items k no-entry).id.number) ≡ None
-once-listed t u d items k same listed view a h =
-    let e : Entry = get_or d.entries.items k no-entry in
-    let inside : k < length d.entries.items = omega (arith, h, ap length listed) in
-    let s = entry-seen u.keys d.entries.items (symbols_in u.keys d.entries.items) k e refl inside (get_or_default d.entries.items k e no-entry inside) in
-    let new : lookup_name (take k (symbols_in u.keys d.entries.items)) (key_at u.keys e.id.number) ≡ None = a.once k (seen u.keys e) inside (sym s.1) in
+once-listed t u es items vs k same listed view a h =
+    let e : Entry = get_or es k no-entry in
+    let inside : k < length es = omega (arith, h, ap length listed) in
+    let s = entry-seen u.keys es (symbols_in u.keys es) k e refl inside (get_or_default es k e no-entry inside) in
+    let new : lookup_name (take k (symbols_in u.keys es)) (key_at u.keys e.id.number) ≡ None = a.once k (seen u.keys e) inside (sym s.1) in
     let at : lookup_name (take k u.symbols) (key_at u.keys (get_or items k no-entry).id.number) ≡ None = rw (view, listed) new in
     subst (λ (v : Tables). lookup_name (take k v.symbols) (key_at v.keys (get_or items k no-entry).id.number) ≡ None) same at

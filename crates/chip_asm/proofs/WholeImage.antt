@@ -1,32 +1,36 @@
--- The image and the faults of all lines, from the codes that are kept.
-use Rattle.std.proofs.Common.{◌≡◌, ℕ, zero, suc, ◌+◌, ◌-◌, ◌<◌, ◌≤◌, List, [], ◌∷◌, ◌++◌, map, reverse, length, take, get_or, slice_get, filter_map, refl, ap, sym, ◌∙◌, arith, Option, Some, None, option_map, vec_len}
+-- The image and the faults of all lines, from what is kept of them.
+use Rattle.std.proofs.Common.{◌≡◌, ℕ, zero, suc, ◌+◌, ◌-◌, ◌<◌, ◌≤◌, Bool, true, false, cond, List, [], ◌∷◌, ◌++◌, map, reverse, length, take, get_or, slice_get, filter_map, refl, ap, sym, ◌∙◌, arith, Option, Some, None, is_none, option_map, sum_by, vec_len}
 use Rattle.std.specs.Prelude.{option_and_then}
 use Rattle.std.specs.List.{range_with_len, cons_option}
-use Rattle.std.proofs.lemmas.List.{append-nil, get_or-take, length-map, length-take, nil_from_length, take_all, take_more}
+use Rattle.std.proofs.lemmas.List.{get_or-map, get_or-take, length-map, length-take, nil_from_length, same_lists, take_all, take_more}
 use Rattle.std.proofs.lemmas.List.Elements.{filter_map-append}
+use Rattle.std.proofs.lemmas.List.Sums.{sum_by-cons}
 use Rattle.std.proofs.lemmas.List.FromFn.{get_or-map-range_with_len, length-range_with_len}
 use Rattle.std.proofs.lemmas.Grind.{same_number_lists}
-use Rattle.std.proofs.lemmas.Option.{slice_get-get_or, slice_get-map, slice_get_within}
+use Rattle.std.proofs.lemmas.Option.{same_Some, slice_get-get_or, slice_get-map, slice_get_within}
 use Rattle.chip_lang.specs.declared.fault.Fault.{Fault}
 use Rattle.chip_lang.specs.declared.fault.Fault.TheVariants.{UnclosedIf}
 use Rattle.chip_lang.specs.declared.limits.TheConstants.{IMAGE_BYTES, IMAGE_START}
 use Rattle.chip_lang.specs.Line.{Reading, bad}
-use Rattle.chip_asm.specs.declared.codes.Codes.{Codes}
-use Rattle.chip_asm.specs.declared.codes.Coding.{Coding}
 use Rattle.chip_asm.specs.declared.kept.Kept.{Kept}
+use Rattle.chip_asm.specs.declared.layout.Layout.{Layout}
 use Rattle.chip_asm.specs.declared.placement.Placement.{Placement}
+use Rattle.chip_asm.specs.declared.placement.Status.{Status}
+use Rattle.chip_asm.specs.declared.placement.Status.TheVariants.{Done, Pending, Refused, Skipped, Uncoded}
 use Rattle.chip_asm.specs.Layout.{Placed}
-use Rattle.chip_asm.specs.Program.{byte_at, bytes_in_code, code_under, fault_of, faults_of_lines, image_of_lines, numbered_fault}
+use Rattle.chip_asm.specs.Program.{byte_at, bytes_in_code, code_under, fault_in_code, fault_of, faults_of_lines, image_of_lines, numbered_fault}
 use Rattle.chip_asm.specs.computed.Walk.{address, place, placed}
-use Rattle.chip_asm.specs.inner.Codes.{AreCodesOf, coding_of, fault_noted, line_faults}
+use Rattle.chip_asm.specs.inner.Codes.{IsImageOf}
 use Rattle.chip_asm.specs.inner.Kept.{IsKept}
 use Rattle.chip_asm.specs.inner.KeptLine.{KeptLine}
+use Rattle.chip_asm.specs.inner.Layouts.{IsLayoutOf}
+use Rattle.chip_asm.specs.inner.Placements.{Found, count_of, fault_noted, found, is_accepted, is_found, is_placed, nothing, refusal, status_coded}
 use Rattle.chip_asm.specs.inner.Records.{reading_in, readings_in}
 use Rattle.chip_asm.proofs.Bounds.{end-high}
 use Rattle.chip_asm.proofs.CarrySteps.{covering}
-use Rattle.chip_asm.proofs.CodeSteps.{coding-fault, length-faults}
-use Rattle.chip_asm.proofs.LinesByPlace.{AtPlace, byte-line, high, low}
+use Rattle.chip_asm.proofs.LinesByPlace.{AtPlace, accepted-fault, at-place, byte-line, high, low, refused-fault}
 use Rattle.chip_asm.proofs.Placing.{length-numbered}
+use Rattle.chip_asm.proofs.Resumed.{length-laid}
 use Rattle.chip_asm.proofs.UnclosedByPlace.{number-at}
 
 -- the whole image
@@ -46,76 +50,117 @@ no-lines [] e = refl
 no-lines (l ∷ lines) e = absurd (omega arith)
 
 -- the kept image reaches up to the address after the last line
-pub image-room : (kept : Kept) → IsKept kept → kept.layout.end ≤ vec_len kept.codes.image + IMAGE_START
+pub image-room : (kept : Kept) → IsKept kept → kept.layout.end ≤ vec_len kept.image + IMAGE_START
 image-room kept k = by (length kept.lines.items) refl
   where
-    by : (n : ℕ) → length kept.lines.items ≡ n → kept.layout.end ≤ vec_len kept.codes.image + IMAGE_START
+    by : (n : ℕ) → length kept.lines.items ≡ n → kept.layout.end ≤ vec_len kept.image + IMAGE_START
     by zero e = omega (arith, k.laid_out.end_address, no-lines kept.lines.items e)
-    by (suc n) e = omega (arith, k.laid_out.end_address, end-high (readings_in kept.lines.items), k.codes.long (omega (arith, e, length-map kept.lines.items reading_in)))
+    by (suc n) e = omega (arith, k.laid_out.end_address, end-high (readings_in kept.lines.items), k.image.long (omega (arith, e, length-map kept.lines.items reading_in)), kept.image.ok.0)
 
 -- the faults
 
-pub length-codings : (codes : Codes) (lines : List Reading) → AreCodesOf codes lines → length codes.codings.items ≡ length lines
-length-codings codes lines k = ap length k.coded ∙ length-map (line_faults lines) coding_of ∙ length-faults lines
+refused-noted : (s : Status) → is_accepted s ≡ false → fault_noted s ≡ refusal s
+refused-noted Skipped h = refl
+refused-noted (Refused f) h = refl
+refused-noted Pending h = refl
+refused-noted Done h = refl
+refused-noted (Uncoded f) h = cc
 
-fault-noted : (codes : Codes) (lines : List Reading) (i : ℕ) → AreCodesOf codes lines
-    → option_and_then fault_noted (slice_get codes.codings.items i) ≡ option_and_then (fault_of (placed lines)) (slice_get (reverse (placed lines)) i)
-unfolding line_faults
-fault-noted codes lines i k =
-    ap (λ cs. option_and_then fault_noted (slice_get cs i)) k.coded
-    ∙ ap (option_and_then fault_noted) (slice_get-map coding_of (line_faults lines) i ∙ ap (option_map coding_of) (slice_get-map (fault_of (placed lines)) (reverse (placed lines)) i))
-    ∙ by (slice_get (reverse (placed lines)) i)
-  where
-    by : (o : Option Placed) → option_and_then fault_noted (option_map coding_of (option_map (fault_of (placed lines)) o)) ≡ option_and_then (fault_of (placed lines)) o
-    by None = refl
-    by (Some x) = coding-fault (fault_of (placed lines) x)
-
-pub fault-some : (codes : Codes) (lines : List Reading) (i : ℕ) (c : Coding) → AreCodesOf codes lines → slice_get codes.codings.items i ≡ Some c
-    → fault_noted c ≡ option_and_then (fault_of (placed lines)) (slice_get (reverse (placed lines)) i)
-fault-some codes lines i c k e = ap (option_and_then fault_noted) (sym e) ∙ fault-noted codes lines i k
-
-pub fault-none : (codes : Codes) (lines : List Reading) (i : ℕ) → AreCodesOf codes lines → slice_get codes.codings.items i ≡ None
-    → None ≡ option_and_then (fault_of (placed lines)) (slice_get (reverse (placed lines)) i)
-fault-none codes lines i k e = ap (option_and_then fault_noted) (sym e) ∙ fault-noted codes lines i k
+coded-noted : (f : Option Fault) → fault_noted (status_coded f) ≡ f
+coded-noted None = refl
+coded-noted (Some f) = refl
 
 -- the fault that is noted of a line is its fault
-pub fault-kept : (codes : Codes) (lines : List Reading) (i : ℕ) (x : Placed) (c : Coding) → AreCodesOf codes lines → slice_get (reverse (placed lines)) i ≡ Some x → slice_get codes.codings.items i ≡ Some c
-    → fault_noted c ≡ fault_of (placed lines) x
-fault-kept codes lines i x c k there e = fault-some codes lines i c k e ∙ ap (option_and_then (fault_of (placed lines))) there
+pub fault-kept : (layout : Layout) (lines : List Reading) (i : ℕ) (x : Placed) (q : Placement) → IsLayoutOf layout lines → slice_get (reverse (placed lines)) i ≡ Some x → slice_get layout.placements.items i ≡ Some q
+    → fault_noted q.status ≡ fault_of (placed lines) x
+fault-kept layout lines i x q laid there noted = by (is_placed q) refl
+  where
+    a : AtPlace lines i (found q)
+    a = at-place lines layout laid i q noted
+
+    is : a.x ≡ x
+    is = same_Some a.x x (sym a.at ∙ there)
+
+    by : (b : Bool) → is_placed q ≡ b → fault_noted q.status ≡ fault_of (placed lines) x
+    by true taken =
+        ap fault_noted (laid.codes i a.x q a.at noted (ap is_found (sym a.placement) ∙ taken)) ∙ coded-noted (fault_in_code (code_under (placed lines) a.x))
+        ∙ sym (accepted-fault lines i (found q) a taken) ∙ ap (fault_of (placed lines)) is
+    by false refused = refused-noted q.status refused ∙ refused-fault lines i (found q) a refused ∙ ap (fault_of (placed lines)) is
+
+-- those of all lines
+faults-kept : (layout : Layout) (lines : List Reading) → IsLayoutOf layout lines → map (λ (q : Placement). fault_noted q.status) layout.placements.items ≡ map (fault_of (placed lines)) (reverse (placed lines))
+faults-kept layout lines laid =
+    same_lists _ _ (length-map qs noted ∙ length-laid layout lines laid ∙ sym (length-map all (fault_of (placed lines)) ∙ length-numbered lines)) (λ i other lt.
+    (let inside : i < length qs = omega (arith, lt, length-map qs noted) in
+    let within : i < length all = omega (arith, inside, length-laid layout lines laid, length-numbered lines) in
+    let d : Placed = place [] (bad UnclosedIf) in
+    get_or-map noted qs i nothing other inside
+    ∙ fault-kept layout lines i (get_or all i d) (get_or qs i nothing) laid (slice_get-get_or all i d within) (slice_get-get_or qs i nothing inside)
+    ∙ sym (get_or-map (fault_of (placed lines)) all i d other within)))
+  where
+    qs : List Placement
+    qs = layout.placements.items
+
+    all : List Placed
+    all = reverse (placed lines)
+
+    noted : Placement → Option Fault
+    noted q = fault_noted q.status
+
+pub fault-there : (layout : Layout) (lines : List Reading) (i : ℕ) (there : Option Placement) → IsLayoutOf layout lines → slice_get layout.placements.items i ≡ there
+    → option_and_then (λ (q : Placement). fault_noted q.status) there ≡ option_and_then (fault_of (placed lines)) (slice_get (reverse (placed lines)) i)
+fault-there layout lines i there laid is =
+    let noted : Placement → Option Fault = λ (q : Placement). fault_noted q.status in
+    ap (option_and_then noted) (sym is) ∙ joined noted (slice_get layout.placements.items i) ∙ ap (option_and_then (λ f. f)) (sym (slice_get-map noted layout.placements.items i) ∙ ap (λ fs. slice_get fs i) (faults-kept layout lines laid)
+    ∙ slice_get-map (fault_of (placed lines)) (reverse (placed lines)) i) ∙ sym (joined (fault_of (placed lines)) (slice_get (reverse (placed lines)) i))
+  where
+    joined : {X : Type 0} (f : X → Option Fault) (o : Option X) → option_and_then f o ≡ option_and_then (λ g. g) (option_map f o)
+    joined f None = refl
+    joined f (Some x) = refl
+
+-- how many they are
+
+count-numbered : (all xs : List Placed) (qs : List Placement) → map (λ (q : Placement). fault_noted q.status) qs ≡ map (fault_of all) xs → sum_by count_of qs ≡ length (filter_map (numbered_fault all) xs)
+count-numbered all [] [] e = refl
+count-numbered all [] (q ∷ qs) e = cc
+count-numbered all (x ∷ xs) [] e = cc
+count-numbered all (x ∷ xs) (q ∷ qs) e =
+    let head : fault_noted q.status ≡ fault_of all x = cc in
+    let tail : map (λ (q : Placement). fault_noted q.status) qs ≡ map (fault_of all) xs = cc in
+    sum_by-cons count_of q qs ∙ ap (λ f. cond (is_none f) 0 1 + sum_by count_of qs) head ∙ ap (λ n. cond (is_none (fault_of all x)) 0 1 + n) (count-numbered all xs qs tail)
+    ∙ step (fault_of all x) x.number (filter_map (numbered_fault all) xs)
+  where
+    step : (f : Option Fault) (n : ℕ) (l : List (ℕ × Fault)) → cond (is_none f) 0 1 + length l ≡ length (cons_option {X = ℕ × Fault} (option_map (λ g. (n, g)) f) l)
+    step None n l = omega arith
+    step (Some g) n l = omega arith
+
+pub faults-counted : (layout : Layout) (lines : List Reading) → IsLayoutOf layout lines → layout.faults ≡ length (faults_of_lines lines)
+faults-counted layout lines laid = laid.counted ∙ count-numbered (placed lines) (reverse (placed lines)) layout.placements.items (faults-kept layout lines laid)
 
 -- the faults of the lines so far
 abbrev pub faults_to : List Reading → ℕ → List (ℕ × Fault)
 faults_to lines n = filter_map (numbered_fault (placed lines)) (take n (reverse (placed lines)))
 
 -- one line more
-next-fault : (codes : Codes) (lines : List Reading) (i : ℕ) (c : Coding) → AreCodesOf codes lines → slice_get codes.codings.items i ≡ Some c
-    → faults_to lines (i + 1) ≡ faults_to lines i ++ cons_option (option_map {U = ℕ × Fault} (λ f. (i + 1, f)) (fault_noted c)) []
-next-fault codes lines i c k e =
+pub next-fault : (layout : Layout) (lines : List Reading) (i : ℕ) (q : Placement) (f : Option Fault) → IsLayoutOf layout lines → slice_get layout.placements.items i ≡ Some q → fault_noted q.status ≡ f
+    → faults_to lines (i + 1) ≡ faults_to lines i ++ cons_option (option_map {U = ℕ × Fault} (λ g. (i + 1, g)) f) []
+next-fault layout lines i q f laid noted is =
     let all : List Placed = reverse (placed lines) in
     let d : Placed = place [] (bad UnclosedIf) in
-    let inside : i < length all = omega (arith, slice_get_within codes.codings.items i c e, length-codings codes lines k, length-numbered lines) in
+    let inside : i < length all = omega (arith, slice_get_within layout.placements.items i q noted, length-laid layout lines laid, length-numbered lines) in
     let there : slice_get all i ≡ Some (get_or all i d) = slice_get-get_or all i d inside in
     ap (filter_map (numbered_fault (placed lines))) (take_more all i d inside) ∙ filter_map-append (numbered_fault (placed lines)) (take i all) (get_or all i d ∷ [])
     ∙ ap (λ (n : ℕ). faults_to lines i ++ cons_option (option_map {U = ℕ × Fault} (λ g. (n, g)) (fault_of (placed lines) (get_or all i d))) []) (number-at lines i (get_or all i d) there)
-    ∙ ap (λ (o : Option Fault). faults_to lines i ++ cons_option (option_map {U = ℕ × Fault} (λ g. (i + 1, g)) o) []) (sym (fault-kept codes lines i (get_or all i d) c k there e))
-
-pub next-some : (codes : Codes) (lines : List Reading) (i : ℕ) (c : Coding) (fault : Fault) → AreCodesOf codes lines → slice_get codes.codings.items i ≡ Some c → fault_noted c ≡ Some fault
-    → faults_to lines (i + 1) ≡ faults_to lines i ++ (i + 1, fault) ∷ []
-next-some codes lines i c fault k there is =
-    next-fault codes lines i c k there ∙ ap (λ o. faults_to lines i ++ cons_option (option_map {U = ℕ × Fault} (λ f. (i + 1, f)) o) []) is
-
-pub next-none : (codes : Codes) (lines : List Reading) (i : ℕ) (c : Coding) → AreCodesOf codes lines → slice_get codes.codings.items i ≡ Some c → fault_noted c ≡ None → faults_to lines (i + 1) ≡ faults_to lines i
-next-none codes lines i c k there is =
-    next-fault codes lines i c k there ∙ ap (λ o. faults_to lines i ++ cons_option (option_map {U = ℕ × Fault} (λ f. (i + 1, f)) o) []) is ∙ append-nil (faults_to lines i)
+    ∙ ap (λ (o : Option Fault). faults_to lines i ++ cons_option (option_map {U = ℕ × Fault} (λ g. (i + 1, g)) o) []) (sym (fault-kept layout lines i (get_or all i d) q laid there noted) ∙ is)
 
 pub faults-all : (lines : List Reading) (n : ℕ) → length lines ≤ n → faults_to lines n ≡ faults_of_lines lines
 faults-all lines n h = ap (filter_map (numbered_fault (placed lines))) (take_all n (reverse (placed lines)) (omega (arith, length-numbered lines)))
 
 -- the kept bytes of a line are its own
-pub bytes-found : (codes : Codes) (lines : List Reading) (i : ℕ) (q : Placement) (a : AtPlace lines i q) → AreCodesOf codes lines → (k : ℕ) → k < q.size
-    → get_or codes.image.items (q.here - IMAGE_START + k) 0 ≡ get_or (bytes_in_code (code_under (placed lines) a.x)) k 0
-bytes-found codes lines i q a c k h =
+pub bytes-found : (image : List ℕ) (lines : List Reading) (i : ℕ) (q : Found) (a : AtPlace lines i q) → IsImageOf image lines → (k : ℕ) → k < q.size
+    → get_or image (q.here - IMAGE_START + k) 0 ≡ get_or (bytes_in_code (code_under (placed lines) a.x)) k 0
+bytes-found image lines i q a m k h =
     let at : IMAGE_START + (q.here - IMAGE_START + k) ≡ q.here + k = omega (arith, low lines i q a) in
     let own : q.here + k - q.here ≡ k = omega arith in
-    c.imaged (q.here - IMAGE_START + k) (omega (arith, high lines i q a)) ∙ ap (byte_at (placed lines)) at ∙ byte-line lines i q a (q.here + k) (covering q.here q.size (q.here + k) (omega arith) (omega arith))
+    m.imaged (q.here - IMAGE_START + k) (omega (arith, high lines i q a)) ∙ ap (byte_at (placed lines)) at ∙ byte-line lines i q a (q.here + k) (covering q.here q.size (q.here + k) (omega arith) (omega arith))
     ∙ ap (λ n. get_or (bytes_in_code (code_under (placed lines) a.x)) n 0) own

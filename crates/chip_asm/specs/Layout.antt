@@ -54,10 +54,6 @@ abbrev pub is_org_body : Body → Bool
 is_org_body (org e) = true
 is_org_body _ = false
 
-abbrev pub is_equ_body : Body → Bool
-is_equ_body (equ e) = true
-is_equ_body _ = false
-
 abbrev pub is_if : Placed → Bool
 is_if p = is_if_body (body_of p.line)
 

@@ -2,15 +2,16 @@
 -- it is silent): a relation between the lines and what holds of them. The laws say that what
 -- `computed/Walk` finds line by line is in it, and nothing else. `before` has the lines before a
 -- line, the first one first.
-use Rattle.std.specs.Prelude.{◌≡◌, ℕ, ◌+◌, ◌≤◌, ℤ, unsigned_abs, Bool, true, false, not, ◌&&◌, List, [], ◌∷◌, length, take, drop, Option, Some, None, Result, Ok, Err, if◌then◌else◌, sum_by, count_by, filter_map, slice_get, Decides}
+use Rattle.std.specs.Prelude.{◌≡◌, ℕ, ◌+◌, ◌-◌, ◌<◌, ◌≤◌, ◌⊎◌, ℤ, unsigned_abs, Bool, true, false, not, ◌&&◌, List, [], ◌∷◌, length, take, drop, Option, Some, None, is_some, Result, Ok, Err, if◌then◌else◌, sum_by, count_by, filter_map, slice_get, slice_index, Decides}
 use Rattle.std.specs.List.{list_any}
 use Rattle.chip_lang.specs.declared.limits.TheConstants.{IMAGE_START}
 use Rattle.chip_lang.specs.declared.fault.Fault.{Fault}
-use Rattle.chip_lang.specs.declared.fault.Fault.TheVariants.{DefinedTwice, OutOfRange, OrgBelowHere, PastMemory, StrayBranch}
+use Rattle.chip_lang.specs.declared.fault.Fault.TheVariants.{DefinedTwice, OutOfRange, OrgBelowHere, PastMemory, StrayBranch, UnclosedIf}
+use Rattle.chip_lang.specs.Code.{own_bytes}
 use Rattle.chip_lang.specs.Line.{Body, Reading, bad, read, fault_if, first_that_holds}
 use Rattle.chip_lang.specs.Uses.{name_defined}
 use Rattle.chip_asm.specs.declared.table.Symbol.{Symbol}
-use Rattle.chip_asm.specs.Names.{Name}
+use Rattle.chip_asm.specs.Names.{Name, values_of}
 use Rattle.chip_asm.specs.Layout.{Placed, body_of, is_if, is_else, is_endif, is_else_body, is_side_or_end, is_number, is_origin, is_align, is_align_off_body, takes_effect, symbol_of, holds, has_ended, condition_of, value_at, value_or_zero, full_size, is_redefinition, is_negative_space, is_backwards, is_past_end}
 
 -- the line at place j is this one, and passes the test
@@ -55,6 +56,14 @@ pub record IsLive (before : List Placed) (body : Body) : Type 0 where
 abbrev pub sizes : List Placed → ℕ
 sizes = sum_by (λ p. p.size)
 
+-- the address after these lines: the value of the last ORG that takes effect, or where the image
+-- stands, and the sizes since
+abbrev pub IsAfter : List Placed → ℕ → Type 0
+IsAfter before address =
+    IsFromLast (Passes is_origin before)
+    (λ j org. unsigned_abs org.value + sizes (drop (j + 1) before)) (IMAGE_START + sizes before)
+    address
+
 -- the names that these lines give, in line order
 abbrev pub names_given : List Placed → List (Name × Symbol)
 names_given = filter_map symbol_of
@@ -95,10 +104,7 @@ pub record IsPlaced (before : List Placed) (line : Reading) (p : Placed) : Type 
   pub block : IsFromLast (Encloses before) (λ j opener. Some opener.number) None p.block
   pub condition : p.condition ≡ condition_of (names_given before) (body_of line)
   pub live : Decides p.live (IsLive before (body_of line))
-  -- the value of the last ORG that takes effect, or where the image stands, and the sizes since
-  pub here : IsFromLast (Passes is_origin before)
-      (λ j org. unsigned_abs org.value + sizes (drop (j + 1) before))
-      (IMAGE_START + sizes before) p.here
+  pub here : IsAfter before p.here
   pub value : p.value ≡ value_or_zero (value_at (names_given before) (body_of line))
   -- the last ALIGN that takes effect is not OFF
   pub aligning : Bool
@@ -120,3 +126,38 @@ pub record IsUnclosed (all : List Placed) (i : ℕ) (p : Placed) : Type 0 where
   pub encloses : Encloses all i p
   pub live : p.live ≡ true
   pub not_ended : has_ended all ≡ false
+
+abbrev pub fault_in_code : Result (List ℕ) Fault → Option Fault
+fault_in_code (Ok bytes) = None
+fault_in_code (Err fault) = Some fault
+
+abbrev pub bytes_in_code : Result (List ℕ) Fault → List ℕ
+bytes_in_code (Ok bytes) = bytes
+bytes_in_code (Err fault) = []
+
+-- the line's own bytes under all names, or its fault of the second pass
+abbrev pub code_among : List Placed → Placed → Result (List ℕ) Fault
+code_among all p = own_bytes (body_of p.line) (values_of (names_given all))
+
+-- the image of a whole source, if no line has a fault: it reaches up to the address after the last
+-- line; each line's own bytes stand at its address, zeros behind them up to its size, and zeros where
+-- no line stands
+pub record IsImage (all : List Placed) (bytes : List ℕ) : Type 0 where
+  pub up_to : IsAfter all (IMAGE_START + length bytes)
+  pub of_line : (i k : ℕ) (p : Placed) → slice_get all i ≡ Some p → k < p.size
+      → p.here + k < IMAGE_START + length bytes
+      → slice_index bytes (p.here + k - IMAGE_START)
+      ≡ slice_index (bytes_in_code (code_among all p)) k
+  pub between : (k : ℕ) → k < length bytes
+      → ((i : ℕ) (p : Placed) → slice_get all i ≡ Some p
+      → (IMAGE_START + k < p.here) ⊎ (p.here + p.size ≤ IMAGE_START + k))
+      → slice_index bytes k ≡ 0
+
+-- the fault of the line at place i of a whole source, if it has one: a line that isn't live has none;
+-- else it is that of an IF without ENDIF, or that of the first pass, or that of the line's own bytes
+pub record IsFaultOf (all : List Placed) (i : ℕ) (p : Placed) (fault : Option Fault) : Type 0 where
+  pub not_live : p.live ≡ false → fault ≡ None
+  pub unclosed : IsUnclosed all i p → fault ≡ Some UnclosedIf
+  pub first : p.live ≡ true → (IsUnclosed all i p → ⊥) → is_some p.fault ≡ true → fault ≡ p.fault
+  pub second : p.live ≡ true → (IsUnclosed all i p → ⊥) → p.fault ≡ None
+      → fault ≡ fault_in_code (code_among all p)

@@ -1,5 +1,5 @@
 -- The names, the faults and the image of a whole source (Chipper manual; own where it is silent).
-use Rattle.std.specs.Prelude.{◌≡◌, ◌<◌, ◌≤◌, ◌⊎◌, ℕ, ◌+◌, ◌-◌, Bool, not, ◌&&◌, List, [], ◌∷◌, reverse, map, Option, Some, None, is_some, Result, Ok, Err, if◌then◌else◌, nat_eq, nat_lt, nat_le, find, filter_map, option_map, option_and_then, slice_get, slice_index}
+use Rattle.std.specs.Prelude.{◌≡◌, ◌<◌, ◌≤◌, ◌⊎◌, ℕ, ◌+◌, ◌-◌, Bool, not, ◌&&◌, List, [], ◌∷◌, reverse, map, Option, Some, None, is_some, Result, if◌then◌else◌, nat_eq, nat_lt, nat_le, find, filter_map, option_map, option_and_then, slice_get, slice_index}
 use Rattle.std.specs.List.{list_any, range_with_len}
 use Rattle.std.specs.Option.{option_map_or}
 use Rattle.chip_lang.specs.declared.limits.TheConstants.{IMAGE_START}
@@ -11,6 +11,7 @@ use Rattle.chip_asm.specs.declared.table.Symbol.{Symbol}
 use Rattle.chip_asm.specs.Names.{Name, values_of}
 use Rattle.chip_asm.specs.Layout.{Placed, is_if, has_ended, body_of}
 use Rattle.chip_asm.specs.computed.Walk.{placed, symbols, enclosing, address}
+pub use Rattle.chip_asm.specs.Places.{bytes_in_code, fault_in_code}
 
 -- the table of names of some lines
 abbrev pub names_of_lines : List Reading → List (Name × Symbol)
@@ -29,14 +30,6 @@ first_pass_fault all p = if is_unclosed all p then Some UnclosedIf else p.fault
 -- the line's own bytes under all names, or its fault of the second pass
 abbrev pub code_under : List Placed → Placed → Result (List ℕ) Fault
 code_under all p = own_bytes (body_of p.line) (values_of (symbols all))
-
-abbrev pub fault_in_code : Result (List ℕ) Fault → Option Fault
-fault_in_code (Ok bytes) = None
-fault_in_code (Err fault) = Some fault
-
-abbrev pub bytes_in_code : Result (List ℕ) Fault → List ℕ
-bytes_in_code (Ok bytes) = bytes
-bytes_in_code (Err fault) = []
 
 -- the fault of a line of the source: a line that isn't live has none
 abbrev pub fault_of : List Placed → Placed → Option Fault

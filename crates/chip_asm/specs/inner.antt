@@ -1,6 +1,7 @@
--- What the functions inside say: of the first pass in Turns, Follows, Placements, Marks,
--- Layouts and Resume; of symbols in Tables; of kept lines in HeldText, HeldLine, KeptLine,
--- PackedUses, Infos, Records and Effect; of their codes in Recode and Codes; of both passes in Passes; of all of it in Kept.
+-- What the functions inside say: of the first pass in Turns, Follows, Placements, Marks, Layouts and
+-- Resume; of symbols in ValueLists and Tables; of kept lines in HeldText, HeldLine, KeptLine,
+-- PackedUses, Infos, Records and Effect; of their codes in Recode and Codes; of both passes in
+-- Passes; of all of it in Kept.
 pub mod Codes
 pub mod Effect
 pub mod Follows
@@ -19,3 +20,4 @@ pub mod Records
 pub mod Resume
 pub mod Tables
 pub mod Turns
+pub mod ValueLists

@@ -1,5 +1,5 @@
 //! The two passes over the lines after an edit.
-ghost use Rattle.std.specs.Prelude.{◌≡◌, ◌+◌, ◌<◌, ◌≤◌, ◌&&◌, ◌||◌, not, true, false, length, Ok};
+ghost use Rattle.std.specs.Prelude.{◌≡◌, ℕ, ◌+◌, ◌<◌, ◌≤◌, ◌&&◌, ◌||◌, not, true, false, length, map, Ok, slice_get};
 ghost use Rattle.chip_lang.specs.Uses.{agree_on};
 ghost use Rattle.chip_asm.specs.Layout.{body_of, value_at};
 ghost use Rattle.chip_asm.specs.Names.{values_of};
@@ -8,19 +8,19 @@ ghost use Rattle.chip_asm.specs.inner.Codes.{is_coded};
 ghost use Rattle.chip_asm.specs.inner.HeldLine.{IsKnownUnder};
 ghost use Rattle.chip_asm.specs.inner.Infos.{AreInfos, IsInfo};
 ghost use Rattle.chip_asm.specs.inner.Layouts.{placements_of};
-ghost use Rattle.chip_asm.specs.inner.Passes.{AreCoded, Change, IsEncodedUnder, IsTally, IsUnderWay, again_up_to, is_pending};
-ghost use Rattle.chip_asm.specs.inner.Placements.{is_placed};
+ghost use Rattle.chip_asm.specs.inner.Passes.{AreCoded, AreSettled, Change, IsEncodedUnder, IsTally, IsUnderWay, again_up_to};
+ghost use Rattle.chip_asm.specs.inner.Placements.{found, is_pending, is_placed};
 ghost use Rattle.chip_asm.specs.inner.Records.{reading_in, readings_in};
 ghost use Rattle.chip_asm.specs.inner.Resume.{AreSteady};
-ghost use Rattle.chip_asm.specs.inner.Tables.{AreChanges};
+ghost use Rattle.chip_asm.specs.inner.Tables.{AreDifferences, Tables};
 
-use crate::codes::{Coding, copy_code, write_line};
+use crate::codes::{copy_code, write_line};
 use crate::kept_line::BoxedLine;
+use crate::layout::Tally;
 use crate::line_info::Uses;
 use crate::pass::Pass;
-use crate::placement::Placement;
+use crate::placement::{Placement, Status};
 use crate::table::Table;
-use crate::waiting::Waiting;
 use chip_lang::Meter;
 use chip_lang::laws::{kept_value, same_code};
 use std::ops::Range;
@@ -48,7 +48,7 @@ pub(crate) fn steady_lines(lines: &[BoxedLine], known: usize, place: usize) -> u
 fn keeps_values(names: &Table, kept: &BoxedLine) -> bool
     requires { IsInfo names.now.keys kept.now.info kept.now.several (reading_in kept.now) }
     ensures { result
-        ≡ agree_on (values_of names.now.before) (values_of names.now.symbols)
+        ≡ agree_on names.now.before (values_of names.now.symbols)
         (reading_in kept.now) }
 {
     match kept.info().uses.get() {
@@ -64,14 +64,11 @@ fn keeps_values(names: &Table, kept: &BoxedLine) -> bool
 fn known_value(names: &Table, kept: &BoxedLine, was: &Placement) -> Option<i32>
     requires info { IsInfo names.now.keys kept.now.info kept.now.several (reading_in kept.now) }
     requires was { is_placed was.now ≡ true
-        → agree_on (values_of names.now.before) (values_of names.now.symbols) (reading_in kept.now)
+        → agree_on names.now.before (values_of names.now.symbols) (reading_in kept.now)
         ≡ true
         → value_at names.now.symbols (body_of (reading_in kept.now)) ≡ Ok was.now.value }
     ensures { IsKnownUnder names.now.symbols result (reading_in kept.now) }
 {
-    if let Some(value) = kept.constant() {
-        return Some(value);
-    }
     if was.is_accepted() && keeps_values(names, kept) {
         Some(was.value)
     } else {
@@ -85,20 +82,17 @@ fn pass_line(
     pass: &mut Pass,
     lines: &[BoxedLine],
     placements: &mut [Placement],
-    codings: &mut [Coding],
-    waiting: &mut Waiting,
+    tally: &mut Tally,
     from: &[u8],
     image: &mut [u8],
     place: usize,
 )
-    requires under_way { (e : Change) × IsUnderWay e lines.now pass.old placements.old codings.old
-        waiting.old from.now image.old place }
+    requires under_way { (e : Change) × IsUnderWay e lines.now pass.old placements.old tally.old
+        from.now image.old place }
     requires inside { place < length lines.now }
     ensures { (e : Change)
-        → IsUnderWay e lines.now pass.old placements.old codings.old waiting.old from.now image.old
-        place
-        → IsUnderWay e lines.now pass.new placements.new codings.new waiting.new from.now image.new
-        (place + 1) }
+        → IsUnderWay e lines.now pass.old placements.old tally.old from.now image.old place
+        → IsUnderWay e lines.now pass.new placements.new tally.new from.now image.new (place + 1) }
 {
     kept_value();
     same_code();
@@ -106,15 +100,16 @@ fn pass_line(
     let was = placements[place];
     let known = known_value(&pass.names, kept, &was);
     let (line, defines, numbers) = (kept.line(), kept.info().defines, kept.numbers());
-    pass.step(placements, place, known, line, defines, numbers);
-    let now = placements[place];
-    if !now.is_accepted() {
-        waiting.set(codings, place, Coding::of(now.fault));
-    } else if was.is_accepted() {
-        copy_code(&was, &now, from, image);
-    } else {
-        waiting.wait(codings, place, kept.info().is_coded);
+    let mut now = pass.step(place, known, line, defines, numbers);
+    if now.is_accepted() {
+        if was.is_accepted() {
+            copy_code(&was, &now, from, image);
+            now.status = was.status;
+        } else {
+            now.status = Status::bare(true, kept.info().is_coded);
+        }
     }
+    tally.put(placements, place, now);
 }
 
 /// The first pass over the lines from a place on.
@@ -122,59 +117,80 @@ pub(crate) fn walk(
     pass: &mut Pass,
     lines: &[BoxedLine],
     placements: &mut [Placement],
-    codings: &mut [Coding],
-    waiting: &mut Waiting,
+    tally: &mut Tally,
     from: &[u8],
     image: &mut [u8],
     first: usize,
 )
-    requires { (e : Change) × IsUnderWay e lines.now pass.old placements.old codings.old waiting.old
-        from.now image.old first }
+    requires { (e : Change) × IsUnderWay e lines.now pass.old placements.old tally.old from.now
+        image.old first }
     ensures { (e : Change)
-        → IsUnderWay e lines.now pass.old placements.old codings.old waiting.old from.now image.old
-        first
-        → IsUnderWay e lines.now pass.new placements.new codings.new waiting.new from.now image.new
+        → IsUnderWay e lines.now pass.old placements.old tally.old from.now image.old first
+        → IsUnderWay e lines.now pass.new placements.new tally.new from.now image.new
         (length lines.now) }
 {
-    let mut place = pass.run(lines, placements, codings, waiting, from, image, first);
+    let mut place = pass.run(lines, placements, tally, from, image, first);
     while place < lines.len() {
-        pass_line(
-            pass, lines, placements, codings, waiting, from, image, place,
-        );
-        place = pass.run(lines, placements, codings, waiting, from, image, place + 1);
+        pass_line(pass, lines, placements, tally, from, image, place);
+        place = pass.run(lines, placements, tally, from, image, place + 1);
     }
 }
 
 /// Whether a line is plainly not to be encoded: it doesn't wait for its code, and none of its names
 /// has another value than before the edit.
 #[inline(always)]
-fn is_settled(names: &Table, changed: &[bool], kept: &BoxedLine, coding: Coding) -> bool
-    requires info { IsInfo names.now.keys kept.now.info kept.now.several (reading_in kept.now) }
-    requires changed { AreChanges names.now changed.now }
-    ensures done { result ≡ true → is_pending coding ≡ false }
-    ensures same { result ≡ true
-        → agree_on (values_of names.now.before) (values_of names.now.symbols)
-        (reading_in kept.now) ≡ true }
+fn is_settled(changed: &[bool], kept: &BoxedLine, status: Status) -> bool
+    requires { (names : Tables) × (IsInfo names.keys kept.now.info kept.now.several (reading_in kept.now)
+        × AreDifferences names changed.now) }
+    ensures done { result ≡ true → is_pending status ≡ false }
+    ensures same { (names : Tables)
+        → IsInfo names.keys kept.now.info kept.now.several (reading_in kept.now)
+        → AreDifferences names changed.now → result ≡ true
+        → agree_on names.before (values_of names.symbols) (reading_in kept.now) ≡ true }
 {
-    match coding {
-        Coding::Pending => false,
-        _ => !changed[kept.info().uses.place()],
-    }
+    !status.is_pending() && !changed[kept.info().uses.place()]
 }
 
 /// Whether a line is to be encoded.
 #[inline(always)]
-fn is_again(names: &Table, kept: &BoxedLine, placement: &Placement, coding: Coding) -> bool
+fn is_again(names: &Table, kept: &BoxedLine, placement: &Placement) -> bool
     requires { IsInfo names.now.keys kept.now.info kept.now.several (reading_in kept.now) }
     ensures { result
-        ≡ (is_pending coding
-        || (not (agree_on (values_of names.now.before) (values_of names.now.symbols)
-        (reading_in kept.now)) && is_coded kept.now placement.now)) }
+        ≡ (is_pending placement.now.status
+        || (not (agree_on names.now.before (values_of names.now.symbols) (reading_in kept.now))
+        && is_coded kept.now placement.now)) }
 {
-    if let Coding::Pending = coding {
+    if placement.status.is_pending() {
         return true;
     }
-    !keeps_values(names, kept) && placement.is_accepted() && kept.info().is_coded
+    kept.info().is_coded && placement.is_accepted() && !keeps_values(names, kept)
+}
+
+/// The first place from one on of a line that isn't settled, or the end.
+#[inline(never)]
+fn next_unsettled(
+    changed: &[bool],
+    lines: &[BoxedLine],
+    placements: &[Placement],
+    start: usize,
+    end: usize,
+) -> usize
+    requires ordered { start ≤ end }
+    requires lines { end ≤ length lines.now }
+    requires placements { end ≤ length placements.now }
+    requires notes { (names : Tables) × (AreInfos names.keys lines.now
+        × AreDifferences names changed.now) }
+    ensures after { start ≤ result }
+    ensures within { result ≤ end }
+    ensures settled { (names : Tables) → AreInfos names.keys lines.now
+        → AreDifferences names changed.now
+        → AreSettled names lines.now placements.now start result }
+{
+    let mut place = start;
+    while place < end && is_settled(changed, &lines[place], placements[place].status) {
+        place += 1;
+    }
+    place
 }
 
 /// The second pass, over the lines of some places. A line is encoded if it waits for its code, or if
@@ -183,46 +199,47 @@ fn is_again(names: &Table, kept: &BoxedLine, placement: &Placement, coding: Codi
 pub(crate) fn encode_lines(
     meter: &mut Meter,
     names: &Table,
-    changed: &[bool],
     lines: &[BoxedLine],
-    placements: &[Placement],
-    codings: &mut [Coding],
-    waiting: &mut Waiting,
+    placements: &mut [Placement],
+    tally: &mut Tally,
     image: &mut [u8],
     places: Range<usize>,
 )
     requires ordered { places.start ≤ places.end }
     requires within { places.end ≤ length lines.now }
     requires infos { AreInfos names.now.keys lines.now }
-    requires changed { AreChanges names.now changed.now }
-    requires laid { placements.now ≡ placements_of (readings_in lines.now) }
-    requires many { length codings.old ≡ length lines.now }
+    requires laid { map found placements.old ≡ placements_of (readings_in lines.now) }
     requires long { length image.old ≡ IMAGE_BYTES }
-    requires tally { IsTally codings.old waiting.old }
-    ensures tally { IsTally codings.new waiting.new }
-    ensures start { waiting.new.start ≡ waiting.old.start }
-    ensures end { waiting.new.end ≡ waiting.old.end }
+    requires tally { IsTally placements.old tally.old }
+    ensures tally { IsTally placements.new tally.new }
+    ensures laid { map found placements.new ≡ map found placements.old }
+    ensures behind { (place : ℕ) → places.end ≤ place
+        → slice_get placements.new place ≡ slice_get placements.old place }
     ensures coded { (e : Change) → IsEncodedUnder e names.now lines.now
-        → AreCoded e codings.old image.old places.start
-        → AreCoded e codings.new image.new places.end }
+        → AreCoded e placements.old image.old places.start
+        → AreCoded e placements.new image.new places.end }
     ensures encoded { (e : Change) → IsEncodedUnder e names.now lines.now
-        → AreCoded e codings.old image.old places.start
+        → AreCoded e placements.old image.old places.start
         → meter.new.encoded + again_up_to e places.start
         ≤ meter.old.encoded + again_up_to e places.end }
     ensures not_lowered { meter.old.encoded ≤ meter.new.encoded }
     ensures parsed { meter.new.parsed ≡ meter.old.parsed }
 {
     same_code();
-    for place in places.start..places.end {
+    let changed = names.differences();
+    let mut place = places.start;
+    while place < places.end {
         let kept = &lines[place];
-        let coding = codings[place];
-        if is_settled(names, changed, kept, coding) {
+        let mut placement = placements[place];
+        if is_settled(changed, kept, placement.status) {
+            place = next_unsettled(changed, lines, placements, place + 1, places.end);
             continue;
         }
-        let placement = &placements[place];
-        if is_again(names, kept, placement, coding) {
-            let fault = write_line(meter, names, kept, placement, image);
-            waiting.set(codings, place, Coding::of(fault));
+        if is_again(names, kept, &placement) {
+            let fault = write_line(meter, names, kept, &placement, image);
+            placement.status = Status::coded(fault);
+            tally.put(placements, place, placement);
         }
+        place += 1;
     }
 }

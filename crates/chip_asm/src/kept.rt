@@ -1,39 +1,35 @@
 //! What is kept of a source, and the one way in which an edit changes it.
 ghost use Rattle.std.specs.Prelude.{◌≡◌, List, ◌+◌, ◌<◌, ◌≤◌, [], true, slice_set, OnOk, OnErr, IfOk, IfSome, length, map, vec_len};
-ghost use Rattle.std.specs.Option.{option_copied};
 ghost use Rattle.chip_lang.specs.Line.{reading_of};
 ghost use Rattle.chip_lang.specs.SeenLine.{seen_line};
 ghost use Rattle.chip_asm.specs.Edits.{before_replace};
-ghost use Rattle.chip_asm.specs.Program.{AgreesOutside, fault_of_line, faults_of_lines, image_of, image_of_lines};
+ghost use Rattle.chip_asm.specs.Program.{AgreesOutside, image_of};
 ghost use Rattle.chip_asm.specs.Work.{accepted_lines, needs_count};
 ghost use Rattle.chip_asm.specs.declared.limits.TheConstants.{MOST_LINES};
 ghost use Rattle.chip_lang.specs.declared.limits.TheConstants.{IMAGE_BYTES};
 ghost use Rattle.chip_asm.specs.inner.Effect.{HasSameEffectAt};
 ghost use Rattle.chip_asm.specs.Names.{Name};
 ghost use Rattle.chip_asm.specs.inner.Infos.{AreInfos, AreInfosOf, IsInfo};
-ghost use Rattle.chip_asm.specs.inner.Codes.{IsCounted};
+ghost use Rattle.chip_asm.specs.inner.Layouts.{IsCounted};
 ghost use Rattle.chip_asm.specs.inner.Kept.{HasRoomFor, IsAssembled, IsExchanged, IsKept, MayEdit, lines_kept, needed_by, texts_kept};
 ghost use Rattle.chip_asm.specs.inner.Passes.{Change, IsUnderWay};
 ghost use Rattle.chip_asm.specs.inner.Recode.{count_again};
-ghost use Rattle.chip_asm.specs.declared.codes.Coding.TheVariants.{Done};
 ghost use Rattle.chip_asm.specs.inner.Placements.{nothing};
 ghost use Rattle.chip_asm.specs.inner.Records.{IsPlaceWithin, count_after, items_after, lines_after, reading_in, readings_in, texts_in};
 
 use crate::assemble::{encode_lines, steady_lines, walk};
 use crate::block::Block;
-use crate::codes::{Codes, Coding, copy_front, write_line};
+use crate::codes::{copy_front, places_of, write_line};
 use crate::edit::{Edit, count_after, edit_items, first_changed, make_edit, replace_line};
 use crate::effect::has_same_effect;
 use crate::kept_line::BoxedLine;
-use crate::layout::{Layout, mark_unclosed};
+use crate::layout::{Layout, Tally, mark_unclosed};
 use crate::line_info::{LineInfo, Numbered};
 use crate::pass::Pass;
-use crate::placement::Placement;
-use crate::table::{NAMES_FROM, Table};
-use crate::waiting::Waiting;
-use chip_lang::laws::same_code;
+use crate::placement::{Placement, Status};
+use crate::table::Table;
 use chip_lang::limits::{IMAGE_BYTES, IMAGE_START};
-use chip_lang::{Fault, Line, Meter};
+use chip_lang::{Line, Meter};
 use std::alloc::{AllocError, Global};
 use std::mem;
 use std::ops::Range;
@@ -63,12 +59,12 @@ pub(crate) struct Kept {
     pub(crate) lines: Vec<BoxedLine>,
     pub(crate) names: Table,
     pub(crate) layout: Layout,
-    pub(crate) codes: Codes,
+    /// The byte at each address from `IMAGE_START` on, also where a line has a fault. Empty until
+    /// there is a line.
+    pub(crate) image: Vec<u8>,
     /// Room for the image after an edit, and for the open blocks of a pass.
     spare_image: Vec<u8>,
     blocks: Vec<Block>,
-    /// Room to note which names change in an edit.
-    changed: Vec<bool>,
     /// So many first lines are steady.
     settled: usize,
 }
@@ -85,10 +81,9 @@ impl Kept {
             lines: Vec::new(alloc),
             names,
             layout: Layout::new(alloc),
-            codes: Codes::new(alloc),
+            image: Vec::new(alloc),
             spare_image: Vec::new(alloc),
             blocks: Vec::new(alloc),
-            changed: Vec::new(alloc),
             settled: 0,
         }
     }
@@ -115,47 +110,6 @@ impl Kept {
         Ok(kept)
     }
 
-    /// The bytes from `IMAGE_START` on; none where a line has a fault.
-    pub(crate) fn image(&self) -> Option<&[u8]>
-        requires { IsKept self.now }
-        ensures value { option_copied result ≡ image_of_lines (lines_kept self.now) }
-        ensures fits { IfSome result (λ image. length image.now ≤ IMAGE_BYTES) }
-    {
-        if self.codes.count == 0 {
-            Some(&self.codes.image[..self.layout.end - IMAGE_START])
-        } else {
-            None
-        }
-    }
-
-    /// The fault of the line of this number, counted from 1.
-    pub(crate) fn fault(&self, number: usize) -> Option<Fault>
-        requires { IsKept self.now }
-        ensures { result ≡ fault_of_line (lines_kept self.now) number }
-    {
-        if number == 0 {
-            return None;
-        }
-        match self.codes.codings.get(number - 1) {
-            Some(coding) => coding.fault(),
-            None => None,
-        }
-    }
-
-    /// The faults of the lines, in line order, each with the line's number.
-    pub(crate) fn faults(&self, alloc: Global) -> Result<Vec<(usize, Fault)>, AllocError>
-        requires { IsKept self.now }
-        ensures { IfOk result (λ faults. faults.items ≡ faults_of_lines (lines_kept self.now)) }
-    {
-        let mut faults = Vec::new(alloc);
-        for place in 0..self.codes.codings.len() {
-            if let Some(fault) = self.codes.codings[place].fault() {
-                faults.push((place + 1, fault))?;
-            }
-        }
-        Ok(faults)
-    }
-
     /// Makes an edit, and then numbers the names anew where there are many without a line. The
     /// places that it wrote in the image, if they are known.
     pub(crate) fn edit(
@@ -176,7 +130,20 @@ impl Kept {
             AgreesOutside places.start places.end (image_of (texts_kept self.old))
             (image_of (texts_kept self.new)))) }
     {
-        let written = self.make(alloc, meter, edit)?;
+        let written = match edit {
+            Edit::Replace(at, added) => {
+                if self.has_same_effect(at, added.line()) {
+                    self.rewrite(meter, at, added)
+                } else {
+                    self.remake(alloc, meter, Edit::Replace(at, added))?;
+                    None
+                }
+            }
+            edit => {
+                self.remake(alloc, meter, edit)?;
+                None
+            }
+        };
         self.renumber(alloc);
         Ok(written)
     }
@@ -209,42 +176,6 @@ impl Kept {
         Ok((names, infos))
     }
 
-    /// Makes an edit. Each growth comes before the first change. The places that it wrote in the
-    /// image, if they are known.
-    fn make(
-        &mut self,
-        alloc: Global,
-        meter: &mut Meter,
-        edit: Edit,
-    ) -> Result<Option<Range<usize>>, AllocError>
-        requires { MayEdit self.old edit }
-        ensures ok { OnOk result (texts_kept self.new
-            ≡ texts_in (lines_after self.old.lines.items edit)) }
-        ensures err { OnErr result (texts_kept self.new ≡ texts_kept self.old) }
-        ensures kept { IsKept self.new }
-        ensures encoded { meter.new.encoded ≤ meter.old.encoded + needed_by self.old edit }
-        ensures not_lowered { meter.old.encoded ≤ meter.new.encoded }
-        ensures parsed { meter.new.parsed ≡ meter.old.parsed }
-        ensures written { IfOk result (λ written. IfSome written (λ places.
-            AgreesOutside places.start places.end (image_of (texts_kept self.old))
-            (image_of (texts_kept self.new)))) }
-    {
-        match edit {
-            Edit::Replace(at, added) => {
-                if self.has_same_effect(at, added.line()) {
-                    Ok(self.rewrite(meter, at, added))
-                } else {
-                    self.remake(alloc, meter, Edit::Replace(at, added))?;
-                    Ok(None)
-                }
-            }
-            edit => {
-                self.remake(alloc, meter, edit)?;
-                Ok(None)
-            }
-        }
-    }
-
     /// Whether a line in the place of the one there changes nothing else.
     fn has_same_effect(&self, at: usize, line: &Line) -> bool
         requires kept { IsKept self.now }
@@ -253,7 +184,7 @@ impl Kept {
             → HasSameEffectAt (lines_kept self.now) at (seen_line line.now) }
     {
         let placement = self.layout.placements[at];
-        has_same_effect(placement.live, self.lines[at].line(), line)
+        has_same_effect(placement.is_live(), self.lines[at].line(), line)
     }
 
     /// Puts a line in the place of one with the same effect: its bytes, and whether it has a fault,
@@ -274,14 +205,22 @@ impl Kept {
         ensures written { IfSome result (λ places. AgreesOutside places.start places.end
             (image_of (texts_kept self.old)) (image_of (texts_kept self.new))) }
     {
-        let placement = self.layout.placements[at];
-        let written = self.codes.places_of(&placement);
-        let image = &mut self.codes.image;
-        let fault = write_line(meter, &self.names, &added, &placement, image);
-        self.codes.set(at, Coding::of(fault));
+        let mut placement = self.layout.placements[at];
+        let had_image = self.layout.faults == 0;
+        let fault = write_line(meter, &self.names, &added, &placement, &mut self.image);
+        if placement.is_accepted() {
+            placement.status = Status::coded(fault);
+            let mut tally = Tally::new(self.layout.faults);
+            tally.put(&mut self.layout.placements, at, placement);
+            self.layout.faults = tally.faults;
+        }
         self.settled = self.settled.min(at);
         replace_line(&mut self.lines, at, added);
-        written
+        if had_image {
+            Some(places_of(&placement))
+        } else {
+            None
+        }
     }
 
     /// Takes the room for an edit after which there are so many lines.
@@ -293,12 +232,8 @@ impl Kept {
     {
         self.lines.reserve(1)?;
         self.layout.placements.reserve(count)?;
-        self.codes.codings.reserve(count)?;
-        self.codes.image.resize(IMAGE_BYTES, 0)?;
+        self.image.resize(IMAGE_BYTES, 0)?;
         self.spare_image.resize(IMAGE_BYTES, 0)?;
-        let places = self.names.count().checked_add(NAMES_FROM);
-        self.changed.resize(places.ok_or(AllocError)?, false)?;
-        self.changed[1] = true;
         self.blocks.clear();
         self.blocks.reserve(count)
     }
@@ -330,64 +265,52 @@ impl Kept {
     fn exchange(&mut self, edit: Edit)
         requires within { IsPlaceWithin (vec_len self.old.lines) edit }
         requires placed_many { vec_len self.old.layout.placements ≡ vec_len self.old.lines }
-        requires coded_many { vec_len self.old.codes.codings ≡ vec_len self.old.lines }
-        requires counted { IsCounted self.old.codes }
+        requires counted { IsCounted self.old.layout }
         requires room { HasRoomFor self.old self.old (count_after (vec_len self.old.lines) edit) }
         ensures lines { self.new.lines.items ≡ lines_after self.old.lines.items edit }
         ensures placements { self.new.layout.placements.items
             ≡ items_after self.old.layout.placements.items edit nothing }
-        ensures codings { self.new.codes.codings.items
-            ≡ items_after self.old.codes.codings.items edit Done }
-        ensures counted { IsCounted self.new.codes }
-        ensures image { self.new.codes.image ≡ self.old.codes.image }
+        ensures counted { IsCounted self.new.layout }
+        ensures image { self.new.image ≡ self.old.image }
         ensures spare { self.new.spare_image ≡ self.old.spare_image }
         ensures names { self.new.names ≡ self.old.names }
         ensures blocks { self.new.blocks ≡ self.old.blocks }
-        ensures changed { self.new.changed ≡ self.old.changed }
         ensures settled { self.new.settled ≡ self.old.settled }
     {
         if let Edit::Replace(at, _) | Edit::Delete(at) = &edit {
-            self.codes.set(*at, Coding::Done);
+            self.layout.faults -= self.layout.placements[*at].count();
         }
         edit_items(&mut self.layout.placements, &edit, Placement::NOTHING);
-        edit_items(&mut self.codes.codings, &edit, Coding::Done);
         make_edit(&mut self.lines, edit);
     }
 
     /// The first pass, where the lines up to a place stay, and the next one stands at an address. The
     /// image is that of before, as far as lines take their codes along.
-    fn first_pass(&mut self, alloc: Global, first: usize, here: usize) -> (Pass, Waiting)
+    fn first_pass(&mut self, alloc: Global, first: usize, here: usize) -> (Pass, Tally)
         requires { (e : Change) × IsExchanged e self.old first here }
         ensures lines { self.new.lines ≡ self.old.lines }
         ensures settled { self.new.settled ≡ self.old.settled }
-        ensures changed { self.new.changed ≡ self.old.changed }
         ensures passed { (e : Change) → IsExchanged e self.old first here
-            → IsUnderWay e self.new.lines.items result.0 self.new.layout.placements.items
-            self.new.codes.codings.items result.1 self.new.spare_image.items
-            self.new.codes.image.items (length self.new.lines.items) }
+            → IsUnderWay e self.new.lines.items result.0 self.new.layout.placements.items result.1
+            self.new.spare_image.items self.new.image.items (length self.new.lines.items) }
     {
-        mem::swap(&mut self.codes.image, &mut self.spare_image);
-        copy_front(&mut self.codes.image, &self.spare_image, here - IMAGE_START);
+        mem::swap(&mut self.image, &mut self.spare_image);
+        copy_front(&mut self.image, &self.spare_image, here - IMAGE_START);
         let hasher = self.names.hasher();
         let names = mem::replace(&mut self.names, Table::new(alloc, hasher));
         let blocks = mem::replace(&mut self.blocks, Vec::new(alloc));
         let mut pass = Pass::resume(here, names, blocks);
-        let mut waiting = Waiting {
-            count: self.codes.count,
-            start: usize::MAX,
-            end: 0,
-        };
+        let mut tally = Tally::new(self.layout.faults);
         walk(
             &mut pass,
             &self.lines,
             &mut self.layout.placements,
-            &mut self.codes.codings,
-            &mut waiting,
+            &mut tally,
             &self.spare_image,
-            &mut self.codes.image,
+            &mut self.image,
             first,
         );
-        (pass, waiting)
+        (pass, tally)
     }
 
     /// Makes layout and codes by both passes, where the lines up to a place stay, and the next one
@@ -403,28 +326,25 @@ impl Kept {
         ensures not_lowered { meter.old.encoded ≤ meter.new.encoded }
         ensures parsed { meter.new.parsed ≡ meter.old.parsed }
     {
-        same_code();
-        let (pass, mut waiting) = self.first_pass(alloc, first, here);
+        let (pass, mut tally) = self.first_pass(alloc, first, here);
         let placements = self.layout.placements.as_mut_slice();
-        let codings = self.codes.codings.as_mut_slice();
-        mark_unclosed(placements, codings, &mut waiting, pass.ended, &pass.blocks);
-        let places = if pass.names.note_changes(&mut self.changed) {
-            waiting.range()
-        } else {
+        mark_unclosed(placements, &mut tally, pass.ended, &pass.blocks);
+        let places = if pass.names.has_differences() {
             0..self.lines.len()
+        } else {
+            tally.range()
         };
+        let image = self.image.as_mut_slice();
         encode_lines(
             meter,
             &pass.names,
-            &self.changed,
             &self.lines,
             placements,
-            codings,
-            &mut waiting,
-            &mut self.codes.image,
+            &mut tally,
+            image,
             places,
         );
-        self.codes.count = waiting.count;
+        self.layout.faults = tally.faults;
         self.layout.end = pass.here;
         let (names, blocks) = pass.into_parts();
         self.names = names;

@@ -3,11 +3,8 @@ ghost use Rattle.std.specs.Prelude.{◌≡◌, ◌+◌, ◌≤◌, List, Ok, IfO
 ghost use Rattle.chip_lang.specs.Line.{reading_of};
 ghost use Rattle.chip_lang.specs.SeenLine.{seen_body, seen_line};
 ghost use Rattle.chip_lang.specs.Meter.{one_more};
-ghost use Rattle.chip_asm.specs.Layout.{body_of, value_at};
 ghost use Rattle.chip_asm.specs.Names.{Name};
 ghost use Rattle.chip_asm.specs.declared.line_info.Uses.TheVariants.{Several};
-ghost use Rattle.chip_asm.specs.declared.table.Symbol.{Symbol};
-ghost use Rattle.chip_asm.specs.inner.HeldLine.{IsKnown};
 ghost use Rattle.chip_asm.specs.inner.HeldText.{SaysNothing, part_from};
 ghost use Rattle.chip_asm.specs.inner.Infos.{IsInfo, numbers_in};
 ghost use Rattle.chip_asm.specs.inner.PackedUses.{unpacked};
@@ -17,7 +14,7 @@ ghost use Rattle.chip_asm.specs.inner.Tables.{Extends};
 use crate::line_info::{LineInfo, Numbered};
 use crate::line_text::{LineText, SharedSource};
 use crate::table::{NameId, Table};
-use chip_lang::{Body, Line, Meter, constant, read_line, read_nothing};
+use chip_lang::{Body, Line, Meter, read_line, read_nothing};
 use std::alloc::{AllocError, Global};
 use std::marker::Model;
 use std::rc::Rc;
@@ -28,8 +25,6 @@ use std::{mem, slice};
 pub(crate) struct ReadLine {
     pub(crate) text: LineText,
     pub(crate) line: Line,
-    /// The value of its expression, where that is constant.
-    pub(crate) constant: Option<i32>,
     /// The numbers of the names that it uses, where there are several, or of the one that it asks
     /// for.
     pub(crate) several: Vec<NameId>,
@@ -76,12 +71,10 @@ impl BoxedLine {
         ensures info { IfOk result (λ kept. kept.info ≡ made.info) }
         ensures several { IfOk result (λ kept. kept.several ≡ made.several.items) }
     {
-        let constant = constant_of(&line);
         let Numbered { info, several } = made;
         let read = ReadLine {
             text,
             line,
-            constant,
             several,
         };
         Ok(BoxedLine {
@@ -107,17 +100,6 @@ impl BoxedLine {
         match &self.held {
             HeldLine::Nothing(_, _, source) => &source.nothing,
             HeldLine::Boxed(kept) => &kept.line,
-        }
-    }
-
-    /// The value of the expression of an EQU, ORG or DS line, where it is known whatever the names
-    /// mean.
-    pub(crate) fn constant(&self) -> Option<i32>
-        ensures { IsKnown result (reading_in self.now) }
-    {
-        match &self.held {
-            HeldLine::Nothing(_, _, _) => None,
-            HeldLine::Boxed(kept) => kept.constant,
         }
     }
 
@@ -237,27 +219,4 @@ fn read_said(
     let made = LineInfo::of(alloc, table, &line)?;
     let text = LineText::part(Rc::clone(source)?, start, count);
     BoxedLine::new(alloc, text, line, made)
-}
-
-/// The value of a line's own expression, where it is constant.
-fn constant_of(line: &Line) -> Option<i32>
-    ensures { IsKnown result (seen_line line.now) }
-{
-    match line {
-        Line::Bad(_) => None,
-        Line::Read { body, .. } => constant_in(body),
-    }
-}
-
-/// The same of an EQU, ORG or DS statement.
-#[tactic(auto, unfolding(crate::specs::Layout::value_at))]
-#[inline(never)]
-fn constant_in(body: &Body) -> Option<i32>
-    ensures { (names : List (Name × Symbol))
-        → IfSome result (λ value. value_at names (seen_body body.now) ≡ Ok value) }
-{
-    match body {
-        Body::Equ(expr) | Body::Org(expr) | Body::Ds(expr) => constant(expr),
-        _ => None,
-    }
 }

@@ -1,25 +1,27 @@
-//! What the first pass finds of all lines.
-ghost use Rattle.std.specs.Prelude.{◌≡◌, ◌≤◌, [], List, length, take, true};
+//! What the passes find of all lines.
+ghost use Rattle.std.specs.Prelude.{◌≡◌, ◌<◌, ◌≤◌, ℕ, [], List, Some, length, slice_get, slice_set, take, true, vec_len};
 ghost use Rattle.std.specs.List.{list_all};
 ghost use Rattle.chip_lang.specs.Line.{Reading};
 ghost use Rattle.chip_asm.specs.computed.Walk.{address, placed};
+ghost use Rattle.chip_asm.specs.declared.placement.Status.TheVariants.{Pending};
 ghost use Rattle.chip_asm.specs.inner.Layouts.{IsLayoutOf};
-ghost use Rattle.chip_asm.specs.inner.Marks.{AreMarked, AreNoted, is_among};
+ghost use Rattle.chip_asm.specs.inner.Marks.{AreMarked, is_among};
 ghost use Rattle.chip_asm.specs.inner.Passes.{IsTally};
 
 use crate::block::Block;
-use crate::codes::Coding;
-use crate::placement::Placement;
-use crate::waiting::Waiting;
+use crate::placement::{Placement, Status};
 use chip_lang::Fault;
 use chip_lang::limits::IMAGE_START;
 use std::alloc::Global;
+use std::ops::Range;
 
-/// What the first pass finds: what holds of each line, and the address after the last line.
+/// What the passes find: what holds of each line, and the address after the last line.
 #[derive(Drop)]
 pub(crate) struct Layout {
     pub(crate) placements: Vec<Placement>,
     pub(crate) end: usize,
+    /// How many lines have a fault.
+    pub(crate) faults: usize,
 }
 
 impl Layout {
@@ -31,6 +33,7 @@ impl Layout {
         Layout {
             placements: Vec::new(alloc),
             end: IMAGE_START,
+            faults: 0,
         }
     }
 
@@ -46,23 +49,72 @@ impl Layout {
     }
 }
 
+/// How many lines have a fault, and between which places all lines stand that wait for their codes.
+#[derive(Clone, Copy)]
+pub(crate) struct Tally {
+    pub(crate) faults: usize,
+    pub(crate) start: usize,
+    pub(crate) end: usize,
+}
+
+impl Tally {
+    /// That of lines of which so many have a fault and none waits.
+    pub(crate) fn new(faults: usize) -> Tally
+        ensures faults { result.faults ≡ faults }
+        ensures end { result.end ≡ 0 }
+    {
+        Tally {
+            faults,
+            start: usize::MAX,
+            end: 0,
+        }
+    }
+
+    /// Puts what is found of a line, which may wait for its code, in the place of what was known of
+    /// it.
+    #[inline(always)]
+    pub(crate) fn put(&mut self, placements: &mut [Placement], at: usize, new: Placement)
+        requires there { at < length placements.old }
+        requires tally { IsTally placements.old self.old }
+        ensures placements { placements.new ≡ slice_set placements.old at new }
+        ensures tally { IsTally placements.new self.new }
+    {
+        if new.status.is_pending() {
+            self.start = self.start.min(at);
+            self.end = self.end.max(at + 1);
+        }
+        let others = self.faults - placements[at].count();
+        placements[at] = new;
+        self.faults = others + new.count();
+    }
+
+    /// The places between which all lines stand that wait.
+    pub(crate) fn range(&self) -> Range<usize>
+        ensures ordered { result.start ≤ result.end }
+        ensures within { result.end ≤ self.now.end }
+        ensures low { self.now.start < self.now.end → result.start ≡ self.now.start }
+        ensures high { self.now.start < self.now.end → result.end ≡ self.now.end }
+    {
+        if self.start < self.end {
+            self.start..self.end
+        } else {
+            0..0
+        }
+    }
+}
+
 /// Gives the live IF lines that no ENDIF closes their fault. The line of a number stands at the
 /// place before it.
 pub(crate) fn mark_unclosed(
     placements: &mut [Placement],
-    codings: &mut [Coding],
-    waiting: &mut Waiting,
+    tally: &mut Tally,
     ended: bool,
     blocks: &[Block],
 )
     requires among { list_all (is_among (length placements.old)) blocks.now ≡ true }
-    requires many { length codings.old ≡ length placements.old }
-    requires tally { IsTally codings.old waiting.old }
+    requires tally { IsTally placements.old tally.old }
     ensures marked { AreMarked ended blocks.now placements.old placements.new }
-    ensures codings { AreNoted ended blocks.now codings.old codings.new }
-    ensures tally { IsTally codings.new waiting.new }
-    ensures start { waiting.new.start ≡ waiting.old.start }
-    ensures end { waiting.new.end ≡ waiting.old.end }
+    ensures tally { IsTally placements.new tally.new }
 {
     if ended {
         return;
@@ -70,8 +122,9 @@ pub(crate) fn mark_unclosed(
     for index in 0..blocks.len() {
         if blocks[index].live {
             let place = blocks[index].number - 1;
-            placements[place].fault = Some(Fault::UnclosedIf);
-            waiting.set(codings, place, Coding::Faulty(Fault::UnclosedIf));
+            let mut placement = placements[place];
+            placement.status = Status::Refused(Fault::UnclosedIf);
+            tally.put(placements, place, placement);
         }
     }
 }

@@ -21,7 +21,7 @@ mod placement;
 mod refusal;
 mod source;
 mod table;
-mod waiting;
+mod values;
 
 pub use name_hasher::NameHasher;
 pub use refusal::{OpenError, Refusal};

@@ -15,7 +15,8 @@ ghost use Rattle.chip_asm.specs.declared.line_info.Uses.TheVariants.{One};
 ghost use Rattle.chip_asm.specs.declared.table.NameId.{NameId};
 
 use crate::kept_line::BoxedLine;
-use crate::table::{NAMES_FROM, NameId, Table};
+use crate::table::{NameId, Table};
+use crate::values::NAMES_FROM;
 use chip_lang::{Body, Line, UsedNames, defines, used_names};
 use std::alloc::{AllocError, Global};
 

@@ -7,9 +7,10 @@ ghost use Rattle.chip_asm.specs.computed.Walk.{placed};
 ghost use Rattle.chip_asm.specs.inner.Layouts.{IsLayoutOf};
 ghost use Rattle.chip_asm.specs.Listing.{at_right, at_left, address_shown, bytes_shown, field_shown, more_shown, is_definition, shown, lines_shown};
 ghost use Rattle.chip_asm.specs.inner.Records.{reading_in, readings_in, texts_in};
-ghost use Rattle.chip_asm.specs.inner.Codes.{AreCodesOf};
+ghost use Rattle.chip_asm.specs.inner.Codes.{IsImageOf};
+ghost use Rattle.chip_asm.specs.inner.Placements.{fault_noted, is_live_status};
 
-use crate::codes::{Codes, byte_or_zero};
+use crate::codes::{byte_or_zero, bytes_at};
 use crate::kept_line::BoxedLine;
 use crate::layout::Layout;
 use crate::limits::MOST_LINES;
@@ -140,22 +141,22 @@ fn push_value(out: &mut Vec<u8>, value: i32, more: u8) -> Result<(), AllocError>
 /// Appends the field of a line, the sign after it, and a space.
 fn push_field(
     out: &mut Vec<u8>,
-    fault: Option<Fault>,
     placement: &Placement,
     line: &Line,
     bytes: &[u8],
 ) -> Result<(), AllocError>
     ensures { OnOk result (out.new.items
-        ≡ out.old.items ++ (at_left 12 (field_shown fault placement.now.live
+        ≡ out.old.items ++ (at_left 12 (field_shown (fault_noted placement.now.status) (is_live_status placement.now.status)
         (body_of (seen_line line.now)) placement.now.here placement.now.value placement.now.size
-        bytes.now) ++ more_shown fault placement.now.size ∷ 32 ∷ [])) }
+        bytes.now) ++ more_shown (fault_noted placement.now.status) placement.now.size ∷ 32 ∷ [])) }
 {
+    let fault = placement.status.fault();
     let more = more_sign(fault, placement.size as usize);
     if let Some(fault) = fault {
         let mut digits = Buffer::new();
         return push_left(out, b'F', digits.format(fault.number()).as_bytes(), more);
     }
-    if !placement.live {
+    if !placement.is_live() {
         return push_bytes(out, 0, bytes, more);
     }
     if is_definition(line) {
@@ -182,7 +183,6 @@ fn more_sign(fault: Option<Fault>, size: usize) -> u8
 fn push_line(
     out: &mut Vec<u8>,
     number: usize,
-    fault: Option<Fault>,
     placement: &Placement,
     kept: &BoxedLine,
     bytes: &[u8],
@@ -190,15 +190,15 @@ fn push_line(
     requires { number < 10000 }
     ensures { OnOk result (out.new.items
         ≡ out.old.items
-        ++ shown number placement.now.live placement.now.here
-        (field_shown fault placement.now.live (body_of (reading_in kept.now)) placement.now.here
+        ++ shown number (is_live_status placement.now.status) placement.now.here
+        (field_shown (fault_noted placement.now.status) (is_live_status placement.now.status) (body_of (reading_in kept.now)) placement.now.here
         placement.now.value placement.now.size bytes.now)
-        (more_shown fault placement.now.size) kept.now.text) }
+        (more_shown (fault_noted placement.now.status) placement.now.size) kept.now.text) }
 {
     let [a, b, c, d] = number_text(number);
-    let [e, f, g, h] = address_text(placement.live, placement.here);
+    let [e, f, g, h] = address_text(placement.is_live(), placement.here);
     out.extend_from_slice(&[a, b, c, d, b' ', e, f, g, h, b' '])?;
-    push_field(out, fault, placement, kept.line(), bytes)?;
+    push_field(out, placement, kept.line(), bytes)?;
     out.extend_from_slice(kept.text())?;
     out.push(b'\n')?;
     Ok(())
@@ -222,27 +222,19 @@ pub(crate) fn listing_in(
     alloc: Global,
     lines: &[BoxedLine],
     layout: &Layout,
-    codes: &Codes,
+    image: &[u8],
 ) -> Result<Vec<u8>, AllocError>
     requires few { length lines.now ≤ MOST_LINES }
     requires laid_out { IsLayoutOf layout.now (readings_in lines.now) }
-    requires codes { AreCodesOf codes.now (readings_in lines.now) }
+    requires image { IsImageOf image.now (readings_in lines.now) }
     ensures { IfOk result (λ listing. listing.items
         ≡ lines_shown (placed (readings_in lines.now)) (texts_in lines.now)) }
 {
     let mut listing = Vec::with_capacity(alloc, listing_bytes(lines))?;
     for place in 0..lines.len() {
         let placement = layout.placements[place];
-        let fault = codes.codings[place].fault();
-        let bytes = codes.bytes_at(&placement);
-        push_line(
-            &mut listing,
-            place + 1,
-            fault,
-            &placement,
-            &lines[place],
-            bytes,
-        )?;
+        let bytes = bytes_at(image, &placement);
+        push_line(&mut listing, place + 1, &placement, &lines[place], bytes)?;
     }
     Ok(listing)
 }

@@ -11,14 +11,15 @@ ghost use Rattle.chip_asm.specs.computed.Walk.{fault_of_value};
 ghost use Rattle.chip_lang.specs.SeenLine.{seen_line, seen_body};
 ghost use Rattle.chip_lang.specs.Line.{Reading, empty as empty_body};
 ghost use Rattle.chip_lang.specs.Uses.{name_defined};
+ghost use Rattle.chip_asm.specs.declared.limits.TheConstants.{MOST_LINES};
 ghost use Rattle.chip_lang.specs.declared.limits.TheConstants.{MEMORY_BYTES};
 
 use crate::block::{Block, all_hold, move_blocks};
-use crate::codes::{Coding, copy_two};
+use crate::codes::copy_two;
 use crate::kept_line::BoxedLine;
-use crate::placement::{Placement, is_passed};
+use crate::layout::Tally;
+use crate::placement::{Placement, Status};
 use crate::table::{NameId, Scope, Symbol, Table};
-use crate::waiting::Waiting;
 use chip_lang::limits::{IMAGE_START, MEMORY_BYTES};
 use chip_lang::{Body, Fault, Line, Names, eval};
 
@@ -81,9 +82,9 @@ impl Pass {
     ghost use Rattle.chip_asm.specs.Layout.{Placed, has_ended};
     ghost use Rattle.chip_asm.specs.computed.Walk.{address, is_aligning, enclosing, is_live, is_misplaced, first_fault, symbols, place, placed};
     ghost use Rattle.chip_asm.specs.inner.Infos.{AreInfos, IsNumberOf};
-    ghost use Rattle.chip_asm.specs.inner.Placements.{is_placed};
+    ghost use Rattle.chip_asm.specs.declared.placement.Status.TheVariants.{Pending};
+    ghost use Rattle.chip_asm.specs.inner.Placements.{found, is_placed};
     ghost use Rattle.chip_asm.specs.inner.Follows.{Follows, placement_of, next_address, next_aligning};
-    ghost use Rattle.chip_asm.specs.inner.Layouts.{HasPassed};
     ghost use Rattle.chip_asm.specs.inner.Passes.{Change, HasRoom, IsUnderWay};
 
     /// At an address, after lines that give these names, where no block is open, in the room of other
@@ -265,7 +266,7 @@ impl Pass {
         requires defines { IsNumberOf self.now.names.keys defines
             (name_defined (seen_line line.now)) }
         ensures placed { (before : List Placed) → Follows self.now before
-            → result ≡ placement_of (place before (seen_line line.now)) }
+            → found result ≡ placement_of (place before (seen_line line.now)) }
         ensures new_name { is_placed result ≡ true
             → is_redefinition self.now.names.symbols (name_defined (seen_line line.now)) ≡ false }
         ensures fits { is_placed result ≡ true
@@ -276,6 +277,7 @@ impl Pass {
             then full_size self.now.aligning self.now.here
             (body_of (seen_line line.now)) result.value
             else 0) }
+        ensures pending { is_placed result ≡ true → result.status ≡ Pending }
     {
         let empty = Body::Empty;
         let body = body_or(line, &empty);
@@ -283,64 +285,59 @@ impl Pass {
         let read = self.value_at(known, body, numbers);
         let value = or_zero(read);
         let fault = self.fault_of(live, line, defines, read);
-        let size = self.size_of(is_passed(live, fault), body, value);
+        let status = Status::first(live, fault);
+        let size = self.size_of(status.is_accepted(), body, value);
         Placement {
             value,
             here: self.here as u16,
             size: size as u16,
-            fault,
-            live,
+            status,
         }
     }
 
-    /// Goes on by the line at a place, and notes what holds of it. The value of its expression may be
-    /// known; it is found fastest where the numbers are those of the names that the line uses or asks
-    /// for.
+    /// Goes on by the line at a place. What it finds of it; an accepted line is to be encoded. The
+    /// value of its expression may be known; it is found fastest where the numbers are those of the
+    /// names that the line uses or asks for.
     #[inline(never)]
     pub(crate) fn step(
         &mut self,
-        placements: &mut [Placement],
-        place: usize,
+        at: usize,
         known: Option<i32>,
         line: &Line,
         defines: Option<NameId>,
         numbers: &[NameId],
-    )
-        requires place { place < length placements.old }
+    ) -> Placement
+        requires within { at < MOST_LINES }
         requires known { IsKnownUnder self.old.names.symbols known (seen_line line.now) }
         requires defines { IsNumberOf self.old.names.keys defines
             (name_defined (seen_line line.now)) }
         requires room { HasRoom self.old 1 }
         ensures keeps { KeepsBefore self.old.names self.new.names }
         ensures room { (left : ℕ) → HasRoom self.old (left + 1) → HasRoom self.new left }
-        ensures others { (other : ℕ) → (other ≡ place → ⊥)
-            → slice_get placements.new other ≡ slice_get placements.old other }
-        ensures passed { (lines : List Reading) → HasPassed placements.old self.old lines
-            → place ≡ length lines
-            → HasPassed placements.new self.new (lines ++ seen_line line.now ∷ []) }
+        ensures found { (before : List Placed) → Follows self.old before
+            → found result ≡ placement_of (place before (seen_line line.now)) }
+        ensures passed { (lines : List Reading) → Follows self.old (placed lines)
+            → at ≡ length lines
+            → Follows self.new (placed (lines ++ seen_line line.now ∷ [])) }
+        ensures pending { is_placed result ≡ true → result.status ≡ Pending }
     {
         let empty = Body::Empty;
         let body = body_or(line, &empty);
         let placement = self.place(known, line, defines, numbers);
-        let accepted = placement.is_accepted();
-        let number = place + 1;
+        let (live, accepted) = (placement.is_live(), placement.is_accepted());
+        let number = at + 1;
         let opened = Block {
             number,
-            live: placement.live,
+            live,
             holds: self.condition(body, numbers),
             has_else: false,
         };
         self.define(accepted, number, line, defines, placement.value);
         move_blocks(&mut self.blocks, body, opened);
-        self.advance(
-            body,
-            placement.live,
-            accepted,
-            placement.value,
-            placement.size as usize,
-        );
+        let size = placement.size as usize;
+        self.advance(body, live, accepted, placement.value, size);
         self.note_live();
-        placements[place] = placement;
+        placement
     }
 
     /// Notes whether a line other than ELSE or ENDIF is live here.
@@ -348,11 +345,7 @@ impl Pass {
         ensures live { (nearest : List Block) → self.new.blocks.items ≡ reverse nearest
             → (self.new.ended ≡ false → AreNested nearest)
             → self.new.live ≡ (not self.new.ended && list_all (λ b. b.holds) self.new.blocks.items) }
-        ensures here { self.new.here ≡ self.old.here }
-        ensures aligning { self.new.aligning ≡ self.old.aligning }
-        ensures ended { self.new.ended ≡ self.old.ended }
-        ensures blocks { self.new.blocks ≡ self.old.blocks }
-        ensures names { self.new.names ≡ self.old.names }
+        ensures rest { self.new ≡ record self.old { live = self.new.live } }
     {
         self.live = !self.ended && all_hold(&self.blocks);
     }
@@ -366,30 +359,23 @@ impl Pass {
         &mut self,
         lines: &[BoxedLine],
         placements: &mut [Placement],
-        codings: &mut [Coding],
-        waiting: &mut Waiting,
+        tally: &mut Tally,
         from: &[u8],
         image: &mut [u8],
         first: usize,
     ) -> usize
-        requires { (e : Change) × IsUnderWay e lines.now self.old placements.old codings.old
-            waiting.old from.now image.old first }
+        requires { (e : Change) × IsUnderWay e lines.now self.old placements.old tally.old from.now
+            image.old first }
         ensures after { first ≤ result }
         ensures within { result ≤ length lines.now }
         ensures under_way { (e : Change)
-            → IsUnderWay e lines.now self.old placements.old codings.old waiting.old from.now
-            image.old first
-            → IsUnderWay e lines.now self.new placements.new codings.new waiting.new from.now
-            image.new result }
+            → IsUnderWay e lines.now self.old placements.old tally.old from.now image.old first
+            → IsUnderWay e lines.now self.new placements.new tally.new from.now image.new result }
     {
         if self.live {
-            self.run_as(
-                true, lines, placements, codings, waiting, from, image, first,
-            )
+            self.run_as(true, lines, placements, tally, from, image, first)
         } else {
-            self.run_as(
-                false, lines, placements, codings, waiting, from, image, first,
-            )
+            self.run_as(false, lines, placements, tally, from, image, first)
         }
     }
 
@@ -400,22 +386,19 @@ impl Pass {
         live: bool,
         lines: &[BoxedLine],
         placements: &mut [Placement],
-        codings: &mut [Coding],
-        waiting: &mut Waiting,
+        tally: &mut Tally,
         from: &[u8],
         image: &mut [u8],
         first: usize,
     ) -> usize
         requires live { live ≡ self.old.live }
-        requires under_way { (e : Change) × IsUnderWay e lines.now self.old placements.old codings.old
-            waiting.old from.now image.old first }
+        requires under_way { (e : Change) × IsUnderWay e lines.now self.old placements.old tally.old
+            from.now image.old first }
         ensures after { first ≤ result }
         ensures within { result ≤ length lines.now }
         ensures under_way { (e : Change)
-            → IsUnderWay e lines.now self.old placements.old codings.old waiting.old from.now
-            image.old first
-            → IsUnderWay e lines.now self.new placements.new codings.new waiting.new from.now
-            image.new result }
+            → IsUnderWay e lines.now self.old placements.old tally.old from.now image.old first
+            → IsUnderWay e lines.now self.new placements.new tally.new from.now image.new result }
     {
         let mut here = self.here;
         let mut place = first;
@@ -442,14 +425,13 @@ impl Pass {
                     here += 2;
                 }
             } else {
-                placements[place] = Placement {
+                let new = Placement {
                     value: 0,
                     here: here as u16,
                     size: size as u16,
-                    fault: None,
-                    live,
+                    status: Status::bare(live, size == 2),
                 };
-                waiting.wait(codings, place, size == 2);
+                tally.put(placements, place, new);
                 here += size;
             }
             place += 1;
@@ -489,10 +471,7 @@ impl Pass {
             then symbol_given number self.old.here value (seen_line line.now)
             else None) }
         ensures keeps { KeepsBefore self.old.names self.new.names }
-        ensures here { self.new.here ≡ self.old.here }
-        ensures aligning { self.new.aligning ≡ self.old.aligning }
-        ensures ended { self.new.ended ≡ self.old.ended }
-        ensures blocks { self.new.blocks ≡ self.old.blocks }
+        ensures rest { self.new ≡ record self.old { names = self.new.names } }
     {
         let Some(id) = defines else {
             return;

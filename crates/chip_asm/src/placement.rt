@@ -1,35 +1,99 @@
-//! What the first pass finds of a line.
-ghost use Rattle.std.specs.Prelude.{◌≡◌, is_none, ◌&&◌};
+//! What the passes find of a line.
+ghost use Rattle.std.specs.Prelude.{◌≡◌};
 
 use chip_lang::Fault;
 
-/// What the first pass finds of a line. All lines have one each, so it is small: 12 bytes.
+/// Whether a line is live and accepted, and what became of its code.
+#[derive(Clone, Copy)]
+pub(crate) enum Status {
+    /// The line is not live.
+    Skipped,
+    /// It is live, and has this fault in the first pass.
+    Refused(Fault),
+    /// It is accepted, and is to be encoded.
+    Pending,
+    /// It is accepted. Its bytes stand in the image, if it has any.
+    Done,
+    /// It is accepted, and its code has this fault.
+    Uncoded(Fault),
+}
+
+impl Status {
+    ghost use Rattle.chip_asm.specs.inner.Placements.{bare_status, fault_noted, first_status, is_accepted, is_pending, status_coded};
+
+    /// What the first pass finds of a line that is live or not, and of its fault.
+    pub(crate) fn first(live: bool, fault: Option<Fault>) -> Status
+        ensures { result ≡ first_status live fault }
+    {
+        match fault {
+            _ if !live => Status::Skipped,
+            Some(fault) => Status::Refused(fault),
+            None => Status::Pending,
+        }
+    }
+
+    /// That of a new instruction or a line without a statement, which has no fault.
+    pub(crate) fn bare(live: bool, is_coded: bool) -> Status
+        ensures { result ≡ bare_status live is_coded }
+    {
+        match (live, is_coded) {
+            (false, _) => Status::Skipped,
+            (true, true) => Status::Pending,
+            (true, false) => Status::Done,
+        }
+    }
+
+    /// That of an accepted line whose code has this fault, or none.
+    pub(crate) fn coded(fault: Option<Fault>) -> Status
+        ensures { result ≡ status_coded fault }
+    {
+        match fault {
+            Some(fault) => Status::Uncoded(fault),
+            None => Status::Done,
+        }
+    }
+
+    pub(crate) fn is_accepted(self) -> bool
+        ensures { result ≡ is_accepted self }
+    {
+        matches!(self, Status::Pending | Status::Done | Status::Uncoded(_))
+    }
+
+    pub(crate) fn is_pending(self) -> bool
+        ensures { result ≡ is_pending self }
+    {
+        matches!(self, Status::Pending)
+    }
+
+    /// The fault of the line.
+    pub(crate) fn fault(self) -> Option<Fault>
+        ensures { result ≡ fault_noted self }
+    {
+        match self {
+            Status::Refused(fault) | Status::Uncoded(fault) => Some(fault),
+            _ => None,
+        }
+    }
+}
+
+/// What the passes find of a line. All lines have one each, so it is small: 12 bytes.
 #[derive(Clone, Copy)]
 pub(crate) struct Placement {
     pub(crate) value: i32,
     pub(crate) here: u16,
     pub(crate) size: u16,
-    pub(crate) fault: Option<Fault>,
-    pub(crate) live: bool,
-}
-
-/// Whether a line is accepted.
-pub(crate) fn is_passed(live: bool, fault: Option<Fault>) -> bool
-    ensures { result ≡ (live && is_none fault) }
-{
-    live && fault.is_none()
+    pub(crate) status: Status,
 }
 
 impl Placement {
-    ghost use Rattle.chip_asm.specs.inner.Placements.{is_placed};
+    ghost use Rattle.chip_asm.specs.inner.Placements.{count_of, is_live_status, is_placed};
 
     /// Stands where nothing is found yet.
     pub(crate) const NOTHING: Placement = Placement {
         value: 0,
         here: 0,
         size: 0,
-        fault: None,
-        live: false,
+        status: Status::Skipped,
     };
 
     /// The address at which the line stands.
@@ -39,10 +103,27 @@ impl Placement {
         self.here as usize
     }
 
-    /// Whether the line is live and has no fault.
+    /// Whether the line is live.
+    pub(crate) fn is_live(&self) -> bool
+        ensures { result ≡ is_live_status self.now.status }
+    {
+        !matches!(self.status, Status::Skipped)
+    }
+
+    /// Whether the line is live and has no fault in the first pass.
     pub(crate) fn is_accepted(&self) -> bool
         ensures { result ≡ is_placed self.now }
     {
-        is_passed(self.live, self.fault)
+        self.status.is_accepted()
+    }
+
+    /// 1 for a fault, 0 for none.
+    pub(crate) fn count(&self) -> usize
+        ensures { result ≡ count_of self.now }
+    {
+        match self.status.fault() {
+            Some(_) => 1,
+            None => 0,
+        }
     }
 }

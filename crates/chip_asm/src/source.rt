@@ -17,7 +17,7 @@ use crate::listing::listing_in;
 use crate::name_hasher::NameHasher;
 use crate::refusal::{OpenError, Refusal, delete_refusal, insert_refusal, replace_refusal};
 use crate::table::{Symbol, Table};
-use chip_lang::limits::IMAGE_BYTES;
+use chip_lang::limits::{IMAGE_BYTES, IMAGE_START};
 use chip_lang::{Bytes, Fault, Meter};
 use std::alloc::{AllocError, Global};
 use std::marker::Model;
@@ -135,7 +135,12 @@ impl Source {
         ensures value { option_copied result ≡ image_of self.now.lines }
         ensures fits { IfSome result (λ image. length image.now ≤ IMAGE_BYTES) }
     {
-        self.kept.image()
+        let layout = &self.kept.layout;
+        if layout.faults == 0 {
+            Some(&self.kept.image[..layout.end - IMAGE_START])
+        } else {
+            None
+        }
     }
 
     /// The value of a name, in either case, and the number of the line that gives it.
@@ -150,7 +155,13 @@ impl Source {
     pub fn fault(&self, number: usize) -> Option<Fault>
         ensures { result ≡ fault_at self.now.lines number }
     {
-        self.kept.fault(number)
+        if number == 0 {
+            return None;
+        }
+        match self.kept.layout.placements.get(number - 1) {
+            Some(placement) => placement.status.fault(),
+            None => None,
+        }
     }
 
     /// The names that the source gives, in line order, each with its value and the number of its
@@ -181,7 +192,14 @@ impl Source {
     pub fn faults(&self, alloc: Global) -> Result<Vec<(usize, Fault)>, AllocError>
         ensures { IfOk result (λ faults. faults.items ≡ faults_of self.now.lines) }
     {
-        self.kept.faults(alloc)
+        let placements = &self.kept.layout.placements;
+        let mut faults = Vec::new(alloc);
+        for place in 0..placements.len() {
+            if let Some(fault) = placements[place].status.fault() {
+                faults.push((place + 1, fault))?;
+            }
+        }
+        Ok(faults)
     }
 
     /// The listing: a line for each line, with its number, its address, its bytes or value or
@@ -189,7 +207,7 @@ impl Source {
     pub fn listing(&self, alloc: Global) -> Result<Vec<u8>, AllocError>
         ensures { IfOk result (λ listing. listing.items ≡ listing_of self.now.lines) }
     {
-        listing_in(alloc, &self.kept.lines, &self.kept.layout, &self.kept.codes)
+        listing_in(alloc, &self.kept.lines, &self.kept.layout, &self.kept.image)
     }
 
     /// Puts a line before line `number`, counted from 1, or after the last one. A refused edit

@@ -1,25 +1,21 @@
 //! The symbols of a source.
-ghost use Rattle.std.specs.Prelude.{◌≡◌, ◌+◌, ◌++◌, [], ◌∷◌, ◌<◌, ◌≤◌, ℕ, All, List, true, false, not, if◌then◌else◌, OnOk, OnErr, IfOk, IfSome, None, Some, Option, is_some, length, map, option_map, slice_get, take};
+ghost use Rattle.std.specs.Prelude.{◌≡◌, ◌+◌, ◌++◌, [], ◌∷◌, ◌<◌, ◌≤◌, ℕ, All, List, true, false, not, if◌then◌else◌, OnOk, OnErr, IfOk, IfSome, None, Some, Option, is_some, length, map, option_map, slice_get, vec_capacity};
 ghost use Rattle.std.specs.List.{list_all};
 ghost use Rattle.std.specs.Str.{bytes_eq};
 ghost use Rattle.chip_lang.specs.Line.{upper};
 ghost use Rattle.chip_lang.specs.Uses.{has_same_value};
 ghost use Rattle.chip_asm.specs.Names.{Name, lookup_name, values_of};
 ghost use Rattle.chip_asm.specs.Layout.{is_redefinition};
-ghost use Rattle.chip_asm.specs.inner.Tables.{AreApart, AreChanges, AreDefined, AreOver, AreUpTo, EndsBy, Extends, HaveSame, IsFront, IsNumber, IsPastNext, KeepsBefore, key_at, name_of, names_at, symbols_of, value_among};
+ghost use Rattle.chip_asm.specs.inner.Tables.{AreApart, AreDefined, AreDifferences, AreOver, AreUpTo, EndsBy, Extends, IsFront, IsNumber, IsPastNext, KeepsBefore, key_at, name_of, names_at, symbols_of, value_among};
 
 use crate::name_hasher::NameHasher;
+use crate::values::Values;
 use chip_lang::short_bytes::upper;
 use chip_lang::{Bytes, Names};
 use indexmap::IndexSet;
 use std::alloc::{AllocError, Global};
 use std::cell::Cell;
 use std::marker::Model;
-use std::mem;
-
-/// Where it is noted of names whether they changed, the names begin at this place: place 0 is of
-/// lines that use no name, and place 1 of lines that use several.
-pub(crate) const NAMES_FROM: usize = 2;
 
 /// The value of a name, and the number of the line that gives it.
 #[derive(Clone, Copy, Debug, PartialEq, Eq)]
@@ -43,127 +39,58 @@ pub(crate) struct Entry {
     pub(crate) symbol: Symbol,
 }
 
-/// What lines give: the symbols in line order, and the value of each name at its number.
-#[derive(Drop)]
-pub(crate) struct Definitions {
-    pub(crate) entries: Vec<Entry>,
-    pub(crate) values: Vec<Option<i32>>,
-}
-
-impl Definitions {
-    fn new(alloc: Global) -> Self
-        ensures entries { result.entries.items ≡ [] }
-        ensures values { result.values.items ≡ [] }
-    {
-        Definitions {
-            entries: Vec::new(alloc),
-            values: Vec::new(alloc),
-        }
-    }
-
-    /// Takes back those past so many first ones, and those of the lines past a number.
-    fn take_back(&mut self, first: usize, number: usize)
-        requires { All (λ e. e.id.number < length self.old.values.items) self.old.entries.items }
-        ensures defined { (keys : List Name) → AreApart keys → AreDefined keys self.old
-            → AreDefined keys self.new }
-        ensures front { IsFront self.new.entries.items self.old.entries.items }
-        ensures few { length self.new.entries.items ≤ first }
-        ensures ends { EndsBy number self.new.entries.items }
-    {
-        while let Some(entry) = self.entries.last() {
-            if self.entries.len() <= first && entry.symbol.line <= number {
-                break;
-            }
-            let index = entry.id.number as usize;
-            self.values[index] = None;
-            self.entries.pop();
-        }
-    }
-
-    /// Adds what other ones, which begin with these, have besides up to the line of a number.
-    fn take_along(&mut self, other: &Definitions, number: usize) -> Result<(), AllocError>
-        requires front { IsFront self.old.entries.items other.now.entries.items }
-        requires ends { EndsBy number self.old.entries.items }
-        requires inside { All (λ e. e.id.number < length self.old.values.items)
-            other.now.entries.items }
-        ensures defined { (keys : List Name) → AreApart keys → AreDefined keys self.old
-            → AreDefined keys other.now → AreDefined keys self.new }
-        ensures front { IsFront self.new.entries.items other.now.entries.items }
-        ensures ends { EndsBy number self.new.entries.items }
-        ensures stops { OnOk result (IsPastNext number self.new.entries.items
-            other.now.entries.items) }
-    {
-        while let Some(entry) = other.entries.get(self.entries.len()) {
-            if entry.symbol.line > number {
-                break;
-            }
-            self.entries.push(*entry)?;
-            self.values[entry.id.number as usize] = Some(entry.symbol.value);
-        }
-        Ok(())
-    }
-}
-
-/// Whether the values at the numbers of some entries are the same.
-fn have_same(values: &[Option<i32>], others: &[Option<i32>], entries: &[Entry]) -> bool
-    requires inside { All (λ e. e.id.number < length values.now) entries.now }
-    requires long { length values.now ≡ length others.now }
-    ensures { result ≡ true
-        → All (λ e. HaveSame values.now others.now e.id.number) entries.now }
+/// Takes back the entries of the lines past a number, and the values of their names.
+fn take_back(entries: &mut Vec<Entry>, values: &mut Values, number: usize)
+    requires { All (λ e. e.id.number < length values.old.current) entries.old.items }
+    ensures defined { (keys : List Name) → AreApart keys
+        → AreDefined keys entries.old.items values.old.current
+        → AreDefined keys entries.new.items values.new.current }
+    ensures past { values.new.past ≡ values.old.past }
+    ensures room { vec_capacity entries.new ≡ vec_capacity entries.old }
+    ensures front { IsFront entries.new.items entries.old.items }
+    ensures ends { EndsBy number entries.new.items }
+    ensures stops { IsPastNext number entries.new.items entries.old.items }
 {
-    for entry in entries {
+    while let Some(entry) = entries.last() {
+        if entry.symbol.line <= number {
+            break;
+        }
         let index = entry.id.number as usize;
-        if values[index] != others[index] {
-            return false;
-        }
-    }
-    true
-}
-
-/// Notes of each number, behind two places for lines without a name and for lines with several,
-/// whether the values at it differ.
-fn note_values(values: &[Option<i32>], others: &[Option<i32>], changed: &mut [bool])
-    requires alike { length values.now ≡ length others.now }
-    requires long { length changed.old ≡ length values.now + 2 }
-    ensures several { slice_get changed.new 1 ≡ slice_get changed.old 1 }
-    ensures noted { (number : ℕ) → number < length values.now
-        → slice_get changed.new (number + 2) ≡ Some false
-        → HaveSame values.now others.now number }
-{
-    for number in 0..values.len() {
-        changed[number + NAMES_FROM] = values[number] != others[number];
+        values.set(index, None);
+        entries.pop();
     }
 }
 
 /// The table of symbols. Names are in upper case. Each has a number as soon as a line uses or
-/// defines it, which stays. The symbols are those now, and those before the edit.
+/// defines it, which stays. The symbols stand in line order, and the value of each name at its
+/// number.
 #[derive(Drop)]
 pub(crate) struct Table {
     pub(crate) keys: IndexSet<Vec<u8>, NameHasher>,
     hasher: NameHasher,
-    pub(crate) current: Definitions,
-    pub(crate) past: Definitions,
-    /// So many first entries are the same now and before the edit.
-    pub(crate) same: usize,
+    pub(crate) entries: Vec<Entry>,
+    pub(crate) values: Values,
 }
 
 impl Model for Table {
-    ghost use Rattle.std.specs.Prelude.{map, vec_capacity};
-    ghost use Rattle.chip_asm.specs.inner.Tables.{AreApart, AreChanges, AreDefined, BeginAlike, Tables, symbols_in};
+    ghost use Rattle.std.specs.Prelude.{length, map, vec_capacity, ◌≡◌};
+    ghost use Rattle.std.specs.FinMap.{from_entries};
+    ghost use Rattle.chip_asm.specs.inner.Tables.{AreApart, AreDefined, Tables, symbols_in, tables_code, valued_in};
 
     ghost Value = { Tables };
 
+    ghost coded = { tables_code };
+
     ghost view = { λ t. record {
       keys = map (λ k. k.items) t.keys.keys;
-      symbols = symbols_in (map (λ k. k.items) t.keys.keys) t.current.entries.items;
-      before = symbols_in (map (λ k. k.items) t.keys.keys) t.past.entries.items;
-      room = vec_capacity t.current.entries;
+      symbols = symbols_in (map (λ k. k.items) t.keys.keys) t.entries.items;
+      before = from_entries (valued_in (map (λ k. k.items) t.keys.keys) t.values.past);
+      room = vec_capacity t.entries;
     } };
 
     ghost invariant = { λ t. AreApart (map (λ k. k.items) t.keys.keys)
-        × (AreDefined (map (λ k. k.items) t.keys.keys) t.current
-        × (AreDefined (map (λ k. k.items) t.keys.keys) t.past
-        × BeginAlike t.same t.current.entries.items t.past.entries.items)) };
+        × (AreDefined (map (λ k. k.items) t.keys.keys) t.entries.items t.values.current
+        × (length t.values.past ≡ length t.values.current)) };
 }
 
 impl Table {
@@ -177,9 +104,8 @@ impl Table {
         Table {
             keys: IndexSet::with_hasher(alloc, hasher),
             hasher,
-            current: Definitions::new(alloc),
-            past: Definitions::new(alloc),
-            same: 0,
+            entries: Vec::new(alloc),
+            values: Values::new(alloc),
         }
     }
 
@@ -209,12 +135,10 @@ impl Table {
         ensures named { IfOk result (λ index. key_at self.new.keys index ≡ name.now) }
     {
         let key = Vec::from_slice(alloc, name)?;
-        self.current.values.reserve(1)?;
-        self.past.values.reserve(1)?;
+        self.values.reserve()?;
         let (index, is_new) = self.keys.insert_full(key)?;
         if is_new {
-            let _ = self.current.values.push(None);
-            let _ = self.past.values.push(None);
+            self.values.add();
         }
         Ok(index)
     }
@@ -226,26 +150,23 @@ impl Table {
         ensures before { self.new.before ≡ self.old.before }
         ensures room { OnOk result (length self.new.symbols + lines ≤ self.new.room) }
     {
-        self.current.entries.reserve(lines)
+        self.entries.reserve(lines)
     }
 
     /// Begins an edit before which the lines up to a number stay: the symbols are theirs, with room
-    /// for those of so many lines, and those before the edit are kept apart.
+    /// for those of so many lines, and the values before the edit are kept apart.
     pub(crate) fn begin(&mut self, number: usize, lines: usize) -> Result<(), AllocError>
         ensures room { OnOk result (length self.new.symbols + lines ≤ self.new.room) }
         ensures keys { self.new.keys ≡ self.old.keys }
-        ensures before { OnOk result (self.new.before ≡ self.old.symbols) }
+        ensures before { OnOk result (self.new.before ≡ values_of self.old.symbols) }
         ensures symbols { OnOk result ((early later : List (Name × Symbol))
             → self.old.symbols ≡ early ++ later → AreUpTo number early → AreOver number later
             → self.new.symbols ≡ early) }
         ensures same { OnErr result (self.new.symbols ≡ self.old.symbols) }
     {
-        self.past.take_back(self.same, number);
-        self.same = 0;
-        self.past.take_along(&self.current, number)?;
-        self.past.entries.reserve(lines)?;
-        self.same = self.past.entries.len();
-        mem::swap(&mut self.past, &mut self.current);
+        self.entries.reserve(lines)?;
+        self.values.settle();
+        take_back(&mut self.entries, &mut self.values, number);
         Ok(())
     }
 
@@ -255,51 +176,38 @@ impl Table {
         ensures { result
             ≡ is_some (lookup_name self.now.symbols (key_at self.now.keys id.number)) }
     {
-        self.current.values[id.number as usize].is_some()
+        self.values.get(id.number as usize).is_some()
+    }
+
+    /// Whether a name may have another value, or none, than before the edit.
+    pub(crate) fn has_differences(&self) -> bool
+        ensures { result ≡ false → self.now.before ≡ values_of self.now.symbols }
+    {
+        self.values.has_differences()
+    }
+
+    /// Whether names have other values, or none, than before the edit.
+    pub(crate) fn differences(&self) -> &[bool]
+        ensures { AreDifferences self.now result.now }
+    {
+        self.values.noted()
     }
 
     /// Whether the name of a number has the value, or none, that it had before the edit.
     pub(crate) fn keeps_value(&self, id: NameId) -> bool
         requires { id.number < length self.now.keys }
         ensures { result
-            ≡ has_same_value (values_of self.now.before) (values_of self.now.symbols)
+            ≡ has_same_value self.now.before (values_of self.now.symbols)
             (key_at self.now.keys id.number) }
     {
-        let index = id.number as usize;
-        self.past.values[index] == self.current.values[index]
-    }
-
-    /// Whether all names have the values, or none, that they had before the edit.
-    fn keeps_all_values(&self) -> bool
-        ensures { result ≡ true → (name : Name)
-            → has_same_value (values_of self.now.before) (values_of self.now.symbols) name ≡ true }
-    {
-        let (past, current) = (&self.past, &self.current);
-        have_same(&past.values, &current.values, &past.entries[self.same..])
-            && have_same(&past.values, &current.values, &current.entries[self.same..])
-    }
-
-    /// Notes of each name whether it has another value, or none, than before the edit. True where
-    /// none has.
-    pub(crate) fn note_changes(&self, changed: &mut [bool]) -> bool
-        requires long { length changed.old ≡ length self.now.keys + 2 }
-        requires several { slice_get changed.old 1 ≡ Some true }
-        ensures same { result ≡ true → (name : Name)
-            → has_same_value (values_of self.now.before) (values_of self.now.symbols) name ≡ true }
-        ensures noted { AreChanges self.now changed.new }
-    {
-        if self.keeps_all_values() {
-            return true;
-        }
-        note_values(&self.past.values, &self.current.values, changed);
-        false
+        !self.values.differ(id.number as usize)
     }
 
     /// Whether the names of these numbers have the values, or none, that they had before the edit.
     pub(crate) fn keep_values(&self, numbers: &[NameId]) -> bool
         requires { All (λ id. id.number < length self.now.keys) numbers.now }
         ensures { result
-            ≡ list_all (has_same_value (values_of self.now.before) (values_of self.now.symbols))
+            ≡ list_all (has_same_value self.now.before (values_of self.now.symbols))
             (names_at self.now.keys numbers.now) }
     {
         let Some((id, numbers)) = numbers.split_first() else {
@@ -312,7 +220,7 @@ impl Table {
     pub(crate) fn symbol_in_any_case(&self, name: &[u8]) -> Option<Symbol>
         ensures { result ≡ lookup_name self.now.symbols (map upper name.now) }
     {
-        for entry in &self.current.entries {
+        for entry in &self.entries {
             if is_spelled(name, self.name(entry.id)) {
                 return Some(entry.symbol);
             }
@@ -335,8 +243,8 @@ impl Table {
     pub(crate) fn symbols(&self, alloc: Global) -> Result<Vec<(Bytes, Symbol)>, AllocError>
         ensures { IfOk result (λ symbols. symbols.items ≡ self.now.symbols) }
     {
-        let mut symbols = Vec::with_capacity(alloc, self.current.entries.len())?;
-        for entry in &self.current.entries {
+        let mut symbols = Vec::with_capacity(alloc, self.entries.len())?;
+        for entry in &self.entries {
             let name = Bytes::from_slice(alloc, self.name(entry.id))?;
             symbols.push((name, entry.symbol))?;
         }
@@ -347,7 +255,7 @@ impl Table {
     pub(crate) fn symbol_count(&self) -> usize
         ensures { result ≡ length self.now.symbols }
     {
-        self.current.entries.len()
+        self.entries.len()
     }
 
     /// The name at a place in line order, with its value and line.
@@ -355,7 +263,7 @@ impl Table {
         ensures { option_map (λ found. (found.0.now, found.1)) result
             ≡ slice_get self.now.symbols place }
     {
-        let entry = self.current.entries.get(place)?;
+        let entry = self.entries.get(place)?;
         Some((self.name(entry.id), entry.symbol))
     }
 
@@ -376,7 +284,7 @@ impl Table {
         ensures { IfOk result (λ table. table.symbols ≡ self.now.symbols) }
     {
         let mut table = Table::new(alloc, self.hasher);
-        for entry in &self.current.entries {
+        for entry in &self.entries {
             let id = table.number(alloc, self.name(entry.id))?;
             table.reserve(1)?;
             table.define(id, entry.symbol);
@@ -416,8 +324,8 @@ impl Table {
             ≡ self.old.symbols ++ (key_at self.old.keys id.number, symbol) ∷ [] }
         ensures keeps { KeepsBefore self.old self.new }
     {
-        self.current.entries.push_reserved(Entry { id, symbol });
-        self.current.values[id.number as usize] = Some(symbol.value);
+        self.entries.push_reserved(Entry { id, symbol });
+        self.values.set(id.number as usize, Some(symbol.value));
     }
 }
 
@@ -477,7 +385,7 @@ impl<'a> Scope<'a> {
     {
         let table = self.table;
         let index = table.keys.get_index_of(name)?;
-        table.current.values[index]
+        table.values.get(index)
     }
 }
 
@@ -489,7 +397,7 @@ impl<'a> Names for Scope<'a> {
         let place = self.place.get();
         self.place.set(place.wrapping_add(1));
         match self.number_at(place, name) {
-            Some(id) => table.current.values[id.number as usize],
+            Some(id) => table.values.get(id.number as usize),
             None => self.value_elsewhere(name),
         }
     }

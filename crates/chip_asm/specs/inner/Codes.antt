@@ -1,12 +1,9 @@
--- The second pass, as it is kept: the image, and what became of the code of each line (own).
-use Rattle.std.specs.Prelude.{◌≡◌, ℕ, ◌+◌, ◌-◌, ◌<◌, ◌≤◌, ◌&&◌, ◌++◌, Bool, List, [], drop, length, map, min, reverse, take, Option, Some, None, Result, nat_le, nat_lt, if◌then◌else◌, slice_index, sum_by, vec_len}
+-- The code of a line, and the image (own).
+use Rattle.std.specs.Prelude.{◌≡◌, ℕ, ◌+◌, ◌-◌, ◌<◌, ◌≤◌, ◌&&◌, ◌++◌, Bool, List, [], drop, length, min, take, Option, None, Result, nat_le, nat_lt, if◌then◌else◌, slice_index}
 use Rattle.chip_lang.specs.declared.fault.Fault.{Fault}
 use Rattle.chip_lang.specs.declared.limits.TheConstants.{IMAGE_BYTES, IMAGE_START}
 use Rattle.chip_lang.specs.Code.{own_bytes}
 use Rattle.chip_lang.specs.Line.{Reading}
-use Rattle.chip_asm.specs.declared.codes.Codes.{Codes}
-use Rattle.chip_asm.specs.declared.codes.Coding.{Coding}
-use Rattle.chip_asm.specs.declared.codes.Coding.TheVariants.{Done, Faulty}
 use Rattle.chip_asm.specs.declared.placement.Placement.{Placement}
 use Rattle.chip_asm.specs.declared.table.Table.{Table}
 use Rattle.chip_asm.specs.Layout.{body_of}
@@ -16,56 +13,32 @@ use Rattle.chip_asm.specs.inner.Placements.{is_placed}
 use Rattle.chip_asm.specs.inner.Recode.{has_code}
 use Rattle.chip_asm.specs.inner.Records.{reading_in}
 use Rattle.chip_asm.specs.computed.Walk.{placed}
-use Rattle.chip_asm.specs.Program.{byte_at, bytes_in_code, fault_in_code, fault_of, faults_of_lines}
-
--- what is noted of a line with this fault, or with none
-abbrev pub coding_of : Option Fault → Coding
-coding_of None = Done
-coding_of (Some fault) = Faulty fault
-
--- the fault of a line of which this is noted
-abbrev pub fault_noted : Coding → Option Fault
-fault_noted (Faulty fault) = Some fault
-fault_noted _ = None
-
-abbrev pub count_of : Coding → ℕ
-count_of (Faulty fault) = 1
-count_of _ = 0
+use Rattle.chip_asm.specs.Program.{byte_at, bytes_in_code, fault_in_code}
 
 -- the code of a kept line under a table
 abbrev pub code_kept : Table → KeptLine → Result (List ℕ) Fault
 code_kept names kept = own_bytes (body_of (reading_in kept)) (values_of names.symbols)
 
--- its bytes, its fault, and whether it is encoded, where this is found of it
+-- its bytes, the fault of its code, and whether it is encoded, where this is found of it
 abbrev pub kept_bytes : Table → KeptLine → Placement → List ℕ
 kept_bytes names kept q = if is_placed q then bytes_in_code (code_kept names kept) else []
 
 abbrev pub kept_fault : Table → KeptLine → Placement → Option Fault
-kept_fault names kept q = if is_placed q then fault_in_code (code_kept names kept) else q.fault
+kept_fault names kept q = if is_placed q then fault_in_code (code_kept names kept) else None
 
 abbrev pub is_coded : KeptLine → Placement → Bool
 is_coded kept q = is_placed q && has_code (body_of (reading_in kept))
-
--- the fault of each line, in line order
-unfoldable pub line_faults : List Reading → List (Option Fault)
-line_faults lines = map (fault_of (placed lines)) (reverse (placed lines))
 
 -- the byte at a place of the image
 abbrev pub right_byte : List Reading → ℕ → ℕ
 right_byte lines k = byte_at (placed lines) (IMAGE_START + k)
 
--- the count is that of the faults
-abbrev pub IsCounted : Codes → Type 0
-IsCounted codes = codes.count ≡ sum_by count_of codes.codings.items
-
 -- each byte is that at its address, also where a line has a fault; past the kept bytes they are
 -- zeros
-pub record AreCodesOf (codes : Codes) (lines : List Reading) : Type 0 where
-  pub imaged : (k : ℕ) → k < IMAGE_BYTES → slice_index codes.image.items k ≡ right_byte lines k
-  pub short : vec_len codes.image ≤ IMAGE_BYTES
-  pub long : 0 < length lines → vec_len codes.image ≡ IMAGE_BYTES
-  pub coded : codes.codings.items ≡ map coding_of (line_faults lines)
-  pub counted : codes.count ≡ length (faults_of_lines lines)
+pub record IsImageOf (image : List ℕ) (lines : List Reading) : Type 0 where
+  pub imaged : (k : ℕ) → k < IMAGE_BYTES → slice_index image k ≡ right_byte lines k
+  pub short : length image ≤ IMAGE_BYTES
+  pub long : 0 < length lines → length image ≡ IMAGE_BYTES
 
 -- the line covers the byte
 abbrev pub covers_byte : Placement → ℕ → Bool

@@ -5,7 +5,7 @@ use Rattle.chip_lang.specs.Line.{Body, align}
 use Rattle.chip_asm.specs.Layout.{Placed, has_ended, holds, has_else, is_org_body}
 use Rattle.chip_asm.specs.computed.Walk.{address, is_aligning, enclosing, symbols}
 use Rattle.chip_asm.specs.declared.block.Block.{Block}
-use Rattle.chip_asm.specs.declared.placement.Placement.{Placement}
+use Rattle.chip_asm.specs.inner.Placements.{Found}
 use Rattle.chip_asm.specs.declared.pass.Pass.{Pass}
 
 -- an open block, as the lines before say
@@ -19,7 +19,7 @@ block_of before opener =
     }
 
 -- the first-pass result of a line
-abbrev pub placement_of : Placed → Placement
+abbrev pub placement_of : Placed → Found
 placement_of p =
     record {
       live = p.live;

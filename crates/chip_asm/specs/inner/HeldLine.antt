@@ -1,8 +1,7 @@
 -- What is kept of a line, from how it is held: a line that is blank or only a comment has no box
 -- (own).
-use Rattle.std.specs.Prelude.{◌≡◌, ◌+◌, ◌≤◌, List, [], ℤ, IfSome, None, Ok, Option, length}
+use Rattle.std.specs.Prelude.{◌≡◌, ◌+◌, ◌≤◌, List, [], ℤ, IfSome, Ok, Option, length}
 use Rattle.chip_lang.specs.Line.{Reading}
-use Rattle.chip_lang.specs.SeenLine.{seen_line}
 use Rattle.chip_asm.specs.declared.table.Symbol.{Symbol}
 use Rattle.chip_asm.specs.Layout.{body_of, value_at}
 use Rattle.chip_asm.specs.Names.{Name}
@@ -16,16 +15,11 @@ use Rattle.chip_asm.specs.inner.HeldText.{SaysNothing, part_from}
 abbrev pub IsKnownUnder : List (Name × Symbol) → Option ℤ → Reading → Type 0
 IsKnownUnder names known line = IfSome known (λ value. value_at names (body_of line) ≡ Ok value)
 
--- the same under all names
-abbrev pub IsKnown : Option ℤ → Reading → Type 0
-IsKnown known line = (names : List (Name × Symbol)) → IsKnownUnder names known line
-
 abbrev pub kept_held : HeldLine → LineInfo → KeptLine
 kept_held (Nothing count start source) info =
     record {
       text = part_from source.value.bytes start count;
       line = source.value.nothing;
-      constant = None;
       info = info;
       several = [];
     }
@@ -33,7 +27,6 @@ kept_held (Boxed read) info =
     record {
       text = read.value.text;
       line = read.value.line;
-      constant = read.value.constant;
       info = info;
       several = read.value.several.items;
     }
@@ -41,4 +34,4 @@ kept_held (Boxed read) info =
 abbrev pub IsLineHeld : HeldLine → Type 0
 IsLineHeld (Nothing count start source) =
     (start + count ≤ length source.value.bytes) × SaysNothing source.value.nothing
-IsLineHeld (Boxed read) = IsKnown read.value.constant (seen_line read.value.line)
+IsLineHeld (Boxed read) = Unit

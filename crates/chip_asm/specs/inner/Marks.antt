@@ -1,10 +1,9 @@
 -- IF lines without ENDIF (own).
-use Rattle.std.specs.Prelude.{◌≡◌, ℕ, ◌+◌, ◌<◌, Bool, not, ◌&&◌, List, length, Some, nat_eq, nat_lt, nat_le, slice_index_or, if◌then◌else◌}
+use Rattle.std.specs.Prelude.{◌≡◌, ℕ, ◌+◌, ◌<◌, Bool, not, ◌&&◌, List, length, nat_eq, nat_lt, nat_le, slice_index_or, if◌then◌else◌}
 use Rattle.std.specs.List.{list_any}
 use Rattle.chip_lang.specs.declared.fault.Fault.TheVariants.{UnclosedIf}
 use Rattle.chip_asm.specs.declared.block.Block.{Block}
-use Rattle.chip_asm.specs.declared.codes.Coding.{Coding}
-use Rattle.chip_asm.specs.declared.codes.Coding.TheVariants.{Faulty}
+use Rattle.chip_asm.specs.declared.placement.Status.TheVariants.{Refused}
 use Rattle.chip_asm.specs.declared.placement.Placement.{Placement}
 
 -- the block was opened by one of so many lines
@@ -17,7 +16,7 @@ is_opened_at place b = b.live && nat_eq b.number (place + 1)
 
 -- a live IF line whose block is open at the end
 abbrev pub unclosed : Placement → Placement
-unclosed q = record q { fault = Some UnclosedIf }
+unclosed q = record q { status = Refused UnclosedIf }
 
 -- the line at a place, with the fault of an IF whose block is open at the end
 abbrev pub marked : Bool → List Block → ℕ → Placement → Placement
@@ -29,13 +28,3 @@ abbrev pub AreMarked : Bool → List Block → (old new : List Placement) → Ty
 AreMarked ended blocks old new =
     (place : ℕ) (other : Placement) → place < length old
     → slice_index_or new place other ≡ marked ended blocks place (slice_index_or old place other)
-
--- what is noted of the codes of these lines
-abbrev pub noted : Bool → List Block → ℕ → Coding → Coding
-noted ended blocks place c =
-    if not ended && list_any (is_opened_at place) blocks then Faulty UnclosedIf else c
-
-abbrev pub AreNoted : Bool → List Block → (old new : List Coding) → Type 0
-AreNoted ended blocks old new =
-    (place : ℕ) (other : Coding) → place < length old
-    → slice_index_or new place other ≡ noted ended blocks place (slice_index_or old place other)

@@ -5,22 +5,22 @@ use Rattle.chip_lang.specs.declared.fault.Fault.{Fault}
 use Rattle.chip_lang.specs.declared.limits.TheConstants.{IMAGE_BYTES, IMAGE_START}
 use Rattle.chip_lang.specs.Code.{own_bytes}
 use Rattle.chip_lang.specs.Line.{Reading}
-use Rattle.chip_asm.specs.declared.codes.Coding.{Coding}
-use Rattle.chip_asm.specs.declared.codes.Coding.TheVariants.{Pending}
+use Rattle.chip_lang.specs.Uses.{agree_on}
 use Rattle.chip_asm.specs.declared.limits.TheConstants.{MOST_LINES}
 use Rattle.chip_asm.specs.declared.pass.Pass.{Pass}
+use Rattle.chip_asm.specs.declared.layout.Tally.{Tally}
 use Rattle.chip_asm.specs.declared.placement.Placement.{Placement}
-use Rattle.chip_asm.specs.declared.waiting.Waiting.{Waiting}
+use Rattle.chip_asm.specs.declared.placement.Status.{Status}
+use Rattle.chip_asm.specs.declared.placement.Status.TheVariants.{Pending}
 use Rattle.chip_asm.specs.Layout.{Placed, body_of, takes_effect}
 use Rattle.chip_asm.specs.Names.{Name, values_of}
-use Rattle.chip_asm.specs.Program.{bytes_in_code, code_under, fault_in_code, fault_of, names_of_lines}
+use Rattle.chip_asm.specs.Program.{bytes_in_code, code_under, fault_in_code, names_of_lines}
 use Rattle.chip_asm.specs.Work.{is_accepted_in}
 use Rattle.chip_asm.specs.computed.Walk.{placed}
-use Rattle.chip_asm.specs.inner.Codes.{coding_of, count_of}
 use Rattle.chip_asm.specs.inner.Infos.{AreInfos}
 use Rattle.chip_asm.specs.inner.KeptLine.{KeptLine}
 use Rattle.chip_asm.specs.inner.Layouts.{placements_of}
-use Rattle.chip_asm.specs.inner.Placements.{is_placed}
+use Rattle.chip_asm.specs.inner.Placements.{count_of, found, is_pending, is_placed, status_coded}
 use Rattle.chip_asm.specs.inner.Recode.{has_code, is_placed_at, count_up_to}
 use Rattle.chip_asm.specs.inner.Records.{readings_in}
 use Rattle.chip_asm.specs.inner.Resume.{IsWalked}
@@ -56,35 +56,34 @@ abbrev pub is_byte_of : (here size k : ℕ) → Bool
 is_byte_of here size k = nat_le here (IMAGE_START + k) && nat_lt (IMAGE_START + k) (here + size)
 
 -- a code stands at an address of an image, with zeros behind it, or its fault is noted
-pub record HasCode (code : Result (List ℕ) Fault) (here size : ℕ) (c : Coding) (image : List ℕ) : Type 0 where
+pub record HasCode (code : Result (List ℕ) Fault) (here size : ℕ) (status : Status) (image : List ℕ) : Type 0 where
   pub bytes : (k : ℕ) → is_byte_of here size k ≡ true
       → slice_index image k ≡ slice_index (bytes_in_code code) (IMAGE_START + k - here)
-  pub coding : c ≡ coding_of (fault_in_code code)
+  pub noted : status ≡ status_coded (fault_in_code code)
 
--- what is known of the line at a place that the first pass has yet to pass: `q` and `c` are what was
--- known of it before the edit, if it was accepted then
-pub record IsSlot (e : Change) (from : List ℕ) (j : ℕ) (line : Reading) (q : Placement) (c : Coding) : Type 0 where
+-- what is known of the line at a place that the first pass has yet to pass: `q` is what was known of
+-- it before the edit, if it was accepted then
+pub record IsSlot (e : Change) (from : List ℕ) (j : ℕ) (line : Reading) (q : Placement) : Type 0 where
   pub accepted : is_placed q ≡ stood e j
   pub was : is_placed q ≡ true
-      → (b : ℕ) × (e.origin j ≡ Some b) × (slice_get (placements_of e.was) b ≡ Some q)
-  pub code : is_placed q ≡ true → HasCode (code_before e line) q.here q.size c from
+      → (b : ℕ) × (e.origin j ≡ Some b) × (slice_get (placements_of e.was) b ≡ Some (found q))
+  pub code : is_placed q ≡ true → HasCode (code_before e line) q.here q.size q.status from
 
 -- an accepted line with code, which wasn't accepted before, waits for it
-pub record Waits (e : Change) (j : ℕ) (x : Placed) (c : Coding) (image : List ℕ) : Type 0 where
-  pub pending : c ≡ Pending
+pub record Waits (e : Change) (j : ℕ) (x : Placed) (status : Status) (image : List ℕ) : Type 0 where
+  pub pending : status ≡ Pending
   pub coded : has_code (body_of x.line) ≡ true
   pub new : stood e j ≡ false
   pub zeros : (k : ℕ) → is_byte_of x.here x.size k ≡ true → slice_index image k ≡ 0
 
 -- an accepted line waits for its code, or has the one that it had before the edit
-abbrev pub IsCarried : Change → (j : ℕ) (x : Placed) (c : Coding) (image : List ℕ) → Type 0
-IsCarried e j x c image =
-    Waits e j x c image ⊎ HasCode (code_before e x.line) x.here x.size c image
+abbrev pub IsCarried : Change → (j : ℕ) (x : Placed) (status : Status) (image : List ℕ) → Type 0
+IsCarried e j x status image =
+    Waits e j x status image ⊎ HasCode (code_before e x.line) x.here x.size status image
 
 -- what is known of a line that the first pass has passed
-pub record IsHeld (e : Change) (j : ℕ) (x : Placed) (c : Coding) (image : List ℕ) : Type 0 where
-  pub refused : takes_effect x ≡ false → c ≡ coding_of x.fault
-  pub accepted : takes_effect x ≡ true → IsCarried e j x c image
+abbrev pub IsHeld : Change → (j : ℕ) (x : Placed) (q : Placement) (image : List ℕ) → Type 0
+IsHeld e j x q image = takes_effect x ≡ true → IsCarried e j x q.status image
 
 -- the bytes of an image that none of the lines up to a place covers are zeros
 abbrev pub AreGapsZero : Change → (place : ℕ) (image : List ℕ) → Type 0
@@ -94,11 +93,13 @@ AreGapsZero e place image =
     → slice_index image k ≡ 0
 
 -- the faults are counted, and the lines that wait stand between these places
-pub record IsTally (codings : List Coding) (w : Waiting) : Type 0 where
-  pub counted : w.count ≡ sum_by count_of codings
-  pub low : (j : ℕ) → slice_get codings j ≡ Some Pending → w.start ≤ j
-  pub high : (j : ℕ) → slice_get codings j ≡ Some Pending → j < w.end
-  pub within : w.end ≤ length codings
+pub record IsTally (placements : List Placement) (tally : Tally) : Type 0 where
+  pub counted : tally.faults ≡ sum_by count_of placements
+  pub low : (j : ℕ) (q : Placement) → slice_get placements j ≡ Some q → q.status ≡ Pending
+      → tally.start ≤ j
+  pub high : (j : ℕ) (q : Placement) → slice_get placements j ≡ Some q → q.status ≡ Pending
+      → j < tally.end
+  pub within : tally.end ≤ length placements
 
 -- so many lines can be passed without another growth
 pub record HasRoom (pass : Pass) (left : ℕ) : Type 0 where
@@ -107,46 +108,44 @@ pub record HasRoom (pass : Pass) (left : ℕ) : Type 0 where
 
 -- the first pass stands at a place
 pub record IsUnderWay (e : Change) (lines : List KeptLine) (pass : Pass) (placements : List Placement)
-    (codings : List Coding) (w : Waiting) (from image : List ℕ) (place : ℕ) : Type 0 where
+    (tally : Tally) (from image : List ℕ) (place : ℕ) : Type 0 where
   pub now : e.now ≡ readings_in lines
   pub change : IsChange e
   pub few : length lines ≤ MOST_LINES
   pub inside : place ≤ length lines
   pub placed_many : length placements ≡ length lines
-  pub coded_many : length codings ≡ length lines
   pub from_long : length from ≡ IMAGE_BYTES
   pub image_long : length image ≡ IMAGE_BYTES
   pub infos : AreInfos pass.names.keys lines
   pub keys : pass.names.keys ≡ e.keys
-  pub before : pass.names.before ≡ names_of_lines e.was
+  pub before : pass.names.before ≡ values_of (names_of_lines e.was)
   pub walked : IsWalked placements pass e.now place
   pub room : HasRoom pass (length lines - place)
-  pub tally : IsTally codings w
-  pub slots : (j : ℕ) (line : Reading) (q : Placement) (c : Coding) → place ≤ j
-      → slice_get e.now j ≡ Some line → slice_get placements j ≡ Some q → slice_get codings j ≡ Some c
-      → IsSlot e from j line q c
-  pub held : (j : ℕ) (x : Placed) (c : Coding) → j < place
-      → placed_at e j ≡ Some x → slice_get codings j ≡ Some c → IsHeld e j x c image
+  pub tallied : IsTally placements tally
+  pub slots : (j : ℕ) (line : Reading) (q : Placement) → place ≤ j
+      → slice_get e.now j ≡ Some line → slice_get placements j ≡ Some q → IsSlot e from j line q
+  pub held : (j : ℕ) (x : Placed) (q : Placement) → j < place
+      → placed_at e j ≡ Some x → slice_get placements j ≡ Some q → IsHeld e j x q image
   pub gaps : AreGapsZero e place image
 
 -- what is known of a line that has its code, and of one that the second pass has yet to look at
-pub record IsDone (e : Change) (x : Placed) (c : Coding) (image : List ℕ) : Type 0 where
-  pub refused : is_accepted_in (placed e.now) x ≡ false → c ≡ coding_of (fault_of (placed e.now) x)
-  pub accepted : is_accepted_in (placed e.now) x ≡ true
-      → HasCode (code_under (placed e.now) x) x.here x.size c image
+abbrev pub IsDone : Change → (x : Placed) (q : Placement) (image : List ℕ) → Type 0
+IsDone e x q image =
+    is_accepted_in (placed e.now) x ≡ true
+    → HasCode (code_under (placed e.now) x) x.here x.size q.status image
 
-pub record IsHalfDone (e : Change) (j : ℕ) (x : Placed) (c : Coding) (image : List ℕ) : Type 0 where
-  pub refused : is_accepted_in (placed e.now) x ≡ false → c ≡ coding_of (fault_of (placed e.now) x)
-  pub accepted : is_accepted_in (placed e.now) x ≡ true → IsCarried e j x c image
+abbrev pub IsHalfDone : Change → (j : ℕ) (x : Placed) (q : Placement) (image : List ℕ) → Type 0
+IsHalfDone e j x q image =
+    is_accepted_in (placed e.now) x ≡ true → IsCarried e j x q.status image
 
 -- the second pass stands at a place
-pub record AreCoded (e : Change) (codings : List Coding) (image : List ℕ) (place : ℕ) : Type 0 where
-  pub coded_many : length codings ≡ length e.now
+pub record AreCoded (e : Change) (placements : List Placement) (image : List ℕ) (place : ℕ) : Type 0 where
+  pub placed_many : length placements ≡ length e.now
   pub image_long : length image ≡ IMAGE_BYTES
-  pub done : (j : ℕ) (x : Placed) (c : Coding) → j < place
-      → placed_at e j ≡ Some x → slice_get codings j ≡ Some c → IsDone e x c image
-  pub half : (j : ℕ) (x : Placed) (c : Coding) → place ≤ j
-      → placed_at e j ≡ Some x → slice_get codings j ≡ Some c → IsHalfDone e j x c image
+  pub done : (j : ℕ) (x : Placed) (q : Placement) → j < place
+      → placed_at e j ≡ Some x → slice_get placements j ≡ Some q → IsDone e x q image
+  pub half : (j : ℕ) (x : Placed) (q : Placement) → place ≤ j
+      → placed_at e j ≡ Some x → slice_get placements j ≡ Some q → IsHalfDone e j x q image
   pub gaps : AreGapsZero e (length e.now) image
 
 -- the second pass is over the lines of the edit, under their symbols
@@ -154,12 +153,15 @@ pub record IsEncodedUnder (e : Change) (names : Tables) (lines : List KeptLine) 
   pub now : e.now ≡ readings_in lines
   pub change : IsChange e
   pub symbols : names.symbols ≡ names_of_lines e.now
-  pub before : names.before ≡ names_of_lines e.was
-
-abbrev pub is_pending : Coding → Bool
-is_pending Pending = true
-is_pending _ = false
+  pub before : names.before ≡ values_of (names_of_lines e.was)
 
 -- how many of the lines before a place are encoded again
 abbrev pub again_up_to : Change → ℕ → ℕ
 again_up_to e place = count_up_to e.was e.now e.origin place
+
+-- the lines from a place up to another one don't wait, and their names keep their values
+abbrev pub AreSettled : Tables → List KeptLine → List Placement → (start end : ℕ) → Type 0
+AreSettled names lines placements start end =
+    (j : ℕ) → j < end → start ≤ j → (line : Reading) (q : Placement)
+    → slice_get (readings_in lines) j ≡ Some line → slice_get placements j ≡ Some q
+    → (is_pending q.status ≡ false) × (agree_on names.before (values_of names.symbols) line ≡ true)

@@ -8,8 +8,7 @@ use Rattle.chip_asm.specs.Names.{values_of}
 use Rattle.chip_asm.specs.Layout.{body_of}
 use Rattle.chip_asm.specs.Program.{names_of_lines}
 use Rattle.chip_asm.specs.inner.Layouts.{placements_of}
-use Rattle.chip_asm.specs.inner.Placements.{is_placed}
-use Rattle.chip_asm.specs.declared.placement.Placement.{Placement}
+use Rattle.chip_asm.specs.inner.Placements.{Found, is_found}
 
 -- the line has bytes of its own
 abbrev pub has_code : Body → Bool
@@ -19,8 +18,8 @@ has_code (da bytes) = true
 has_code (code form operands) = true
 has_code _ = false
 
-abbrev pub is_placed_at : List Placement → ℕ → Bool
-is_placed_at placements place = option_map_or is_placed (slice_get placements place) false
+abbrev pub is_placed_at : List Found → ℕ → Bool
+is_placed_at placements place = option_map_or is_found (slice_get placements place) false
 
 -- the line at a place stood before the edit, was accepted there, and its names keep their values
 abbrev pub keeps_code : (old new : List Reading) → (ℕ → Option ℕ) → ℕ × Reading → Bool

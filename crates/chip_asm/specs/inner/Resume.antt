@@ -23,4 +23,4 @@ AreSteady lines many =
 
 -- the pass stands after the first of some lines, with what it found of them
 abbrev pub IsWalked : List Placement → Pass → List Reading → (place : ℕ) → Type 0
-IsWalked found pass lines place = HasPassed found pass (take place lines)
+IsWalked placements pass lines place = HasPassed placements pass (take place lines)

@@ -1,19 +1,36 @@
 -- What contracts see of the table of symbols: the names that lines use or define, each under a
 -- number that stays, and the symbols, as they are and as they were before the edit (own).
-use Rattle.std.specs.Prelude.{◌≡◌, ℕ, ◌+◌, ◌-◌, ◌<◌, ◌≤◌, ℤ, List, [], All, IfSome, length, map, Bool, true, false, Option, Some, None, option_map, option_to_list, slice_get, slice_index_or, take}
+use Rattle.std.specs.Prelude.{◌≡◌, ℕ, ◌+◌, ◌-◌, ◌<◌, ◌≤◌, ℤ, List, [], ◌∷◌, All, IfSome, length, map, Bool, true, false, Option, Some, None, not, refl, option_map, option_to_list, slice_get, slice_index_or, take}
+use Rattle.std.specs.Coded.{Coded, code_by, coded×, coded_list, coded_ℕ, coded_ℤ}
+use Rattle.std.specs.FinMap as finite
 use Rattle.chip_lang.specs.Uses.{has_same_value}
+use Rattle.chip_lang.specs.Value.{Symbols}
 use Rattle.chip_asm.specs.Names.{Name, lookup_name, values_of}
 use Rattle.chip_asm.specs.declared.table.Symbol.{Symbol}
 use Rattle.chip_asm.specs.declared.table.NameId.{NameId}
 use Rattle.chip_asm.specs.declared.table.Entry.{Entry}
-use Rattle.chip_asm.specs.declared.table.Definitions.{Definitions}
 
 pub record Tables : Type 0 where
   pub keys : List Name
   pub symbols : List (Name × Symbol)
-  pub before : List (Name × Symbol)
+  -- their values before the edit
+  pub before : Symbols
   -- how many symbols there is room for
   pub room : ℕ
+
+-- a table is stored as the pairs of its fields, and so is a symbol
+abbrev symbol_code : Coded Symbol
+symbol_code =
+    code_by (ℤ × ℕ) (coded× coded_ℤ coded_ℕ) (λ s. (s.value, s.line)) (λ p. record { value = p.0; line = p.1 })
+    (λ _. refl)
+
+abbrev pub tables_code : Coded Tables
+tables_code =
+    code_by (List Name × (List (Name × Symbol) × (Symbols × ℕ)))
+    (coded× (coded_list (coded_list coded_ℕ)) (coded× (coded_list (coded× (coded_list coded_ℕ) symbol_code))
+    (coded× (finite.code (coded_list coded_ℕ) coded_ℤ) coded_ℕ)))
+    (λ t. (t.keys, (t.symbols, (t.before, t.room))))
+    (λ p. record { keys = p.0; symbols = p.1.0; before = p.1.1.0; room = p.1.1.1 }) (λ _. refl)
 
 -- the name of a number; no bytes where there is none
 abbrev pub key_at : List Name → ℕ → Name
@@ -61,34 +78,30 @@ pub record AreApart (keys : List Name) : Type 0 where
 
 -- at the number of each name stands the value that it has by the entries, of which each is the
 -- first of its name
-pub record AreDefined (keys : List Name) (d : Definitions) : Type 0 where
-  pub inside : All (λ e. e.id.number < length keys) d.entries.items
-  pub once : (place : ℕ) (e : Name × Symbol) → place < length d.entries.items
-      → e ≡ slice_index_or (symbols_in keys d.entries.items) place e
-      → lookup_name (take place (symbols_in keys d.entries.items)) e.0 ≡ None
-  pub long : length d.values.items ≡ length keys
+pub record AreDefined (keys : List Name) (entries : List Entry) (values : List (Option ℤ)) : Type 0 where
+  pub inside : All (λ e. e.id.number < length keys) entries
+  pub once : (place : ℕ) (e : Name × Symbol) → place < length entries
+      → e ≡ slice_index_or (symbols_in keys entries) place e
+      → lookup_name (take place (symbols_in keys entries)) e.0 ≡ None
+  pub long : length values ≡ length keys
   pub valued : (number : ℕ) → number < length keys
-      → slice_index_or d.values.items number None
-      ≡ value_among (symbols_in keys d.entries.items) (key_at keys number)
+      → slice_index_or values number None ≡ value_among (symbols_in keys entries) (key_at keys number)
 
--- the same value, or none, stands at the number in both
-abbrev pub HaveSame : List (Option ℤ) → List (Option ℤ) → ℕ → Type 0
-HaveSame values others number =
-    slice_index_or values number None ≡ slice_index_or others number None
+-- the names that have a value at their number, with it
+abbrev pub valued_in : List Name → List (Option ℤ) → List (Name × ℤ)
+valued_in [] values = []
+valued_in (key ∷ keys) [] = []
+valued_in (key ∷ keys) (None ∷ values) = valued_in keys values
+valued_in (key ∷ keys) (Some value ∷ values) = (key, value) ∷ valued_in keys values
 
 -- it is noted of each name whether it has another value, or none, than before: behind the notes of
--- no name, of which nothing is known, and of several, which always tells to look at each
-pub record AreChanges (t : Tables) (changed : List Bool) : Type 0 where
-  pub long : length changed ≡ length t.keys + 2
-  pub several : slice_get changed 1 ≡ Some true
-  pub names : (number : ℕ) → number < length t.keys → slice_get changed (number + 2) ≡ Some false
-      → has_same_value (values_of t.before) (values_of t.symbols) (key_at t.keys number) ≡ true
-
--- so many first entries are the same in both
-pub record BeginAlike (count : ℕ) (now past : List Entry) : Type 0 where
-  pub within : count ≤ length now
-  pub past_within : count ≤ length past
-  pub same : take count now ≡ take count past
+-- no name, and of several, which always tells to look at each
+pub record AreDifferences (t : Tables) (differs : List Bool) : Type 0 where
+  pub none : slice_get differs 0 ≡ Some false
+  pub several : slice_get differs 1 ≡ Some true
+  pub names : (number : ℕ) → number < length t.keys
+      → slice_get differs (number + 2)
+      ≡ Some (not (has_same_value t.before (values_of t.symbols) (key_at t.keys number)))
 
 -- some entries are the first of others
 abbrev pub IsFront : List Entry → List Entry → Type 0

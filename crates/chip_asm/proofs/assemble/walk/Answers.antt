@@ -20,4 +20,4 @@ loop-place-preserved c = record {
 pub returns : goal.returns
 returns c = λ e u.
     (let all : c.loop-place.place ≡ length c.args.lines.now = omega (arith, c.loop-place.invariant.within, c.loop-place-test.false) in
-    subst (IsUnderWay e c.args.lines.now c.loop-place.pass c.loop-place.placements c.loop-place.codings c.loop-place.waiting c.args.from.now c.loop-place.image) all (c.loop-place.invariant.under_way e u))
+    subst (IsUnderWay e c.args.lines.now c.loop-place.pass c.loop-place.placements c.loop-place.tally c.args.from.now c.loop-place.image) all (c.loop-place.invariant.under_way e u))

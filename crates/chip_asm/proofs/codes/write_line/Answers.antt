@@ -1,5 +1,4 @@
-use Rattle.std.proofs.Common.{◌≡◌, ◌∙◌, ◌+◌, ◌-◌, [], ℕ, true, ap, arith, cond, drop, get_or, length, replicate, rules, sym, take}
-use Rattle.std.proofs.lemmas.Bool.{and_parts}
+use Rattle.std.proofs.Common.{◌≡◌, ◌∙◌, ◌-◌, [], None, true, ap, arith, cond, drop, get_or, length, replicate, rules, sym, take}
 use Rattle.std.proofs.lemmas.List.{length-drop, length-take}
 use Rattle.chip_lang.specs.Code.{bytes_coded, code_of, coded}
 use Rattle.chip_lang.specs.SeenLine.{seen_line}
@@ -8,11 +7,9 @@ use Rattle.chip_asm.specs.Layout.{body_of}
 use Rattle.chip_asm.specs.Names.{values_of}
 use Rattle.chip_asm.specs.Program.{bytes_in_code, fault_in_code}
 use Rattle.chip_asm.specs.inner.Codes.{code_kept, kept_bytes}
-use Rattle.chip_asm.specs.inner.Placements.{is_placed}
 use Rattle.chip_asm.specs.inner.Recode.{has_code}
 use Rattle.chip_asm.specs.inner.Records.{reading_in}
 use Rattle.chip_asm.proofs.ImageSteps.{bytes-coded, code-read, no-code, put, zeroed}
-use Rattle.chip_asm.proofs.NextLine.{none_from}
 use Rattle.chip_asm.proofs.codes.write_line.Goals as goal
 use Rattle.chip_asm.proofs.codes.write_line.Goals.{else-is_accepted-via-then-is_accepted+else-info, else-is_accepted-via-else-is_accepted}
 
@@ -27,26 +24,26 @@ returns-then-info-clause-written c =
     ∙ code-read (reading_in kept) (values_of names.symbols) has in
     let bytes : bytes_coded (code_of (seen_line c.line.result.now) (values_of c.new-scope.result.table.now.symbols)) ≡ kept_bytes names kept q
     = ap bytes_coded is ∙ bytes-coded (code_kept names kept) ∙ sym (ap (λ b. cond b (bytes_in_code (code_kept names kept)) []) (sym c.is_accepted.ensures ∙ c.if-is_accepted.true)) in
-    let at : ℕ = q.here - IMAGE_START in
-    let long : length (take (at + q.size - at) (drop at c.args.image.now)) ≡ q.size = omega (arith, c.requires.low, c.requires.high, length-take (at + q.size - at) (drop at c.args.image.now), length-drop at c.args.image.now) in
-    put q (kept_bytes names kept q) c.encode_into.new.bytes c.args.image.now (at + q.size - at) (omega arith) c.requires.low c.requires.high (c.encode_into.auto.bytes ∙ long)
-    (λ k h. c.encode_into.ensures.bytes k ∙ ap (λ l. get_or l k 0) bytes)
+    let long : length (take (c.places_of.result.end - c.places_of.result.start) (drop c.places_of.result.start c.args.image.now)) ≡ q.size
+    = omega (arith, length-take (c.places_of.result.end - c.places_of.result.start) (drop c.places_of.result.start c.args.image.now), length-drop c.places_of.result.start c.args.image.now) in
+    rw c.places_of.ensures.start
+    (put q (kept_bytes names kept q) c.encode_into.new.bytes c.args.image.now _ (omega arith) c.requires.low c.requires.high (c.encode_into.auto.bytes ∙ long) (λ k h. c.encode_into.ensures.bytes k ∙ ap (λ l. get_or l k 0) bytes))
 
 pub returns-else-is_accepted-clause-written : goal.returns-else-is_accepted-clause-written
 returns-else-is_accepted-clause-written c =
     let q = c.args.placement.now in
     let kept = c.args.kept.now in
     let names = c.args.names.now in
-    let at : ℕ = q.here - IMAGE_START in
-    let long : length (take (at + q.size - at) (drop at c.args.image.now)) ≡ at + q.size - at = omega (arith, c.requires.low, c.requires.high, length-take (at + q.size - at) (drop at c.args.image.now), length-drop at c.args.image.now) in
-    zeroed q (kept_bytes names kept q) c.fill.new.self c.args.image.now (at + q.size - at) (omega arith) c.requires.low c.requires.high (c.fill.ensures.after (search rules) ∙ ap (λ n. replicate n 0) long)
+    let long : length (take (c.places_of.result.end - c.places_of.result.start) (drop c.places_of.result.start c.args.image.now)) ≡ c.places_of.result.end - (q.here - IMAGE_START)
+    = omega (arith, length-take (c.places_of.result.end - c.places_of.result.start) (drop c.places_of.result.start c.args.image.now), length-drop c.places_of.result.start c.args.image.now) in
+    rw c.places_of.ensures.start (zeroed q (kept_bytes names kept q) c.fill.new.self c.args.image.now _ (omega arith) c.requires.low c.requires.high (c.fill.ensures.after (search rules) ∙ ap (λ n. replicate n 0) long)
     (elim c.else-is_accepted.branch [
       | else-is_accepted-via-then-is_accepted+else-info w ↦
           ap (λ b. cond b (bytes_in_code (code_kept names kept)) []) (sym c.is_accepted.ensures ∙ w.if-is_accepted.true)
           ∙ ap bytes_in_code (no-code (body_of (reading_in kept)) (values_of names.symbols) (sym c.requires.info.coded ∙ ap (λ i. i.is_coded) (sym w.info.ensures) ∙ w.if-info.false))
       | else-is_accepted-via-else-is_accepted w ↦
           ap (λ b. cond b (bytes_in_code (code_kept names kept)) []) (sym c.is_accepted.ensures ∙ w.if-is_accepted.false)
-    ])
+    ]))
 
 pub returns-else-is_accepted-clause-fault : goal.returns-else-is_accepted-clause-fault
 returns-else-is_accepted-clause-fault c =
@@ -55,10 +52,8 @@ returns-else-is_accepted-clause-fault c =
     let names = c.args.names.now in
     elim c.else-is_accepted.branch [
       | else-is_accepted-via-then-is_accepted+else-info w ↦
-          let accepted : is_placed q ≡ true = sym c.is_accepted.ensures ∙ w.if-is_accepted.true in
-          none_from q.fault (and_parts _ _ accepted).1
-          ∙ sym (ap (λ b. cond b (fault_in_code (code_kept names kept)) q.fault) accepted
+          sym (ap (λ b. cond b (fault_in_code (code_kept names kept)) None) (sym c.is_accepted.ensures ∙ w.if-is_accepted.true)
           ∙ ap fault_in_code (no-code (body_of (reading_in kept)) (values_of names.symbols) (sym c.requires.info.coded ∙ ap (λ i. i.is_coded) (sym w.info.ensures) ∙ w.if-info.false)))
       | else-is_accepted-via-else-is_accepted w ↦
-          sym (ap (λ b. cond b (fault_in_code (code_kept names kept)) q.fault) (sym c.is_accepted.ensures ∙ w.if-is_accepted.false))
+          sym (ap (λ b. cond b (fault_in_code (code_kept names kept)) None) (sym c.is_accepted.ensures ∙ w.if-is_accepted.false))
     ]

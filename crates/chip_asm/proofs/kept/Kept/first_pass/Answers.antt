@@ -1,4 +1,4 @@
-use Rattle.std.proofs.Common.{◌≡◌, ◌∙◌, ◌++◌, drop, ◌+◌, ◌≤◌, ℕ, ap, arith, get_or, length, refl, sym, subst, take, vec_capacity}
+use Rattle.std.proofs.Common.{◌≡◌, ◌∙◌, ◌++◌, drop, ◌+◌, ◌≤◌, ℕ, ap, arith, get_or, length, sym, subst, take, vec_capacity}
 use Rattle.std.specs.Global.{Vec}
 use Rattle.chip_asm.specs.declared.block.Block.{Block}
 use Rattle.chip_asm.specs.inner.Tables.{Tables}
@@ -17,9 +17,9 @@ pub walk-requires : goal.walk-requires
 walk-requires c =
     let e = c.requires.0 in
     let x = c.requires.1 in
-    let image : c.deref_mut-4.result.now ≡ c.copy_front.new.image = c.deref_mut-4.ensures.value ∙ refilled c.swap.new.x.len c.copy_front.new.image c.swap.new.x.items (c.copy_front.auto.image ∙ c.deref_mut.ensures.len) in
-    let u0 = begun-way e c.args.self.now c.args.first c.args.here c.resume-pass.result c.deref-2.result.now c.deref_mut-2.result.now c.deref_mut-3.result.now _ c.deref-3.result.now c.deref_mut-4.result.now x
-    c.deref-2.ensures.value c.deref_mut-2.ensures.value c.deref_mut-3.ensures.value (c.deref-3.ensures.value ∙ ap (λ (v : Vec ℕ). v.items) c.swap.ensures.y_after) refl refl
+    let image : c.deref_mut-3.result.now ≡ c.copy_front.new.image = c.deref_mut-3.ensures.value ∙ refilled c.swap.new.x.len c.copy_front.new.image c.swap.new.x.items (c.copy_front.auto.image ∙ c.deref_mut.ensures.len) in
+    let u0 = begun-way e c.args.self.now c.args.first c.args.here c.resume-pass.result c.deref-2.result.now c.deref_mut-2.result.now c.new-tally.result c.deref-3.result.now c.deref_mut-3.result.now x
+    c.deref-2.ensures.value c.deref_mut-2.ensures.value (c.deref-3.ensures.value ∙ ap (λ (v : Vec ℕ). v.items) c.swap.ensures.y_after) c.new-tally.ensures.faults c.new-tally.ensures.end
     (omega (arith, ap length image, c.copy_front.auto.image, c.deref_mut.ensures.len, ap (λ (v : Vec ℕ). v.len) c.swap.ensures.x_after, x.spare_long))
     (λ k less. ap (λ l. get_or l k 0) image ∙ c.copy_front.ensures.front k less ∙ ap (λ l. get_or l k 0) (c.deref.ensures.value ∙ sym c.deref-3.ensures.value)) (λ k past. ap (λ l. get_or l k 0) image ∙ c.copy_front.ensures.zeros k past)
     (c.resume-pass.ensures.names ∙ c.replace-names.ensures.value) (λ before at high aligning ended blocks names. c.resume-pass.ensures.follows before at high aligning ended blocks (ap (λ (t : Tables). t.symbols) c.replace-names.ensures.value ∙ names))
@@ -28,14 +28,13 @@ walk-requires c =
 
 pub returns-clause-passed : goal.returns-clause-passed
 returns-clause-passed c = λ e x.
-    (let image : c.deref_mut-4.result.now ≡ c.copy_front.new.image = c.deref_mut-4.ensures.value ∙ refilled c.swap.new.x.len c.copy_front.new.image c.swap.new.x.items (c.copy_front.auto.image ∙ c.deref_mut.ensures.len) in
-    let u0 = begun-way e c.args.self.now c.args.first c.args.here c.resume-pass.result c.deref-2.result.now c.deref_mut-2.result.now c.deref_mut-3.result.now _ c.deref-3.result.now c.deref_mut-4.result.now x
-    c.deref-2.ensures.value c.deref_mut-2.ensures.value c.deref_mut-3.ensures.value (c.deref-3.ensures.value ∙ ap (λ (v : Vec ℕ). v.items) c.swap.ensures.y_after) refl refl
+    (let image : c.deref_mut-3.result.now ≡ c.copy_front.new.image = c.deref_mut-3.ensures.value ∙ refilled c.swap.new.x.len c.copy_front.new.image c.swap.new.x.items (c.copy_front.auto.image ∙ c.deref_mut.ensures.len) in
+    let u0 = begun-way e c.args.self.now c.args.first c.args.here c.resume-pass.result c.deref-2.result.now c.deref_mut-2.result.now c.new-tally.result c.deref-3.result.now c.deref_mut-3.result.now x
+    c.deref-2.ensures.value c.deref_mut-2.ensures.value (c.deref-3.ensures.value ∙ ap (λ (v : Vec ℕ). v.items) c.swap.ensures.y_after) c.new-tally.ensures.faults c.new-tally.ensures.end
     (omega (arith, ap length image, c.copy_front.auto.image, c.deref_mut.ensures.len, ap (λ (v : Vec ℕ). v.len) c.swap.ensures.x_after, x.spare_long))
     (λ k less. ap (λ l. get_or l k 0) image ∙ c.copy_front.ensures.front k less ∙ ap (λ l. get_or l k 0) (c.deref.ensures.value ∙ sym c.deref-3.ensures.value)) (λ k past. ap (λ l. get_or l k 0) image ∙ c.copy_front.ensures.zeros k past)
     (c.resume-pass.ensures.names ∙ c.replace-names.ensures.value) (λ before at high aligning ended blocks names. c.resume-pass.ensures.follows before at high aligning ended blocks (ap (λ (t : Tables). t.symbols) c.replace-names.ensures.value ∙ names))
     (λ left blocks names. c.resume-pass.ensures.room left (subst (λ (v : Vec Block). left ≤ vec_capacity v) (sym c.replace-blocks.ensures.value) blocks) (subst (λ (t : Tables). length t.symbols + left ≤ t.room) (sym c.replace-names.ensures.value) names)) in
     let placements = refilled c.args.self.now.layout.placements.len c.walk.new.placements c.args.self.now.layout.placements.items (c.walk.auto.placements ∙ c.deref_mut-2.ensures.len) in
-    let codings = refilled c.args.self.now.codes.codings.len c.walk.new.codings c.args.self.now.codes.codings.items (c.walk.auto.codings ∙ c.deref_mut-3.ensures.len) in
-    let now = refilled c.swap.new.x.len c.walk.new.image (take c.swap.new.x.len (c.copy_front.new.image ++ drop (length c.copy_front.new.image) c.swap.new.x.items)) (c.walk.auto.image ∙ c.deref_mut-4.ensures.len) in
-    rw (placements, codings, now, ← c.deref-2.ensures.value, ← c.deref-3.ensures.value) (c.walk.ensures e u0))
+    let now = refilled c.swap.new.x.len c.walk.new.image (take c.swap.new.x.len (c.copy_front.new.image ++ drop (length c.copy_front.new.image) c.swap.new.x.items)) (c.walk.auto.image ∙ c.deref_mut-3.ensures.len) in
+    rw (placements, now, ← c.deref-2.ensures.value, ← c.deref-3.ensures.value) (c.walk.ensures e u0))

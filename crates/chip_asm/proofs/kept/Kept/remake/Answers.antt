@@ -1,8 +1,8 @@
-use Rattle.std.proofs.Common.{◌≡◌, ℕ, ◌+◌, ◌≤◌, ◌∙◌, Bool, Global, List, Vec, slice_get, sym, ap, arith, get_or, length, subst, take, vec_capacity, vec_len}
+use Rattle.std.proofs.Common.{◌≡◌, ℕ, ◌≤◌, ◌∙◌, Global, List, Vec, ap, arith, get_or, length, subst, take, vec_capacity, vec_len}
 use Rattle.std.proofs.lemmas.List.{length-map}
+use Rattle.chip_asm.specs.Names.{values_of}
 use Rattle.chip_asm.specs.computed.Walk.{address, placed}
 use Rattle.chip_asm.specs.declared.block.Block.{Block}
-use Rattle.chip_asm.specs.declared.codes.Coding.TheVariants.{Done}
 use Rattle.chip_asm.specs.declared.kept.Kept.{Kept}
 use Rattle.chip_asm.specs.inner.Codes.{right_byte}
 use Rattle.chip_asm.specs.inner.Kept.{HasRoomFor, IsExchanged, change_of, lines_kept}
@@ -12,8 +12,7 @@ use Rattle.chip_asm.specs.inner.Placements.{nothing}
 use Rattle.chip_asm.specs.inner.Records.{IsPlaceWithin, count_after, items_after, lines_after, reading_in, readings_in}
 use Rattle.chip_asm.specs.inner.Resume.{AreSteady, first_changed}
 use Rattle.chip_asm.specs.inner.Tables.{Tables}
-use Rattle.chip_asm.proofs.CodeSteps.{codes-counted}
-use Rattle.chip_asm.proofs.Exchanges.{coded-many, exchanged, placed-many}
+use Rattle.chip_asm.proofs.Exchanges.{exchanged, placed-many}
 use Rattle.chip_asm.proofs.FirstLines.{Begun}
 use Rattle.chip_asm.proofs.KeptEdits.{begun-kept, kept-edited, within-lines}
 use Rattle.chip_asm.proofs.LinesAfter.{edited-items}
@@ -26,13 +25,8 @@ exchange-requires-clause-placed_many c =
     let room = c.reserve.new.self in
     omega (arith, placed-many room c.reserve.ensures.kept, room.layout.placements.ok.0, room.lines.ok.0)
 
-pub exchange-requires-clause-coded_many : goal.exchange-requires-clause-coded_many
-exchange-requires-clause-coded_many c =
-    let room = c.reserve.new.self in
-    omega (arith, coded-many room c.reserve.ensures.kept, room.codes.codings.ok.0, room.lines.ok.0)
-
 pub exchange-requires-clause-counted : goal.exchange-requires-clause-counted
-exchange-requires-clause-counted c = codes-counted _ _ c.reserve.ensures.kept.codes
+exchange-requires-clause-counted c = c.reserve.ensures.kept.laid_out.counted
 
 -- the first lines stay, and are steady
 stays : (c : After-exchange) → c.steady_lines-first.result ≤ first_changed c.args.edit
@@ -66,23 +60,16 @@ ready c =
       lines = new-lines c;
       placements = edited-items old.layout.placements.items c.exchange.new.self.layout.placements.items c.args.edit nothing (length old.lines.items) (placed-many old c.requires.kept) within
           (c.exchange.ensures.placements ∙ ap (λ qs. items_after qs c.args.edit nothing) has.placements);
-      codings = edited-items old.codes.codings.items c.exchange.new.self.codes.codings.items c.args.edit Done (length old.lines.items) (coded-many old c.requires.kept) within
-          (c.exchange.ensures.codings ∙ ap (λ cs. items_after cs c.args.edit Done) has.codings);
       counted = c.exchange.ensures.counted;
-      image = λ k h. ap (λ (v : Vec ℕ Global). get_or v.items k 0) c.exchange.ensures.image ∙ c.reserve.ensures.kept.codes.imaged k h ∙ ap (λ ls. right_byte (readings_in ls) k) has.lines;
+      image = λ k h. ap (λ (v : Vec ℕ Global). get_or v.items k 0) c.exchange.ensures.image ∙ c.reserve.ensures.kept.image.imaged k h ∙ ap (λ ls. right_byte (readings_in ls) k) has.lines;
       image_long = ap (λ (v : Vec ℕ Global). vec_len v) c.exchange.ensures.image ∙ has.image_long;
       spare_long = ap (λ (v : Vec ℕ Global). vec_len v) c.exchange.ensures.spare ∙ has.spare_long;
       keys = ap (λ (t : Tables). t.keys) c.exchange.ensures.names ∙ c.begin.ensures.keys ∙ ap (λ (t : Tables). t.keys) has.names;
-      before = ap (λ (t : Tables). t.before) c.exchange.ensures.names ∙ c.in_ok-begin.ensures.before ∙ ap (λ (t : Tables). t.symbols) has.names;
+      before = ap (λ (t : Tables). t.before) c.exchange.ensures.names ∙ c.in_ok-begin.ensures.before ∙ ap (λ (t : Tables). values_of t.symbols) has.names;
       symbols = λ early later split up over.
           ap (λ (t : Tables). t.symbols) c.exchange.ensures.names ∙ c.in_ok-begin.ensures.symbols early later (ap (λ (t : Tables). t.symbols) has.names ∙ split) up over;
       names_room = rw c.exchange.ensures.names (omega (arith, c.in_ok-begin.ensures.room, count));
       blocks_room = omega (arith, ap (λ (v : Vec Block Global). vec_capacity v) c.exchange.ensures.blocks, has.blocks_room, count);
-      changed = record {
-        long = ap (λ (v : Vec Bool Global). vec_len v) c.exchange.ensures.changed ∙ has.changed.long
-            ∙ ap (λ ks. length ks + 2) (sym (ap (λ (t : Tables). t.keys) c.exchange.ensures.names ∙ c.begin.ensures.keys));
-        several = ap (λ (v : Vec Bool Global). slice_get v.items 1) c.exchange.ensures.changed ∙ has.changed.several;
-      };
     })
 
 pub assemble-requires : goal.assemble-requires

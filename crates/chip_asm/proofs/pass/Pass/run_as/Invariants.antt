@@ -9,8 +9,8 @@ invariant-loop-place l = record {
   after : l.first ≤ l.place;
   within : l.place ≤ length l.lines;
   same : l.self.live ≡ l.live;
-  under_way : (high : l.here ≤ MEMORY_BYTES) (e : Change) → IsUnderWay e l.lines l.fn.self l.fn.placements l.fn.codings l.fn.waiting l.from l.fn.image l.first
-      → IsUnderWay e l.lines (record l.self { here = l.here; within = high }) l.placements l.codings l.waiting l.from l.image l.place;
+  under_way : (high : l.here ≤ MEMORY_BYTES) (e : Change) → IsUnderWay e l.lines l.fn.self l.fn.placements l.fn.tally l.from l.fn.image l.first
+      → IsUnderWay e l.lines (record l.self { here = l.here; within = high }) l.placements l.tally l.from l.image l.place;
 }
 
 abbrev pub decreases-loop-place : goal.decreases-loop-place

@@ -1,6 +1,7 @@
-use Rattle.std.proofs.Common.{refl, ◌≡◌, ◌∙◌, ◌++◌, ◌∷◌, [], ap, subst, None, cond, arith}
+use Rattle.std.proofs.Common.{◌≡◌, ◌∙◌, ◌∷◌, [], None, ap, subst, arith, length, length-append}
+use Rattle.std.specs.FinMap as finite
 use Rattle.chip_asm.specs.inner.Tables.{Extends, Tables}
-use Rattle.chip_asm.proofs.SymbolSteps.{OneMore, apart-more, defined-same, defined-under, extends-more, key-there, names_of, one-more, same-keys, symbols-more}
+use Rattle.chip_asm.proofs.SymbolSteps.{OneMore, apart-more, defined-under, extends-more, key-there, names_of, one-more, same-keys, symbols-more, valued-more}
 use Rattle.chip_asm.proofs.table.Table.add.Goals as goal
 use Rattle.chip_asm.proofs.table.Table.add.Goals.{Then-is_new}
 
@@ -10,21 +11,17 @@ more c = one-more c.self.inside.keys.keys c.insert_full.new.self.keys c.in_ok-ke
 pub invariant_of-self-then-is_new : goal.invariant_of-self-then-is_new
 invariant_of-self-then-is_new c =
     let o = more (goal.at.invariant_of-self-then-is_new c).Then-is_new in
-    let now : c.push.new.self.items ≡ c.self.inside.current.values.items ++ None ∷ []
-    = c.push.ensures.items ∙ ap (λ b. cond b (c.reserve.new.self.items ++ None ∷ []) c.reserve.new.self.items) (c.push.ensures.succeeds (omega (arith, c.in_ok-reserve.ensures.ok))) ∙ ap (λ xs. xs ++ None ∷ []) c.reserve.ensures.items in
-    let past : c.push-then-is_new.new.self.items ≡ c.self.inside.past.values.items ++ None ∷ []
-    = c.push-then-is_new.ensures.items ∙ ap (λ b. cond b (c.reserve-2.new.self.items ++ None ∷ []) c.reserve-2.new.self.items) (c.push-then-is_new.ensures.succeeds (omega (arith, c.in_ok-reserve-2.ensures.ok))) ∙ ap (λ xs. xs ++ None ∷ []) c.reserve-2.ensures.items in (
-      apart-more _ _ _ o c.self.invariant.0,
-      (defined-under _ _ _ c.self.inside.current _ o c.self.invariant.1.0 refl now, (defined-under _ _ _ c.self.inside.past _ o c.self.invariant.1.1.0 refl past, c.self.invariant.1.1.1)),
-    )
+    rw (c.add.ensures.now, c.add.ensures.past, c.reserve.ensures.now, c.reserve.ensures.past) (apart-more _ _ _ o c.self.invariant.0, (defined-under _ _ _ _ _ o c.self.invariant.1.0, omega (arith, c.self.invariant.1.1, length-append c.self.inside.values.past (None ∷ []), length-append c.self.inside.values.current (None ∷ []))))
 
 pub returns-then-is_new-clause-symbols : goal.returns-then-is_new-clause-symbols
 returns-then-is_new-clause-symbols c =
-    symbols-more _ _ _ c.self.inside.current.entries.items (more (goal.at.returns-then-is_new-clause-symbols c).Then-is_new) c.self.invariant.1.0.inside ∙ ap (λ (t : Tables). t.symbols) c.self.view_is
+    symbols-more _ _ _ c.self.inside.entries.items (more (goal.at.returns-then-is_new-clause-symbols c).Then-is_new) c.self.invariant.1.0.inside ∙ ap (λ (t : Tables). t.symbols) c.self.view_is
 
 pub returns-then-is_new-clause-before : goal.returns-then-is_new-clause-before
 returns-then-is_new-clause-before c =
-    symbols-more _ _ _ c.self.inside.past.entries.items (more (goal.at.returns-then-is_new-clause-before c).Then-is_new) c.self.invariant.1.1.0.inside ∙ ap (λ (t : Tables). t.before) c.self.view_is
+    let o = more (goal.at.returns-then-is_new-clause-before c).Then-is_new in
+    let known : length c.self.inside.values.past ≡ length (names_of c.self.inside.keys.keys) = c.self.invariant.1.1 ∙ c.self.invariant.1.0.long in
+    rw (c.add.ensures.past, c.reserve.ensures.past, o.is) (ap finite.from_entries (valued-more (names_of c.self.inside.keys.keys) c.self.inside.values.past c.in_ok-key.key.items known) ∙ ap (λ (t : Tables). t.before) c.self.view_is)
 
 pub returns-then-is_new-clause-named : goal.returns-then-is_new-clause-named
 returns-then-is_new-clause-named c = key-there c.insert_full.new.self.keys c.in_ok-index.index c.in_ok-key.key.items c.in_ok-index.ensures.stored ∙ c.in_ok-key.ensures.items
@@ -40,10 +37,4 @@ pub invariant_of-self-else-is_new : goal.invariant_of-self-else-is_new
 invariant_of-self-else-is_new c =
     let same : c.insert_full.new.self.keys ≡ c.self.inside.keys.keys
     = same-keys c.self.inside.keys.keys c.insert_full.new.self.keys c.in_ok-key.key c.in_ok-index.is_new c.if-is_new.false c.in_ok-index.ensures.added c.in_ok-index.ensures.keys in
-    rw same (
-      c.self.invariant.0,
-      (
-        defined-same (names_of c.self.inside.keys.keys) c.self.inside.current _ c.self.invariant.1.0 refl c.reserve.ensures.items,
-        (defined-same (names_of c.self.inside.keys.keys) c.self.inside.past _ c.self.invariant.1.1.0 refl c.reserve-2.ensures.items, c.self.invariant.1.1.1),
-      ),
-    )
+    rw (same, c.reserve.ensures.now, c.reserve.ensures.past) c.self.invariant

@@ -1,26 +1,18 @@
-use Rattle.std.proofs.Common.{◌≡◌, ◌∙◌, ◌<◌, ℕ, ℤ, ap, sym, subst, length, map, None, arith, List, Option, get_or}
-use Rattle.std.specs.Option.{option_eq}
-use Rattle.std.specs.Ordering.{int_eq}
-use Rattle.std.proofs.lemmas.List.{get_or_default}
-use Rattle.std.specs.Global.{Vec}
-use Rattle.chip_lang.specs.Value.{value_of_name}
-use Rattle.chip_asm.specs.Names.{Name, values_of}
-use Rattle.chip_asm.specs.declared.table.Definitions.{Definitions}
-use Rattle.chip_asm.specs.inner.Tables.{AreDefined, Tables, key_at, symbols_in}
-use Rattle.chip_asm.proofs.NameValues.{value-of-name}
+use Rattle.std.proofs.Common.{◌≡◌, ◌∙◌, ◌<◌, ap, Bool, false, length, not, refl, subst, sym, true}
+use Rattle.chip_lang.specs.Uses.{has_same_value}
+use Rattle.chip_asm.specs.Names.{values_of}
+use Rattle.chip_asm.specs.inner.Tables.{Tables, key_at}
+use Rattle.chip_asm.proofs.NameValues.{same-at}
+use Rattle.chip_asm.proofs.SymbolSteps.{names_of}
 use Rattle.chip_asm.proofs.table.Table.keeps_value.Goals as goal
 
-value-there : (keys : List Name) (d : Definitions) (number : ℕ) (x : Option ℤ) → AreDefined keys d → number < length keys → x ≡ get_or d.values.items number x → x ≡ value_of_name (values_of (symbols_in keys d.entries.items)) (key_at keys number)
-value-there keys d number x a h at =
-    let inside : number < length d.values.items = omega (arith, h, a.long) in
-    at ∙ get_or_default d.values.items number x None inside ∙ a.valued number h ∙ sym (value-of-name (symbols_in keys d.entries.items) (key_at keys number))
+not_not : (b : Bool) → not (not b) ≡ b
+not_not true = refl
+not_not false = refl
 
 pub returns : goal.returns
 returns c =
-    let keys : List Name = map (λ (k : Vec ℕ). k.items) c.self.inside.keys.keys in
-    let h : c.args.id.number < length keys = subst (λ (t : Tables). c.args.id.number < length t.keys) (sym c.self.view_is) c.requires in
-    let was = value-there keys c.self.inside.past c.args.id.number c.index.result.now c.self.invariant.1.1.0 h c.index.ensures
-    ∙ ap (λ (t : Tables). value_of_name (values_of t.before) (key_at t.keys c.args.id.number)) c.self.view_is in
-    let is = value-there keys c.self.inside.current c.args.id.number c.index-2.result.now c.self.invariant.1.0 h c.index-2.ensures
-    ∙ ap (λ (t : Tables). value_of_name (values_of t.symbols) (key_at t.keys c.args.id.number)) c.self.view_is in
-    c.eq.ensures ∙ (λ j. option_eq int_eq (was j) (is j))
+    ap not c.differ.ensures ∙ not_not _
+    ∙ same-at (names_of c.self.inside.keys.keys) _ c.self.inside.values.past _ c.args.id.number c.self.invariant.0 c.self.invariant.1.0
+    (subst (λ (t : Tables). c.args.id.number < length t.keys) (sym c.self.view_is) c.requires)
+    ∙ ap (λ (t : Tables). has_same_value t.before (values_of t.symbols) (key_at t.keys c.args.id.number)) c.self.view_is

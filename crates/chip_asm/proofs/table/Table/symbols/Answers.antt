@@ -14,7 +14,7 @@ loop-entry-preserved c =
     let k : ℕ = c.loop-entry.entry-index in
     let e : Entry = get_or c.deref-entry-items.result.now k no-entry in
     let inside : k < length c.deref-entry-items.result.now = omega (arith, c.loop-entry-test.true) in
-    let s = entry-listed c.args.self.now _ c.self.inside.current.entries.items c.deref-entry-items.result.now k c.self.view_is c.deref-entry-items.ensures.value refl inside in
+    let s = entry-listed c.args.self.now _ c.self.inside.entries.items c.deref-entry-items.result.now k c.self.view_is c.deref-entry-items.ensures.value refl inside in
     c.in_ok-push.ensures.items
     ∙ ap (λ xs. xs ++ named c.in_ok-name.name e.symbol ∷ []) c.loop-entry.invariant
     ∙ ap (λ (n : Name). take k c.args.self.now.symbols ++ named n e.symbol ∷ []) (c.in_ok-name.ensures ∙ c.name.ensures)

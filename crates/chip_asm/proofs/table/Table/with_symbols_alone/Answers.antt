@@ -11,7 +11,7 @@ pub define-requires-clause-new : goal.define-requires-clause-new
 define-requires-clause-new c =
     let k : ℕ = c.loop-entry.entry-index in
     let inside : k < length c.deref-entry-items.result.now = omega (arith, c.loop-entry-test.true) in
-    let once = once-listed c.args.self.now _ c.self.inside.current c.deref-entry-items.result.now k c.self.view_is c.deref-entry-items.ensures.value refl c.self.invariant.1.0 inside in
+    let once = once-listed c.args.self.now _ c.self.inside.entries.items c.deref-entry-items.result.now _ k c.self.view_is c.deref-entry-items.ensures.value refl c.self.invariant.1.0 inside in
     ap (λ (names : List (Name × Symbol)). lookup_name names (key_at c.reserve.new.self.keys c.in_ok-id.id.number)) (c.reserve.ensures.symbols ∙ c.number.ensures.symbols ∙ c.loop-entry.invariant)
     ∙ ap (lookup_name (take k c.args.self.now.symbols)) (ap (λ (ks : List Name). key_at ks c.in_ok-id.id.number) c.reserve.ensures.keys ∙ c.in_ok-id.ensures.id.named ∙ c.name.ensures) ∙ once
 
@@ -20,7 +20,7 @@ loop-entry-preserved c =
     let k : ℕ = c.loop-entry.entry-index in
     let e : Entry = get_or c.deref-entry-items.result.now k no-entry in
     let inside : k < length c.deref-entry-items.result.now = omega (arith, c.loop-entry-test.true) in
-    let s = entry-listed c.args.self.now _ c.self.inside.current.entries.items c.deref-entry-items.result.now k c.self.view_is c.deref-entry-items.ensures.value refl inside in
+    let s = entry-listed c.args.self.now _ c.self.inside.entries.items c.deref-entry-items.result.now k c.self.view_is c.deref-entry-items.ensures.value refl inside in
     c.define.ensures.symbols
     ∙ ap (λ (names : List (Name × Symbol)). names ++ (key_at c.reserve.new.self.keys c.in_ok-id.id.number, e.symbol) ∷ []) (c.reserve.ensures.symbols ∙ c.number.ensures.symbols ∙ c.loop-entry.invariant)
     ∙ ap (λ (n : Name). take k c.args.self.now.symbols ++ (n, e.symbol) ∷ []) (ap (λ (ks : List Name). key_at ks c.in_ok-id.id.number) c.reserve.ensures.keys ∙ c.in_ok-id.ensures.id.named ∙ c.name.ensures)

@@ -1,0 +1,40 @@
+use Rattle.std.proofs.Common.{◌≡◌, ◌∙◌, ◌+◌, ◌<◌, ◌≤◌, arith, length}
+use Rattle.chip_asm.specs.inner.Infos.{IsInfo}
+use Rattle.chip_asm.specs.inner.Kept.{IsKept, needed_by, texts_kept}
+use Rattle.chip_asm.specs.inner.KeptLine.{KeptLine}
+use Rattle.chip_asm.specs.inner.Records.{lines_after, reading_in, texts_in}
+use Rattle.chip_asm.proofs.EditTexts.{IsRead, added-has, all-read, readings-set, texts-set}
+use Rattle.chip_asm.proofs.kept.Kept.edit.Goals as goal
+use Rattle.chip_asm.proofs.kept.Kept.edit.Goals.{Joined-edit, In-Replace, in-Replace+then-has_same_effect, in-Replace+else-has_same_effect+in_ok-remake-in-Replace, in_default+in_ok-remake-in_default}
+
+within : (c : In-Replace) → c.in-Replace.at < length c.args.self.now.lines.items
+within c = let h = rw c.in-Replace.is at c.requires.within in omega (arith, h, c.args.self.now.lines.ok.0)
+
+pub rewrite-requires-clause-is_read : goal.rewrite-requires-clause-is_read
+rewrite-requires-clause-is_read c =
+    added-has IsRead c.args.self.now.lines.items c.in-Replace.at c.in-Replace.added (within (goal.at.rewrite-requires-clause-is_read c).In-Replace) (all-read _ (rw c.in-Replace.is at c.requires.are_read))
+
+pub rewrite-requires-clause-info : goal.rewrite-requires-clause-info
+rewrite-requires-clause-info c =
+    added-has (λ (k : KeptLine). IsInfo c.args.self.now.names.keys k.info k.several (reading_in k)) c.args.self.now.lines.items c.in-Replace.at c.in-Replace.added
+    (within (goal.at.rewrite-requires-clause-info c).In-Replace) (rw c.in-Replace.is at c.requires.infos)
+
+-- what the edit itself leaves
+made : (c : Joined-edit) → IsKept c.match-edit.self × (texts_kept c.match-edit.self ≡ texts_in (lines_after c.args.self.now.lines.items c.args.edit)) × (c.match-edit.meter.encoded ≤ c.args.meter.now.encoded + needed_by c.args.self.now c.args.edit)
+made c =
+    elim c.match-edit.branch [
+      | in-Replace+then-has_same_effect w ↦
+          rw (w.self-is, w.meter-is, w.in-Replace.is, texts-set c.args.self.now.lines.items w.in-Replace.at w.in-Replace.added, readings-set c.args.self.now.lines.items w.in-Replace.at w.in-Replace.added)
+          (w.rewrite.ensures.kept, w.rewrite.ensures.texts, w.rewrite.ensures.encoded)
+      | in-Replace+else-has_same_effect+in_ok-remake-in-Replace w ↦ rw (w.self-is, w.meter-is, w.in-Replace.is) (w.remake.ensures.kept, w.in_ok-remake-in-Replace.ensures.ok, w.remake.ensures.encoded)
+      | in_default+in_ok-remake-in_default w ↦ rw (w.self-is, w.meter-is) (w.remake-in_default.ensures.kept, w.in_ok-remake-in_default.ensures.ok, w.remake-in_default.ensures.encoded)
+    ]
+
+pub renumber-requires : goal.renumber-requires
+renumber-requires c = (made (goal.at.renumber-requires c).Joined-edit).0
+
+pub returns-clause-ok : goal.returns-clause-ok
+returns-clause-ok c = c.renumber.ensures.texts ∙ (made (goal.at.returns-clause-ok c).Joined-edit).1
+
+pub returns-clause-encoded : goal.returns-clause-encoded
+returns-clause-encoded c = (made (goal.at.returns-clause-encoded c).Joined-edit).2
