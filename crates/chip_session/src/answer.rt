@@ -10,6 +10,9 @@ use chip_asm::{Source, Symbol};
 use chip_lang::Fault;
 use std::alloc::{AllocError, Global};
 
+// Room for a name of usual length, with its value and its line.
+const SYMBOL_ROOM: usize = 24;
+
 /// Adds a line of bytes in lower case hexadecimal.
 pub(crate) fn push_hex_line(text: &mut Vec<u8>, bytes: &[u8]) -> Result<(), AllocError>
     ensures { OnOk result (text.new.items ≡ text.old.items ++ hex_line bytes.now) }
@@ -23,7 +26,7 @@ pub(crate) fn push_hex_line(text: &mut Vec<u8>, bytes: &[u8]) -> Result<(), Allo
 pub fn symbols_answer(alloc: Global, source: &Source) -> Result<Vec<u8>, AllocError>
     ensures { IfOk result (λ text. text.items ≡ symbols_text (symbols_of source.now.lines)) }
 {
-    let mut text = Vec::new(alloc);
+    let mut text = Vec::with_capacity(alloc, source.symbol_count().saturating_mul(SYMBOL_ROOM))?;
     for place in 0..source.symbol_count() {
         let Some((name, symbol)) = source.symbol_at(place) else {
             unreachable!()

@@ -17,6 +17,9 @@ use std::alloc::{AllocError, Global};
 // Room for the answer about a machine's registers, where few calls are open.
 const REGISTERS_ROOM: usize = 256;
 
+// Room for 64 rows of the screen, each with its number and 32 digits.
+const SCREEN_ROOM: usize = 64 * 36 + 16;
+
 /// Adds what is asked of a machine's state to an answer that is empty.
 pub(crate) fn push_state(
     alloc: Global,
@@ -214,6 +217,7 @@ fn word_at(machine: &Machine, at: u16) -> u16
 pub(crate) fn push_screen(answer: &mut Vec<u8>, machine: &Machine) -> Result<(), AllocError>
     ensures { OnOk result (answer.new.items ≡ answer.old.items ++ screen_of machine.now) }
 {
+    answer.reserve(SCREEN_ROOM)?;
     answer.extend_from_slice(size_name(machine.high()))?;
     answer.push(b'\n')?;
     push_rows(answer, machine)?;
