@@ -14,7 +14,7 @@ use Rattle.chip_asm.specs.Names.{values_of}
 use Rattle.chip_asm.specs.Program.{bytes_in_code, fault_in_code, names_of_lines}
 use Rattle.chip_asm.specs.computed.Walk.{place, placed}
 use Rattle.chip_asm.specs.inner.Passes.{AreGapsZero, Change, HasCode, IsCarried, IsChange, IsHeld, IsSlot, code_before, is_byte_of, placed_at}
-use Rattle.chip_asm.specs.inner.Placements.{bare_status, found, is_accepted, is_live_status, is_placed, refusal, status_coded}
+use Rattle.chip_asm.specs.inner.Placements.{bare_status, found, is_accepted, is_live_status, refusal, status_coded}
 use Rattle.chip_asm.specs.inner.Recode.{has_code}
 use Rattle.chip_asm.proofs.Bounds.{IsWithinMemory}
 use Rattle.chip_asm.proofs.ImageSteps.{no-code}
@@ -66,7 +66,7 @@ pub record Stood (e : Change) (n : ℕ) (line : Reading) (q : Placement) : Type 
   pub at : AtPlace e.was before (found q)
   pub line_is : at.x.line ≡ line
 
-pub stood-there : (e : Change) (from : List ℕ) (n : ℕ) (line : Reading) (q : Placement) → IsChange e → slice_get e.now n ≡ Some line → IsSlot e from n line q → is_placed q ≡ true → Stood e n line q
+pub stood-there : (e : Change) (from : List ℕ) (n : ℕ) (line : Reading) (q : Placement) → IsChange e → slice_get e.now n ≡ Some line → IsSlot e from n line q → is_accepted q.status ≡ true → Stood e n line q
 stood-there e from n line q same there slot taken =
     let was = slot.was taken in
     let a : AtPlace e.was was.0 (found q) = at-place-of e.was was.0 (found q) was.2 in
@@ -76,7 +76,7 @@ pub covering : (here size at : ℕ) → here ≤ at → at < here + size → (le
 covering here size at low high = grind (arith, nat_tests)
 
 -- its code is copied, as far as there was room for it
-pub carried-held : (e : Change) (from new : List ℕ) (n : ℕ) (x : Placed) (line : Reading) (q : Placement) → IsSlot e from n line q → is_placed q ≡ true → Stood e n line q → x.line ≡ line → IsWithinMemory x
+pub carried-held : (e : Change) (from new : List ℕ) (n : ℕ) (x : Placed) (line : Reading) (q : Placement) → IsSlot e from n line q → is_accepted q.status ≡ true → Stood e n line q → x.line ≡ line → IsWithinMemory x
     → ((i : ℕ) → i < x.size → i < q.size → get_or new (x.here - IMAGE_START + i) 0 ≡ get_or from (q.here - IMAGE_START + i) 0)
     → ((i : ℕ) → i < x.size → q.size ≤ i → get_or new (x.here - IMAGE_START + i) 0 ≡ 0) → IsCarried e n x q.status new
 carried-held e from new n x line q slot taken s same within copied rest = inr (rw same (record { bytes = λ k b. at-byte k (byte-parts x.here x.size k b); noted = code.noted }))
@@ -102,7 +102,7 @@ carried-held e from new n x line q slot taken s same within copied rest = inr (r
         ap (λ n. get_or new n 0) there ∙ byte (IMAGE_START + k - x.here) (omega arith) (cases_lt (IMAGE_START + k - x.here) q.size)
 
 -- it is accepted, and was not before
-pub fresh-held : (e : Change) (from new : List ℕ) (n : ℕ) (x : Placed) (line : Reading) (q : Placement) (coded : Bool) → IsSlot e from n line q → is_placed q ≡ false
+pub fresh-held : (e : Change) (from new : List ℕ) (n : ℕ) (x : Placed) (line : Reading) (q : Placement) (coded : Bool) → IsSlot e from n line q → is_accepted q.status ≡ false
     → ((k : ℕ) → is_byte_of x.here x.size k ≡ true → get_or new k 0 ≡ 0) → coded ≡ has_code (body_of x.line) → IsCarried e n x (bare_status true coded) new
 fresh-held e from new n x line q true slot refused zeros coded = inl (record { pending = refl; coded = sym coded; new = sym slot.accepted ∙ refused; zeros = zeros })
 fresh-held e from new n x line q false slot refused zeros bare =
@@ -113,7 +113,7 @@ fresh-held e from new n x line q false slot refused zeros bare =
     })
 
 -- an accepted line that is noted otherwise, as accepted too
-pub noted-found : (q : Placement) (status : Status) → is_placed q ≡ true → is_accepted status ≡ true → found (record q { status = status }) ≡ found q
+pub noted-found : (q : Placement) (status : Status) → is_accepted q.status ≡ true → is_accepted status ≡ true → found (record q { status = status }) ≡ found q
 noted-found q status taken accepted =
     let old = and_parts (is_live_status q.status) (is_none (refusal q.status)) taken in
     let new = and_parts (is_live_status status) (is_none (refusal status)) accepted in

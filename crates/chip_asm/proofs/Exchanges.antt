@@ -5,7 +5,6 @@ use Rattle.std.proofs.lemmas.Bool.{cases_lt, false_from_ne_true}
 use Rattle.std.proofs.lemmas.List.{length-map, take-map}
 use Rattle.std.proofs.lemmas.Option.{same_Some, slice_get-get_or, slice_get_within}
 use Rattle.chip_lang.specs.declared.limits.TheConstants.{IMAGE_BYTES, IMAGE_START}
-use Rattle.chip_lang.specs.Code.{own_bytes}
 use Rattle.chip_lang.specs.Line.{Reading}
 use Rattle.chip_asm.specs.declared.edit.Edit.{Edit}
 use Rattle.chip_asm.specs.declared.kept.Kept.{Kept}
@@ -15,7 +14,8 @@ use Rattle.chip_asm.specs.declared.placement.Status.TheVariants.{Pending, Skippe
 use Rattle.chip_asm.specs.declared.table.Symbol.{Symbol}
 use Rattle.chip_asm.specs.Layout.{Placed, body_of, is_if}
 use Rattle.chip_asm.specs.Names.{Name, values_of}
-use Rattle.chip_asm.specs.Program.{bytes_in_code, code_under, fault_in_code, names_of_lines}
+use Rattle.chip_asm.specs.Program.{bytes_in_code, code_under, code_with, fault_in_code, names_of_lines}
+use Rattle.chip_asm.specs.Work.{is_accepted_at}
 use Rattle.chip_asm.specs.computed.Walk.{address, placed}
 use Rattle.chip_asm.specs.inner.Codes.{right_byte}
 use Rattle.chip_asm.specs.inner.Follows.{placement_of}
@@ -23,8 +23,7 @@ use Rattle.chip_asm.specs.inner.Kept.{IsExchanged, IsKept, MayEdit, change_of, l
 use Rattle.chip_asm.specs.inner.Infos.{is_steady}
 use Rattle.chip_asm.specs.inner.Layouts.{IsCounted, IsLayoutOf, final_placement, first_placements, placements_of}
 use Rattle.chip_asm.specs.inner.Passes.{HasCode, IsHeld, IsSlot, is_byte_of, placed_at}
-use Rattle.chip_asm.specs.inner.Placements.{Found, found, is_found, is_placed, nothing, status_coded}
-use Rattle.chip_asm.specs.inner.Recode.{is_placed_at}
+use Rattle.chip_asm.specs.inner.Placements.{Found, found, is_accepted, is_accepted_found, nothing, status_coded}
 use Rattle.chip_asm.specs.inner.Records.{count_after, lines_after, place_before, reading_in, readings_in}
 use Rattle.chip_asm.specs.inner.Resume.{first_changed}
 use Rattle.chip_asm.specs.inner.Tables.{AreOver, AreUpTo}
@@ -34,7 +33,7 @@ use Rattle.chip_asm.proofs.FoundLines.{none-pending}
 use Rattle.chip_asm.proofs.ImageSteps.{covered}
 use Rattle.chip_asm.proofs.KeptEdits.{within-lines}
 use Rattle.chip_asm.proofs.LinesAfter.{Edited, edited-lines, edited-map, same-front, shorter}
-use Rattle.chip_asm.proofs.LinesByPlace.{AtPlace, at-line, at-place, at-place-of, byte-line, byte-nowhere, ends-before, found-there, here-at, high, low}
+use Rattle.chip_asm.proofs.LinesByPlace.{AtPlace, accepted-at, at-line, at-place, at-place-of, byte-line, byte-nowhere, ends-before, found-there, here-at, high, low}
 use Rattle.chip_asm.proofs.Resumed.{AllSteady, first-laid, length-laid}
 
 -- each byte is that of the lines
@@ -43,16 +42,16 @@ AreBytesOf image lines = (k : ℕ) → k < IMAGE_BYTES → get_or image k 0 ≡ 
 
 -- an accepted line has its code
 accepted-code : (layout : Layout) (image : List ℕ) (lines : List Reading) (n : ℕ) (q : Placement) (line : Reading) → IsLayoutOf layout lines → AreBytesOf image lines → (a : AtPlace lines n (found q))
-    → is_placed q ≡ true → slice_get layout.placements.items n ≡ Some q → slice_get lines n ≡ Some line → HasCode (own_bytes (body_of line) (values_of (names_of_lines lines))) q.here q.size q.status image
+    → is_accepted q.status ≡ true → slice_get layout.placements.items n ≡ Some q → slice_get lines n ≡ Some line → HasCode (code_with (names_of_lines lines) line) q.here q.size q.status image
 accepted-code layout image lines n q line laid bytes a accepted there is = record {
   bytes = λ i byte.
       bytes i (omega (arith, low lines n (found q) a, high lines n (found q) a, (covered q.here q.size i true byte (low lines n (found q) a)).1)) ∙ byte-line lines n (found q) a (IMAGE_START + i) byte
       ∙ ap (λ r. get_or (bytes_in_code r) (IMAGE_START + i - q.here) 0) code;
-  noted = laid.codes n a.x q a.at there (ap is_found (sym a.placement) ∙ accepted) ∙ ap (λ r. status_coded (fault_in_code r)) code;
+  noted = laid.codes n a.x q a.at there (ap is_accepted_found (sym a.placement) ∙ accepted) ∙ ap (λ r. status_coded (fault_in_code r)) code;
 }
   where
-    code : code_under (placed lines) a.x ≡ own_bytes (body_of line) (values_of (names_of_lines lines))
-    code = ap (λ (l : Reading). own_bytes (body_of l) (values_of (names_of_lines lines))) (same_Some a.x.line line (sym a.line ∙ is))
+    code : code_under (placed lines) a.x ≡ code_with (names_of_lines lines) line
+    code = ap (code_with (names_of_lines lines)) (same_Some a.x.line line (sym a.line ∙ is))
 
 -- the edit is made, and the passes begin behind these first lines
 pub record IsMade (old new : Kept) (edit : Edit) (first here : ℕ) : Type 0 where
@@ -87,20 +86,21 @@ slot old new edit first here m j line q line_at q_at = by (place_before edit j) 
   where
     by : (o : Option ℕ) → place_before edit j ≡ o → IsSlot (change_of old edit) new.image.items j line q
     by None origin =
-        let refused : is_placed q ≡ false = ap is_placed (m.placements.fresh j q origin q_at) in
+        let refused : is_accepted q.status ≡ false = ap (λ (p : Placement). is_accepted p.status) (m.placements.fresh j q origin q_at) in
         record {
-          accepted = refused ∙ sym (ap (λ o. option_map_or (is_placed_at (placements_of (lines_kept old))) o false) origin);
+          accepted = refused ∙ sym (ap (λ o. option_map_or (is_accepted_at (lines_kept old)) o false) origin);
           was = λ accepted. absurd (cc);
           code = λ accepted. absurd (cc);
         }
     by (Some b) origin =
         let q_old : slice_get old.layout.placements.items b ≡ Some q = m.placements.stood j b origin ∙ q_at in
         let q_was : slice_get (placements_of (lines_kept old)) b ≡ Some (found q) = found-there (lines_kept old) old.layout m.may.kept.laid_out b q q_old in
+        let a : AtPlace (lines_kept old) b (found q) = at-place-of (lines_kept old) b (found q) q_was in
         record {
-          accepted = sym (ap (λ o. option_map_or (is_placed_at (placements_of (lines_kept old))) o false) origin ∙ ap (λ o. option_map_or is_found o false) q_was);
+          accepted = sym (ap (λ o. option_map_or (is_accepted_at (lines_kept old)) o false) origin ∙ accepted-at (lines_kept old) b (found q) a);
           was = λ accepted. (b, origin, q_was);
           code = λ accepted.
-              accepted-code old.layout new.image.items (lines_kept old) b q line m.may.kept.laid_out m.image (at-place-of (lines_kept old) b (found q) q_was) accepted q_old
+              accepted-code old.layout new.image.items (lines_kept old) b q line m.may.kept.laid_out m.image a accepted q_old
               ((read-edited old edit m.may).stood j b origin ∙ line_at);
         }
 
@@ -122,8 +122,8 @@ first-held old new edit first here m j x q below at q_at = λ effect.
     let steady : is_steady (body_of x.line) ≡ true = steady-at was first j x.line (subst AllSteady (sym m.begun.same) m.begun.steady) below line in
     let not_if : is_if x ≡ false = grind arith in
     let same : found q ≡ placement_of x = a.placement ∙ ap (final_placement (placed was)) is ∙ (rw not_if refl) in
-    inr (subst (λ (f : Found). HasCode (own_bytes (body_of x.line) (values_of (names_of_lines was))) f.here f.size q.status new.image.items) same
-    (accepted-code old.layout new.image.items was j q x.line m.may.kept.laid_out m.image a (ap is_found same ∙ effect) q_old line))
+    inr (subst (λ (f : Found). HasCode (code_with (names_of_lines was) x.line) f.here f.size q.status new.image.items) same
+    (accepted-code old.layout new.image.items was j q x.line m.may.kept.laid_out m.image a (ap is_accepted_found same ∙ effect) q_old line))
 
 -- the bytes that none of them covers
 

@@ -13,7 +13,7 @@ use Rattle.chip_asm.specs.computed.Walk.{placed}
 use Rattle.chip_asm.specs.inner.Effect.{HasSameEffect, HasSameEffectAt}
 use Rattle.chip_asm.specs.inner.KeptLine.{KeptLine}
 use Rattle.chip_asm.specs.inner.Layouts.{IsLayoutOf}
-use Rattle.chip_asm.specs.inner.Placements.{Found, found, is_accepted, is_found, status_coded}
+use Rattle.chip_asm.specs.inner.Placements.{Found, found, is_accepted, is_accepted_found, status_coded}
 use Rattle.chip_asm.specs.inner.Records.{reading_in, readings_in}
 use Rattle.chip_asm.proofs.LinesAfter.{read-at}
 use Rattle.chip_asm.proofs.LinesByPlace.{AtPlace, at-place}
@@ -48,4 +48,4 @@ never-pending (Some f) e = cc
 pub none-pending : (lines : List Reading) (layout : Layout) → IsLayoutOf layout lines → (n : ℕ) (q : Placement) → slice_get layout.placements.items n ≡ Some q → q.status ≡ Pending → ⊥
 none-pending lines layout laid n q there waits =
     let a : AtPlace lines n (found q) = at-place lines layout laid n q there in
-    never-pending (fault_in_code (code_under (placed lines) a.x)) (sym (laid.codes n a.x q a.at there (ap is_found (sym a.placement) ∙ ap is_accepted waits)) ∙ waits)
+    never-pending (fault_in_code (code_under (placed lines) a.x)) (sym (laid.codes n a.x q a.at there (ap is_accepted_found (sym a.placement) ∙ ap is_accepted waits)) ∙ waits)

@@ -17,6 +17,7 @@ use Rattle.chip_asm.specs.computed.Walk.{address, placed, symbols}
 use Rattle.chip_asm.specs.inner.Layouts.{final_placement}
 use Rattle.chip_asm.proofs.Bounds.{end-low}
 use Rattle.chip_asm.proofs.CarrySteps.{covering}
+use Rattle.chip_asm.proofs.LinesApart.{ends-by}
 use Rattle.chip_asm.proofs.LinesByPlace.{at-line, byte-line, byte-outside, low}
 use Rattle.chip_asm.proofs.PlacesAgree.{address-of, only}
 use Rattle.chip_asm.proofs.UnclosedByPlace.{unclosed}
@@ -40,10 +41,10 @@ image-made lines =
     let end : IMAGE_START + length (bytes_of_lines (placed lines)) ≡ address (placed lines) = omega (arith, long, end-low lines) in
     record {
       up_to = rw end (address-of (placed lines));
-      of_line = λ i k p at inside before.
+      of_line = λ i k p at inside.
           (let a = at-line lines i p at in
           let from : IMAGE_START + (p.here + k - IMAGE_START) ≡ p.here + k = omega (arith, low lines i (final_placement (placed lines) p) a) in
-          byte lines size (p.here + k - IMAGE_START) (omega (arith, before, end, from, long)) ∙ ap (byte_at (placed lines)) from
+          byte lines size (p.here + k - IMAGE_START) (omega (arith, ends-by lines i p at, end, from, long)) ∙ ap (byte_at (placed lines)) from
           ∙ byte-line lines i (final_placement (placed lines) p) a (p.here + k) (covering p.here p.size (p.here + k) (omega arith) (omega arith))
           ∙ ap (λ n. get_or (bytes_in_code (code_among (reverse (placed lines)) p)) n 0) (omega arith));
       between = λ k inside none. byte lines size k (omega (arith, long)) ∙ byte-outside lines (IMAGE_START + k) (λ i p at. outside p.here p.size (IMAGE_START + k) (none i p at));

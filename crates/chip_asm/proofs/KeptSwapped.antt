@@ -1,18 +1,15 @@
 -- What is kept stays right where a line is put in the place of one with the same effect.
 use Rattle.std.proofs.Common.{◌≡◌, ℕ, ◌+◌, ◌-◌, ◌<◌, ◌≤◌, inl, inr, Bool, true, false, ◌&&◌, cond, length, map, reverse, set, get_or, slice_get, ap, sym, ◌∙◌, arith, refl, length-set, vec_len, eq-eqb, List, [], Some, None}
-use Rattle.std.specs.Option.{option_map_or}
 use Rattle.std.specs.Prelude.{min}
 use Rattle.std.proofs.lemmas.Bool.{cases_eq}
 use Rattle.std.proofs.lemmas.List.{get_or_default, get_or-set_other, get_or-set_same, length-map}
 use Rattle.std.proofs.lemmas.Option.{get_or_from_slice_get, same_Some, slice_get-get_or}
 use Rattle.std.proofs.Math.Seq.{map-set_same}
 use Rattle.chip_lang.specs.declared.limits.TheConstants.{IMAGE_START}
-use Rattle.chip_lang.specs.Code.{own_bytes}
 use Rattle.chip_lang.specs.Line.{Reading, reading_of}
 use Rattle.chip_asm.specs.Edits.{before_replace}
 use Rattle.chip_asm.specs.Layout.{body_of}
-use Rattle.chip_asm.specs.Names.{values_of}
-use Rattle.chip_asm.specs.Program.{bytes_in_code, code_under, fault_in_code, names_of_lines}
+use Rattle.chip_asm.specs.Program.{bytes_in_code, code_under, code_with, fault_in_code, names_of_lines}
 use Rattle.chip_asm.specs.Work.{is_accepted_in, needs_count}
 use Rattle.chip_asm.specs.computed.Walk.{placed}
 use Rattle.chip_asm.specs.declared.edit.Edit.TheVariants.{Replace}
@@ -24,13 +21,13 @@ use Rattle.chip_asm.specs.inner.Infos.{IsInfo}
 use Rattle.chip_asm.specs.inner.Kept.{IsKept}
 use Rattle.chip_asm.specs.inner.KeptLine.{KeptLine}
 use Rattle.chip_asm.specs.inner.Layouts.{AreCodesNoted, IsCounted, IsLayoutOf}
-use Rattle.chip_asm.specs.inner.Placements.{found, is_found, is_placed, status_coded}
+use Rattle.chip_asm.specs.inner.Placements.{found, is_accepted, is_accepted_found, status_coded}
 use Rattle.chip_asm.specs.inner.Recode.{has_code}
 use Rattle.chip_asm.specs.inner.Records.{reading_in, readings_in}
 use Rattle.chip_asm.specs.inner.Resume.{AreSteady}
 use Rattle.chip_asm.proofs.EditTexts.{all-after, read-after, readings-set}
 use Rattle.chip_asm.proofs.KeptSteps.{kept-by}
-use Rattle.chip_asm.proofs.LinesByPlace.{AtPlace, at-place-of, byte-line, covers-accepted, found-there}
+use Rattle.chip_asm.proofs.LinesByPlace.{AtPlace, accepted-at, at-place-of, byte-line, covers-accepted, found-there}
 use Rattle.chip_asm.proofs.NeededLines.{one-needed}
 use Rattle.chip_asm.proofs.QuietLines.{with_line}
 use Rattle.chip_asm.proofs.Resumed.{length-laid}
@@ -69,8 +66,8 @@ code-swapped : (kept : Kept) (at : ℕ) (added : KeptLine) (q : Placement) → I
     → code_kept kept.names added ≡ code_under (placed (set (readings_in kept.lines.items) at (reading_in added))) e.now.x
 code-swapped kept at added q k e =
     let lines : List Reading = readings_in kept.lines.items in
-    ap (λ line. own_bytes (body_of line) (values_of kept.names.symbols)) (sym (line-new lines at (reading_in added) q e))
-    ∙ ap (λ names. own_bytes (body_of e.now.x.line) (values_of names)) (k.symbols ∙ sym (names-swapped lines at (reading_in added) e.swap))
+    ap (code_with kept.names.symbols) (sym (line-new lines at (reading_in added) q e))
+    ∙ ap (λ names. code_with names e.now.x.line) (k.symbols ∙ sym (names-swapped lines at (reading_in added) e.swap))
 
 -- where it doesn't stand the bytes are as they were
 byte-apart : (lines : List Reading) (at : ℕ) (new : Reading) (q : Placement) (e : Exchange lines at new q) (k : ℕ) → covers_byte q k ≡ false → right_byte (set lines at new) k ≡ right_byte lines k
@@ -88,7 +85,7 @@ pub record IsNoted (old now : Kept) (at : ℕ) (added : KeptLine) (q made : Plac
   pub long : length now.image.items ≡ length old.image.items
   pub items : now.layout.placements.items ≡ set old.layout.placements.items at made
   pub same : found made ≡ found q
-  pub noted : is_placed q ≡ true → made.status ≡ status_coded (fault_in_code (code_kept old.names added))
+  pub noted : is_accepted q.status ≡ true → made.status ≡ status_coded (fault_in_code (code_kept old.names added))
   pub counted : IsCounted now.layout
 
 module _ (old now : Kept) (at : ℕ) (added : KeptLine) (q made : Placement) (k : IsKept old) (e : Exchange (readings_in old.lines.items) at (reading_in added) q) (n : IsNoted old now at added q made) where
@@ -127,13 +124,13 @@ module _ (old now : Kept) (at : ℕ) (added : KeptLine) (q made : Placement) (k 
         let is_made : p ≡ made
         = same_Some p made (sym p_at ∙ ap (slice_get (set old.layout.placements.items at made)) here ∙ set-here old.layout.placements.items at made (omega (arith, e.inside, length-laid old.layout lines k.laid_out))) in
         ap (λ (r : Placement). r.status) is_made
-        ∙ n.noted (ap is_found e.now.placement ∙ ap (is_accepted_in (placed after)) (sym is_x) ∙ accepted)
+        ∙ n.noted (ap is_accepted_found e.now.placement ∙ ap (is_accepted_in (placed after)) (sym is_x) ∙ accepted)
         ∙ ap (λ code. status_coded (fault_in_code code)) (code-swapped old at added q k e ∙ ap (code_under (placed after)) (sym is_x)))
     | inr other ↦
         (let s = alike lines at (reading_in added) e.swap in
         k.laid_out.codes j x p (sym (set-other (reverse (placed lines)) at j (with_line e.swap.x (reading_in added)) other) ∙ ap (λ ps. slice_get ps j) (sym (line-swapped lines at (reading_in added) e.swap)) ∙ x_at)
-        (sym (set-other old.layout.placements.items at j made other) ∙ p_at) (ap is_found (final-same (placed lines) (placed after) x s) ∙ accepted)
-        ∙ ap (λ names. status_coded (fault_in_code (own_bytes (body_of x.line) (values_of names)))) s.names)
+        (sym (set-other old.layout.placements.items at j made other) ∙ p_at) (ap is_accepted_found (final-same (placed lines) (placed after) x s) ∙ accepted)
+        ∙ ap (λ names. status_coded (fault_in_code (code_with names x.line))) s.names)
   ]
 
   layout-swapped : q ≡ get_or old.layout.placements.items at q → IsLayoutOf now.layout after
@@ -169,7 +166,7 @@ kept-swapped old now new at added q made k n lines settled names layout image re
 -- one line that is encoded is needed
 pub encoded-kept : (kept : Kept) (at : ℕ) (added : KeptLine) (q : Placement) (old new : ℕ) → Exchange (readings_in kept.lines.items) at (reading_in added) q
     → new ≤ old + cond (is_coded added q) 1 0 → new ≤ old + needs_count (readings_in kept.lines.items) (set (readings_in kept.lines.items) at (reading_in added)) (before_replace at)
-encoded-kept kept at added q old new e h = by (is_placed q) (has_code (body_of (reading_in added))) refl h
+encoded-kept kept at added q old new e h = by (is_accepted q.status) (has_code (body_of (reading_in added))) refl h
   where
     lines : List Reading
     lines = readings_in kept.lines.items
@@ -177,13 +174,13 @@ encoded-kept kept at added q old new e h = by (is_placed q) (has_code (body_of (
     now : List Reading
     now = set lines at (reading_in added)
 
-    needed : is_placed q ≡ true → 1 ≤ needs_count lines now (before_replace at)
+    needed : is_accepted q.status ≡ true → 1 ≤ needs_count lines now (before_replace at)
     needed accepted =
         let none : before_replace at at ≡ None = rw (eq-eqb at at refl) refl in
         one-needed lines now (before_replace at) at (reading_in added) (e.now.line ∙ ap Some (line-new lines at (reading_in added) q e)) none
-        (ap (λ o. option_map_or (is_accepted_in (placed now)) o false) e.now.at ∙ ap is_found (sym e.now.placement) ∙ accepted)
+        (accepted-at now at (found q) e.now ∙ accepted)
 
-    by : (p b : Bool) → is_placed q ≡ p → new ≤ old + cond (p && b) 1 0 → new ≤ old + needs_count lines now (before_replace at)
+    by : (p b : Bool) → is_accepted q.status ≡ p → new ≤ old + cond (p && b) 1 0 → new ≤ old + needs_count lines now (before_replace at)
     by true true accepted h = omega (arith, needed accepted)
     by true false accepted h = omega arith
     by false b accepted h = omega arith

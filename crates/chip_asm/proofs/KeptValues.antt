@@ -16,7 +16,7 @@ use Rattle.chip_asm.specs.Layout.{Placed, body_of, is_redefinition, value_at, va
 use Rattle.chip_asm.specs.Program.{is_unclosed, names_of_lines}
 use Rattle.chip_asm.specs.computed.Walk.{address, first_fault, fault_of_value, is_aligning, is_live, is_misplaced, place, placed, symbols}
 use Rattle.chip_asm.specs.inner.Layouts.{final_placement, placements_of}
-use Rattle.chip_asm.specs.inner.Placements.{Found, is_found}
+use Rattle.chip_asm.specs.inner.Placements.{Found, is_accepted_found}
 use Rattle.chip_asm.proofs.Bounds.{no_fault}
 use Rattle.chip_asm.proofs.NameValues.{value-of-name}
 use Rattle.chip_asm.proofs.NextLine.{none_from}
@@ -47,7 +47,7 @@ no-other before (read label body) h =
     let new = no_fault (is_redefinition (symbols before) label) _ _ placed_well.1 in
     has-value (is_aligning before) (address before) body (value_at (symbols before) body) new.1
 
-accepted-value : (all before : List Placed) (line : Reading) → is_found (final_placement all (place before line)) ≡ true
+accepted-value : (all before : List Placed) (line : Reading) → is_accepted_found (final_placement all (place before line)) ≡ true
     → value_at (symbols before) (body_of line) ≡ Ok (place before line).value
 unfolding place
 accepted-value all before line h = no-other before line (by (is_live before (body_of line)) (is_unclosed all (place before line)) h)
@@ -57,7 +57,7 @@ accepted-value all before line h = no-other before line (by (is_live before (bod
     by true true h = cc
     by true false h = none_from (first_fault before line) h
 
-value-before : (lines : List Reading) (n : ℕ) (line : Reading) (q : Found) → slice_get lines n ≡ Some line → slice_get (placements_of lines) n ≡ Some q → is_found q ≡ true
+value-before : (lines : List Reading) (n : ℕ) (line : Reading) (q : Found) → slice_get lines n ≡ Some line → slice_get (placements_of lines) n ≡ Some q → is_accepted_found q ≡ true
     → value_at (symbols (placed (take n lines))) (body_of line) ≡ Ok q.value
 unfolding placements_of
 value-before lines n line q at is accepted =
@@ -68,7 +68,7 @@ value-before lines n line q at is accepted =
     = sym (get_or_from_slice_get (placements_of lines) n q q is)
     ∙ get_or-map (final_placement (placed lines)) (reverse (placed lines)) n d q (omega (arith, length-numbered lines))
     ∙ ap (final_placement (placed lines)) (next-placed lines n line d inside (get_or_from_slice_get lines n line line at)) in
-    accepted-value (placed lines) before line (ap is_found (sym found) ∙ accepted) ∙ ap (λ (r : Found). Ok r.value) (sym found)
+    accepted-value (placed lines) before line (ap is_accepted_found (sym found) ∙ accepted) ∙ ap (λ (r : Found). Ok r.value) (sym found)
 
 -- it keeps it when names are added
 
@@ -107,7 +107,7 @@ still-read same old new (read label (ds e)) h = same e (values_of old) (values_o
 still-read same old new (read label body) h = refl
 
 pub value-kept : KeepsValue → SameValue → (lines : List Reading) (n : ℕ) (line : Reading) (q : Found) (new : List (Name × Symbol))
-    → slice_get lines n ≡ Some line → slice_get (placements_of lines) n ≡ Some q → is_found q ≡ true
+    → slice_get lines n ≡ Some line → slice_get (placements_of lines) n ≡ Some q → is_accepted_found q ≡ true
     → agree_on (values_of (names_of_lines lines)) (values_of new) line ≡ true → value_at new (body_of line) ≡ Ok q.value
 value-kept keeps same lines n line q new at is accepted agree =
     let inside : n < length lines = slice_get_within lines n line at in

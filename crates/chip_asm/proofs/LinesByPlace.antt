@@ -18,9 +18,10 @@ use Rattle.chip_asm.specs.declared.layout.Layout.{Layout}
 use Rattle.chip_asm.specs.Layout.{Placed, body_of, full_size, is_if, is_if_body, own_size, takes_effect}
 use Rattle.chip_asm.specs.computed.Walk.{place, placed, address, symbols}
 use Rattle.chip_asm.specs.inner.Layouts.{IsLayoutOf, placements_of, final_placement}
-use Rattle.chip_asm.specs.inner.Placements.{Found, found, is_found}
+use Rattle.chip_asm.specs.inner.Placements.{Found, found, is_accepted_found}
 use Rattle.chip_asm.specs.declared.placement.Placement.{Placement}
 use Rattle.chip_asm.specs.Program.{code_under, bytes_in_code, fault_in_code, covers, byte_at, fault_of, first_pass_fault, is_unclosed}
+use Rattle.chip_asm.specs.Work.{is_accepted_at, is_accepted_in}
 use Rattle.chip_asm.proofs.Bounds.{IsWithinMemory, within-memory}
 use Rattle.chip_asm.proofs.FirstLines.{same-placed}
 use Rattle.chip_asm.proofs.ImageSteps.{code-short, own-short}
@@ -151,6 +152,10 @@ low lines n q a = rw a.placement a.within.0
 pub high : (lines : List Reading) (n : ℕ) (q : Found) → AtPlace lines n q → q.here + q.size ≤ MEMORY_BYTES
 high lines n q a = rw a.placement a.within.1
 
+-- the first pass says whether it is accepted
+pub accepted-at : (lines : List Reading) (n : ℕ) (q : Found) → AtPlace lines n q → is_accepted_at lines n ≡ is_accepted_found q
+accepted-at lines n q a = ap (λ o. option_map_or (is_accepted_in (placed lines)) o false) a.at ∙ ap is_accepted_found (sym a.placement)
+
 -- a line that isn't accepted has no room
 
 if-room : (aligning : Bool) (here : ℕ) (body : Body) (value : ℤ) → is_if_body body ≡ true → full_size aligning here body value ≡ 0
@@ -164,8 +169,8 @@ if-room aligning here body value h = cc
 pub unclosed-parts : (all : List Placed) (x : Placed) → is_unclosed all x ≡ true → (is_if x ≡ true) × (x.live ≡ true)
 unclosed-parts all x h = and_parts (is_if x) x.live (and_parts _ _ (and_parts _ _ h).0).0
 
-refused-size : (lines : List Reading) (n : ℕ) (q : Found) (a : AtPlace lines n q) → is_found q ≡ false → a.x.size ≡ 0
-refused-size lines n q a refused = by (is_unclosed (placed lines) a.x) refl (ap is_found (sym a.placement) ∙ refused)
+refused-size : (lines : List Reading) (n : ℕ) (q : Found) (a : AtPlace lines n q) → is_accepted_found q ≡ false → a.x.size ≡ 0
+refused-size lines n q a refused = by (is_unclosed (placed lines) a.x) refl (ap is_accepted_found (sym a.placement) ∙ refused)
   where
     p : Parts (placed (take n lines)) a.x.line
     p = parts (placed (take n lines)) a.x.line
@@ -177,16 +182,16 @@ refused-size lines n q a refused = by (is_unclosed (placed lines) a.x) refl (ap 
         ∙ cond_both (takes_effect (place (placed (take n lines)) a.x.line)) _ 0 (λ s. s ≡ 0) (λ e. if-room _ _ (body_of a.x.line) _ (unclosed-parts (placed lines) a.x unclosed_is).0) (λ e. refl)
 
 -- so one that has a byte is
-pub covers-accepted : (lines : List Reading) (n : ℕ) (q : Found) (a : AtPlace lines n q) (address : ℕ) → covered_by q address ≡ true → is_found q ≡ true
-covers-accepted lines n q a address c = true_from_ne_false (is_found q) (λ refused.
+pub covers-accepted : (lines : List Reading) (n : ℕ) (q : Found) (a : AtPlace lines n q) (address : ℕ) → covered_by q address ≡ true → is_accepted_found q ≡ true
+covers-accepted lines n q a address c = true_from_ne_false (is_accepted_found q) (λ refused.
     (let both = and_parts (leb q.here address) (ltb address (q.here + q.size)) c in
     omega (arith, leb-true q.here address both.0, ltb-true address (q.here + q.size) both.1, refused-size lines n q a refused, ap (λ (p : Found). p.size) a.placement)))
 
 -- the fault of an accepted line is that of its code, and that of another one is that of the first pass
-pub line-fault : (lines : List Reading) (n : ℕ) (q : Found) (a : AtPlace lines n q) → fault_of (placed lines) a.x ≡ cond (is_found q) (fault_in_code (code_under (placed lines) a.x)) q.fault
+pub line-fault : (lines : List Reading) (n : ℕ) (q : Found) (a : AtPlace lines n q) → fault_of (placed lines) a.x ≡ cond (is_accepted_found q) (fault_in_code (code_under (placed lines) a.x)) q.fault
 line-fault lines n q a =
     by a.x.live (first_pass_fault (placed lines) a.x) (fault_in_code (code_under (placed lines) a.x)) none
-    ∙ ap (λ (p : Found). cond (is_found p) (fault_in_code (code_under (placed lines) a.x)) p.fault) (sym a.placement)
+    ∙ ap (λ (p : Found). cond (is_accepted_found p) (fault_in_code (code_under (placed lines) a.x)) p.fault) (sym a.placement)
   where
     by : (live : Bool) (fault code : Option Fault) → (live ≡ false → fault ≡ None) → cond live (cond (is_some fault) fault code) None ≡ cond (live && is_none fault) code fault
     by true None code h = refl
@@ -199,30 +204,30 @@ line-fault lines n q a =
         let before : List Placed = placed (take n lines) in
         rw closed (subst (λ (y : Placed). y.live ≡ false → y.fault ≡ None) (sym a.follows) (λ e. (parts before a.x.line).fault ∙ (rw e refl)) dead)
 
-pub refused-fault : (lines : List Reading) (n : ℕ) (q : Found) (a : AtPlace lines n q) → is_found q ≡ false → q.fault ≡ fault_of (placed lines) a.x
+pub refused-fault : (lines : List Reading) (n : ℕ) (q : Found) (a : AtPlace lines n q) → is_accepted_found q ≡ false → q.fault ≡ fault_of (placed lines) a.x
 refused-fault lines n q a refused = sym (line-fault lines n q a ∙ (rw refused refl))
 
-pub accepted-fault : (lines : List Reading) (n : ℕ) (q : Found) (a : AtPlace lines n q) → is_found q ≡ true → fault_of (placed lines) a.x ≡ fault_in_code (code_under (placed lines) a.x)
+pub accepted-fault : (lines : List Reading) (n : ℕ) (q : Found) (a : AtPlace lines n q) → is_accepted_found q ≡ true → fault_of (placed lines) a.x ≡ fault_in_code (code_under (placed lines) a.x)
 accepted-fault lines n q a accepted = line-fault lines n q a ∙ (rw accepted refl)
 
 -- an accepted line has room for its bytes
 
-pub accepted-effect : (all : List Placed) (x : Placed) → is_found (final_placement all x) ≡ true → takes_effect x ≡ true
+pub accepted-effect : (all : List Placed) (x : Placed) → is_accepted_found (final_placement all x) ≡ true → takes_effect x ≡ true
 accepted-effect all x accepted = by (is_unclosed all x) accepted
   where
     by : (u : Bool) → (x.live && is_none (cond u (Some UnclosedIf) x.fault)) ≡ true → takes_effect x ≡ true
     by true h = absurd (false≢true (and_parts x.live false h).1)
     by false h = h
 
-own-room : (lines : List Reading) (n : ℕ) (q : Found) (a : AtPlace lines n q) → is_found q ≡ true → own_size (body_of a.x.line) (place (placed (take n lines)) a.x.line).value ≤ q.size
+own-room : (lines : List Reading) (n : ℕ) (q : Found) (a : AtPlace lines n q) → is_accepted_found q ≡ true → own_size (body_of a.x.line) (place (placed (take n lines)) a.x.line).value ≤ q.size
 own-room lines n q a accepted =
-    let effect : takes_effect (place (placed (take n lines)) a.x.line) ≡ true = ap takes_effect (sym a.follows) ∙ accepted-effect (placed lines) a.x (ap is_found (sym a.placement) ∙ accepted) in
+    let effect : takes_effect (place (placed (take n lines)) a.x.line) ≡ true = ap takes_effect (sym a.follows) ∙ accepted-effect (placed lines) a.x (ap is_accepted_found (sym a.placement) ∙ accepted) in
     let size = (parts (placed (take n lines)) a.x.line).size in
     let room : own_size (body_of a.x.line) (place (placed (take n lines)) a.x.line).value ≤ (place (placed (take n lines)) a.x.line).size = rw (size, effect) (omega arith) in
     omega (arith, ap (λ (p : Placed). p.size) a.follows, ap (λ (p : Found). p.size) a.placement)
 
-pub bytes-fit : (lines : List Reading) (n : ℕ) (q : Found) (a : AtPlace lines n q) → is_found q ≡ true → length (bytes_in_code (code_under (placed lines) a.x)) ≤ q.size
+pub bytes-fit : (lines : List Reading) (n : ℕ) (q : Found) (a : AtPlace lines n q) → is_accepted_found q ≡ true → length (bytes_in_code (code_under (placed lines) a.x)) ≤ q.size
 bytes-fit lines n q a accepted = omega (arith, own-room lines n q a accepted, own-short (body_of a.x.line) (values_of (symbols (placed lines))) (place (placed (take n lines)) a.x.line).value)
 
-pub code-fits : (lines : List Reading) (n : ℕ) (q : Found) (a : AtPlace lines n q) → is_found q ≡ true → code_length a.x.line ≤ q.size
+pub code-fits : (lines : List Reading) (n : ℕ) (q : Found) (a : AtPlace lines n q) → is_accepted_found q ≡ true → code_length a.x.line ≤ q.size
 code-fits lines n q a accepted = omega (arith, own-room lines n q a accepted, code-short a.x.line (place (placed (take n lines)) a.x.line).value)

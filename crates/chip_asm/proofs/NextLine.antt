@@ -8,7 +8,7 @@ use Rattle.chip_asm.specs.declared.pass.Pass.{Pass}
 use Rattle.chip_asm.specs.Layout.{Placed, body_of, full_size, value_at, value_or_zero, is_end_body, condition_of, symbol_given, has_ended}
 use Rattle.chip_asm.specs.computed.Walk.{place, placed, is_live, first_fault, symbols, is_aligning, address, fault_of_value, enclosing}
 use Rattle.chip_asm.specs.inner.Follows.{Follows, block_of, placement_of, next_address, next_aligning}
-use Rattle.chip_asm.specs.inner.Placements.{Found, is_found}
+use Rattle.chip_asm.specs.inner.Placements.{Found, is_accepted_found}
 use Rattle.chip_asm.specs.inner.Turns.{moved, AreNested}
 use Rattle.chip_asm.proofs.Numbers.{IsNumbered, blocks-cons}
 use Rattle.chip_asm.proofs.NestedBlocks.{Nests, nested-placed}
@@ -27,10 +27,10 @@ placement-at before line live here fault value size l h v f s = rw (s, f, v, h, 
 
 -- what the state is after a line of which this holds
 pub record Advances (pass next : Pass) (line : Reading) (q : Found) (number : ℕ) : Type 0 where
-  pub at_address : next.here ≡ next_address (is_found q) pass.here (body_of line) q.value q.size
-  pub aligning : next.aligning ≡ next_aligning (is_found q) pass.aligning (body_of line)
+  pub at_address : next.here ≡ next_address (is_accepted_found q) pass.here (body_of line) q.value q.size
+  pub aligning : next.aligning ≡ next_aligning (is_accepted_found q) pass.aligning (body_of line)
   pub ended : next.ended ≡ ((q.live && is_end_body (body_of line)) || pass.ended)
-  pub names : next.names.symbols ≡ pass.names.symbols ++ option_to_list (if is_found q then symbol_given number pass.here q.value line else None)
+  pub names : next.names.symbols ≡ pass.names.symbols ++ option_to_list (if is_accepted_found q then symbol_given number pass.here q.value line else None)
   pub open_blocks : (nearest : List Block) → pass.blocks.items ≡ reverse nearest
       → next.blocks.items ≡ reverse (moved (body_of line) (record { number = number; live = q.live; holds = condition_of pass.names.symbols (body_of line); has_else = false }) nearest)
   pub live : (nearest : List Block) → next.blocks.items ≡ reverse nearest → (next.ended ≡ false → AreNested nearest)

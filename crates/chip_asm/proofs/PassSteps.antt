@@ -18,7 +18,7 @@ use Rattle.chip_asm.specs.inner.Infos.{IsInfo}
 use Rattle.chip_asm.specs.inner.KeptLine.{KeptLine}
 use Rattle.chip_asm.specs.inner.Layouts.{HasPassed}
 use Rattle.chip_asm.specs.inner.Passes.{Change, HasRoom, IsHeld, IsSlot, IsTally, IsUnderWay, is_byte_of, placed_at}
-use Rattle.chip_asm.specs.inner.Placements.{Found, found, is_placed}
+use Rattle.chip_asm.specs.inner.Placements.{Found, found, is_accepted}
 use Rattle.chip_asm.specs.inner.Records.{reading_in}
 use Rattle.chip_asm.specs.inner.Tables.{KeepsBefore}
 use Rattle.chip_asm.proofs.BareLines.{info-here}
@@ -64,7 +64,7 @@ facing e lines pass was w from image n kept u inside is = record {
 
 -- the value that it had, where its names keep their values
 pub value-faced : KeepsValue → SameValue → (e : Change) (lines : List KeptLine) (pass : Pass) (was : List Placement) (w : Tally) (from image : List ℕ) (n : ℕ) (kept : KeptLine) (x : Placed) (d : Placement)
-    → IsUnderWay e lines pass was w from image n → Facing e pass was from n kept x → is_placed (get_or was n d) ≡ true
+    → IsUnderWay e lines pass was w from image n → Facing e pass was from n kept x → is_accepted (get_or was n d).status ≡ true
     → agree_on pass.names.before (values_of pass.names.symbols) (reading_in kept) ≡ true → value_at pass.names.symbols (body_of (reading_in kept)) ≡ Ok (get_or was n d).value
 value-faced keeps same e lines pass was w from image n kept x d u f taken agree =
     let stood = (f.slot d).was taken in
@@ -79,7 +79,7 @@ pub record HasCopyRoom (was now : Placement) (from old : List ℕ) : Type 0 wher
   pub high : now.here + now.size ≤ length old + IMAGE_START
 
 pub copy-room : (e : Change) (lines : List KeptLine) (pass : Pass) (was : List Placement) (w : Tally) (from old : List ℕ) (n : ℕ) (kept : KeptLine) (x : Placed) (now d : Placement) → IsUnderWay e lines pass was w from old n → Facing e pass was from n kept x
-    → is_placed (get_or was n d) ≡ true → found now ≡ placement_of x → HasCopyRoom (get_or was n d) now from old
+    → is_accepted (get_or was n d).status ≡ true → found now ≡ placement_of x → HasCopyRoom (get_or was n d) now from old
 copy-room e lines pass was w from old n kept x now d u f taken is =
     let s = stood-there e from n (reading_in kept) (get_or was n d) u.change f.line (f.slot d) taken in
     record {

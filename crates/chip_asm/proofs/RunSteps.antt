@@ -17,7 +17,7 @@ use Rattle.chip_asm.specs.inner.Follows.{placement_of}
 use Rattle.chip_asm.specs.inner.Infos.{IsBare, is_bare, is_bare_line}
 use Rattle.chip_asm.specs.inner.KeptLine.{KeptLine}
 use Rattle.chip_asm.specs.inner.Passes.{Change, IsCarried, IsChange, IsHeld, is_byte_of}
-use Rattle.chip_asm.specs.inner.Placements.{Found, bare_status, found, is_found, is_placed, nothing, refusal}
+use Rattle.chip_asm.specs.inner.Placements.{Found, bare_status, found, is_accepted, is_accepted_found, nothing, refusal}
 use Rattle.chip_asm.specs.inner.Recode.{has_code}
 use Rattle.chip_asm.specs.inner.Records.{reading_in}
 use Rattle.chip_asm.specs.inner.Tables.{KeepsBefore, Tables, name_of, symbols_of}
@@ -62,7 +62,7 @@ pub record StoodBare (q : Placement) (size : ℕ) : Type 0 where
   pub is : found q ≡ found-bare q.here size true
 
 pub bare-stood : (e : Change) (pass : Pass) (was : List Placement) (from : List ℕ) (n size : ℕ) (kept : KeptLine) (x : Placed) (defines : Option NameId) (live : Bool) → IsChange e → Facing e pass was from n kept x
-    → is_placed (get_or was n nothing) ≡ true → live ≡ true → IsBare pass.names.keys live (reading_in kept) size defines → StoodBare (get_or was n nothing) size
+    → is_accepted (get_or was n nothing).status ≡ true → live ≡ true → IsBare pass.names.keys live (reading_in kept) size defines → StoodBare (get_or was n nothing) size
 bare-stood e pass was from n size kept now defines live change f taken is_live bare =
     let q : Placement = get_or was n nothing in
     let line : Reading = reading_in kept in
@@ -71,7 +71,7 @@ bare-stood e pass was from n size kept now defines live change f taken is_live b
     let x : Placed = s.at.x in
     let p = parts before x.line in
     let small_line : Small (body_of x.line) = small-line x.line (ap is_bare_line s.line_is ∙ bare.bare) in
-    let effect : takes_effect x ≡ true = accepted-effect (placed e.was) x (ap is_found (sym s.at.placement) ∙ taken) in
+    let effect : takes_effect x ≡ true = accepted-effect (placed e.was) x (ap is_accepted_found (sym s.at.placement) ∙ taken) in
     let both = and_parts _ _ taken in
     let value : x.value ≡ pos 0 = ap (λ (y : Placed). y.value) s.at.follows ∙ p.value ∙ small_line.value (symbols before) in
     let sized : x.size ≡ size
@@ -116,12 +116,12 @@ coded-size : (keys : List Name) (line : Reading) (size : ℕ) (defines : Option 
 coded-size keys line size defines b = ap (λ n. eqb n 2) b.sized ∙ (small-line line b.bare).coded
 
 pub bare-held : (e : Change) (pass : Pass) (was : List Placement) (from image : List ℕ) (n size : ℕ) (kept : KeptLine) (x : Placed) (defines : Option NameId) (live : Bool) (here : ℕ) → Facing e pass was from n kept x
-    → found-bare here size live ≡ placement_of x → IsBare pass.names.keys live (reading_in kept) size defines → (live ≡ true → is_placed (get_or was n nothing) ≡ false)
+    → found-bare here size live ≡ placement_of x → IsBare pass.names.keys live (reading_in kept) size defines → (live ≡ true → is_accepted (get_or was n nothing).status ≡ false)
     → ((k : ℕ) → is_byte_of x.here x.size k ≡ true → get_or image k 0 ≡ 0) → IsHeld e n x (record { value = pos 0; here = here; size = size; status = bare_status live (eqb size 2) }) image
 bare-held e pass was from image n size kept x defines true here f is bare refused zeros = λ effect.
     fresh-held e from image n x (reading_in kept) (get_or was n nothing) (eqb size 2) (f.slot nothing) (refused refl) zeros
     (coded-size pass.names.keys (reading_in kept) size defines bare ∙ ap (λ l. has_code (body_of l)) (sym f.line_is))
-bare-held e pass was from image n size kept x defines false here f is bare refused zeros = λ effect. absurd (false≢true (ap is_found is ∙ effect))
+bare-held e pass was from image n size kept x defines false here f is bare refused zeros = λ effect. absurd (false≢true (ap is_accepted_found is ∙ effect))
 
 -- the bytes of an instruction are copied, and there are none where there is no statement
 pub two-copied : (was now : Placement) (from old new : List ℕ) (at : ℕ) → was.size ≡ 2 → now.size ≡ 2 → at ≡ was.here - IMAGE_START → at + 2 ≤ length from
@@ -141,7 +141,7 @@ none-copied was now from old none = record {
 
 -- a line that was accepted, and still is, takes its code along
 pub copied-held : (e : Change) (pass : Pass) (was : List Placement) (from old new : List ℕ) (n : ℕ) (kept : KeptLine) (x : Placed) → Facing e pass was from n kept x → IsChange e
-    → is_placed (get_or was n nothing) ≡ true → Copied (get_or was n nothing) (placement_of x) from old new → ((k : ℕ) → is_byte_of x.here x.size k ≡ true → get_or old k 0 ≡ 0)
+    → is_accepted (get_or was n nothing).status ≡ true → Copied (get_or was n nothing) (placement_of x) from old new → ((k : ℕ) → is_byte_of x.here x.size k ≡ true → get_or old k 0 ≡ 0)
     → IsCarried e n x (get_or was n nothing).status new
 copied-held e pass was from old new n kept x f change taken image zeros =
     let q : Placement = get_or was n nothing in

@@ -21,8 +21,8 @@ use Rattle.chip_asm.specs.declared.placement.Status.{Status}
 use Rattle.chip_asm.specs.declared.placement.Status.TheVariants.{Done, Pending, Refused, Skipped, Uncoded}
 use Rattle.chip_asm.specs.Layout.{Placed, body_of}
 use Rattle.chip_asm.specs.Names.{values_of}
-use Rattle.chip_asm.specs.Program.{bytes_in_code, code_under, fault_in_code, is_unclosed, names_of_lines}
-use Rattle.chip_asm.specs.Work.{is_accepted_in}
+use Rattle.chip_asm.specs.Program.{bytes_in_code, code_under, code_with, fault_in_code, is_unclosed, names_of_lines}
+use Rattle.chip_asm.specs.Work.{is_accepted_at, is_accepted_in, needs}
 use Rattle.chip_asm.specs.computed.Walk.{placed}
 use Rattle.chip_asm.specs.inner.Codes.{IsImageOf, IsWritten, code_kept, is_coded, kept_bytes, kept_fault, right_byte}
 use Rattle.chip_asm.specs.inner.Follows.{Follows}
@@ -30,17 +30,17 @@ use Rattle.chip_asm.specs.inner.KeptLine.{KeptLine}
 use Rattle.chip_asm.specs.inner.Layouts.{AreCodesNoted, HasPassed, final_placement, placements_of}
 use Rattle.chip_asm.specs.inner.Marks.{AreMarked, unclosed}
 use Rattle.chip_asm.specs.inner.Passes.{AreCoded, AreGapsZero, AreSettled, Change, HasCode, IsCarried, IsDone, IsEncodedUnder, IsHalfDone, IsHeld, IsUnderWay, again_up_to, is_byte_of, placed_at, stood}
-use Rattle.chip_asm.specs.inner.Placements.{Found, found, is_accepted, is_found, is_pending, is_placed, nothing, status_coded}
-use Rattle.chip_asm.specs.inner.Recode.{has_code, is_encoded_again, is_placed_at, keeps_code}
+use Rattle.chip_asm.specs.inner.Placements.{Found, found, is_accepted, is_accepted_found, is_pending, nothing, status_coded}
+use Rattle.chip_asm.specs.inner.Recode.{has_code, is_encoded_again}
 use Rattle.chip_asm.specs.inner.Records.{reading_in, readings_in}
 use Rattle.chip_asm.specs.inner.Tables.{Tables}
 use Rattle.chip_asm.proofs.CarrySteps.{StaysOn, carried-stays, code-stays}
 use Rattle.chip_asm.proofs.CodeSteps.{count-numbered, count_by-take}
 use Rattle.chip_asm.proofs.ImageSteps.{no-code, same-bytes}
 use Rattle.chip_asm.proofs.LinesAfter.{read-at}
-use Rattle.chip_asm.proofs.LinesByPlace.{AtPlace, accepted-effect, apart, at-line, at-place-of, byte-line, byte-outside, covers-accepted}
+use Rattle.chip_asm.proofs.LinesByPlace.{AtPlace, accepted-at, accepted-effect, apart, at-line, at-place-of, byte-line, byte-outside, covers-accepted}
 use Rattle.chip_asm.proofs.MarkSteps.{is-marked, marked-placements}
-use Rattle.chip_asm.proofs.NeedsSteps.{count-step, placed-at}
+use Rattle.chip_asm.proofs.NeedsSteps.{count-step}
 use Rattle.chip_asm.proofs.PassSteps.{Noted, noted-same}
 use Rattle.chip_asm.proofs.Placing.{length-numbered}
 
@@ -104,21 +104,21 @@ written-anew e names lines place kept q placements new image to u s a noted writ
     next-coded e placements new image to place s.at.x (record q { status = status_coded (kept_fault names kept q) }) s.at.at a noted long
     (λ k out. written k ∙ ap (λ b. cond b (get_or (kept_bytes names kept q) (IMAGE_START + k - q.here) 0) (get_or image k 0)) (ap (λ (p : Found). is_byte_of p.here p.size k) s.at.placement ∙ out))
     (λ taken. record {
-      bytes = λ k covered. written k ∙ bytes k (ap (λ (p : Found). is_byte_of p.here p.size k) s.at.placement ∙ covered) (ap is_found s.at.placement ∙ taken);
-      noted = ap status_coded (ap (λ b. cond b (fault_in_code (code_kept names kept)) None) (ap is_found s.at.placement ∙ taken) ∙ ap fault_in_code code);
+      bytes = λ k covered. written k ∙ bytes k (ap (λ (p : Found). is_byte_of p.here p.size k) s.at.placement ∙ covered) (ap is_accepted_found s.at.placement ∙ taken);
+      noted = ap status_coded (ap (λ b. cond b (fault_in_code (code_kept names kept)) None) (ap is_accepted_found s.at.placement ∙ taken) ∙ ap fault_in_code code);
     })
   where
     code : code_kept names kept ≡ code_under (placed e.now) s.at.x
-    code = ap (λ l. own_bytes (body_of l) (values_of names.symbols)) s.line ∙ ap (λ ns. own_bytes (body_of s.at.x.line) (values_of ns)) u.symbols
+    code = ap (code_with names.symbols) s.line ∙ ap (λ ns. code_with ns s.at.x.line) u.symbols
 
-    bytes : (k : ℕ) → is_byte_of q.here q.size k ≡ true → is_placed q ≡ true → cond (is_byte_of q.here q.size k) (get_or (kept_bytes names kept q) (IMAGE_START + k - q.here) 0) (get_or image k 0)
+    bytes : (k : ℕ) → is_byte_of q.here q.size k ≡ true → is_accepted q.status ≡ true → cond (is_byte_of q.here q.size k) (get_or (kept_bytes names kept q) (IMAGE_START + k - q.here) 0) (get_or image k 0)
         ≡ get_or (bytes_in_code (code_under (placed e.now) s.at.x)) (IMAGE_START + k - s.at.x.here) 0
     bytes k covered accepted = rw (covered, accepted, code) (ap (λ (p : Found). get_or (bytes_in_code (code_under (placed e.now) s.at.x)) (IMAGE_START + k - p.here) 0) s.at.placement)
 
 -- a line that doesn't wait has its code, where it has the same one under the names after the edit
 
 abbrev AlikeIn : Change → Reading → Type 0
-AlikeIn e line = own_bytes (body_of line) (values_of (names_of_lines e.was)) ≡ own_bytes (body_of line) (values_of (names_of_lines e.now))
+AlikeIn e line = code_with (names_of_lines e.was) line ≡ code_with (names_of_lines e.now) line
 
 done-now : (e : Change) (place : ℕ) (x : Placed) (q : Placement) (image : List ℕ) → (q.status ≡ Pending → ⊥) → (is_accepted_in (placed e.now) x ≡ true → AlikeIn e x.line) → IsHalfDone e place x q image → IsDone e x q image
 done-now e place x q image settled same half taken = by (half taken)
@@ -137,10 +137,10 @@ pub coded-still : SameCode → (e : Change) (names : Tables) (lines : List KeptL
 coded-still law e names lines place kept q placements image u s a there still =
     next-coded e placements placements image image place s.at.x q s.at.at a (noted-same placements place q there) refl (λ k out. refl)
     (done-now e place s.at.x q image (λ waits. false≢true (sym (or_parts _ _ still).0 ∙ ap is_pending waits))
-    (λ taken. subst (AlikeIn e) s.line (by (ap is_found s.at.placement ∙ taken) (and_cases _ _ (or_parts _ _ still).1)))
+    (λ taken. subst (AlikeIn e) s.line (by (ap is_accepted_found s.at.placement ∙ taken) (and_cases _ _ (or_parts _ _ still).1)))
     (a.half place s.at.x q (omega arith) s.at.at there))
   where
-    by : is_placed q ≡ true → (not (agree_on names.before (values_of names.symbols) (reading_in kept)) ≡ false) ⊎ (is_coded kept q ≡ false) → AlikeIn e (reading_in kept)
+    by : is_accepted q.status ≡ true → (not (agree_on names.before (values_of names.symbols) (reading_in kept)) ≡ false) ⊎ (is_coded kept q ≡ false) → AlikeIn e (reading_in kept)
     by accepted (inl agree) =
         alike law e names lines (reading_in kept) u (not-false _ agree)
     by accepted (inr none) =
@@ -148,7 +148,7 @@ coded-still law e names lines place kept q placements image u s a there still =
         no-code (body_of (reading_in kept)) (values_of (names_of_lines e.was)) bare ∙ sym (no-code (body_of (reading_in kept)) (values_of (names_of_lines e.now)) bare)
 
 -- a line that is to be encoded is accepted
-pub again-accepted : (q : Placement) (kept : KeptLine) (changed : Bool) → (is_pending q.status || (changed && is_coded kept q)) ≡ true → is_placed q ≡ true
+pub again-accepted : (q : Placement) (kept : KeptLine) (changed : Bool) → (is_pending q.status || (changed && is_coded kept q)) ≡ true → is_accepted q.status ≡ true
 again-accepted q kept changed again = by q.status again
   where
     by : (s : Status) → (is_pending s || (changed && (is_accepted s && has_code (body_of (reading_in kept))))) ≡ true → is_accepted s ≡ true
@@ -207,36 +207,33 @@ waits-new : (e : Change) (place : ℕ) (x : Placed) (status : Status) (image : L
 waits-new e place x status image pending (inl w) = w.new
 waits-new e place x status image pending (inr h) = absurd (false≢true (sym (settled-of _) ∙ ap is_pending (sym h.noted) ∙ pending))
 
-keeps-is : (e : Change) (place : ℕ) (line : Reading) → keeps_code e.was e.now e.origin (place, line) ≡ (stood e place && agree_on (values_of (names_of_lines e.was)) (values_of (names_of_lines e.now)) line)
-keeps-is e place line = by (e.origin place)
-  where
-    by : (o : Option ℕ) → option_map_or (λ b. is_placed_at (placements_of e.was) b && agree_on (values_of (names_of_lines e.was)) (values_of (names_of_lines e.now)) line) o false
-        ≡ (option_map_or (is_placed_at (placements_of e.was)) o false && agree_on (values_of (names_of_lines e.was)) (values_of (names_of_lines e.now)) line)
-    by None = refl
-    by (Some b) = refl
+keeps-is : (e : Change) (line : Reading) (o : Option ℕ) → option_map_or (λ b. is_accepted_at e.was b && agree_on (values_of (names_of_lines e.was)) (values_of (names_of_lines e.now)) line) o false
+    ≡ (option_map_or (is_accepted_at e.was) o false && agree_on (values_of (names_of_lines e.was)) (values_of (names_of_lines e.now)) line)
+keeps-is e line None = refl
+keeps-is e line (Some b) = refl
 
 -- a line that is to be encoded doesn't keep its code, so it is encoded again if it has one and is accepted
 pub again-more : (e : Change) (names : Tables) (lines : List KeptLine) (place : ℕ) (kept : KeptLine) (q : Placement) (placements : List Placement) (image : List ℕ) → IsEncodedUnder e names lines → Stands e.now place kept q
     → AreCoded e placements image place → slice_get placements place ≡ Some q
     → (is_pending q.status || (not (agree_on names.before (values_of names.symbols) (reading_in kept)) && is_coded kept q)) ≡ true
     → (before now : ℕ) → now ≤ before + cond (is_coded kept q) 1 0 → now + again_up_to e place ≤ before + again_up_to e (place + 1)
-unfolding is_encoded_again
+unfolding is_encoded_again needs
 again-more e names lines place kept q placements image u s a there again before now few =
     let more = count-numbered (is_encoded_again e.was e.now e.origin) e.now place (reading_in kept) (s.at.line ∙ ap Some (sym s.line)) in
     let counted = count-step (is_coded kept q) (is_encoded_again e.was e.now e.origin (place, reading_in kept)) (λ coded. anew (and_parts _ _ coded)) in
     omega arith
   where
-    by : is_placed q ≡ true → (p b : Bool) → is_pending q.status ≡ p → (p || (not b && is_coded kept q)) ≡ true → (stood e place && b) ≡ false
-    by accepted true b pending h = and_left _ b (waits-new e place s.at.x q.status image pending (a.half place s.at.x q (omega arith) s.at.at there (ap is_found (sym s.at.placement) ∙ accepted)))
+    by : is_accepted q.status ≡ true → (p b : Bool) → is_pending q.status ≡ p → (p || (not b && is_coded kept q)) ≡ true → (stood e place && b) ≡ false
+    by accepted true b pending h = and_left _ b (waits-new e place s.at.x q.status image pending (a.half place s.at.x q (omega arith) s.at.at there (ap is_accepted_found (sym s.at.placement) ∙ accepted)))
     by accepted false true pending h = cc
     by accepted false false pending h = and_right (stood e place) false refl
 
-    anew : (is_placed q ≡ true) × (has_code (body_of (reading_in kept)) ≡ true) → is_encoded_again e.was e.now e.origin (place, reading_in kept) ≡ true
+    anew : (is_accepted q.status ≡ true) × (has_code (body_of (reading_in kept)) ≡ true) → is_encoded_again e.was e.now e.origin (place, reading_in kept) ≡ true
     anew h =
-        let placed_there : is_placed_at (placements_of e.now) place ≡ true
-        = placed-at e.now place ∙ ap (λ o. option_map_or (is_accepted_in (placed e.now)) o false) s.at.at ∙ ap is_found (sym s.at.placement) ∙ h.0 in
-        let lost : keeps_code e.was e.now e.origin (place, reading_in kept) ≡ false = keeps-is e place (reading_in kept) ∙ (rw (← u.before, ← u.symbols) (by h.0 (is_pending q.status) _ refl again)) in
-        rw (h.1, placed_there, lost) refl
+        let there : is_accepted_at e.now place ≡ true = accepted-at e.now place (found q) s.at ∙ h.0 in
+        let lost : (stood e place && agree_on (values_of (names_of_lines e.was)) (values_of (names_of_lines e.now)) (reading_in kept)) ≡ false
+        = rw (← u.before, ← u.symbols) (by h.0 (is_pending q.status) _ refl again) in
+        rw (h.1, there, keeps-is e (reading_in kept) (e.origin place), lost) refl
 
 -- the second pass is over
 

@@ -24,7 +24,7 @@ use Rattle.chip_asm.specs.inner.Codes.{IsImageOf}
 use Rattle.chip_asm.specs.inner.Kept.{IsKept}
 use Rattle.chip_asm.specs.inner.KeptLine.{KeptLine}
 use Rattle.chip_asm.specs.inner.Layouts.{IsLayoutOf}
-use Rattle.chip_asm.specs.inner.Placements.{Found, count_of, fault_noted, found, is_accepted, is_found, is_placed, nothing, refusal, status_coded}
+use Rattle.chip_asm.specs.inner.Placements.{Found, count_of, fault_noted, found, is_accepted, is_accepted_found, nothing, refusal, status_coded}
 use Rattle.chip_asm.specs.inner.Records.{reading_in, readings_in}
 use Rattle.chip_asm.proofs.Bounds.{end-high}
 use Rattle.chip_asm.proofs.CarrySteps.{covering}
@@ -73,7 +73,7 @@ coded-noted (Some f) = refl
 -- the fault that is noted of a line is its fault
 pub fault-kept : (layout : Layout) (lines : List Reading) (i : ℕ) (x : Placed) (q : Placement) → IsLayoutOf layout lines → slice_get (reverse (placed lines)) i ≡ Some x → slice_get layout.placements.items i ≡ Some q
     → fault_noted q.status ≡ fault_of (placed lines) x
-fault-kept layout lines i x q laid there noted = by (is_placed q) refl
+fault-kept layout lines i x q laid there noted = by (is_accepted q.status) refl
   where
     a : AtPlace lines i (found q)
     a = at-place lines layout laid i q noted
@@ -81,9 +81,9 @@ fault-kept layout lines i x q laid there noted = by (is_placed q) refl
     is : a.x ≡ x
     is = same_Some a.x x (sym a.at ∙ there)
 
-    by : (b : Bool) → is_placed q ≡ b → fault_noted q.status ≡ fault_of (placed lines) x
+    by : (b : Bool) → is_accepted q.status ≡ b → fault_noted q.status ≡ fault_of (placed lines) x
     by true taken =
-        ap fault_noted (laid.codes i a.x q a.at noted (ap is_found (sym a.placement) ∙ taken)) ∙ coded-noted (fault_in_code (code_under (placed lines) a.x))
+        ap fault_noted (laid.codes i a.x q a.at noted (ap is_accepted_found (sym a.placement) ∙ taken)) ∙ coded-noted (fault_in_code (code_under (placed lines) a.x))
         ∙ sym (accepted-fault lines i (found q) a taken) ∙ ap (fault_of (placed lines)) is
     by false refused = refused-noted q.status refused ∙ refused-fault lines i (found q) a refused ∙ ap (fault_of (placed lines)) is
 

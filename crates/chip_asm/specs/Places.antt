@@ -135,9 +135,13 @@ abbrev pub bytes_in_code : Result (List ℕ) Fault → List ℕ
 bytes_in_code (Ok bytes) = bytes
 bytes_in_code (Err fault) = []
 
--- the line's own bytes under all names, or its fault of the second pass
+-- the line's own bytes under these names, or its fault of the second pass
+abbrev pub code_with : List (Name × Symbol) → Reading → Result (List ℕ) Fault
+code_with names line = own_bytes (body_of line) (values_of names)
+
+-- the same under all names
 abbrev pub code_among : List Placed → Placed → Result (List ℕ) Fault
-code_among all p = own_bytes (body_of p.line) (values_of (names_given all))
+code_among all p = code_with (names_given all) p.line
 
 -- the image of a whole source, if no line has a fault: it reaches up to the address after the last
 -- line; each line's own bytes stand at its address, zeros behind them up to its size, and zeros where
@@ -145,7 +149,6 @@ code_among all p = own_bytes (body_of p.line) (values_of (names_given all))
 pub record IsImage (all : List Placed) (bytes : List ℕ) : Type 0 where
   pub up_to : IsAfter all (IMAGE_START + length bytes)
   pub of_line : (i k : ℕ) (p : Placed) → slice_get all i ≡ Some p → k < p.size
-      → p.here + k < IMAGE_START + length bytes
       → slice_index bytes (p.here + k - IMAGE_START)
       ≡ slice_index (bytes_in_code (code_among all p)) k
   pub between : (k : ℕ) → k < length bytes

@@ -6,12 +6,11 @@ use Rattle.chip_lang.specs.declared.limits.TheConstants.{IMAGE_START}
 use Rattle.chip_lang.specs.declared.fault.Fault.{Fault}
 use Rattle.chip_lang.specs.declared.fault.Fault.TheVariants.{UnclosedIf}
 use Rattle.chip_lang.specs.Line.{Reading, reading_of}
-use Rattle.chip_lang.specs.Code.{own_bytes}
 use Rattle.chip_asm.specs.declared.table.Symbol.{Symbol}
-use Rattle.chip_asm.specs.Names.{Name, values_of}
-use Rattle.chip_asm.specs.Layout.{Placed, is_if, has_ended, body_of}
+use Rattle.chip_asm.specs.Names.{Name}
+use Rattle.chip_asm.specs.Layout.{Placed, is_if, has_ended}
 use Rattle.chip_asm.specs.computed.Walk.{placed, symbols, enclosing, address}
-pub use Rattle.chip_asm.specs.Places.{bytes_in_code, fault_in_code}
+pub use Rattle.chip_asm.specs.Places.{bytes_in_code, code_with, fault_in_code}
 
 -- the table of names of some lines
 abbrev pub names_of_lines : List Reading → List (Name × Symbol)
@@ -29,7 +28,7 @@ first_pass_fault all p = if is_unclosed all p then Some UnclosedIf else p.fault
 
 -- the line's own bytes under all names, or its fault of the second pass
 abbrev pub code_under : List Placed → Placed → Result (List ℕ) Fault
-code_under all p = own_bytes (body_of p.line) (values_of (symbols all))
+code_under all p = code_with (symbols all) p.line
 
 -- the fault of a line of the source: a line that isn't live has none
 abbrev pub fault_of : List Placed → Placed → Option Fault

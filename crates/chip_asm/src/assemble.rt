@@ -9,7 +9,7 @@ ghost use Rattle.chip_asm.specs.inner.HeldLine.{IsKnownUnder};
 ghost use Rattle.chip_asm.specs.inner.Infos.{AreInfos, IsInfo};
 ghost use Rattle.chip_asm.specs.inner.Layouts.{placements_of};
 ghost use Rattle.chip_asm.specs.inner.Passes.{AreCoded, AreSettled, Change, IsEncodedUnder, IsTally, IsUnderWay, again_up_to};
-ghost use Rattle.chip_asm.specs.inner.Placements.{found, is_pending, is_placed};
+ghost use Rattle.chip_asm.specs.inner.Placements.{found, is_accepted, is_pending};
 ghost use Rattle.chip_asm.specs.inner.Records.{reading_in, readings_in};
 ghost use Rattle.chip_asm.specs.inner.Resume.{AreSteady};
 ghost use Rattle.chip_asm.specs.inner.Tables.{AreDifferences, Tables};
@@ -58,12 +58,12 @@ fn keeps_values(names: &Table, kept: &BoxedLine) -> bool
     }
 }
 
-/// The value of the expression of a line, where it is known: it is constant, or the line was accepted
-/// before and its names keep their values.
+/// The value of the expression of a line, where it is known: the line was accepted before, and its
+/// names keep their values.
 #[inline(never)]
 fn known_value(names: &Table, kept: &BoxedLine, was: &Placement) -> Option<i32>
     requires info { IsInfo names.now.keys kept.now.info kept.now.several (reading_in kept.now) }
-    requires was { is_placed was.now ≡ true
+    requires was { is_accepted was.now.status ≡ true
         → agree_on names.now.before (values_of names.now.symbols) (reading_in kept.now)
         ≡ true
         → value_at names.now.symbols (body_of (reading_in kept.now)) ≡ Ok was.now.value }
@@ -76,8 +76,8 @@ fn known_value(names: &Table, kept: &BoxedLine, was: &Placement) -> Option<i32>
     }
 }
 
-/// The first pass over the line at a place. A line that was accepted and still is takes its code along
-/// from the image before; another one that is accepted waits for its code.
+/// The first pass over the line at a place. A line that was accepted and still is takes its code
+/// along from the image before; another one that is accepted waits for its code.
 fn pass_line(
     pass: &mut Pass,
     lines: &[BoxedLine],
@@ -140,7 +140,8 @@ pub(crate) fn walk(
 /// has another value than before the edit.
 #[inline(always)]
 fn is_settled(changed: &[bool], kept: &BoxedLine, status: Status) -> bool
-    requires { (names : Tables) × (IsInfo names.keys kept.now.info kept.now.several (reading_in kept.now)
+    requires { (names : Tables)
+        × (IsInfo names.keys kept.now.info kept.now.several (reading_in kept.now)
         × AreDifferences names changed.now) }
     ensures done { result ≡ true → is_pending status ≡ false }
     ensures same { (names : Tables)
@@ -193,8 +194,8 @@ fn next_unsettled(
     place
 }
 
-/// The second pass, over the lines of some places. A line is encoded if it waits for its code, or if
-/// its names have other values than before the edit.
+/// The second pass, over the lines of some places. A line is encoded if it waits for its code, or
+/// if its names have other values than before the edit.
 #[inline(never)]
 pub(crate) fn encode_lines(
     meter: &mut Meter,

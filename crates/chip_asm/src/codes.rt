@@ -4,7 +4,7 @@ ghost use Rattle.chip_lang.specs.Code.{code_length};
 ghost use Rattle.chip_lang.specs.declared.limits.TheConstants.{IMAGE_BYTES, MEMORY_BYTES};
 ghost use Rattle.chip_asm.specs.inner.Codes.{IsCopied, IsWritten, is_coded, kept_bytes, kept_fault};
 ghost use Rattle.chip_asm.specs.inner.Infos.{IsInfo};
-ghost use Rattle.chip_asm.specs.inner.Placements.{is_placed};
+ghost use Rattle.chip_asm.specs.inner.Placements.{is_accepted};
 ghost use Rattle.chip_asm.specs.inner.Records.{reading_in};
 
 use crate::kept_line::BoxedLine;
@@ -57,7 +57,7 @@ pub(crate) fn write_line(
     requires info { IsInfo names.now.keys kept.now.info kept.now.several (reading_in kept.now) }
     requires low { IMAGE_START ≤ placement.now.here }
     requires high { placement.now.here + placement.now.size ≤ length image.old + IMAGE_START }
-    requires room { is_placed placement.now ≡ true
+    requires room { is_accepted placement.now.status ≡ true
         → code_length (reading_in kept.now) ≤ placement.now.size }
     ensures written { IsWritten placement.now (kept_bytes names.now kept.now placement.now)
         image.old image.new }

@@ -284,8 +284,8 @@ impl Kept {
         make_edit(&mut self.lines, edit);
     }
 
-    /// The first pass, where the lines up to a place stay, and the next one stands at an address. The
-    /// image is that of before, as far as lines take their codes along.
+    /// The first pass, where the lines up to a place stay, and the next one stands at an address.
+    /// The image is that of before, as far as lines take their codes along.
     fn first_pass(&mut self, alloc: Global, first: usize, here: usize) -> (Pass, Tally)
         requires { (e : Change) × IsExchanged e self.old first here }
         ensures lines { self.new.lines ≡ self.old.lines }

@@ -146,9 +146,10 @@ fn push_field(
     bytes: &[u8],
 ) -> Result<(), AllocError>
     ensures { OnOk result (out.new.items
-        ≡ out.old.items ++ (at_left 12 (field_shown (fault_noted placement.now.status) (is_live_status placement.now.status)
-        (body_of (seen_line line.now)) placement.now.here placement.now.value placement.now.size
-        bytes.now) ++ more_shown (fault_noted placement.now.status) placement.now.size ∷ 32 ∷ [])) }
+        ≡ out.old.items ++ (at_left 12 (field_shown (fault_noted placement.now.status)
+        (is_live_status placement.now.status) (body_of (seen_line line.now)) placement.now.here
+        placement.now.value placement.now.size bytes.now)
+        ++ more_shown (fault_noted placement.now.status) placement.now.size ∷ 32 ∷ [])) }
 {
     let fault = placement.status.fault();
     let more = more_sign(fault, placement.size as usize);
@@ -191,8 +192,9 @@ fn push_line(
     ensures { OnOk result (out.new.items
         ≡ out.old.items
         ++ shown number (is_live_status placement.now.status) placement.now.here
-        (field_shown (fault_noted placement.now.status) (is_live_status placement.now.status) (body_of (reading_in kept.now)) placement.now.here
-        placement.now.value placement.now.size bytes.now)
+        (field_shown (fault_noted placement.now.status) (is_live_status placement.now.status)
+        (body_of (reading_in kept.now)) placement.now.here placement.now.value placement.now.size
+        bytes.now)
         (more_shown (fault_noted placement.now.status) placement.now.size) kept.now.text) }
 {
     let [a, b, c, d] = number_text(number);

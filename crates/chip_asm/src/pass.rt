@@ -83,7 +83,7 @@ impl Pass {
     ghost use Rattle.chip_asm.specs.computed.Walk.{address, is_aligning, enclosing, is_live, is_misplaced, first_fault, symbols, place, placed};
     ghost use Rattle.chip_asm.specs.inner.Infos.{AreInfos, IsNumberOf};
     ghost use Rattle.chip_asm.specs.declared.placement.Status.TheVariants.{Pending};
-    ghost use Rattle.chip_asm.specs.inner.Placements.{found, is_placed};
+    ghost use Rattle.chip_asm.specs.inner.Placements.{found, is_accepted};
     ghost use Rattle.chip_asm.specs.inner.Follows.{Follows, placement_of, next_address, next_aligning};
     ghost use Rattle.chip_asm.specs.inner.Passes.{Change, HasRoom, IsUnderWay};
 
@@ -267,17 +267,17 @@ impl Pass {
             (name_defined (seen_line line.now)) }
         ensures placed { (before : List Placed) → Follows self.now before
             → found result ≡ placement_of (place before (seen_line line.now)) }
-        ensures new_name { is_placed result ≡ true
+        ensures new_name { is_accepted result.status ≡ true
             → is_redefinition self.now.names.symbols (name_defined (seen_line line.now)) ≡ false }
-        ensures fits { is_placed result ≡ true
+        ensures fits { is_accepted result.status ≡ true
             → fault_of_value self.now.aligning self.now.here (body_of (seen_line line.now))
             (Ok result.value) ≡ None }
         ensures size { result.size
-            ≡ (if is_placed result
+            ≡ (if is_accepted result.status
             then full_size self.now.aligning self.now.here
             (body_of (seen_line line.now)) result.value
             else 0) }
-        ensures pending { is_placed result ≡ true → result.status ≡ Pending }
+        ensures pending { is_accepted result.status ≡ true → result.status ≡ Pending }
     {
         let empty = Body::Empty;
         let body = body_or(line, &empty);
@@ -319,7 +319,7 @@ impl Pass {
         ensures passed { (lines : List Reading) → Follows self.old (placed lines)
             → at ≡ length lines
             → Follows self.new (placed (lines ++ seen_line line.now ∷ [])) }
-        ensures pending { is_placed result ≡ true → result.status ≡ Pending }
+        ensures pending { is_accepted result.status ≡ true → result.status ≡ Pending }
     {
         let empty = Body::Empty;
         let body = body_or(line, &empty);

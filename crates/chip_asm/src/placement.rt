@@ -86,7 +86,7 @@ pub(crate) struct Placement {
 }
 
 impl Placement {
-    ghost use Rattle.chip_asm.specs.inner.Placements.{count_of, is_live_status, is_placed};
+    ghost use Rattle.chip_asm.specs.inner.Placements.{count_of, is_accepted, is_live_status};
 
     /// Stands where nothing is found yet.
     pub(crate) const NOTHING: Placement = Placement {
@@ -112,7 +112,7 @@ impl Placement {
 
     /// Whether the line is live and has no fault in the first pass.
     pub(crate) fn is_accepted(&self) -> bool
-        ensures { result ≡ is_placed self.now }
+        ensures { result ≡ is_accepted self.now.status }
     {
         self.status.is_accepted()
     }

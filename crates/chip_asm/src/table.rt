@@ -164,7 +164,7 @@ impl Table {
             → self.new.symbols ≡ early) }
         ensures same { OnErr result (self.new.symbols ≡ self.old.symbols) }
     {
-        self.entries.reserve(lines)?;
+        self.reserve(lines)?;
         self.values.settle();
         take_back(&mut self.entries, &mut self.values, number);
         Ok(())

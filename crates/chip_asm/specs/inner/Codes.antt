@@ -2,32 +2,30 @@
 use Rattle.std.specs.Prelude.{◌≡◌, ℕ, ◌+◌, ◌-◌, ◌<◌, ◌≤◌, ◌&&◌, ◌++◌, Bool, List, [], drop, length, min, take, Option, None, Result, nat_le, nat_lt, if◌then◌else◌, slice_index}
 use Rattle.chip_lang.specs.declared.fault.Fault.{Fault}
 use Rattle.chip_lang.specs.declared.limits.TheConstants.{IMAGE_BYTES, IMAGE_START}
-use Rattle.chip_lang.specs.Code.{own_bytes}
 use Rattle.chip_lang.specs.Line.{Reading}
 use Rattle.chip_asm.specs.declared.placement.Placement.{Placement}
 use Rattle.chip_asm.specs.declared.table.Table.{Table}
 use Rattle.chip_asm.specs.Layout.{body_of}
-use Rattle.chip_asm.specs.Names.{values_of}
 use Rattle.chip_asm.specs.inner.KeptLine.{KeptLine}
-use Rattle.chip_asm.specs.inner.Placements.{is_placed}
+use Rattle.chip_asm.specs.inner.Placements.{is_accepted}
 use Rattle.chip_asm.specs.inner.Recode.{has_code}
 use Rattle.chip_asm.specs.inner.Records.{reading_in}
 use Rattle.chip_asm.specs.computed.Walk.{placed}
-use Rattle.chip_asm.specs.Program.{byte_at, bytes_in_code, fault_in_code}
+use Rattle.chip_asm.specs.Program.{byte_at, bytes_in_code, code_with, fault_in_code}
 
 -- the code of a kept line under a table
 abbrev pub code_kept : Table → KeptLine → Result (List ℕ) Fault
-code_kept names kept = own_bytes (body_of (reading_in kept)) (values_of names.symbols)
+code_kept names kept = code_with names.symbols (reading_in kept)
 
 -- its bytes, the fault of its code, and whether it is encoded, where this is found of it
 abbrev pub kept_bytes : Table → KeptLine → Placement → List ℕ
-kept_bytes names kept q = if is_placed q then bytes_in_code (code_kept names kept) else []
+kept_bytes names kept q = if is_accepted q.status then bytes_in_code (code_kept names kept) else []
 
 abbrev pub kept_fault : Table → KeptLine → Placement → Option Fault
-kept_fault names kept q = if is_placed q then fault_in_code (code_kept names kept) else None
+kept_fault names kept q = if is_accepted q.status then fault_in_code (code_kept names kept) else None
 
 abbrev pub is_coded : KeptLine → Placement → Bool
-is_coded kept q = is_placed q && has_code (body_of (reading_in kept))
+is_coded kept q = is_accepted q.status && has_code (body_of (reading_in kept))
 
 -- the byte at a place of the image
 abbrev pub right_byte : List Reading → ℕ → ℕ

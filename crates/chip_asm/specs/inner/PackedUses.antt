@@ -5,6 +5,7 @@ use Rattle.chip_asm.specs.declared.line_info.TheConstants.{NO_NAME, SEVERAL_NAME
 use Rattle.chip_asm.specs.declared.line_info.PackedUses.{PackedUses}
 use Rattle.chip_asm.specs.declared.line_info.Uses.{Uses}
 use Rattle.chip_asm.specs.declared.line_info.Uses.TheVariants.{Nothing, One, Several}
+use Rattle.chip_asm.specs.declared.values.TheConstants.{NAMES_FROM}
 
 abbrev pub unpacked : PackedUses → Uses
 unpacked packed =
@@ -14,5 +15,5 @@ unpacked packed =
 -- where it is noted whether the names changed
 abbrev pub place_noted : Uses → ℕ
 place_noted Nothing = 0
-place_noted (One id) = id.number + 2
+place_noted (One id) = id.number + NAMES_FROM
 place_noted Several = 1

@@ -3,7 +3,6 @@ use Rattle.std.specs.Prelude.{◌≡◌, ℕ, ◌+◌, ◌-◌, ◌<◌, ◌≤�
 use Rattle.std.specs.Option.{option_map_or}
 use Rattle.chip_lang.specs.declared.fault.Fault.{Fault}
 use Rattle.chip_lang.specs.declared.limits.TheConstants.{IMAGE_BYTES, IMAGE_START}
-use Rattle.chip_lang.specs.Code.{own_bytes}
 use Rattle.chip_lang.specs.Line.{Reading}
 use Rattle.chip_lang.specs.Uses.{agree_on}
 use Rattle.chip_asm.specs.declared.limits.TheConstants.{MOST_LINES}
@@ -14,14 +13,14 @@ use Rattle.chip_asm.specs.declared.placement.Status.{Status}
 use Rattle.chip_asm.specs.declared.placement.Status.TheVariants.{Pending}
 use Rattle.chip_asm.specs.Layout.{Placed, body_of, takes_effect}
 use Rattle.chip_asm.specs.Names.{Name, values_of}
-use Rattle.chip_asm.specs.Program.{bytes_in_code, code_under, fault_in_code, names_of_lines}
-use Rattle.chip_asm.specs.Work.{is_accepted_in}
+use Rattle.chip_asm.specs.Program.{bytes_in_code, code_under, code_with, fault_in_code, names_of_lines}
+use Rattle.chip_asm.specs.Work.{is_accepted_at, is_accepted_in}
 use Rattle.chip_asm.specs.computed.Walk.{placed}
 use Rattle.chip_asm.specs.inner.Infos.{AreInfos}
 use Rattle.chip_asm.specs.inner.KeptLine.{KeptLine}
 use Rattle.chip_asm.specs.inner.Layouts.{placements_of}
-use Rattle.chip_asm.specs.inner.Placements.{count_of, found, is_pending, is_placed, status_coded}
-use Rattle.chip_asm.specs.inner.Recode.{has_code, is_placed_at, count_up_to}
+use Rattle.chip_asm.specs.inner.Placements.{count_of, found, is_accepted, is_pending, status_coded}
+use Rattle.chip_asm.specs.inner.Recode.{has_code, count_up_to}
 use Rattle.chip_asm.specs.inner.Records.{readings_in}
 use Rattle.chip_asm.specs.inner.Resume.{IsWalked}
 use Rattle.chip_asm.specs.inner.Tables.{Tables}
@@ -41,7 +40,7 @@ IsChange e =
 
 -- the line at a place stood before the edit, and was accepted there
 abbrev pub stood : Change → ℕ → Bool
-stood e j = option_map_or (is_placed_at (placements_of e.was)) (e.origin j) false
+stood e j = option_map_or (is_accepted_at e.was) (e.origin j) false
 
 -- the line at a place, as it is placed after the edit
 abbrev pub placed_at : Change → ℕ → Option Placed
@@ -49,7 +48,7 @@ placed_at e j = slice_get (reverse (placed e.now)) j
 
 -- the code of a line under the names before the edit
 abbrev pub code_before : Change → Reading → Result (List ℕ) Fault
-code_before e line = own_bytes (body_of line) (values_of (names_of_lines e.was))
+code_before e line = code_with (names_of_lines e.was) line
 
 -- the byte at a place of an image is one of so many from an address on
 abbrev pub is_byte_of : (here size k : ℕ) → Bool
@@ -64,10 +63,10 @@ pub record HasCode (code : Result (List ℕ) Fault) (here size : ℕ) (status : 
 -- what is known of the line at a place that the first pass has yet to pass: `q` is what was known of
 -- it before the edit, if it was accepted then
 pub record IsSlot (e : Change) (from : List ℕ) (j : ℕ) (line : Reading) (q : Placement) : Type 0 where
-  pub accepted : is_placed q ≡ stood e j
-  pub was : is_placed q ≡ true
+  pub accepted : is_accepted q.status ≡ stood e j
+  pub was : is_accepted q.status ≡ true
       → (b : ℕ) × (e.origin j ≡ Some b) × (slice_get (placements_of e.was) b ≡ Some (found q))
-  pub code : is_placed q ≡ true → HasCode (code_before e line) q.here q.size q.status from
+  pub code : is_accepted q.status ≡ true → HasCode (code_before e line) q.here q.size q.status from
 
 -- an accepted line with code, which wasn't accepted before, waits for it
 pub record Waits (e : Change) (j : ℕ) (x : Placed) (status : Status) (image : List ℕ) : Type 0 where

@@ -22,6 +22,7 @@ abbrev pub refusal : Status → Option Fault
 refusal (Refused fault) = Some fault
 refusal _ = None
 
+-- the first pass accepts the line
 abbrev pub is_accepted : Status → Bool
 is_accepted status = is_live_status status && is_none (refusal status)
 
@@ -60,12 +61,9 @@ found q =
       live = is_live_status q.status;
     }
 
--- the first pass accepts the line
-abbrev pub is_found : Found → Bool
-is_found f = f.live && is_none f.fault
-
-abbrev pub is_placed : Placement → Bool
-is_placed q = is_found (found q)
+-- it does, by what it found of the line
+abbrev pub is_accepted_found : Found → Bool
+is_accepted_found f = f.live && is_none f.fault
 
 -- 1 for a line with a fault
 abbrev pub count_of : Placement → ℕ

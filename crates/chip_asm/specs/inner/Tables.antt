@@ -9,6 +9,7 @@ use Rattle.chip_asm.specs.Names.{Name, lookup_name, values_of}
 use Rattle.chip_asm.specs.declared.table.Symbol.{Symbol}
 use Rattle.chip_asm.specs.declared.table.NameId.{NameId}
 use Rattle.chip_asm.specs.declared.table.Entry.{Entry}
+use Rattle.chip_asm.specs.declared.values.TheConstants.{NAMES_FROM}
 
 pub record Tables : Type 0 where
   pub keys : List Name
@@ -100,7 +101,7 @@ pub record AreDifferences (t : Tables) (differs : List Bool) : Type 0 where
   pub none : slice_get differs 0 ≡ Some false
   pub several : slice_get differs 1 ≡ Some true
   pub names : (number : ℕ) → number < length t.keys
-      → slice_get differs (number + 2)
+      → slice_get differs (number + NAMES_FROM)
       ≡ Some (not (has_same_value t.before (values_of t.symbols) (key_at t.keys number)))
 
 -- some entries are the first of others

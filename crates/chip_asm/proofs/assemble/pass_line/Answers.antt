@@ -5,7 +5,7 @@ use Rattle.chip_asm.specs.declared.placement.Placement.{Placement}
 use Rattle.chip_asm.specs.Layout.{Placed, body_of}
 use Rattle.chip_asm.specs.computed.Walk.{place, placed}
 use Rattle.chip_asm.specs.inner.Follows.{Follows, placement_of}
-use Rattle.chip_asm.specs.inner.Placements.{bare_status, found, is_found, is_placed, nothing}
+use Rattle.chip_asm.specs.inner.Placements.{bare_status, found, is_accepted, is_accepted_found, nothing}
 use Rattle.chip_asm.specs.inner.Recode.{has_code}
 use Rattle.chip_asm.specs.inner.Records.{reading_in}
 use Rattle.chip_asm.proofs.CarrySteps.{bare-accepted, fresh-held, noted-found, zeros-next}
@@ -47,7 +47,7 @@ returns c = λ e u.
     let zeros = zeros-next e n x image u.gaps f.at in
     elim c.if-is_accepted.branch [
       | then-is_accepted+then-is_accepted-2 w ↦
-          (let taken : is_placed q ≡ true = sym w.is_accepted-then-is_accepted.ensures ∙ w.if-is_accepted-2.true in
+          (let taken : is_accepted q.status ≡ true = sym w.is_accepted-then-is_accepted.ensures ∙ w.if-is_accepted-2.true in
           let there = copied q now from image w.copy_code.new.image w.copy_code.ensures (copy-room e _ _ _ _ _ _ _ _ _ now nothing u f taken is) in
           let carried : Copied q (placement_of x) from image w.copy_code.new.image = subst (λ r. Copied q r from image w.copy_code.new.image) is there in
           rw w.image-is
@@ -64,5 +64,5 @@ returns c = λ e u.
       | else-is_accepted w ↦
           rw w.image-is
           (passed-on e _ _ _ _ _ _ _ _ _ _ _ kept now u c.requires.inside f s (c.put.ensures.placements ∙ ap (set was n) w.now-is) is c.put.ensures.tally refl (λ k out. refl)
-          (λ effect. absurd (let never : false ≡ true = sym w.if-is_accepted.false ∙ c.is_accepted.ensures ∙ ap is_found is ∙ effect in cc)))
+          (λ effect. absurd (let never : false ≡ true = sym w.if-is_accepted.false ∙ c.is_accepted.ensures ∙ ap is_accepted_found is ∙ effect in cc)))
     ])

@@ -8,7 +8,7 @@ use Rattle.chip_asm.specs.declared.kept.Kept.{Kept}
 use Rattle.chip_asm.specs.declared.placement.Placement.{Placement}
 use Rattle.chip_asm.specs.inner.Codes.{code_kept, covers_byte, kept_bytes}
 use Rattle.chip_asm.specs.inner.Kept.{IsKept, texts_kept}
-use Rattle.chip_asm.specs.inner.Placements.{count_of, found, is_placed, status_coded}
+use Rattle.chip_asm.specs.inner.Placements.{count_of, found, is_accepted, status_coded}
 use Rattle.chip_asm.specs.inner.Records.{reading_in, readings_in, texts_in}
 use Rattle.chip_asm.proofs.EditTexts.{texts-set}
 use Rattle.chip_asm.proofs.FoundLines.{none-pending}
@@ -68,7 +68,7 @@ noted c =
     ∙ ap (λ l. cond (covers_byte q k) (get_or (kept_bytes old.names c.args.added q) (IMAGE_START + k - q.here) 0) (get_or l k 0)) c.deref_mut.ensures.value in
     elim c.if-is_accepted.branch [
       | then-is_accepted w ↦
-          (let accepted : is_placed q ≡ true = sym c.is_accepted.ensures ∙ w.if-is_accepted.true in
+          (let accepted : is_accepted q.status ≡ true = sym c.is_accepted.ensures ∙ w.if-is_accepted.true in
           let status = w.coded-placement.ensures ∙ ap (λ f. status_coded f) (c.write_line-fault.ensures.fault ∙ ap (λ b. cond b (fault_in_code (code_kept old.names c.args.added)) None) accepted) in
           let items = w.deref_mut-then-is_accepted.ensures.value in
           let put = with_items_is old.layout.placements w.put.new.placements (omega (arith, w.put.auto.placements, ap length items, old.layout.placements.ok.0)) in

@@ -8,7 +8,7 @@ use Rattle.chip_asm.specs.declared.placement.Placement.{Placement}
 use Rattle.chip_asm.specs.inner.Follows.{placement_of}
 use Rattle.chip_asm.specs.inner.Infos.{IsBare}
 use Rattle.chip_asm.specs.inner.Passes.{IsUnderWay}
-use Rattle.chip_asm.specs.inner.Placements.{Found, bare_status, found, is_placed, nothing}
+use Rattle.chip_asm.specs.inner.Placements.{Found, bare_status, found, is_accepted, nothing}
 use Rattle.chip_asm.specs.inner.Records.{reading_in}
 use Rattle.chip_asm.proofs.BareLines.{number-within, passed-bare}
 use Rattle.chip_asm.proofs.Bounds.{end-low}
@@ -104,10 +104,10 @@ loop-place-preserved c =
           let zeros = zeros-next e l.place x l.image u.gaps f.at in
           let q : Placement = get_or l.placements l.place nothing in
           let next : Pass = record pass { here = l.here + size; within = fits; names = c.define_new.new.self } in
-          let stood : is_placed q ≡ true → c.args.live ≡ true → StoodBare q size = λ taken live. bare-stood e pass l.placements from l.place size kept x c.in-Some.defines c.args.live u.change f taken live bare in
-          let noted : is_placed q ≡ true → c.args.live ≡ true → found (record q { here = l.here }) ≡ placement_of x
+          let stood : is_accepted q.status ≡ true → c.args.live ≡ true → StoodBare q size = λ taken live. bare-stood e pass l.placements from l.place size kept x c.in-Some.defines c.args.live u.change f taken live bare in
+          let noted : is_accepted q.status ≡ true → c.args.live ≡ true → found (record q { here = l.here }) ≡ placement_of x
           = λ taken live. ap (λ (r : Found). record r { here = l.here }) (stood taken live).is ∙ (rw (← live) is) in
-          let go : is_placed q ≡ true → c.args.live ≡ true → (new : List ℕ) → length new ≡ length l.image → Copied q (placement_of x) from l.image new → IsUnderWay e c.args.lines.now next (set l.placements l.place (record q { here = l.here })) l.tally from new (l.place + 1)
+          let go : is_accepted q.status ≡ true → c.args.live ≡ true → (new : List ℕ) → length new ≡ length l.image → Copied q (placement_of x) from l.image new → IsUnderWay e c.args.lines.now next (set l.placements l.place (record q { here = l.here })) l.tally from new (l.place + 1)
           = λ taken live new long image.
           passed-on e c.args.lines.now pass next l.placements _ l.tally l.tally from l.image new l.place kept (record q { here = l.here }) u c.loop-place-test.true f s refl (noted taken live)
           (tally-same l.placements l.tally l.place (record q { here = l.here }) nothing u.tallied f.inside_was refl) long image.off (λ effect. copied-held e pass l.placements from l.image new l.place kept x f u.change taken image zeros) in
@@ -126,7 +126,7 @@ loop-place-preserved c =
                 rw (w.placements-is, w.tally-is, w.image-is)
                 (go (sym w.is_accepted.ensures ∙ w.if-is_accepted.true) w.if-live.true l.image refl (none-copied q (placement_of x) from l.image (sym (ap (λ (r : Found). r.size) is) ∙ c.in-Some.ensures.zero w.if-size-eq2.false)))
             | else-live w ↦
-                (let refused : c.args.live ≡ true → is_placed q ≡ false
+                (let refused : c.args.live ≡ true → is_accepted q.status ≡ false
                 = elim w.else-live.branch [
                   | else-live-via-then-live+else-is_accepted v ↦ λ same. sym v.is_accepted.ensures ∙ v.if-is_accepted.false
                   | else-live-via-else-live v ↦ λ same. absurd (let never : true ≡ false = sym same ∙ v.if-live.false in cc)

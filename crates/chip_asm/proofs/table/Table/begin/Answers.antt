@@ -11,9 +11,9 @@ pub returns-clause-before : goal.returns-clause-before
 returns-clause-before c =
     ap (λ vs. finite.from_entries (valued_in (names_of c.self.inside.keys.keys) vs)) (c.take_back.ensures.past ∙ c.settle.ensures.past)
     ∙ values-found (names_of c.self.inside.keys.keys) _ _ c.self.invariant.0 c.self.invariant.1.0
-    ∙ ap (λ (t : Tables). values_of t.symbols) c.self.view_is
+    ∙ ap (λ (t : Tables). values_of t.symbols) c.self.view_is ∙ ap values_of c.reserve.ensures.symbols
 
 pub returns-clause-symbols : goal.returns-clause-symbols
 returns-clause-symbols c = λ early later is up over.
-    front-early c.args.number _ c.take_back.new.entries.items c.self.inside.entries.items (rw c.reserve.ensures.items at c.take_back.ensures.front) c.take_back.ensures.ends
-    (rw c.reserve.ensures.items at c.take_back.ensures.stops) early later (ap (λ (t : Tables). t.symbols) c.self.view_is ∙ is) up over
+    front-early c.args.number _ c.take_back.new.entries.items c.self.inside.entries.items c.take_back.ensures.front c.take_back.ensures.ends c.take_back.ensures.stops early later
+    (ap (λ (t : Tables). t.symbols) c.self.view_is ∙ c.reserve.ensures.symbols ∙ is) up over
