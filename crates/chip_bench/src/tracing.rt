@@ -119,7 +119,10 @@ fn stream<'a, O: Write>(
     let mut text = Vec::new(alloc);
     shown.columns.push_header_lines(shown.form, &mut text)?;
     loop {
-        let is_more = bench.push_trace(&mut trace, &mut text, BLOCK_LINES)?;
+        // No step of the trace is past the last one, so that only memory can be wanting.
+        let Ok(is_more) = bench.push_trace(&mut trace, &mut text, BLOCK_LINES) else {
+            return Err(Failure::OutOfMemory);
+        };
         print(&text, Ending::Done, output)?;
         if !is_more {
             return Ok(Ending::Done);

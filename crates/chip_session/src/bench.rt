@@ -25,7 +25,7 @@ use chip_asm::{OpenError, Source};
 use chip_lang::Meter;
 use chip_replay::AtError;
 use chip_trace::{Difference, Trace};
-use std::alloc::{AllocError, Global};
+use std::alloc::Global;
 use std::marker::Model;
 use std::mem::swap;
 
@@ -173,10 +173,12 @@ impl Bench {
         trace: &mut Trace<'_>,
         text: &mut Vec<u8>,
         most: usize,
-    ) -> Result<bool, AllocError>
+    ) -> Result<bool, AtError>
         requires { is_none (image_of self.old.session.lines) ≡ false }
         ensures lines { IfOk result (TakesLines (machine_of self.old.session) most trace.old
             trace.new text.old.items text.new.items) }
+        ensures step_too_large { result ≡ Err AtError.StepTooLarge
+            → LAST_STEP < max trace.old.next trace.old.to }
         ensures session { self.new.session ≡ self.old.session }
     {
         self.run.push_trace(trace, text, most)

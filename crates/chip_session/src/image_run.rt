@@ -258,15 +258,14 @@ impl ImageRun {
         trace: &mut Trace<'_>,
         text: &mut Vec<u8>,
         most: usize,
-    ) -> Result<bool, AllocError>
+    ) -> Result<bool, AtError>
         ensures lines { IfOk result (TakesLines (machine_after self.old) most trace.old trace.new
             text.old.items text.new.items) }
+        ensures step_too_large { result ≡ Err AtError.StepTooLarge
+            → LAST_STEP < max trace.old.next trace.old.to }
         ensures runs { RunsOnly self.old self.new }
     {
-        match trace.push_lines(&mut self.replay, text, most) {
-            Ok(is_more) => Ok(is_more),
-            Err(_) => Err(AllocError),
-        }
+        trace.push_lines(&mut self.replay, text, most)
     }
 
     /// The first difference between the lines of the run and those of another trace.

@@ -10,6 +10,9 @@ use chip_trace::{byte_digits, word_digits};
 use itoa::Buffer;
 use std::alloc::AllocError;
 
+/// How many bytes are turned into digits at once.
+const BLOCK_BYTES: usize = 32;
+
 /// Adds bytes in lower case hexadecimal.
 pub(crate) fn push_hex(out: &mut Vec<u8>, bytes: &[u8]) -> Result<(), AllocError>
     ensures { OnOk result (out.new.items ≡ out.old.items ++ encode_lower bytes.now) }
@@ -31,10 +34,33 @@ fn write_hex(bytes: &[u8], digits: &mut [u8])
     requires { length digits.old ≡ 2 * length bytes.now }
     ensures { digits.new ≡ encode_lower bytes.now }
 {
-    'bytes: for i in 0..bytes.len() {
+    let count = bytes.len() / BLOCK_BYTES;
+    'whole: for block in 0..count {
+        let (first, end) = (block * BLOCK_BYTES, (block + 1) * BLOCK_BYTES);
+        write_block(&bytes[first..end], &mut digits[2 * first..2 * end]);
+    }
+    'bytes: for i in count * BLOCK_BYTES..bytes.len() {
         let byte = bytes[i];
         digits[2 * i] = hex_digit(byte / 16);
         digits[2 * i + 1] = hex_digit(byte % 16);
+    }
+}
+
+/// The same for one block: all digits first, and then their places, so that many are made at once.
+#[inline(always)]
+fn write_block(bytes: &[u8], digits: &mut [u8])
+    requires bytes { length bytes.now ≡ BLOCK_BYTES }
+    requires digits { length digits.old ≡ 2 * BLOCK_BYTES }
+    ensures { digits.new ≡ encode_lower bytes.now }
+{
+    let (mut high, mut low) = ([0; BLOCK_BYTES], [0; BLOCK_BYTES]);
+    'digits: for i in 0..BLOCK_BYTES {
+        high[i] = hex_digit(bytes[i] / 16);
+        low[i] = hex_digit(bytes[i] % 16);
+    }
+    'places: for i in 0..BLOCK_BYTES {
+        digits[2 * i] = high[i];
+        digits[2 * i + 1] = low[i];
     }
 }
 

@@ -15,8 +15,8 @@ returns-in_err-push_header_lines g c =
     let is_short : c.from_residual.result ≡ Err failure.OutOfMemory = search rules in
     short g.O.Write.contents c.args.output.now c.args.output.now _ c.from_residual.result is_short refl
 
-pub loop-text-init : goal.loop-text-init
-loop-text-init g c =
+pub loop-is_more-init : goal.loop-is_more-init
+loop-is_more-init g c =
     let shown = c.args.shown.now in
     let items : c.push_header_lines.new.text.items ≡ newline_ended (header_lines shown.form shown.columns) = search rules in
     let lines = c.new-trace.ensures.lines (machine_of c.args.bench.now.session) in
@@ -28,29 +28,29 @@ loop-text-init g c =
 pub returns-in_err-print : goal.returns-in_err-print
 returns-in_err-print g c =
     let p = err_from_is_err_and c.from_residual-in_err-print.result c.from_residual-in_err-print.ensures.1 in
-    let lines = rw c.loop-text.invariant.session at c.in_ok-is_more.ensures.lines in
-    let streamed = stream_adds g.O.Write.contents c.args.output.now c.loop-text.output (trace_of c.args.bench.now.session c.args.shown.now) _ _ _ _ 256 c.loop-text.invariant.streamed lines.added lines.left in
-    rw (p.1 ∙ ap (λ e. Err e) p.2) (stream_fails g.O.Write.contents c.args.output.now c.loop-text.output c.print.new.output _ _ _ _ streamed (subst (λ (l : List ℕ). Prints g.O.Write.contents c.loop-text.output c.print.new.output (printed l Done) (Err c.in_err-print.field-0.0)) c.deref.ensures.value c.in_err-print.ensures))
+    let lines = rw c.loop-is_more.invariant.session at c.in-Ok.ensures.lines in
+    let streamed = stream_adds g.O.Write.contents c.args.output.now c.loop-is_more.output (trace_of c.args.bench.now.session c.args.shown.now) _ _ _ _ 256 c.loop-is_more.invariant.streamed lines.added lines.left in
+    rw (p.1 ∙ ap (λ e. Err e) p.2) (stream_fails g.O.Write.contents c.args.output.now c.loop-is_more.output c.print.new.output _ _ _ _ streamed (subst (λ (l : List ℕ). Prints g.O.Write.contents c.loop-is_more.output c.print.new.output (printed l Done) (Err c.in_err-print.field-0.0)) c.deref.ensures.value c.in_err-print.ensures))
 
 pub returns-then-not-is_more : goal.returns-then-not-is_more
 returns-then-not-is_more g c =
-    let lines = rw c.loop-text.invariant.session at c.in_ok-is_more.ensures.lines in
-    let streamed = stream_adds g.O.Write.contents c.args.output.now c.loop-text.output (trace_of c.args.bench.now.session c.args.shown.now) _ _ _ _ 256 c.loop-text.invariant.streamed lines.added lines.left in
+    let lines = rw c.loop-is_more.invariant.session at c.in-Ok.ensures.lines in
+    let streamed = stream_adds g.O.Write.contents c.args.output.now c.loop-is_more.output (trace_of c.args.bench.now.session c.args.shown.now) _ _ _ _ 256 c.loop-is_more.invariant.streamed lines.added lines.left in
     let printed = rw c.deref.ensures.value at c.in_ok-print.ensures in
-    let written = stream_writes g.O.Write.contents c.args.output.now c.loop-text.output c.print.new.output _ _ _ streamed printed.1 in
+    let written = stream_writes g.O.Write.contents c.args.output.now c.loop-is_more.output c.print.new.output _ _ _ streamed printed.1 in
     (refl, stream_ends g.O.Write.contents c.args.output.now c.print.new.output _ _ written (lines.left ∙ none_left _ 256 _ c.if-not-is_more.true lines.answer))
 
-pub loop-text-smaller : goal.loop-text-smaller
-loop-text-smaller g c =
-    let lines = c.in_ok-is_more.ensures.lines in
-    rw c.in_ok-is_more.ensures.session (fewer_left _ _ 256 _ c.if-not-is_more.false (omega arith) lines.answer lines.left)
+pub loop-is_more-smaller : goal.loop-is_more-smaller
+loop-is_more-smaller g c =
+    let lines = c.in-Ok.ensures.lines in
+    rw c.in-Ok.ensures.session (fewer_left _ _ 256 _ c.if-not-is_more.false (omega arith) lines.answer lines.left)
 
-pub loop-text-preserved : goal.loop-text-preserved
-loop-text-preserved g c =
-    let lines = rw c.loop-text.invariant.session at c.in_ok-is_more.ensures.lines in
-    let streamed = stream_adds g.O.Write.contents c.args.output.now c.loop-text.output (trace_of c.args.bench.now.session c.args.shown.now) _ _ _ _ 256 c.loop-text.invariant.streamed lines.added lines.left in
+pub loop-is_more-preserved : goal.loop-is_more-preserved
+loop-is_more-preserved g c =
+    let lines = rw c.loop-is_more.invariant.session at c.in-Ok.ensures.lines in
+    let streamed = stream_adds g.O.Write.contents c.args.output.now c.loop-is_more.output (trace_of c.args.bench.now.session c.args.shown.now) _ _ _ _ 256 c.loop-is_more.invariant.streamed lines.added lines.left in
     let printed = rw c.deref.ensures.value at c.in_ok-print.ensures in
     record {
-      session = c.in_ok-is_more.ensures.session ∙ c.loop-text.invariant.session;
-      streamed = rw c.clear.ensures.items (stream_writes g.O.Write.contents c.args.output.now c.loop-text.output c.print.new.output _ _ _ streamed printed.1);
+      session = c.in-Ok.ensures.session ∙ c.loop-is_more.invariant.session;
+      streamed = rw c.clear.ensures.items (stream_writes g.O.Write.contents c.args.output.now c.loop-is_more.output c.print.new.output _ _ _ streamed printed.1);
     }

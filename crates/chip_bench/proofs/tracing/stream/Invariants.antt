@@ -6,11 +6,11 @@ use Rattle.chip_bench.proofs.TraceLemmas.{Streamed}
 use Rattle.chip_bench.proofs.tracing.stream.Given as goal
 
 -- what was written, the text and the lines that remain make the whole trace
-abbrev pub invariant-loop-text : goal.invariant-loop-text
-invariant-loop-text g l = record {
+abbrev pub invariant-loop-is_more : goal.invariant-loop-is_more
+invariant-loop-is_more g l = record {
   session : l.bench.session ≡ l.fn.bench.session;
   streamed : Streamed g.O.Write.contents l.fn.output l.output (trace_of l.fn.bench.session l.fn.shown) l.text.items (remaining (machine_of l.fn.bench.session) l.trace);
 }
 
-abbrev pub decreases-loop-text : goal.decreases-loop-text
-decreases-loop-text g l = length (remaining (machine_of l.bench.session) l.trace)
+abbrev pub decreases-loop-is_more : goal.decreases-loop-is_more
+decreases-loop-is_more g l = length (remaining (machine_of l.bench.session) l.trace)

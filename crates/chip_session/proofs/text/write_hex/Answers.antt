@@ -1,7 +1,14 @@
-use Rattle.std.proofs.Common.{arith}
+use Rattle.std.proofs.Common.{◌+◌, ◌*◌, arith}
 use Rattle.hex.specs.Hex.{lower_digits}
 use Rattle.hex.proofs.Pairs.{encode_step, encode_done}
+use Rattle.chip_session.specs.declared.text.TheConstants.{BLOCK_BYTES}
+use Rattle.chip_session.proofs.TextLemmas.{block_step}
 use Rattle.chip_session.proofs.text.write_hex.Goals as goal
+
+pub whole-preserved : goal.whole-preserved
+whole-preserved c =
+    block_step lower_digits c.args.bytes.now c.whole.digits c.write_block.new.digits _ (c.whole.block * BLOCK_BYTES) ((c.whole.block + 1) * BLOCK_BYTES) (omega arith) c.write_block.ensures
+    (omega (arith, c.write_block.auto.digits)) (omega arith) c.whole.invariant
 
 pub bytes-preserved : goal.bytes-preserved
 bytes-preserved c =
