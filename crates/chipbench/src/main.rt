@@ -2,7 +2,8 @@
 #![tactic(auto)]
 
 use chip_bench::{Counted, Host, program, refuse_words};
-use std::io::IsTerminal;
+use std::fs::Files;
+use std::io::{BufWriter, IsTerminal};
 use std::process::ExitCode;
 use std::random::RandomSource;
 use std::rt::Env;
@@ -15,8 +16,12 @@ fn main(rt: HostRuntime) -> ExitCode {
         Ok(words) => words,
         Err(error) => return ExitCode::from(refuse_words(alloc, &error, &mut errors)),
     };
+    let output = match BufWriter::with_capacity(alloc, held_bytes(&rt), rt.stdout()) {
+        Ok(output) => output,
+        Err(error) => return ExitCode::from(refuse_words(alloc, &error, &mut errors)),
+    };
     let mut input = Counted::new(rt.stdin());
-    let mut output = Counted::new(rt.stdout());
+    let mut output = Counted::new(output);
     let host = Host {
         name_seed: name_seed(&rt),
         takes_color: rt.stdout().is_terminal() && wants_color(&rt),
@@ -32,6 +37,15 @@ fn main(rt: HostRuntime) -> ExitCode {
         &mut errors,
     );
     ExitCode::from(status)
+}
+
+// How many bytes of the output may be held back. None, where someone may wait for an answer before
+// giving the next command, as at a terminal or over a pipe: a file waits for nothing.
+fn held_bytes(rt: &impl Files) -> usize {
+    match rt.metadata("/dev/stdin") {
+        Ok(input) if input.is_file() => 65536,
+        _ => 0,
+    }
 }
 
 // A seed that nobody knows, or 0 where the system gives none: no answer depends on it.
