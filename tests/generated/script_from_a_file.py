@@ -36,7 +36,7 @@ def wrong_session(program, script):
         of_file, of_pipe = (ran(words, folder, script, is_file) for is_file in (True, False))
     for what, found, expected in zip(("status", "output", "errors"), of_file, of_pipe):
         if found != expected:
-            return f"{what}: {found[:80] if what != 'status' else found} and not {expected[:80] if what != 'status' else expected}"
+            return f"{what}: {str(found)[:80]} and not {str(expected)[:80]}"
     return ""
 
 
