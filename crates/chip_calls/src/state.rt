@@ -3,7 +3,8 @@
 //!
 //! - `state`: V0 to V3, VF, pc, I and the number of the stop cause, or 0. `registers`: V0 to V3 and
 //!   VF. `pc`, `stop`, `delay`: one of them. `timers`: the delay timer and the sound timer. `draws`:
-//!   how many random bytes were drawn.
+//!   how many random bytes were drawn. `idle KEYS`, `idle any`: whether each step with these keys
+//!   down, or with any, leaves the state as it is.
 //! - `bytes ADDRESS COUNT`: so many bytes, `--` past the end of the memory.
 //! - `frames`, `frame PLACE`, `depth`: the addresses that open calls return to, and how many they
 //!   are. `flags`, `flag PLACE`: the flag registers.
@@ -37,6 +38,7 @@ pub(crate) fn answer(
         "flag" => push_found(out, flag(machine, number(rest)?)),
         "screen" => push_screen(out, machine),
         "row" => out.bytes(&row_bits(machine, number(rest)? as usize).to_be_bytes()),
+        "idle" => out.show(&machine.is_idle(keys_of(rest)?)),
         _ => return answer_part(out, machine, word),
     }
     Ok(())
@@ -127,6 +129,14 @@ fn row_bits(machine: &Machine, row: usize) -> u128 {
         bits = bits << 1 | u128::from(machine.lit(column, row));
     }
     bits
+}
+
+/// The keys that are down, or none where any may be.
+fn keys_of(text: &str) -> Result<Option<u16>, Refused> {
+    if text == "any" {
+        return Ok(None);
+    }
+    Ok(Some(hex_number(text)?))
 }
 
 /// The rows with a lit pixel, each with its number.

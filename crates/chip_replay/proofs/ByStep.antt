@@ -35,6 +35,16 @@ knows_holds events s h knows within =
       stays = λ r k lr lu lk. ap (was_down events k) (sym (add-one r)) ∙ knows.before (r + 1) k (omega arith) (omega arith) lk;
     }
 
+-- what holds in a step holds in the later ones before the next event
+pub holds_later : (events : Events) (s t : ℕ) (h : Holding) → HoldsKeys events s h → s ≤ t → t < h.until → HoldsKeys events t h
+holds_later events s t h holds later within =
+    record {
+      within = within;
+      size = holds.size;
+      as_mask = holds.as_mask;
+      stays = λ r k lr lu lk. holds.stays r k (omega arith) lu lk;
+    }
+
 -- no key is down before the first events
 pub knows_none : (events : Events) (s : ℕ) (h : Holding) → h.until ≡ 0 → length h.down ≡ 16 → h.keys ≡ mask (λ k. slice_index_or h.down k false) 16 → ((k : ℕ) → k < 16 → slice_index_or h.down k false ≡ false) → KnowsKeys events s h
 knows_none events s h none size as_mask up =

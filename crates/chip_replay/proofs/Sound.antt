@@ -1,7 +1,7 @@
 -- The kept run, some steps longer.
 use Rattle.std.proofs.Common.{◌≡◌, ℕ, zero, suc, ◌+◌, ◌-◌, ◌*◌, ◌/◌, ◌<◌, ◌≤◌, min, max, Bool, true, false, cond, ltb, List, [], ◌∷◌, ◌++◌, length, map, slice_index, slice_index_or, refl, sym, ap, ◌∙◌, subst, arith, add-one, inl, inr}
 use Rattle.std.proofs.lemmas.List.{length_push, get_or_append_left, get_or_push, length-map, get_or-map}
-use Rattle.std.proofs.lemmas.Bool.{cases_lt, false≢true}
+use Rattle.std.proofs.lemmas.Bool.{cases_lt}
 use Rattle.std.proofs.lemmas.Bool.Decides.{nat_tests}
 use Rattle.std.proofs.Math.Nat.{suc-mul, mul-le-mul_right}
 use Rattle.std.proofs.lemmas.Nat.{le-div}
@@ -44,26 +44,28 @@ module _ {M : Type 0} (p : ℕ) (above : 0 < p) (proper : M → Type 0) (touches
       }
 
 module _ {M : Type 0} (after : M → ℕ → Bool → M) (rate : ℕ) (held : ℕ → ℕ) (start : M) where
-  -- a still state is that of each later step
-  stays : (a : ℕ) → IsStill after (run after rate held start a) → (n : ℕ) → run after rate held start (a + n) ≡ run after rate held start a
-  stays a still zero = let place : a + 0 ≡ a = omega arith in ap (run after rate held start) place
-  stays a still (suc n) =
+  -- a state that stays under the keys held in some steps is that after them
+  pub stays_under : (a n : ℕ) → ((t : ℕ) → a ≤ t → t < a + n → (tick : Bool) → after (run after rate held start a) (held t) tick ≡ run after rate held start a) → run after rate held start (a + n) ≡ run after rate held start a
+  stays_under a zero still = let place : a + 0 ≡ a = omega arith in ap (run after rate held start) place
+  stays_under a (suc n) still =
       let place : a + suc n ≡ suc (a + n) = omega arith in
       ap (run after rate held start) place
-      ∙ ap (λ s. after s (held (a + n)) (ticks rate (a + n))) (stays a still n)
-      ∙ still (held (a + n)) (ticks rate (a + n))
+      ∙ ap (λ s. after s (held (a + n)) (ticks rate (a + n))) (stays_under a n (λ t l m. still t l (omega (arith, m))))
+      ∙ still (a + n) (omega arith) (omega arith) (ticks rate (a + n))
 
+  -- a still state is that of each later step
   pub stays_to : (a t : ℕ) → IsStill after (run after rate held start a) → a ≤ t → run after rate held start t ≡ run after rate held start a
-  stays_to a t still l = let place : t ≡ a + (t - a) = omega arith in ap (run after rate held start) place ∙ stays a still (t - a)
+  stays_to a t still l = let place : t ≡ a + (t - a) = omega arith in ap (run after rate held start) place ∙ stays_under a (t - a) (λ s low high. still (held s))
 
--- the first touches below a step that no later one below m adds to
-pub first_same : {M : Type 0} (touches : M → ℕ → Bool) (state : ℕ → M) (first : List ℕ) (reach m : ℕ) → AreFirst touches state reach first → reach ≤ m → ((s a : ℕ) → reach ≤ s → s < m → touches (state s) a ≡ false) → AreFirst touches state m first
-first_same touches state first reach m known l none at la =
+-- the first touches below a step to which no later one below m adds, since each address that it touches has one
+pub first_same : {M : Type 0} (touches : M → ℕ → Bool) (state : ℕ → M) (first : List ℕ) (reach m : ℕ) → AreFirst touches state reach first → reach ≤ m
+    → ((s a : ℕ) → reach ≤ s → s < m → touches (state s) a ≡ true → slice_index first a < reach) → AreFirst touches state m first
+first_same touches state first reach m known l noted at la =
     let was = known at la in
     record {
       none_before = λ s ls h. elim (cases_lt s reach) [
         | inl a ↦ was.none_before s a h
-        | inr a ↦ absurd (false≢true (sym (none s at a ls) ∙ h))
+        | inr a ↦ (let before : slice_index first at < reach = noted s at a ls h in omega (arith, before, a))
       ];
       passes = λ lv. (let before = was.passes lv in (omega (arith, before.0), before.1));
     }

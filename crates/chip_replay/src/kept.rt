@@ -1,8 +1,8 @@
 //! What is kept of a machine's run.
 
-ghost use Rattle.std.specs.Prelude.{◌≡◌, ℕ, Bool, ◌+◌, ◌-◌, ◌*◌, ◌/◌, ◌<◌, ◌≤◌, ◌==◌, List, [], ◌∷◌, ◌++◌, length, min, max, IfOk, IfSome, None, OnOk, OnErr, if◌then◌else◌, slice_index, slice_index_or, slice_set, take, map, nat_lt, true, ◌⊎◌};
+ghost use Rattle.std.specs.Prelude.{◌≡◌, ℕ, Bool, ◌+◌, ◌-◌, ◌*◌, ◌/◌, ◌<◌, ◌≤◌, ◌==◌, List, [], ◌∷◌, ◌++◌, length, min, max, IfOk, IfSome, IsSome, None, OnOk, OnErr, if◌then◌else◌, slice_index, slice_index_or, slice_set, take, map, nat_lt, true, ◌⊎◌};
 ghost use Rattle.chip_replay.specs.Limits.{image_start, image_room};
-ghost use Rattle.chip_machine.specs.Touched.{touched};
+ghost use Rattle.chip_machine.specs.Touched.{is_among, touched};
 ghost use Rattle.chip_replay.specs.Run.{run, IsStill};
 ghost use Rattle.chip_replay.specs.Keys.{Events, held};
 ghost use Rattle.chip_replay.specs.inner.Changes.{KnowsKeys};
@@ -93,13 +93,13 @@ impl<M: Traced> Kept<M> {
     {
         let mut at = self.set_out(start, keys, step)?;
         while at < step {
-            if self.lent.is_still() {
+            if self.lent.stays(None, &self.first_touch, at) {
                 return self.stay(at, step);
             }
             let to_checkpoint = self.spacing - at % self.spacing;
             let count = to_checkpoint.min(step - at);
-            self.go_on(keys, rate, at, count);
-            self.ran = self.ran.saturating_add(u64::from(count));
+            let made = self.go_on(keys, rate, at, count);
+            self.ran = self.ran.saturating_add(u64::from(made));
             at += count;
             self.lent_step = Some(at);
             if at > self.reach {
@@ -109,15 +109,17 @@ impl<M: Traced> Kept<M> {
         Ok(())
     }
 
-    /// The run is known up to a step, since the lent state, that of a step before it, stays as it is.
-    /// After an error it is known as far as before, and the lent state is void.
+    /// The run is known up to a step, since the lent state, that of a step before it, stays as it is
+    /// with any keys, and what it touches is noted. After an error it is known as far as before, and
+    /// the lent state is void.
     fn stay(&mut self, at: u32, step: u32) -> Result<(), AllocError>
         requires spaced { 0 < self.old.spacing }
         requires in_range { step ≤ LAST_STEP }
         requires order { at ≤ step }
         requires few { length self.old.checkpoints.items ≤ LAST_STEP }
         requires still { IsStill M.step_of self.old.lent }
-        requires untouched { M.touches self.old.lent ≡ [] }
+        requires noted { (address : ℕ) → is_among (M.touches self.old.lent) address ≡ true
+            → slice_index self.old.first_touch.items address < at }
         ensures right { (rate : ℕ) (start : M) (events : Events)
             → IsRight M.is_proper M.touches M.step_of rate start events self.old
             → IsAt M.step_of rate start events self.old at
@@ -138,8 +140,9 @@ impl<M: Traced> Kept<M> {
         Ok(())
     }
 
-    /// Makes some steps, of which the lent state is before the first.
-    fn go_on(&mut self, keys: &Keys, rate: u32, at: u32, count: u32)
+    /// Goes on by some steps, of which the lent state is before the first, and answers how many it
+    /// made: none where they change nothing.
+    fn go_on(&mut self, keys: &Keys, rate: u32, at: u32, count: u32) -> u32
         requires rate { 0 < rate }
         requires in_range { at + count ≤ LAST_STEP }
         requires table { length self.old.first_touch.items ≡ MEMORY_BYTES }
@@ -156,6 +159,7 @@ impl<M: Traced> Kept<M> {
             (max reach (at + count)) self.new.first_touch.items }
         ensures table { length self.new.first_touch.items ≡ MEMORY_BYTES }
         ensures holding { KnowsKeys keys.now (at + count) self.new.holding }
+        ensures made { result ≤ count }
         ensures others { self.new
             ≡ record self.old {
               lent = self.new.lent;
@@ -163,6 +167,10 @@ impl<M: Traced> Kept<M> {
               first_touch = self.new.first_touch;
             } }
     {
+        if let Some(holding) = self.idle_until(keys, at, count) {
+            self.holding = holding;
+            return 0;
+        }
         let mut cursor = Cursor {
             keys,
             holding: self.holding,
@@ -170,6 +178,39 @@ impl<M: Traced> Kept<M> {
         let table = &mut self.first_touch;
         self.lent.steps(&mut cursor, rate, at, count, table);
         self.holding = cursor.holding;
+        count
+    }
+
+    /// What is known of the keys after some steps, of which the lent state is before the first, where
+    /// these change nothing, and touch nothing for the first time.
+    fn idle_until(&self, keys: &Keys, at: u32, count: u32) -> Option<Holding>
+        requires in_range { at + count ≤ LAST_STEP }
+        requires holding { KnowsKeys keys.now at self.now.holding }
+        ensures state { IsSome result → (rate : ℕ) (start : M)
+            → self.now.lent ≡ run M.step_of rate (held keys.now) start at
+            → self.now.lent ≡ run M.step_of rate (held keys.now) start (at + count) }
+        ensures first { IsSome result → (rate : ℕ) (start : M) (reach : ℕ)
+            → self.now.lent ≡ run M.step_of rate (held keys.now) start at
+            → at ≤ reach
+            → AreFirst (touched M.touches)
+            (run M.step_of rate (held keys.now) start) reach self.now.first_touch.items
+            → AreFirst (touched M.touches) (run M.step_of rate (held keys.now) start)
+            (max reach (at + count)) self.now.first_touch.items }
+        ensures holding { IfSome result (KnowsKeys keys.now (at + count)) }
+    {
+        // A single step is made as fast.
+        if count < 2 {
+            return None;
+        }
+        let mut holding = self.holding;
+        keys.hold(&mut holding, at);
+        if at + count > holding.until {
+            return None;
+        }
+        if !self.lent.stays(Some(holding.keys), &self.first_touch, at) {
+            return None;
+        }
+        Some(holding)
     }
 
     /// The run is known up to a later step, whose state and those from `at` on are the lent one, and
@@ -269,10 +310,18 @@ impl<M: Traced> Kept<M> {
         ensures err { OnErr result (self.new ≡ self.old) }
     {
         let known = self.reach.min(step);
+        match self.lent_step {
+            // Where the run has come no further: a division would take longer than a step.
+            Some(lent_step) if known <= lent_step && lent_step <= step => return Ok(lent_step),
+            Some(lent_step)
+                if lent_step <= step && self.lent.stays(None, &self.first_touch, lent_step) => {
+                return Ok(known);
+            }
+            _ => {}
+        }
         let place = known / self.spacing;
         let from = place * self.spacing;
         match self.lent_step {
-            Some(lent_step) if lent_step <= step && self.lent.is_still() => Ok(known),
             Some(lent_step) if from <= lent_step && lent_step <= step => Ok(lent_step),
             _ => {
                 let from_state = nearest(start, &self.checkpoints, place as usize);

@@ -1,5 +1,7 @@
 //! The machine as one that a replay can run.
 
+ghost use Rattle.std.specs.Prelude.{◌+◌, ◌<◌, IsTrue, slice_index};
+
 use crate::traced::Traced;
 use chip_machine::keys::HeldKeys;
 use chip_machine::machine::Machine;
@@ -43,6 +45,10 @@ impl Traced for Machine {
         self.stopped().is_some()
     }
 
+    fn stays(&self, keys: Option<u16>, first_touch: &[u32], at: u32) -> bool {
+        self.is_still() || self.is_idle(keys) && is_noted(first_touch, self.pc(), at)
+    }
+
     fn poke(&mut self, at: u16, byte: u8) {
         self.poke(at, byte);
     }
@@ -72,4 +78,15 @@ impl Traced for Machine {
     ghost step_keeps = { machine_step_keeps };
 
     ghost frame_law = { machine_framed };
+}
+
+/// Whether the word at an address was touched before a step.
+fn is_noted(first_touch: &[u32], address: u16, at: u32) -> bool
+    ensures { IsTrue result → (slice_index first_touch.now address < at)
+        × (slice_index first_touch.now (address + 1) < at) }
+{
+    match first_touch.get(usize::from(address)..=usize::from(address) + 1) {
+        Some([high, low]) => *high < at && *low < at,
+        _ => false,
+    }
 }

@@ -1,12 +1,12 @@
 //! What a replay asks of a machine.
 
-ghost use Rattle.std.specs.Prelude.{◌≡◌, ℕ, ◌+◌, ◌^◌, ◌<◌, ◌≤◌, ◌↔◌, Bool, List, [], All, Contains, IfOk, OnOk, OnErr, IsFalse, IsTrue, length, slice_set};
+ghost use Rattle.std.specs.Prelude.{◌≡◌, ℕ, ◌+◌, ◌^◌, ◌<◌, ◌≤◌, ◌↔◌, Bool, List, [], All, Contains, IfOk, IfSome, OnOk, OnErr, IsFalse, IsTrue, length, slice_index, slice_set, true};
 ghost use Rattle.chip_machine.specs.Block.{block, IsBlockNoted};
 ghost use Rattle.chip_replay.specs.Frame.{AgreeOff, IsFramed};
 ghost use Rattle.chip_replay.specs.Limits.{memory_size};
 ghost use Rattle.chip_replay.specs.Run.{IsStill};
 ghost use Rattle.chip_machine.specs.State.{exchanged};
-ghost use Rattle.chip_machine.specs.Touched.{touched};
+ghost use Rattle.chip_machine.specs.Touched.{is_among, touched};
 
 use chip_machine::keys::HeldKeys;
 use chip_machine::touch::Touch;
@@ -73,6 +73,18 @@ pub trait Traced: Drop + Sized {
         ensures untouched { IsTrue result → touches self.now ≡ [] }
     {
         false
+    }
+
+    /// Whether each step with these keys down, or with any, leaves the state as it is, and touches
+    /// only addresses that a step before `at` has touched, as the table of first touches says: true
+    /// only where it does.
+    fn stays(&self, keys: Option<u16>, first_touch: &[u32], at: u32) -> bool
+        ensures still { IsTrue result → (down : ℕ) (tick : Bool) → IfSome keys (λ k. down ≡ k)
+            → step_of self.now down tick ≡ self.now }
+        ensures noted { IsTrue result → (address : ℕ) → is_among (touches self.now) address ≡ true
+            → slice_index first_touch.now address < at }
+    {
+        self.is_still()
     }
 
     /// Changes the byte at an address.

@@ -1,11 +1,10 @@
-use Rattle.std.proofs.Common.{◌≡◌, ℕ, ◌+◌, ◌≤◌, Bool, true, false, List, [], map, cond, ltb, Option, Some, None, is_some, ap, sym, ◌∙◌, subst, arith, rules}
+use Rattle.std.proofs.Common.{◌≡◌, ℕ, ◌≤◌, Bool, true, false, List, [], Option, Some, None, is_some, ap, sym, ◌∙◌, subst, arith}
 use Rattle.std.proofs.lemmas.Bool.{false≢true}
 use Rattle.std.proofs.lemmas.Grind.{common_steps}
 use Rattle.std.specs.Prelude.{IfSome}
 use Rattle.chip_machine.specs.Touched.{is_among, touched}
 use Rattle.chip_replay.specs.Run.{run, IsStill}
 use Rattle.chip_replay.specs.Keys.{held}
-use Rattle.chip_replay.specs.Limits.{never}
 use Rattle.chip_replay.specs.inner.Kept.{IsLent}
 use Rattle.chip_replay.proofs.Changed.{table_cut, table_stays}
 use Rattle.chip_replay.proofs.Sound.{stays_to}

@@ -37,29 +37,29 @@ loop-at-preserved-in-Continue-branch-2 g c =
     let state = run m.step_of c.args.rate (held c.args.keys.now) c.args.start.now in
     let above : 0 < now.spacing = omega (arith, before.spacing, c.requires.spaced) in
     let up_to_step : at + count ≤ c.args.step = omega (arith, c.min-count.ensures, c.loop-at-test.true) in
-    let first = c.go_on.ensures.first c.args.start.now now.reach before.is_at.lent before.is_at.reached right.sound.first in
-    let next = c.go_on.ensures.state c.args.start.now before.is_at.lent in
-    let table = c.go_on.new.self.first_touch.items in
-    let ran = rw c.go_on.ensures.others at c.saturating_add-self.ensures in
-    let further : now.reach < at + count = rw c.go_on.ensures.others at c.if-at-self.true in
-    let kept = rw c.go_on.ensures.others at c.in_ok-extend.ensures.kept in
+    let first = c.go_on-made.ensures.first c.args.start.now now.reach before.is_at.lent before.is_at.reached right.sound.first in
+    let next = c.go_on-made.ensures.state c.args.start.now before.is_at.lent in
+    let table = c.go_on-made.new.self.first_touch.items in
+    let ran = rw c.go_on-made.ensures.others at c.saturating_add-self.ensures in
+    let further : now.reach < at + count = rw c.go_on-made.ensures.others at c.if-at-self.true in
+    let kept = rw c.go_on-made.ensures.others at c.in_ok-extend.ensures.kept in
     let left = now.spacing - at % now.spacing in
     let next_place : (at / now.spacing + 1) * now.spacing ≤ (now.reach / now.spacing + 1) * now.spacing = mul-le-mul_right now.spacing (omega (arith, div_mono at now.reach now.spacing above before.is_at.reached)) in
     let most : at + count ≤ (now.reach / now.spacing + 1) * now.spacing =
     omega (arith, c.min-count.ensures, multiple_left at now.spacing left above refl, next_place) in
     let known : AreFirst (touched m.touches) state (at + count) table =
     (let same : max now.reach (at + count) ≡ at + count = omega arith in subst (λ n. AreFirst (touched m.touches) state n table) same first) in
-    let sound = sound_more now.spacing above m.is_proper (touched m.touches) m.step_of c.args.rate (held c.args.keys.now) c.args.start.now now.checkpoints.items now.first_touch.items now.reach right.sound right.still (at + count) (at + count) most further (omega arith) (omega (arith, up_to_step, c.requires.in_range)) c.go_on.new.self.lent next (λ l. absurd (omega arith)) table c.go_on.ensures.table known _ kept in
-    let still = ends_more now.spacing above m.is_proper (touched m.touches) m.step_of c.args.rate (held c.args.keys.now) c.args.start.now now.checkpoints.items now.first_touch.items now.reach right.sound right.still (at + count) (at + count) most further (omega arith) (omega (arith, up_to_step, c.requires.in_range)) c.go_on.new.self.lent next (λ l. absurd (omega arith)) table c.go_on.ensures.table known _ kept in
-    rw (c.in_ok-extend.ensures.others, c.go_on.ensures.others) (record {
+    let sound = sound_more now.spacing above m.is_proper (touched m.touches) m.step_of c.args.rate (held c.args.keys.now) c.args.start.now now.checkpoints.items now.first_touch.items now.reach right.sound right.still (at + count) (at + count) most further (omega arith) (omega (arith, up_to_step, c.requires.in_range)) c.go_on-made.new.self.lent next (λ l. absurd (omega arith)) table c.go_on-made.ensures.table known _ kept in
+    let still = ends_more now.spacing above m.is_proper (touched m.touches) m.step_of c.args.rate (held c.args.keys.now) c.args.start.now now.checkpoints.items now.first_touch.items now.reach right.sound right.still (at + count) (at + count) most further (omega arith) (omega (arith, up_to_step, c.requires.in_range)) c.go_on-made.new.self.lent next (λ l. absurd (omega arith)) table c.go_on-made.ensures.table known _ kept in
+    rw (c.in_ok-extend.ensures.others, c.go_on-made.ensures.others) (record {
       spacing = before.spacing;
-      right = record { sound = sound; still = still; lent = (omega arith, next); holding = c.go_on.ensures.holding };
-      is_at = record { reached = omega arith; lent = next; holding = c.go_on.ensures.holding };
+      right = record { sound = sound; still = still; lent = (omega arith, next); holding = c.go_on-made.ensures.holding };
+      is_at = record { reached = omega arith; lent = next; holding = c.go_on-made.ensures.holding };
       within = up_to_step;
       reach_kept = omega (arith, before.reach_kept);
       from = omega (arith, before.from);
       ran_kept = omega (arith, ran, before.ran_kept);
-      steps = omega (arith, ran, c.from.ensures, before.steps, before.from);
+      steps = omega (arith, ran, c.from.ensures, c.go_on-made.ensures.made, before.steps, before.from);
     })
 
 -- steps that were all known
@@ -74,25 +74,25 @@ loop-at-preserved g c =
     let state = run m.step_of c.args.rate (held c.args.keys.now) c.args.start.now in
     let above : 0 < now.spacing = omega (arith, before.spacing, c.requires.spaced) in
     let up_to_step : at + count ≤ c.args.step = omega (arith, c.min-count.ensures, c.loop-at-test.true) in
-    let first = c.go_on.ensures.first c.args.start.now now.reach before.is_at.lent before.is_at.reached right.sound.first in
-    let next = c.go_on.ensures.state c.args.start.now before.is_at.lent in
-    let table = c.go_on.new.self.first_touch.items in
-    let ran = rw c.go_on.ensures.others at c.saturating_add-self.ensures in
-    let reached : at + count ≤ now.reach = rw c.go_on.ensures.others at c.if-at-self.false in
-    rw c.go_on.ensures.others (record {
+    let first = c.go_on-made.ensures.first c.args.start.now now.reach before.is_at.lent before.is_at.reached right.sound.first in
+    let next = c.go_on-made.ensures.state c.args.start.now before.is_at.lent in
+    let table = c.go_on-made.new.self.first_touch.items in
+    let ran = rw c.go_on-made.ensures.others at c.saturating_add-self.ensures in
+    let reached : at + count ≤ now.reach = rw c.go_on-made.ensures.others at c.if-at-self.false in
+    rw c.go_on-made.ensures.others (record {
       spacing = before.spacing;
       right = record {
-        sound = sound_noted now.spacing above m.is_proper (touched m.touches) state now.checkpoints.items now.first_touch.items now.reach right.sound table (at + count) reached c.go_on.ensures.table first;
+        sound = sound_noted now.spacing above m.is_proper (touched m.touches) state now.checkpoints.items now.first_touch.items now.reach right.sound table (at + count) reached c.go_on-made.ensures.table first;
         still = right.still;
         lent = (reached, next);
-        holding = c.go_on.ensures.holding;
+        holding = c.go_on-made.ensures.holding;
       };
-      is_at = record { reached = reached; lent = next; holding = c.go_on.ensures.holding };
+      is_at = record { reached = reached; lent = next; holding = c.go_on-made.ensures.holding };
       within = up_to_step;
       reach_kept = before.reach_kept;
       from = omega (arith, before.from);
       ran_kept = omega (arith, ran, before.ran_kept);
-      steps = omega (arith, ran, c.from.ensures, before.steps, before.from);
+      steps = omega (arith, ran, c.from.ensures, c.go_on-made.ensures.made, before.steps, before.from);
     })
 
 pub returns-in_err-extend-clause-right : goal.returns-in_err-extend-clause-right
@@ -106,27 +106,27 @@ returns-in_err-extend-clause-right g c =
     let state = run m.step_of c.args.rate (held c.args.keys.now) c.args.start.now in
     let above : 0 < now.spacing = omega (arith, before.spacing, c.requires.spaced) in
     let up_to_step : at + count ≤ c.args.step = omega (arith, c.min-count.ensures, c.loop-at-test.true) in
-    let first = c.go_on.ensures.first c.args.start.now now.reach before.is_at.lent before.is_at.reached right.sound.first in
-    let next = c.go_on.ensures.state c.args.start.now before.is_at.lent in
-    let table = c.go_on.new.self.first_touch.items in
-    let stay : c.extend.new.self.checkpoints.items ≡ now.checkpoints.items = rw c.go_on.ensures.others at c.in_err-extend.ensures.checkpoints_stay in
-    let reach : c.go_on.new.self.reach ≡ now.reach = rw c.go_on.ensures.others refl in
+    let first = c.go_on-made.ensures.first c.args.start.now now.reach before.is_at.lent before.is_at.reached right.sound.first in
+    let next = c.go_on-made.ensures.state c.args.start.now before.is_at.lent in
+    let table = c.go_on-made.new.self.first_touch.items in
+    let stay : c.extend.new.self.checkpoints.items ≡ now.checkpoints.items = rw c.go_on-made.ensures.others at c.in_err-extend.ensures.checkpoints_stay in
+    let reach : c.go_on-made.new.self.reach ≡ now.reach = rw c.go_on-made.ensures.others refl in
     let cut = subst (λ n. c.extend.new.self.first_touch.items ≡ map (λ v. cond (ltb v n) v never) table) reach c.in_err-extend.ensures.table_cut in
-    rw (c.in_err-extend.ensures.others_stay, c.go_on.ensures.others) (record {
+    rw (c.in_err-extend.ensures.others_stay, c.go_on-made.ensures.others) (record {
       sound = subst (λ xs. IsSound now.spacing m.is_proper (touched m.touches) state xs c.extend.new.self.first_touch.items now.reach) (sym stay)
-          (sound_cut_back now.spacing above m.is_proper (touched m.touches) state now.checkpoints.items now.first_touch.items now.reach right.sound table c.extend.new.self.first_touch.items (at + count) c.go_on.ensures.table first cut);
+          (sound_cut_back now.spacing above m.is_proper (touched m.touches) state now.checkpoints.items now.first_touch.items now.reach right.sound table c.extend.new.self.first_touch.items (at + count) c.go_on-made.ensures.table first cut);
       still = subst (λ xs. EndsStill m.step_of state now.spacing xs now.reach) (sym stay) right.still;
       lent = tt;
       holding = tt;
     })
 
 -- it stays as it is up to the step
-pub returns-then-is_still-clause-state : goal.returns-then-is_still-clause-state
-returns-then-is_still-clause-state g c =
+pub returns-then-stays-clause-state : goal.returns-then-stays-clause-state
+returns-then-stays-clause-state g c =
     let m = g.M.Traced in
     let at = c.loop-at.at in
     let state = run m.step_of c.args.rate (held c.args.keys.now) c.args.start.now in
     let here : c.loop-at.self.lent ≡ state at = c.loop-at.invariant.is_at.lent in
-    let still = subst (IsStill m.step_of) here (c.is_still.ensures.still c.if-is_still.true) in
+    let still = subst (IsStill m.step_of) here (λ down tick. c.stays.ensures.still c.if-stays.true down tick tt) in
     let later : c.stay.new.self.lent ≡ state c.args.step = rw c.stay.ensures.others (here ∙ sym (stays_to m.step_of c.args.rate (held c.args.keys.now) c.args.start.now at c.args.step still (omega (arith, c.loop-at-test.true)))) in
     on_ok_weaker c.stay.result (λ _. later) c.stay.ensures.reached

@@ -1,5 +1,5 @@
-use Rattle.std.proofs.Common.{◌≡◌, ◌<◌, ◌≤◌, max, Some, None, ℕ, ap, subst, sym, ◌∙◌, arith}
-use Rattle.chip_machine.specs.Touched.{is_among, touched}
+use Rattle.std.proofs.Common.{◌≡◌, ◌<◌, ◌≤◌, max, Some, None, ℕ, ap, subst, sym, ◌∙◌, arith, slice_index, true}
+use Rattle.chip_machine.specs.Touched.{touched}
 use Rattle.chip_replay.specs.Run.{run, IsStill}
 use Rattle.chip_replay.specs.Keys.{held}
 use Rattle.chip_replay.specs.inner.Kept.{AreFirst, IsSound, IsLent, EndsStill}
@@ -32,10 +32,11 @@ returns-in_ok-extend-clause-right g c = λ rate start events right is_at.
     let most = within_next c.args.at now.reach now.spacing c.requires.spaced is_at.reached in
     let small : c.args.step ≤ last_step = omega (arith, c.requires.in_range) in
     let still = subst (IsStill m.step_of) is_at.lent c.requires.still in
-    let none = λ (s a : ℕ) (ls : now.reach ≤ s) (lm : s < c.args.step). (
+    let noted = λ (s a : ℕ) (ls : now.reach ≤ s) (lm : s < c.args.step) (touches : touched m.touches (state s) a ≡ true). (
     let same : state s ≡ now.lent = stays_to m.step_of rate (held events) start c.args.at s still (omega (arith, is_at.reached)) ∙ sym is_at.lent in
-    ap (λ x. touched m.touches x a) same ∙ ap (λ xs. is_among xs a) c.requires.untouched) in
-    let known = first_same (touched m.touches) state now.first_touch.items now.reach c.args.step right.sound.first (omega arith) none in
+    let before : slice_index now.first_touch.items a < c.args.at = c.requires.noted a (sym (ap (λ x. touched m.touches x a) same) ∙ touches) in
+    let early : slice_index now.first_touch.items a < now.reach = omega (arith, before, is_at.reached) in early) in
+    let known = first_same (touched m.touches) state now.first_touch.items now.reach c.args.step right.sound.first (omega arith) noted in
     let stays = λ (l : c.args.at < c.args.step). c.requires.still in
     let sound = sound_more now.spacing c.requires.spaced m.is_proper (touched m.touches) m.step_of rate (held events) start now.checkpoints.items now.first_touch.items now.reach right.sound right.still c.args.at c.args.step most c.if-step-self.true c.requires.order small now.lent is_at.lent stays now.first_touch.items right.sound.each_address known _ c.in_ok-extend.ensures.kept in
     let ends = ends_more now.spacing c.requires.spaced m.is_proper (touched m.touches) m.step_of rate (held events) start now.checkpoints.items now.first_touch.items now.reach right.sound right.still c.args.at c.args.step most c.if-step-self.true c.requires.order small now.lent is_at.lent stays now.first_touch.items right.sound.each_address known _ c.in_ok-extend.ensures.kept in
