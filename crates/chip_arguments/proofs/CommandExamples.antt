@@ -1,6 +1,6 @@
 -- Worked examples: command lines with the kinds of fault that `clap` finds in them.
 use Rattle.std.proofs.Common.{◌≡◌, [], ◌∷◌, codes, true, refl, Some, None, option_map, List, Bool, ◌++◌, false, map}
-use Rattle.clap.specs.Words.{all_of, fault_of, first_of, is_simple, is_simple_and_free, subcommand_of, one_of}
+use Rattle.clap.specs.Words.{all_of, fault_of, first_of, is_simple_and_free, subcommand_of, one_of}
 use Rattle.std.specs.List.{list_all}
 use Rattle.clap.specs.Simple.{Shape, built}
 use Rattle.chip_arguments.specs.inner.Built.{command_names}
@@ -10,7 +10,7 @@ use Rattle.std.specs.Prelude.{⊤}
 use Rattle.chip_arguments.specs.CommandLine.{against, allow, allowed_keys, as_image, ascii, asm, check, chipbench, code, color, cover, debug, deep, dis, every, explain, explore, files, from, hash, hex, image, json, keys, keys_to, list, needed_source, output, pbm, picture, png, profile, progress, rate, reach, run, search_steps, seed, source, sources, states, steps, syms, tap, tape, test, trace, update, want, with_search, with_settings, with_steps}
 
 -- what is unfolded to judge words that are written out
-unfoldable chipbench_on_literals : ⊤
+unfoldable pub chipbench_on_literals : ⊤
 unfolding clap_on_literals against allow allowed_keys as_image ascii asm check chipbench code color cover debug deep dis every explain explore files from hash hex image json keys keys_to list needed_source output pbm picture png profile progress rate reach run search_steps seed source sources states steps syms tap tape test trace update want with_search with_settings with_steps
 chipbench_on_literals = tt
 
@@ -41,10 +41,6 @@ shows_help = refl
 default_rate : option_map (λ p. one_of (codes "rate") p.1) (subcommand_of chipbench (codes "debug" ∷ [])) ≡ Some (Some (codes "10"))
 unfolding chipbench_on_literals
 default_rate = refl
-
-pub is_plain : is_simple chipbench ≡ true
-unfolding chipbench_on_literals
-is_plain = refl
 
 pub no_words_no_command : subcommand_of chipbench [] ≡ None
 unfolding chipbench_on_literals

@@ -3,4 +3,5 @@ pub mod CommandExamples
 pub mod FaultLemmas
 pub mod NameLemmas
 pub mod NumberLemmas
+pub mod OneCommand
 pub mod WordLemmas

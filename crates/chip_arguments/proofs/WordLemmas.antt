@@ -2,7 +2,7 @@
 use Rattle.std.proofs.Common.{◌≡◌, inl, inr, ℕ, Bool, Bor, map, true, false, List, [], ◌∷◌, codes, Option, Some, None, Result, Ok, Err, IfOk, option_map, unwrap_or, refl, sym, ◌∙◌, ap, ap₂, subst}
 use Rattle.std.specs.Str.{bytes_eq}
 use Rattle.std.proofs.lemmas.Slice.Eq.{bytes_eq-Decides}
-use Rattle.clap.proofs.WalkLemmas.{first_value-rows, one_text-rows}
+use Rattle.clap.proofs.WalkLemmas.{both, first_value-rows, one_text-rows}
 use Rattle.clap.specs.Kinds.{FailsBy, HasKind, IsAmong, Kinds, or_else}
 use Rattle.std.specs.Box.{box_value}
 use Rattle.clap.specs.Words.{App, HasMatchesOf, Row, fault_of, first_of, first_value, found_of, is_simple, kind_of, one_of, one_text, rows_of, subcommand_name_of, subcommand_of}
@@ -19,6 +19,7 @@ use Rattle.chip_machine.specs.declared.profile.Profile.TheVariants as profile
 use Rattle.chip_arguments.specs.CommandLine.{chipbench}
 use Rattle.chip_arguments.specs.CommandWords.{Asks, AsksBy, AsksFlag, AsksFor, ReadsNumber, ReadsOr, clash_fault, faults_below, value_faults, word_faults, needed, profile_fault}
 use Rattle.chip_arguments.specs.SettingWords.{default_words}
+use Rattle.chip_arguments.specs.inner.Built.{JudgesAsAll}
 use Rattle.chip_arguments.specs.declared.command_line.CommandLine.{CommandLine}
 use Rattle.chip_arguments.specs.declared.command_line.CommandLine.TheVariants as line
 
@@ -129,18 +130,18 @@ pub none_named : {X : Type 0} (o : Option X) (f : X → List ℕ) (g : X → Lis
 none_named None f g h = refl
 none_named (Some x) f g h = cc
 
--- the command that words name, by the matches that `clap` answers
-pub subcommand_named : (app other : App) (words : List (List ℕ)) (m : ArgMatches) (name : List ℕ) (rows : List Row) → app ≡ other →
-    is_simple other ≡ true → HasMatchesOf app words m → Some name ≡ subcommand_name_of m →
-    Some rows ≡ option_map (λ (p : List ℕ × List Row). p.1) (subcommand_rows_of m) → subcommand_of other words ≡ Some (name, rows)
-subcommand_named app other words m name rows e simple has n r =
-    ap (λ (a : App). subcommand_of a words) (sym e) ∙ sym ((has (ap is_simple e ∙ simple)).1)
+-- the command that words name, by the matches that `clap` answers of a program that names the same
+pub subcommand_named : {app : App} (words : List (List ℕ)) (m : ArgMatches) (name : List ℕ) (rows : List Row) → JudgesAsAll words app →
+    HasMatchesOf app words m → Some name ≡ subcommand_name_of m →
+    Some rows ≡ option_map (λ (p : List ℕ × List Row). p.1) (subcommand_rows_of m) → subcommand_of chipbench words ≡ Some (name, rows)
+subcommand_named {app} words m name rows judges has n r =
+    sym judges.command ∙ sym ((has (both (is_simple app) _ judges.exact).0).1)
     ∙ named_in (out-ArgMatches m).subcommand (λ b. (out-SubCommand (box_value b)).name.now) (λ b. rows_of (found_of (out-SubCommand (box_value b)).matches)) name rows n r
 
-pub subcommand_none : (app other : App) (words : List (List ℕ)) (m : ArgMatches) → app ≡ other → is_simple other ≡ true →
-    HasMatchesOf app words m → None ≡ option_map (λ (p : List ℕ × List Row). p.1) (subcommand_rows_of m) → subcommand_of other words ≡ None
-subcommand_none app other words m e simple has r =
-    ap (λ (a : App). subcommand_of a words) (sym e) ∙ sym ((has (ap is_simple e ∙ simple)).1)
+pub subcommand_none : {app : App} (words : List (List ℕ)) (m : ArgMatches) → JudgesAsAll words app → HasMatchesOf app words m →
+    None ≡ option_map (λ (p : List ℕ × List Row). p.1) (subcommand_rows_of m) → subcommand_of chipbench words ≡ None
+subcommand_none {app} words m judges has r =
+    sym judges.command ∙ sym ((has (both (is_simple app) _ judges.exact).0).1)
     ∙ none_named (out-ArgMatches m).subcommand (λ b. (out-SubCommand (box_value b)).name.now) (λ b. rows_of (found_of (out-SubCommand (box_value b)).matches)) r
 
 -- the texts of an argument, where none stand for no argument

@@ -8,7 +8,7 @@ ghost use Rattle.chip_arguments.specs.SettingWords.{default_words};
 ghost use Rattle.chip_arguments.specs.CommandWords.{Asks, AsksFor, AsksSettings, IsProfile, ReadsNumber, AsksCheck, color_asked, AsksExplore, AsksPicture, AsksRun, AsksTest, AsksTrace, clash_fault, clash_faults, color_fault, first_value_fault, new_file_fault, new_files, number_fault, numbers, value_faults, word_faults, needed, profile_fault};
 ghost use Rattle.chip_arguments.specs.inner.Built.{IsOneOf, command_names};
 
-use crate::commands::chipbench;
+use crate::commands::{chipbench, chipbench_for};
 use crate::limits::USUAL_STATES;
 use chip_machine::Profile;
 use chip_machine::profile::PROFILES;
@@ -227,14 +227,14 @@ pub fn parse_words<'a, S: AsStr>(alloc: Global, words: &'a [S]) -> Result<Comman
     ensures asked { IfOk result (AsksFor (map S.text words.entry.now)) }
     ensures none { words.entry.now ≡ [] → result ≡ Ok (CommandLine.Debug None false default_words) }
 {
-    if words.is_empty() {
+    let Some(first) = words.first() else {
         return Ok(CommandLine::Debug {
             source: None,
             is_image: false,
             settings: SettingWords::DEFAULT,
         });
-    }
-    let matches = chipbench(alloc)?.try_get_matches_from(words)?;
+    };
+    let matches = chipbench_for(alloc, first.as_str())?.try_get_matches_from(words)?;
     match matches.subcommand() {
         Some((name, found)) => command_asked(alloc, name, found),
         None => Ok(CommandLine::Debug {

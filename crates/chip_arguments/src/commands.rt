@@ -1,8 +1,8 @@
 //! The commands of the program, as `clap` builds them.
-ghost use Rattle.std.specs.Prelude.{◌≡◌, IfOk, codes, map};
+ghost use Rattle.std.specs.Prelude.{◌≡◌, ℕ, List, ◌∷◌, IfOk, IfSome, codes, map};
 ghost use Rattle.clap.specs.Words.{app_of, new_app};
 ghost use Rattle.chip_arguments.specs.CommandLine as line;
-ghost use Rattle.chip_arguments.specs.inner.Built.{Makes, app_of_row};
+ghost use Rattle.chip_arguments.specs.inner.Built.{IsRowOf, JudgesAsAll, Makes, app_of_row};
 
 use crate::arguments::Argument;
 use clap::Command;
@@ -234,6 +234,26 @@ pub(crate) fn chipbench<'a>(alloc: Global) -> Result<Command<'a>, AllocError>
     ensures { IfOk result (λ command. app_of command ≡ line.chipbench) }
 {
     with_commands(alloc, program(alloc)?, &COMMANDS)
+}
+
+/// The program as words need it that begin with this one: with the command of that name alone, or
+/// where none has it with all. One command spares an eighth of a process's start, and judges such
+/// words as all do, since `clap` stops at the first word and goes on with the command that it names.
+pub(crate) fn chipbench_for<'a>(alloc: Global, word: &str) -> Result<Command<'a>, AllocError>
+    ensures { IfOk result (λ command. (rest : List (List ℕ))
+        → JudgesAsAll (word.now ∷ rest) (app_of command)) }
+{
+    match row_named(&COMMANDS, word) {
+        Some(row) => program(alloc)?.subcommand(row.command(alloc)?),
+        None => chipbench(alloc),
+    }
+}
+
+// The row of the command of a name.
+fn row_named<'a>(rows: &'a [CommandRow], name: &str) -> Option<&'a CommandRow>
+    ensures { IfSome result (λ row. IsRowOf rows.now name.now row.now) }
+{
+    rows.iter().find(|row| row.name == name)
 }
 
 // The program without its commands.

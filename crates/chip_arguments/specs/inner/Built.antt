@@ -1,6 +1,7 @@
 -- What is built of a command (own).
-use Rattle.std.specs.Prelude.{◌≡◌, ◌⊎◌, ℕ, List, [], ◌∷◌, codes, false}
-use Rattle.clap.specs.Words.{App, Rule, app_of, new_app, with_rule}
+use Rattle.std.specs.Prelude.{◌≡◌, ◌⊎◌, ℕ, List, [], ◌∷◌, codes, false, true}
+use Rattle.std.specs.List.{Contains}
+use Rattle.clap.specs.Words.{App, Rule, app_of, fault_of, is_simple_and_free, new_app, subcommand_of, with_rule}
 use Rattle.chip_arguments.specs.CommandLine as line
 use Rattle.chip_arguments.specs.declared.arguments.Argument.{Argument}
 use Rattle.chip_arguments.specs.declared.arguments.Argument.TheVariants as argument
@@ -73,3 +74,14 @@ with_arguments app (next ∷ rest) = with_arguments (with_rule app (rule_by next
 -- a command of the table
 abbrev pub app_of_row : CommandRow → App
 app_of_row row = with_arguments (new_app row.name.now) row.arguments.now
+
+-- a row of these, of that name
+pub record IsRowOf (rows : List CommandRow) (name : List ℕ) (row : CommandRow) : Type 0 where
+  pub place : Contains rows row
+  pub named : row.name.now ≡ name
+
+-- a program that judges these words as the one with all its commands does
+pub record JudgesAsAll (words : List (List ℕ)) (app : App) : Type 0 where
+  pub exact : is_simple_and_free app ≡ true
+  pub fault : fault_of app words ≡ fault_of line.chipbench words
+  pub command : subcommand_of app words ≡ subcommand_of line.chipbench words
