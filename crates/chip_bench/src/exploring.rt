@@ -1,6 +1,5 @@
 //! `explore`: what a search over all key scripts answers of a source's image.
 ghost use Rattle.std.specs.Prelude.{◌≡◌, ◌⊎◌, ◌<◌, ◌++◌, ℕ, List, IfOk, IfErr, MatchOption, OnOk, option_copied};
-ghost use Rattle.std.specs.Fmt.{decimal};
 ghost use Rattle.chip_asm.specs.Program.{image_of, symbols_of};
 ghost use Rattle.chip_machine.specs.Start.{start_of};
 ghost use Rattle.chip_bench.specs.Doing.{Explores, Fails, IsBadPlace, IsScriptUnwritten, IsShort, Searches, SearchesFrom, image_in};
@@ -23,7 +22,7 @@ use chip_explore::{
 use chip_machine::limits::MEMORY_BYTES;
 use chip_machine::{Machine, Profile, Stop};
 use chip_session::{Counted, Settings, number_of};
-use itoa::Buffer;
+use chip_trace::push_decimal;
 use std::alloc::{AllocError, Global};
 use std::io::{Read, Write};
 use std::mem;
@@ -324,12 +323,4 @@ fn push_line(text: &mut Vec<u8>, word: &[u8], number: u64) -> Result<(), AllocEr
     push_decimal(text, number)?;
     text.push(b'\n')?;
     Ok(())
-}
-
-// Adds a number in decimal.
-fn push_decimal(text: &mut Vec<u8>, number: u64) -> Result<(), AllocError>
-    ensures { OnOk result (text.new.items ≡ text.old.items ++ decimal number) }
-{
-    let mut digits = Buffer::new();
-    text.extend_from_slice(digits.format(number).as_bytes())
 }

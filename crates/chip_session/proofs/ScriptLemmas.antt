@@ -1,5 +1,5 @@
 -- The transcript of a script in two parts, and of a line that is cut off where it is too long.
-use Rattle.std.proofs.Common.{◌≡◌, ◌⊎◌, ℕ, ◌+◌, ◌-◌, ◌<◌, ◌≤◌, ◌==◌, ◌&&◌, Bool, true, false, cond, List, [], ◌∷◌, ◌++◌, length, take, refl, sym, ◌∙◌, ap, append_assoc, arith, Ok, Err, Result, IsOkAnd, OnOk, is_ok, inl, inr, ⊎_elim}
+use Rattle.std.proofs.Common.{◌≡◌, ◌⊎◌, ℕ, ◌+◌, ◌-◌, ◌<◌, ◌≤◌, ◌==◌, ◌&&◌, Bool, true, false, cond, List, [], ◌∷◌, ◌++◌, length, take, refl, sym, ◌∙◌, ap, append_assoc, arith, Ok, Err, Result, IsOkAnd, inl, inr, ⊎_elim}
 use Rattle.std.specs.Str.Lines.{strip_carriage_return}
 use Rattle.std.proofs.lemmas.List.{append-nil, take_all, length-take}
 use Rattle.std.proofs.lemmas.Bool.{cases_lt, cond_below, cond_above, ne_eqb}
@@ -73,11 +73,6 @@ reply_is s line read h = ap (command_reply s) h
 pub after_is : (s : Session) (line : List ℕ) (read : Result Command CommandFault) → command_of line ≡ read → after s line ≡ command_after s read
 unfolding after
 after_is s line read h = ap (command_after s) h
-
--- the one clause of an append, where it succeeds
-pub taken_where_ok : {T E X : Type 0} (r : Result T E) (x a b : X) → x ≡ cond (is_ok r) a b → OnOk r (x ≡ a)
-taken_where_ok (Ok t) x a b h = h
-taken_where_ok (Err e) x a b h = tt
 
 -- a refusal other than that memory ran out is the definition's
 pub no_memory : {P Q X : Type 0} {e m : X} → P ⊎ ((e ≡ m) × Q) → (e ≡ m → ⊥) → P

@@ -5,9 +5,10 @@ ghost use Rattle.chip_asm.specs.Listing.{listing_of};
 ghost use Rattle.chip_session.specs.Text.{hex_line};
 ghost use Rattle.chip_session.specs.Answers.{symbol_line, symbols_text, fault_line, faults_text, listing_text};
 
-use crate::text::{push_decimal, push_hex, push_signed};
+use crate::text::{push_hex, push_signed};
 use chip_asm::{Source, Symbol};
 use chip_lang::Fault;
+use chip_trace::push_decimal;
 use std::alloc::{AllocError, Global};
 
 // Room for a name of usual length, with its value and its line.

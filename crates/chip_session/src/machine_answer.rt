@@ -1,24 +1,28 @@
 //! Answers about the machine's state.
 
-ghost use Rattle.std.specs.Prelude.{◌≡◌, ◌+◌, ◌*◌, ◌<◌, ◌≤◌, ◌^◌, ◌++◌, ◌∷◌, [], ℕ, List, false, IfOk, OnOk, slice_index};
+ghost use Rattle.std.specs.Prelude.{◌≡◌, ◌+◌, ◌*◌, ◌<◌, ◌≤◌, ◌^◌, ◌++◌, ◌∷◌, [], ℕ, List, false, codes, length, replicate, IfOk, OnOk, slice_index};
 ghost use Rattle.chip_machine.specs.Step.{word_at};
 ghost use Rattle.chip_session.specs.Answers.{asks_past_end, picture_by, state_answer};
+ghost use Rattle.chip_session.specs.Text.{hex_line};
 ghost use Rattle.chip_session.specs.MachineAnswers.{size_name, state_name, register_line, place_part, timer_part, condition_part, state_line, flag_line, registers_of, bytes_at, memory_line, word_line, disassembly_of, stored_row, has_lit, row_line, row_lines, two_digits, screen_of};
 
 use crate::question::{PictureForm, StateQuestion};
-use crate::text::{push_decimal, push_hex, push_spaced_bytes, push_spaced_words};
+use crate::text::{push_hex, push_spaced_words, write_hex};
 use chip_lang::push_shown;
 use chip_machine::limits::{LAST_WORD, MEMORY_BYTES};
 use chip_machine::{Machine, Stop};
-use chip_trace::{byte_digits, word_digits};
+use chip_trace::{byte_digits, push_decimal, push_spaced_bytes, word_digits};
 use chip_views::{screen_pbm, screen_png, screen_text};
 use std::alloc::{AllocError, Global};
 
 // Room for the answer about a machine's registers, where few calls are open.
 const REGISTERS_ROOM: usize = 256;
 
-// Room for 64 rows of the screen, each with its number and 32 digits.
-const SCREEN_ROOM: usize = 64 * 36 + 16;
+// The length of a row's line: its number and 32 digits.
+const ROW_LEN: usize = 36;
+
+// Room for 64 rows of the screen.
+const SCREEN_ROOM: usize = 64 * ROW_LEN + 16;
 
 /// Adds what is asked of a machine's state to an answer that is empty.
 pub(crate) fn push_state(
@@ -243,20 +247,24 @@ fn push_row_line(answer: &mut Vec<u8>, machine: &Machine, row: usize) -> Result<
     if !has_lit(machine, row) {
         return Ok(());
     }
-    push_two_digits(answer, row as u64)?;
-    answer.push(b' ')?;
-    push_hex(answer, &row_bytes(machine, row))?;
-    answer.push(b'\n')?;
+    let start = answer.len();
+    answer.extend_from_slice(&[b' '; ROW_LEN])?;
+    write_row(row as u8, &row_bytes(machine, row), &mut answer[start..]);
     Ok(())
 }
 
-fn push_two_digits(answer: &mut Vec<u8>, number: u64) -> Result<(), AllocError>
-    ensures { OnOk result (answer.new.items ≡ answer.old.items ++ two_digits number) }
+/// Writes the line of a row over spaces, in place, since bytes that were just written elsewhere are
+/// slow to copy: its number in two digits, a space, and its points in hexadecimal.
+fn write_row(row: u8, points: &[u8], line: &mut [u8])
+    requires row { row < 64 }
+    requires points { length points.now ≡ 16 }
+    requires spaces { line.old ≡ replicate ROW_LEN 32 }
+    ensures { line.new ≡ two_digits row ++ codes " " ++ hex_line points.now }
 {
-    if number < 10 {
-        answer.push(b'0')?;
-    }
-    push_decimal(answer, number)
+    line[0] = b'0' + row / 10;
+    line[1] = b'0' + row % 10;
+    line[ROW_LEN - 1] = b'\n';
+    write_hex(points, &mut line[3..ROW_LEN - 1]);
 }
 
 #[tactic(auto, using(crate::proofs::RowLemmas::dark_row))]

@@ -1,12 +1,12 @@
 //! Pieces of answers.
 
-ghost use Rattle.std.specs.Prelude.{◌≡◌, ◌^◌, ◌<◌, ◌*◌, ◌++◌, ◌∷◌, [], length, slice_index, OnOk};
-ghost use Rattle.std.specs.Fmt.{decimal, signed_decimal};
-ghost use Rattle.hex.specs.Hex.{encode_lower, lower_digits};
-ghost use Rattle.chip_trace.specs.Digits.{hex_byte, hex_word};
+ghost use Rattle.std.specs.Prelude.{◌≡◌, ◌*◌, ◌++◌, length, OnOk};
+ghost use Rattle.std.specs.Fmt.{signed_decimal};
+ghost use Rattle.hex.specs.Hex.{encode_lower};
+ghost use Rattle.chip_trace.specs.Digits.{hex_word};
 ghost use Rattle.chip_session.specs.Text.{spaced};
 
-use chip_trace::{byte_digits, word_digits};
+use chip_trace::{byte_digits, hex_digit, push_decimal, word_digits};
 use itoa::Buffer;
 use std::alloc::AllocError;
 
@@ -30,7 +30,7 @@ pub(crate) fn push_hex(out: &mut Vec<u8>, bytes: &[u8]) -> Result<(), AllocError
 }
 
 /// Writes bytes in lower case hexadecimal over the whole of `digits`.
-fn write_hex(bytes: &[u8], digits: &mut [u8])
+pub(crate) fn write_hex(bytes: &[u8], digits: &mut [u8])
     requires { length digits.old ≡ 2 * length bytes.now }
     ensures { digits.new ≡ encode_lower bytes.now }
 {
@@ -40,9 +40,9 @@ fn write_hex(bytes: &[u8], digits: &mut [u8])
         write_block(&bytes[first..end], &mut digits[2 * first..2 * end]);
     }
     'bytes: for i in count * BLOCK_BYTES..bytes.len() {
-        let byte = bytes[i];
-        digits[2 * i] = hex_digit(byte / 16);
-        digits[2 * i + 1] = hex_digit(byte % 16);
+        let [high, low] = byte_digits(bytes[i]);
+        digits[2 * i] = high;
+        digits[2 * i + 1] = low;
     }
 }
 
@@ -64,63 +64,15 @@ fn write_block(bytes: &[u8], digits: &mut [u8])
     }
 }
 
-/// The hexadecimal digit of a number below 16, by arithmetic alone, so that many are made at once.
-#[inline(always)]
-#[tactic(auto, using(crate::proofs::TextLemmas::hex_digit_is))]
-fn hex_digit(value: u8) -> u8
-    requires { value < 16 }
-    ensures { result ≡ slice_index lower_digits value }
-{
-    value + b'0' + if value > 9 { 39 } else { 0 }
-}
-
-/// Adds a number in decimal.
-pub(crate) fn push_decimal(out: &mut Vec<u8>, number: u64) -> Result<(), AllocError>
-    ensures { OnOk result (out.new.items ≡ out.old.items ++ decimal number) }
-{
-    if number < 10 {
-        out.push(b'0' + number as u8)?;
-        return Ok(());
-    }
-    let mut digits = Buffer::new();
-    out.extend_from_slice(digits.format(number).as_bytes())
-}
-
 /// Adds a number with its sign, where it is below 0, in decimal.
 pub(crate) fn push_signed(out: &mut Vec<u8>, number: i32) -> Result<(), AllocError>
     ensures { OnOk result (out.new.items ≡ out.old.items ++ signed_decimal number) }
 {
+    if number >= 0 {
+        return push_decimal(out, number as u64);
+    }
     let mut digits = Buffer::new();
     out.extend_from_slice(digits.format(number).as_bytes())
-}
-
-/// Adds bytes in hexadecimal, each after a space.
-pub(crate) fn push_spaced_bytes(out: &mut Vec<u8>, bytes: &[u8]) -> Result<(), AllocError>
-    ensures { OnOk result (out.new.items ≡ out.old.items ++ spaced hex_byte bytes.now) }
-{
-    let start = out.len();
-    let Some(added) = bytes.len().checked_mul(3) else {
-        return Err(AllocError);
-    };
-    let Some(end) = start.checked_add(added) else {
-        return Err(AllocError);
-    };
-    out.resize(end, 0)?;
-    write_spaced(bytes, &mut out[start..]);
-    Ok(())
-}
-
-/// Writes bytes in hexadecimal, each after a space, over the whole of `text`.
-fn write_spaced(bytes: &[u8], text: &mut [u8])
-    requires { length text.old ≡ 3 * length bytes.now }
-    ensures { text.new ≡ spaced hex_byte bytes.now }
-{
-    'bytes: for i in 0..bytes.len() {
-        let [high, low] = byte_digits(bytes[i]);
-        text[3 * i] = b' ';
-        text[3 * i + 1] = high;
-        text[3 * i + 2] = low;
-    }
 }
 
 /// Adds numbers of 16 bits in hexadecimal, each after a space.

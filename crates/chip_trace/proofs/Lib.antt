@@ -1,4 +1,4 @@
-mod DigitLemmas
+pub mod DigitLemmas
 mod Joined
 mod RowBytes
 mod Usual

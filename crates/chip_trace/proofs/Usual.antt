@@ -8,10 +8,10 @@ use Rattle.std.proofs.lemmas.List.{flat_map_more, take-append-drop, take_more_sa
 use Rattle.std.proofs.lemmas.Option.{get_or_from_slice_get, slice_get_within}
 use Rattle.chip_machine.specs.State.{State}
 use Rattle.chip_trace.specs.Columns.{register_columns}
-use Rattle.chip_trace.specs.Digits.{hex_byte, hex_word}
+use Rattle.chip_trace.specs.Digits.{hex_word, spaced_bytes}
 use Rattle.chip_trace.specs.Json.{json_line_of, json_member}
 use Rattle.chip_trace.specs.Line.{field_of, line_of, word_of}
-use Rattle.chip_trace.specs.inner.Usual.{first_columns, register_member, BeginsAsUsual}
+use Rattle.chip_trace.specs.inner.Usual.{first_columns, fixed_fields, register_member, BeginsAsUsual}
 use Rattle.chip_trace.specs.declared.column.Column.{Column}
 use Rattle.chip_trace.specs.declared.column.Column.TheVariants.{Step, Pc, Word, Register, Index, Delay, Sound, Depth, Draws}
 use Rattle.chip_trace.proofs.Joined.{joined_is}
@@ -90,21 +90,18 @@ object_after old step s is_last others =
 
 -- ---- the pieces of a usual line
 
-fields_joined : (a b c d e f g h : List ℕ) → ((((((a ++ b) ++ c) ++ d) ++ e) ++ f) ++ g) ++ h ≡ a ++ (b ++ (c ++ (d ++ (e ++ (f ++ (g ++ h))))))
+fields_joined : (a b c d e f g h : List ℕ) → ((((a ++ b) ++ ((c ++ d) ++ e)) ++ f) ++ g) ++ h ≡ a ++ (b ++ (c ++ (d ++ (e ++ (f ++ (g ++ h))))))
 fields_joined a b c d e f g h = simp append_assoc
 
 -- the beginning of a usual line, piece by piece
 pub first_fields : (old : List ℕ) (step : ℕ) (s : State) (is_last : Bool) →
-    ((((((old ++ decimal step) ++ (32 ∷ hex_word s.core.pc ++ 32 ∷ hex_word (word_of s)))
-    ++ flat_map (λ x. x) (map (λ x. 32 ∷ hex_byte (slice_index s.core.registers x)) (range_with_len 0 16)))
-    ++ (32 ∷ hex_word s.core.index ++ 32 ∷ hex_byte s.core.delay ++ 32 ∷ hex_byte s.core.sound ++ 32 ∷ []))
-    ++ decimal (length s.core.frames)) ++ 32 ∷ []) ++ decimal s.core.draws
+    ((((old ++ decimal step) ++ fixed_fields s) ++ decimal (length s.core.frames)) ++ 32 ∷ []) ++ decimal s.core.draws
     ≡ old ++ line_of first_columns step s is_last
 unfolding line_of first_columns encode_with
 first_fields old step s is_last =
     fields_joined old (decimal step) (32 ∷ hex_word s.core.pc ++ 32 ∷ hex_word (word_of s))
-    (flat_map (λ x. x) (map (λ x. 32 ∷ hex_byte (slice_index s.core.registers x)) (range_with_len 0 16)))
-    (32 ∷ hex_word s.core.index ++ 32 ∷ hex_byte s.core.delay ++ 32 ∷ hex_byte s.core.sound ++ 32 ∷ [])
+    (spaced_bytes (map (slice_index s.core.registers) (range_with_len 0 16)))
+    (32 ∷ hex_word s.core.index ++ spaced_bytes (s.core.delay ∷ s.core.sound ∷ []) ++ 32 ∷ [])
     (decimal (length s.core.frames)) (32 ∷ []) (decimal s.core.draws)
 
 -- ---- the pieces of a usual object

@@ -1,10 +1,15 @@
 -- Numbers in hexadecimal (own).
 use Rattle.std.specs.Prelude.{ℕ, ◌/◌, ◌%◌, ◌^◌, List, [], ◌∷◌, ◌++◌}
+use Rattle.std.specs.List.{flat_map}
 use Rattle.hex.specs.Hex.{encode_lower}
 
 -- a byte in two hexadecimal digits
 abbrev pub hex_byte : ℕ → List ℕ
 hex_byte b = encode_lower (b ∷ [])
+
+-- bytes in two hexadecimal digits each, with a space before each
+abbrev pub spaced_bytes : List ℕ → List ℕ
+spaced_bytes bytes = flat_map (λ byte. 32 ∷ hex_byte byte) bytes
 
 -- a number of 16 bits in four hexadecimal digits
 abbrev pub hex_word : ℕ → List ℕ

@@ -1,17 +1,17 @@
 //! Numbers as digits.
 
-ghost use Rattle.std.specs.Prelude.{◌≡◌, ◌<◌, ◌++◌, slice_index, OnOk};
+ghost use Rattle.std.specs.Prelude.{◌≡◌, ◌*◌, ◌<◌, ◌++◌, length, replicate, slice_index, OnOk};
 ghost use Rattle.std.specs.Fmt.{decimal};
 ghost use Rattle.hex.specs.Hex.{lower_digits};
-ghost use Rattle.chip_trace.specs.Digits.{hex_byte, hex_word, hex_sum};
+ghost use Rattle.chip_trace.specs.Digits.{hex_byte, hex_word, hex_sum, spaced_bytes};
 
 use itoa::Buffer;
 use std::alloc::AllocError;
 
-/// The hexadecimal digit of a number below 16.
+/// The hexadecimal digit of a number below 16, by arithmetic alone, so that many are made at once.
 #[inline(always)]
 #[tactic(auto, using(crate::proofs::DigitLemmas::hex_digit_is))]
-pub(crate) fn hex_digit(value: u8) -> u8
+pub fn hex_digit(value: u8) -> u8
     requires { value < 16 }
     ensures { result ≡ slice_index lower_digits value }
 {
@@ -63,28 +63,79 @@ pub(crate) fn push_sum(text: &mut Vec<u8>, sum: u64) -> Result<(), AllocError>
 }
 
 /// Adds a number in decimal.
-pub(crate) fn push_decimal(text: &mut Vec<u8>, number: u64) -> Result<(), AllocError>
+///
+/// # Errors
+///
+/// Out of memory.
+pub fn push_decimal(text: &mut Vec<u8>, number: u64) -> Result<(), AllocError>
+    ensures { OnOk result (text.new.items ≡ text.old.items ++ decimal number) }
+{
+    if number < 10_000 {
+        return push_short(text, number as u16);
+    }
+    let mut digits = Buffer::new();
+    text.extend_from_slice(digits.format(number).as_bytes())
+}
+
+/// Adds a number of up to four digits in decimal. Arithmetic makes them, since digits that itoa has
+/// just written into its buffer are slow to copy.
+#[inline(always)]
+fn push_short(text: &mut Vec<u8>, number: u16) -> Result<(), AllocError>
+    requires { number < 10000 }
     ensures { OnOk result (text.new.items ≡ text.old.items ++ decimal number) }
 {
     if number < 10 {
         text.push(b'0' + number as u8)?;
         return Ok(());
     }
-    let mut digits = Buffer::new();
-    text.extend_from_slice(digits.format(number).as_bytes())
+    let (front, back) = ((number / 100) as u8, (number % 100) as u8);
+    let (c, d) = (b'0' + back / 10, b'0' + back % 10);
+    if number < 100 {
+        return text.extend_from_slice(&[c, d]);
+    }
+    if number < 1000 {
+        return text.extend_from_slice(&[b'0' + front, c, d]);
+    }
+    text.extend_from_slice(&[b'0' + front / 10, b'0' + front % 10, c, d])
 }
 
 /// Adds a byte in decimal.
+#[inline(always)]
 pub(crate) fn push_small(text: &mut Vec<u8>, number: u8) -> Result<(), AllocError>
     ensures { OnOk result (text.new.items ≡ text.old.items ++ decimal number) }
 {
-    if number < 10 {
-        text.push(b'0' + number)?;
-        return Ok(());
+    push_short(text, u16::from(number))
+}
+
+/// Adds bytes in hexadecimal, each after a space.
+///
+/// # Errors
+///
+/// Out of memory.
+pub fn push_spaced_bytes(text: &mut Vec<u8>, bytes: &[u8]) -> Result<(), AllocError>
+    ensures { OnOk result (text.new.items ≡ text.old.items ++ spaced_bytes bytes.now) }
+{
+    let start = text.len();
+    let Some(added) = bytes.len().checked_mul(3) else {
+        return Err(AllocError);
+    };
+    let Some(end) = start.checked_add(added) else {
+        return Err(AllocError);
+    };
+    text.resize(end, b' ')?;
+    write_spaced_bytes(bytes, &mut text[start..]);
+    Ok(())
+}
+
+/// Writes bytes in hexadecimal over spaces, of which one stays before each.
+#[inline(always)]
+pub(crate) fn write_spaced_bytes(bytes: &[u8], text: &mut [u8])
+    requires { text.old ≡ replicate (3 * length bytes.now) 32 }
+    ensures { text.new ≡ spaced_bytes bytes.now }
+{
+    'bytes: for i in 0..bytes.len() {
+        let [high, low] = byte_digits(bytes[i]);
+        text[3 * i + 1] = high;
+        text[3 * i + 2] = low;
     }
-    if number < 100 {
-        return text.extend_from_slice(&[b'0' + number / 10, b'0' + number % 10]);
-    }
-    let last = number % 100;
-    text.extend_from_slice(&[b'0' + number / 100, b'0' + last / 10, b'0' + last % 10])
 }

@@ -17,7 +17,7 @@ mod trace;
 pub use column::Column;
 pub use columns::Columns;
 pub use difference::{Difference, first_difference};
-pub use digits::{byte_digits, word_digits};
+pub use digits::{byte_digits, hex_digit, push_decimal, push_spaced_bytes, word_digits};
 pub use form::Form;
 pub use header::HeaderError;
 pub use report::difference_text;

@@ -1,14 +1,15 @@
 //! The line of a step.
 
-ghost use Rattle.std.specs.Prelude.{◌≡◌, ◌++◌, ◌∷◌, Bool, OnOk, map, slice_index};
-ghost use Rattle.std.specs.List.{flat_map, range_with_len};
-ghost use Rattle.chip_trace.specs.Digits.{hex_byte};
+ghost use Rattle.std.specs.Prelude.{◌≡◌, ◌++◌, ◌∷◌, Bool, OnOk, replicate};
+ghost use Rattle.std.specs.List.{flat_map};
 ghost use Rattle.chip_trace.specs.Line.{word_of, stop_name, text_of, field_of, line_of};
-ghost use Rattle.chip_trace.specs.inner.Usual.{first_columns};
+ghost use Rattle.chip_trace.specs.inner.Usual.{first_columns, fixed_fields};
 
 use crate::column::Column;
 use crate::columns::Columns;
-use crate::digits::{byte_digits, push_byte, push_decimal, push_sum, push_word, word_digits};
+use crate::digits::{
+    push_byte, push_decimal, push_sum, push_word, word_digits, write_spaced_bytes,
+};
 use crate::sums::{Summed, SummedRows};
 use chip_lang::push_shown;
 use chip_machine::{Machine, Stop};
@@ -16,6 +17,9 @@ use std::alloc::{AllocError, Global};
 
 /// Room for most lines.
 const LINE_ROOM: usize = 160;
+
+/// The length of the fields that are as long in each line, with the spaces around them.
+const FIXED_LEN: usize = 70;
 
 /// What is kept from one line to the next so that it is not made anew. What it holds means nothing.
 #[derive(Drop)]
@@ -86,33 +90,36 @@ fn push_first_fields(text: &mut Vec<u8>, machine: &Machine, step: u32) -> Result
     ensures { (is_last : Bool) → OnOk result (text.new.items
         ≡ text.old.items ++ line_of first_columns step machine.now is_last) }
 {
-    let [p1, p2, p3, p4] = word_digits(machine.pc());
-    let [w1, w2, w3, w4] = word_digits(word_of(machine));
-    let [i1, i2, i3, i4] = word_digits(machine.index());
-    let [d1, d2] = byte_digits(machine.delay());
-    let [s1, s2] = byte_digits(machine.sound());
     push_decimal(text, u64::from(step))?;
-    text.extend_from_slice(&[b' ', p1, p2, p3, p4, b' ', w1, w2, w3, w4])?;
-    text.extend_from_slice(register_fields(machine).as_flattened())?;
-    text.extend_from_slice(&[b' ', i1, i2, i3, i4, b' ', d1, d2, b' ', s1, s2, b' '])?;
+    push_fixed_fields(text, machine)?;
     push_decimal(text, machine.depth() as u64)?;
     text.push(b' ')?;
     push_decimal(text, machine.draws())?;
     Ok(())
 }
 
-/// The fields of V0 to VF, each after a space.
-fn register_fields(machine: &Machine) -> [[u8; 3]; 16]
-    ensures { result ≡ map (λ x. 32 ∷ hex_byte (slice_index machine.now.core.registers x))
-        (range_with_len 0 16) }
+/// Adds the fields from that of pc to that of the sound timer, with spaces around them. They are
+/// written in place, since bytes that were just written elsewhere are slow to copy.
+fn push_fixed_fields(text: &mut Vec<u8>, machine: &Machine) -> Result<(), AllocError>
+    ensures { OnOk result (text.new.items ≡ text.old.items ++ fixed_fields machine.now) }
 {
-    let registers = machine.registers();
-    let mut fields = [[b' '; 3]; 16];
-    for place in 0..16 {
-        let [high, low] = byte_digits(registers[place]);
-        fields[place] = [b' ', high, low];
-    }
-    fields
+    let start = text.len();
+    text.extend_from_slice(&[b' '; FIXED_LEN])?;
+    write_fixed_fields(machine, &mut text[start..]);
+    Ok(())
+}
+
+/// Writes these fields over spaces, which stay around them.
+#[inline(always)]
+fn write_fixed_fields(machine: &Machine, fields: &mut [u8])
+    requires { fields.old ≡ replicate FIXED_LEN 32 }
+    ensures { fields.new ≡ fixed_fields machine.now }
+{
+    fields[1..5].copy_from_slice(&word_digits(machine.pc()));
+    fields[6..10].copy_from_slice(&word_digits(word_of(machine)));
+    write_spaced_bytes(machine.registers(), &mut fields[10..58]);
+    fields[59..63].copy_from_slice(&word_digits(machine.index()));
+    write_spaced_bytes(&[machine.delay(), machine.sound()], &mut fields[63..69]);
 }
 
 /// Adds what a column shows.

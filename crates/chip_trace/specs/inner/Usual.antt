@@ -1,8 +1,12 @@
 -- The columns with which a trace begins for which none are asked (own).
-use Rattle.std.specs.Prelude.{◌≡◌, ℕ, List, [], ◌∷◌, ◌++◌, codes, drop, slice_index}
+use Rattle.std.specs.Prelude.{◌≡◌, ℕ, List, [], ◌∷◌, ◌++◌, codes, drop, map, slice_index}
 use Rattle.std.specs.Fmt.{decimal}
+use Rattle.std.specs.List.{range_with_len}
 use Rattle.hex.specs.Hex.{lower_digits}
+use Rattle.chip_machine.specs.State.{State}
 use Rattle.chip_trace.specs.Columns.{register_columns}
+use Rattle.chip_trace.specs.Digits.{hex_word, spaced_bytes}
+use Rattle.chip_trace.specs.Line.{word_of}
 use Rattle.chip_trace.specs.declared.column.Column.{Column}
 use Rattle.chip_trace.specs.declared.column.Column.TheVariants.{Step, Pc, Word, Index, Delay, Sound, Depth, Draws}
 use Rattle.chip_trace.specs.declared.limits.TheConstants.{FIRST_COLUMNS}
@@ -12,6 +16,13 @@ unfoldable pub first_columns : List Column
 first_columns =
     (Step ∷ Pc ∷ Word ∷ []) ++ register_columns
     ++ (Index ∷ Delay ∷ Sound ∷ Depth ∷ Draws ∷ [])
+
+-- the fields of `pc` to `st`, each after a space, and a space: they are as long in each line
+abbrev pub fixed_fields : State → List ℕ
+fixed_fields s =
+    32 ∷ hex_word s.core.pc ++ 32 ∷ hex_word (word_of s)
+    ++ spaced_bytes (map (slice_index s.core.registers) (range_with_len 0 16))
+    ++ (32 ∷ hex_word s.core.index ++ spaced_bytes (s.core.delay ∷ s.core.sound ∷ []) ++ 32 ∷ [])
 
 -- the member of a register, after a comma
 abbrev pub register_member : (number value : ℕ) → List ℕ

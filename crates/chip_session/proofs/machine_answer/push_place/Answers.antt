@@ -1,7 +1,7 @@
 use Rattle.std.proofs.Common.{◌≡◌, ◌++◌, ◌∷◌, [], ℕ, List, OnOk, slice_index, subst}
 use Rattle.hex.specs.Hex.{encode_with}
 use Rattle.chip_trace.specs.Digits.{hex_word}
-use Rattle.chip_session.proofs.ScriptLemmas.{taken_where_ok}
+use Rattle.chip_trace.proofs.DigitLemmas.{taken_where_ok}
 use Rattle.chip_session.proofs.machine_answer.push_place.Goals as goal
 
 -- the part of the line, by the digits of both numbers

@@ -7,7 +7,8 @@ use Rattle.chip_session.specs.Answers.{answer_to}
 use Rattle.chip_session.specs.Workbench.{Workbench}
 use Rattle.chip_session.specs.Changes.{change_of}
 use Rattle.chip_session.specs.CommandView.{command_view}
-use Rattle.chip_session.proofs.ScriptLemmas.{ask_told, reply_is, after_is, taken_where_ok, no_memory, not_for_memory}
+use Rattle.chip_trace.proofs.DigitLemmas.{taken_where_ok}
+use Rattle.chip_session.proofs.ScriptLemmas.{ask_told, reply_is, after_is, no_memory, not_for_memory}
 use Rattle.chip_session.proofs.server.respond.Goals as goal
 use Rattle.chip_session.proofs.server.respond.Goals.{in-Change+in-Err-apply, in-Ask+in-Err-ask}
 

@@ -1,7 +1,8 @@
-use Rattle.std.proofs.Common.{◌+◌, ◌*◌, arith}
+use Rattle.std.proofs.Common.{◌+◌, ◌*◌, arith, get_or}
 use Rattle.hex.specs.Hex.{lower_digits}
 use Rattle.hex.proofs.Pairs.{encode_step, encode_done}
 use Rattle.chip_session.specs.declared.text.TheConstants.{BLOCK_BYTES}
+use Rattle.chip_trace.proofs.DigitLemmas.{pair_is}
 use Rattle.chip_session.proofs.TextLemmas.{block_step}
 use Rattle.chip_session.proofs.text.write_hex.Goals as goal
 
@@ -12,7 +13,8 @@ whole-preserved c =
 
 pub bytes-preserved : goal.bytes-preserved
 bytes-preserved c =
-    encode_step lower_digits c.args.bytes.now c.bytes.digits c.bytes.i _ _ (omega arith) (omega arith) c.hex_digit.ensures c.hex_digit-in-bytes.ensures c.bytes.invariant
+    let pair = pair_is c.byte_digits.result (get_or c.args.bytes.now c.bytes.i 0) c.byte_digits.ensures in
+    encode_step lower_digits c.args.bytes.now c.bytes.digits c.bytes.i _ _ (omega arith) (omega arith) pair.0 pair.1 c.bytes.invariant
 
 pub returns : goal.returns
 returns c = encode_done lower_digits _ _ c.bytes.i (omega arith) (omega arith) c.bytes.invariant
