@@ -10,8 +10,8 @@ use Rattle.chip_machine.specs.Points.{Points, is_lit}
 use Rattle.chip_machine.specs.State.{Core, State}
 use Rattle.chip_machine.specs.Step.{word_at}
 use Rattle.chip_views.specs.Bitmap.{eight_bits}
-use Rattle.chip_session.specs.Text.{full_stop, hex_line, spaced}
-use Rattle.chip_trace.specs.Digits.{hex_byte, hex_word}
+use Rattle.chip_session.specs.Text.{full_stop, hex_line}
+use Rattle.chip_trace.specs.Digits.{hex_byte, hex_word, spaced}
 
 -- ---- regs
 

@@ -1,11 +1,6 @@
 -- Pieces of answers (own).
 use Rattle.std.specs.Prelude.{ℕ, List, [], ◌∷◌, ◌++◌, codes}
-use Rattle.std.specs.List.{flat_map}
 use Rattle.hex.specs.Hex.{encode_lower}
-
--- each item after a space
-abbrev pub spaced : (ℕ → List ℕ) → List ℕ → List ℕ
-spaced text items = flat_map (λ item. 32 ∷ text item) items
 
 -- a line of bytes in lower case hexadecimal
 abbrev pub hex_line : List ℕ → List ℕ

@@ -3,8 +3,7 @@
 ghost use Rattle.std.specs.Prelude.{◌≡◌, ◌*◌, ◌++◌, length, OnOk};
 ghost use Rattle.std.specs.Fmt.{signed_decimal};
 ghost use Rattle.hex.specs.Hex.{encode_lower};
-ghost use Rattle.chip_trace.specs.Digits.{hex_word};
-ghost use Rattle.chip_session.specs.Text.{spaced};
+ghost use Rattle.chip_trace.specs.Digits.{hex_word, spaced};
 
 use chip_trace::{byte_digits, hex_digit, push_decimal, word_digits};
 use itoa::Buffer;

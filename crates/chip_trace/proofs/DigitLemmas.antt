@@ -9,7 +9,7 @@ use Rattle.std.proofs.lemmas.List.{append_assoc, append-nil, drop_all, drop_more
 use Rattle.hex.specs.Hex.{encode_with, lower_digits}
 use Rattle.hex.proofs.Pairs.{take-two_writes}
 use Rattle.chip_lang.specs.Show.{hex_digit, two_hex_digits}
-use Rattle.chip_trace.specs.Digits.{hex_byte, spaced_bytes}
+use Rattle.chip_trace.specs.Digits.{hex_byte, spaced}
 
 -- whether the digits of the first n numbers are those of the table, which computes
 abbrev are_digits : (digit : ℕ → ℕ) → ℕ → Bool
@@ -57,28 +57,28 @@ unfolding encode_with
 pair_is digits byte h = (ap (λ l. slice_index l 0) h, ap (λ l. slice_index l 1) h)
 
 -- what is left of the text, from one byte on
-spaced-drop : (xs : List ℕ) (i : ℕ) → i < length xs → spaced_bytes (drop i xs) ≡
-    32 ∷ slice_index lower_digits (slice_index xs i / 16) ∷ slice_index lower_digits (slice_index xs i % 16) ∷ spaced_bytes (drop (i + 1) xs)
+spaced-drop : (xs : List ℕ) (i : ℕ) → i < length xs → spaced hex_byte (drop i xs) ≡
+    32 ∷ slice_index lower_digits (slice_index xs i / 16) ∷ slice_index lower_digits (slice_index xs i % 16) ∷ spaced hex_byte (drop (i + 1) xs)
 unfolding encode_with
 spaced-drop xs i h = rw (drop_more xs i 0 h) refl
 
 -- one byte more is written, behind the space that stands there
 pub spaced_step : (input output : List ℕ) (i x y : ℕ) → i < length input → 3 * i + 2 < length output → get_or output (3 * i) 0 ≡ 32
     → x ≡ slice_index lower_digits (slice_index input i / 16) → y ≡ slice_index lower_digits (slice_index input i % 16)
-    → take (3 * i) output ++ spaced_bytes (drop i input) ≡ spaced_bytes input
-    → take (3 * (i + 1)) (slice_set (slice_set output (3 * i + 1) x) (3 * i + 2) y) ++ spaced_bytes (drop (i + 1) input) ≡ spaced_bytes input
+    → take (3 * i) output ++ spaced hex_byte (drop i input) ≡ spaced hex_byte input
+    → take (3 * (i + 1)) (slice_set (slice_set output (3 * i + 1) x) (3 * i + 2) y) ++ spaced hex_byte (drop (i + 1) input) ≡ spaced hex_byte input
 spaced_step input output i x y h fits space ex ey inv =
     let three : 3 * (i + 1) ≡ 3 * i + 1 + 2 = omega arith in
     let two : 3 * i + 2 ≡ 3 * i + 1 + 1 = omega arith in
     let digits = take-two_writes output (3 * i + 1) x y (omega arith) in
     let front = take_more output (3 * i) 0 (omega arith) in
     let rest = spaced-drop input i h in
-    let outer = append_assoc (take (3 * i) output ++ 32 ∷ []) (x ∷ y ∷ []) (spaced_bytes (drop (i + 1) input)) in
+    let outer = append_assoc (take (3 * i) output ++ 32 ∷ []) (x ∷ y ∷ []) (spaced hex_byte (drop (i + 1) input)) in
     rw (three, two, digits, front, space, outer, append_assoc, ex, ey) (rw rest at inv)
 
 -- every byte is written
 pub spaced_done : (input output : List ℕ) (i : ℕ) → length input ≤ i → length output ≡ 3 * length input
-    → take (3 * i) output ++ spaced_bytes (drop i input) ≡ spaced_bytes input → output ≡ spaced_bytes input
+    → take (3 * i) output ++ spaced hex_byte (drop i input) ≡ spaced hex_byte input → output ≡ spaced hex_byte input
 spaced_done input output i h len inv =
     let d = drop_all i input h in
     let a = take_all (3 * i) output (omega arith) in

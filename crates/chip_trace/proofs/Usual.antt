@@ -8,7 +8,7 @@ use Rattle.std.proofs.lemmas.List.{flat_map_more, take-append-drop, take_more_sa
 use Rattle.std.proofs.lemmas.Option.{get_or_from_slice_get, slice_get_within}
 use Rattle.chip_machine.specs.State.{State}
 use Rattle.chip_trace.specs.Columns.{register_columns}
-use Rattle.chip_trace.specs.Digits.{hex_word, spaced_bytes}
+use Rattle.chip_trace.specs.Digits.{hex_byte, hex_word, spaced}
 use Rattle.chip_trace.specs.Json.{json_line_of, json_member}
 use Rattle.chip_trace.specs.Line.{field_of, line_of, word_of}
 use Rattle.chip_trace.specs.inner.Usual.{first_columns, fixed_fields, register_member, BeginsAsUsual}
@@ -100,8 +100,8 @@ pub first_fields : (old : List ℕ) (step : ℕ) (s : State) (is_last : Bool) �
 unfolding line_of first_columns encode_with
 first_fields old step s is_last =
     fields_joined old (decimal step) (32 ∷ hex_word s.core.pc ++ 32 ∷ hex_word (word_of s))
-    (spaced_bytes (map (slice_index s.core.registers) (range_with_len 0 16)))
-    (32 ∷ hex_word s.core.index ++ spaced_bytes (s.core.delay ∷ s.core.sound ∷ []) ++ 32 ∷ [])
+    (spaced hex_byte (map (slice_index s.core.registers) (range_with_len 0 16)))
+    (32 ∷ hex_word s.core.index ++ spaced hex_byte (s.core.delay ∷ s.core.sound ∷ []) ++ 32 ∷ [])
     (decimal (length s.core.frames)) (32 ∷ []) (decimal s.core.draws)
 
 -- ---- the pieces of a usual object

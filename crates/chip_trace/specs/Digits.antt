@@ -7,10 +7,6 @@ use Rattle.hex.specs.Hex.{encode_lower}
 abbrev pub hex_byte : ℕ → List ℕ
 hex_byte b = encode_lower (b ∷ [])
 
--- bytes in two hexadecimal digits each, with a space before each
-abbrev pub spaced_bytes : List ℕ → List ℕ
-spaced_bytes bytes = flat_map (λ byte. 32 ∷ hex_byte byte) bytes
-
 -- a number of 16 bits in four hexadecimal digits
 abbrev pub hex_word : ℕ → List ℕ
 hex_word w = encode_lower (w / 256 ∷ w % 256 ∷ [])
@@ -20,3 +16,7 @@ abbrev pub hex_sum : ℕ → List ℕ
 hex_sum n =
     hex_word (n / 2 ^ 48) ++ hex_word (n / 2 ^ 32 % 2 ^ 16) ++ hex_word (n / 2 ^ 16 % 2 ^ 16)
     ++ hex_word (n % 2 ^ 16)
+
+-- each item after a space
+abbrev pub spaced : (ℕ → List ℕ) → List ℕ → List ℕ
+spaced text items = flat_map (λ item. 32 ∷ text item) items

@@ -3,7 +3,7 @@
 ghost use Rattle.std.specs.Prelude.{◌≡◌, ◌*◌, ◌<◌, ◌++◌, length, replicate, slice_index, OnOk};
 ghost use Rattle.std.specs.Fmt.{decimal};
 ghost use Rattle.hex.specs.Hex.{lower_digits};
-ghost use Rattle.chip_trace.specs.Digits.{hex_byte, hex_word, hex_sum, spaced_bytes};
+ghost use Rattle.chip_trace.specs.Digits.{hex_byte, hex_word, hex_sum, spaced};
 
 use itoa::Buffer;
 use std::alloc::AllocError;
@@ -113,7 +113,7 @@ pub(crate) fn push_small(text: &mut Vec<u8>, number: u8) -> Result<(), AllocErro
 ///
 /// Out of memory.
 pub fn push_spaced_bytes(text: &mut Vec<u8>, bytes: &[u8]) -> Result<(), AllocError>
-    ensures { OnOk result (text.new.items ≡ text.old.items ++ spaced_bytes bytes.now) }
+    ensures { OnOk result (text.new.items ≡ text.old.items ++ spaced hex_byte bytes.now) }
 {
     let start = text.len();
     let Some(added) = bytes.len().checked_mul(3) else {
@@ -131,7 +131,7 @@ pub fn push_spaced_bytes(text: &mut Vec<u8>, bytes: &[u8]) -> Result<(), AllocEr
 #[inline(always)]
 pub(crate) fn write_spaced_bytes(bytes: &[u8], text: &mut [u8])
     requires { text.old ≡ replicate (3 * length bytes.now) 32 }
-    ensures { text.new ≡ spaced_bytes bytes.now }
+    ensures { text.new ≡ spaced hex_byte bytes.now }
 {
     'bytes: for i in 0..bytes.len() {
         let [high, low] = byte_digits(bytes[i]);

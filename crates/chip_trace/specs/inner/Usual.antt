@@ -5,7 +5,7 @@ use Rattle.std.specs.List.{range_with_len}
 use Rattle.hex.specs.Hex.{lower_digits}
 use Rattle.chip_machine.specs.State.{State}
 use Rattle.chip_trace.specs.Columns.{register_columns}
-use Rattle.chip_trace.specs.Digits.{hex_word, spaced_bytes}
+use Rattle.chip_trace.specs.Digits.{hex_byte, hex_word, spaced}
 use Rattle.chip_trace.specs.Line.{word_of}
 use Rattle.chip_trace.specs.declared.column.Column.{Column}
 use Rattle.chip_trace.specs.declared.column.Column.TheVariants.{Step, Pc, Word, Index, Delay, Sound, Depth, Draws}
@@ -21,8 +21,8 @@ first_columns =
 abbrev pub fixed_fields : State → List ℕ
 fixed_fields s =
     32 ∷ hex_word s.core.pc ++ 32 ∷ hex_word (word_of s)
-    ++ spaced_bytes (map (slice_index s.core.registers) (range_with_len 0 16))
-    ++ (32 ∷ hex_word s.core.index ++ spaced_bytes (s.core.delay ∷ s.core.sound ∷ []) ++ 32 ∷ [])
+    ++ spaced hex_byte (map (slice_index s.core.registers) (range_with_len 0 16))
+    ++ (32 ∷ hex_word s.core.index ++ spaced hex_byte (s.core.delay ∷ s.core.sound ∷ []) ++ 32 ∷ [])
 
 -- the member of a register, after a comma
 abbrev pub register_member : (number value : ℕ) → List ℕ

@@ -1,6 +1,5 @@
 use Rattle.std.proofs.Common.{◌≡◌, ◌++◌, take}
-use Rattle.chip_trace.specs.Digits.{hex_word}
-use Rattle.chip_session.specs.Text.{spaced}
+use Rattle.chip_trace.specs.Digits.{hex_word, spaced}
 use Rattle.chip_session.proofs.text.push_spaced_words.Given as goal
 
 abbrev pub invariant-loop-word : goal.invariant-loop-word
